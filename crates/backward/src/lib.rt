@@ -1,0 +1,2 @@
+// So far this crate holds the definitions (specs/) of settling and of the backward walk.
+pub fn nothing() {}

@@ -1,0 +1,2 @@
+// So far this crate holds the definitions (specs/) of what lines do to a frame, and the theorems on conjugation.
+pub fn nothing() {}

@@ -1,0 +1,73 @@
+-- The lines of a job and its instructions, as document 01, "The job", lists them. Lists are kept as they are written. Assumes nothing.
+use mathlib.Core.Bool.{Bool}
+use mathlib.Core.List.{List}
+use mathlib.Core.Option.{Option}
+use Prim.Native.Nat.{ℕ}
+use Rattle.pauli.specs.Bits.{members}
+use Rattle.pauli.specs.Pauli.{Pauli}
+use Rattle.pauli.specs.Gate.{Gate}
+
+-- a Pauli as it is written: two lists, the qubits with an X part and the qubits with a Z part
+pub record SparsePauli : Type 0 where
+  pub x : List ℕ
+  pub z : List ℕ
+
+unfoldable pub pauliOf : SparsePauli → Pauli
+pauliOf P = record { x = members (P .x); z = members (P .z) }
+
+-- The lines that are no noise, in the order of document 01: u, c, p, e, k, m, o, r, f, z, i, t.
+pub data Line : Type 0 where
+  -- the gate and its operands
+  unitary : Gate → List ℕ → Line
+  -- the operands and the table
+  clifford : List ℕ → ℕ → Line
+  pauli : SparsePauli → Line
+  exponential : SparsePauli → Line
+  -- control, then target
+  controlled : SparsePauli → SparsePauli → Line
+  -- the places s and the operands
+  permute : List ℕ → List ℕ → Line
+  -- the observable and the outcome's id
+  measure : SparsePauli → ℕ → Line
+  -- the id, and whether the outcome is an angle
+  allocate : ℕ → Bool → Line
+  -- the Pauli, the ids and the parity, which frames ignore
+  conditional : SparsePauli → List ℕ → Bool → Line
+  -- the qubits, of which an `op=z` line has one
+  reset : List ℕ → Line
+  -- the shot and the Pauli
+  inject : ℕ → SparsePauli → Line
+  -- the shot and the id
+  flip : ℕ → ℕ → Line
+
+-- an element with its weight, by its bits
+pub record WeightedPauli : Type 0 where
+  pub weight : ℕ
+  pub pauli : SparsePauli
+
+-- A distribution is one of four kinds: d=1, the one element; d=2, all Paulis but the identity on the qubits of a list; d=3, a list of elements;
+-- d=4, a list of elements with weights.
+pub data Distribution : Type 0 where
+  single : SparsePauli → Distribution
+  depolarizing : List ℕ → Distribution
+  uniform : List SparsePauli → Distribution
+  weighted : List WeightedPauli → Distribution
+
+-- A noise line's probability (by its bits), correlation, condition (its outcomes, none where the list is empty, and their parity) and distribution.
+pub record Noise : Type 0 where
+  pub probability : ℕ
+  pub correlation : Option ℕ
+  pub outcomes : List ℕ
+  pub parity : Bool
+  pub distribution : Distribution
+
+-- Noise and its element lines make one instruction.
+pub data Instruction : Type 0 where
+  line : Line → Instruction
+  noise : Noise → Instruction
+
+-- an instruction with the number of its line, which for noise is the noise line, and that line's bytes
+pub record Placed : Type 0 where
+  pub number : ℕ
+  pub text : List ℕ
+  pub instruction : Instruction

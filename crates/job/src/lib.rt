@@ -1,0 +1,18 @@
+// The job: its lines, its instructions and tests 1 to 12. So far this crate holds the definitions (specs/) and the types that answers have.
+
+// The header's numbers.
+pub struct Header {
+    pub qubits: u64,
+    pub outcomes: u64,
+    pub shots: u64,
+}
+
+// What a call says: a refusal number, 0 for success, and a line, from 1, 0 where none fits.
+pub struct Answer {
+    pub number: u64,
+    pub line: u64,
+}
+
+pub fn accepted() -> Answer {
+    Answer { number: 0, line: 0 }
+}

@@ -1,0 +1,4 @@
+-- Definitions, to be believed, in the order to read them: sets and sums mod 2, Paulis, gates.
+pub mod Bits
+pub mod Pauli
+pub mod Gate

@@ -1,0 +1,2 @@
+// So far this crate holds the definitions (specs/).
+pub fn nothing() {}

@@ -1,0 +1,67 @@
+-- Lists of numbers with commas. L is strictly rising, `-` when empty. Q is in any order and never empty, and so is the s of a permutation.
+-- Every list is read to its end, however long it is. Assumes nothing.
+use Prim.Native.Nat.{ℕ}
+use mathlib.Core.Bool.{Bool, true, false, cond, _&&_}
+use mathlib.Core.List.{List, [], _∷_, _++_}
+use mathlib.Core.Option.{Option, none, some}
+use lib.Dec.{eqb, ltb}
+use lib.ListN.{length, getD}
+use Rattle.text.specs.Bytes.{comma, split}
+use Rattle.text.specs.Number.{numberOf, decimal}
+
+-- ---- read
+
+unfoldable pub withFirst : Option ℕ → Option (List ℕ) → Option (List ℕ)
+withFirst none o = none
+withFirst (some n) none = none
+withFirst (some n) (some l) = some (n ∷ l)
+
+-- the numbers that some pieces are, and nothing where one of them is none
+unfoldable pub numbersOf : List (List ℕ) → Option (List ℕ)
+numbersOf [] = some []
+numbersOf (p ∷ ps) = withFirst (numberOf p) (numbersOf ps)
+
+-- Q
+unfoldable pub listQ : List ℕ → Option (List ℕ)
+listQ v = numbersOf (split comma v)
+
+unfoldable pub risesFrom : ℕ → List ℕ → Bool
+risesFrom a [] = true
+risesFrom a (b ∷ l) = ltb a b && risesFrom b l
+
+-- strictly rising
+unfoldable pub isRising : List ℕ → Bool
+isRising [] = true
+isRising (a ∷ l) = risesFrom a l
+
+unfoldable pub onlyRising : Option (List ℕ) → Option (List ℕ)
+onlyRising none = none
+onlyRising (some l) = cond (isRising l) (some l) none
+
+-- the one byte `-`
+abbrev pub isDash : List ℕ → Bool
+isDash v = eqb (length v) 1 && eqb (getD v 0 0) 45
+
+-- L
+unfoldable pub listL : List ℕ → Option (List ℕ)
+listL v = cond (isDash v) (some []) (onlyRising (listQ v))
+
+unfoldable pub oneMember : Option ℕ → Option (List ℕ)
+oneMember none = none
+oneMember (some n) = some (n ∷ [])
+
+-- a number, or `-` for none: a list of at most one member
+unfoldable pub listC : List ℕ → Option (List ℕ)
+listC v = cond (isDash v) (some []) (oneMember (numberOf v))
+
+-- ---- written
+
+-- each member after a comma
+unfoldable pub commas : List ℕ → List ℕ
+commas [] = []
+commas (n ∷ l) = comma ∷ (decimal n ++ commas l)
+
+-- a list, `-` when empty
+unfoldable pub listText : List ℕ → List ℕ
+listText [] = 45 ∷ []
+listText (n ∷ l) = decimal n ++ commas l
