@@ -2,3 +2,5 @@
 pub mod Bits
 pub mod Pauli
 pub mod Gate
+-- Laws of these definitions.
+pub mod Laws

@@ -1,0 +1,6 @@
+-- Laws, for the proofs that cite them: sums mod 2, sets, the commutation of Paulis, gates as products, the group of Paulis. Nothing here has to be believed.
+pub mod F2
+pub mod Parity
+pub mod Pairing
+pub mod Gates
+pub mod Group
