@@ -1,1 +1,8 @@
+-- Definitions, to be believed, in document 01's order: lines and instructions, binary64, the Clifford table, the forms of lines, tests 2 to 12, and
+-- the whole job with test 1.
 pub mod Line
+pub mod Float
+pub mod Clifford
+pub mod Grammar
+pub mod Checks
+pub mod Job

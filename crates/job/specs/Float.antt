@@ -1,0 +1,32 @@
+-- p and w are binary64 bits: what the tests ask of them. Assumes nothing.
+use Prim.Native.Nat.{ℕ}
+use mathlib.Core.Bool.{Bool, true, false, not, _&&_}
+use lib.Ieee.{Float, nan, inf, fin, binary64, ofBits, isNan, lt}
+
+-- what a bit pattern stands for
+abbrev pub float : ℕ → Float
+float bits = ofBits binary64 bits
+
+-- 0.0 and 1.0
+abbrev pub nought : Float
+nought = float 0
+
+abbrev pub one : Float
+one = float 0x3ff0_0000_0000_0000
+
+abbrev pub isFinite : Float → Bool
+isFinite nan = false
+isFinite (inf s) = false
+isFinite (fin s m e) = true
+
+-- a probability: no NaN, and not above 1
+unfoldable pub isProbability : Float → Bool
+isProbability p = not (isNan p) && not (lt one p)
+
+-- a weight: not below zero, and finite (-0 passes)
+unfoldable pub isWeight : Float → Bool
+isWeight w = not (lt w nought) && isFinite w
+
+-- a total: above zero, and finite
+unfoldable pub isTotal : Float → Bool
+isTotal t = lt nought t && isFinite t

@@ -1,0 +1,119 @@
+-- The forms of the lines: the table of document 01, "The job", with a template for each kind of line. Assumes nothing.
+use Prim.Native.Nat.{ℕ}
+use Prim.Native.String.{String}
+use mathlib.Core.Bool.{Bool, cond, _&&_}
+use mathlib.Core.List.{List, [], _∷_}
+use mathlib.Core.Option.{Option, none, some}
+use lib.Dec.{eqb}
+use lib.ListN.{length, getD}
+use Rattle.pauli.specs.Gate.{Gate, gateOf}
+use Rattle.text.specs.Bytes.{bytes}
+use Rattle.text.specs.Template.{Value, valuesOf, numberAt, listAt}
+use Rattle.job.specs.declared.Header.{Header}
+use Rattle.job.specs.Line.{SparsePauli, Line}
+
+-- the kind of a noise line's distribution; the n elements of the last two stand on lines of their own
+pub data Kind : Type 0 where
+  single : SparsePauli → Kind
+  depolarizing : List ℕ → Kind
+  uniform : ℕ → Kind
+  weighted : ℕ → Kind
+
+pub record NoiseLine : Type 0 where
+  pub probability : ℕ
+  pub correlation : Option ℕ
+  pub outcomes : List ℕ
+  pub parity : Bool
+  pub kind : Kind
+
+-- what one line says
+pub data Written : Type 0 where
+  header : Header → Written
+  line : Line → Written
+  noise : NoiseLine → Written
+  -- an element line: its weight's bits, where it has a weight, and its Pauli
+  element : Option ℕ → SparsePauli → Written
+
+-- ---- from the values of a line to what it says; nothing where the line has not its form after all
+
+-- the Pauli whose lists are the i-th and the j-th of the line
+abbrev pub pauliAt : ℕ → ℕ → List Value → SparsePauli
+pauliAt i j v = record { x = listAt i v; z = listAt j v }
+
+abbrev pub isOne : ℕ → Bool
+isOne n = eqb n 1
+
+abbrev pub plain : Line → Option Written
+plain l = some (Written.line l)
+
+-- a gate code above 14 is no gate
+unfoldable pub unitaryLine : Option Gate → List ℕ → Option Written
+unitaryLine none qs = none
+unitaryLine (some g) qs = plain (Line.unitary g qs)
+
+-- a number, or none
+unfoldable pub optional : List ℕ → Option ℕ
+optional [] = none
+optional (c ∷ cs) = some c
+
+-- where the condition is none, the parity is 0. The numbers of the line are p and the parity, its lists corr and cond, before the kind's own.
+unfoldable pub noiseLine : Kind → List Value → Option Written
+noiseLine kind v =
+    cond (eqb (length (listAt 1 v)) 0 && isOne (numberAt 1 v)) none
+    (some (Written.noise record {
+      probability = numberAt 0 v;
+      correlation = optional (listAt 0 v);
+      outcomes = listAt 1 v;
+      parity = isOne (numberAt 1 v);
+      kind = kind;
+    }))
+
+-- ---- the forms
+
+-- a template, and what a line of that form says
+pub record Form : Type 0 where
+  pub template : List ℕ
+  pub says : List Value → Option Written
+
+abbrev pub form : String → (List Value → Option Written) → Form
+form template says = record { template = bytes template; says = says }
+
+unfoldable pub forms : List Form
+unfolding bytes
+forms =
+    form "op=job qubits=N outcomes=N shots=N" (λ v. some (Written.header record { qubits = numberAt 0 v; outcomes = numberAt 1 v; shots = numberAt 2 v }))
+    ∷ form "op=u g=N q=Q" (λ v. unitaryLine (gateOf (numberAt 0 v)) (listAt 0 v))
+    ∷ form "op=c q=Q t=H" (λ v. plain (Line.clifford (listAt 0 v) (numberAt 0 v)))
+    ∷ form "op=p x=L z=L" (λ v. plain (Line.pauli (pauliAt 0 1 v)))
+    ∷ form "op=e x=L z=L" (λ v. plain (Line.exponential (pauliAt 0 1 v)))
+    ∷ form "op=k x=L z=L u=L v=L" (λ v. plain (Line.controlled (pauliAt 0 1 v) (pauliAt 2 3 v)))
+    ∷ form "op=m s=Q q=Q" (λ v. plain (Line.permute (listAt 0 v) (listAt 1 v)))
+    ∷ form "op=o x=L z=L id=N" (λ v. plain (Line.measure (pauliAt 0 1 v) (numberAt 0 v)))
+    ∷ form "op=r id=N angle=B" (λ v. plain (Line.allocate (numberAt 0 v) (isOne (numberAt 1 v))))
+    ∷ form "op=f x=L z=L id=L parity=B" (λ v. plain (Line.conditional (pauliAt 0 1 v) (listAt 2 v) (isOne (numberAt 0 v))))
+    ∷ form "op=z q=N" (λ v. plain (Line.reset (numberAt 0 v ∷ [])))
+    ∷ form "op=i shot=N x=L z=L" (λ v. plain (Line.inject (numberAt 0 v) (pauliAt 0 1 v)))
+    ∷ form "op=t shot=N id=N" (λ v. plain (Line.flip (numberAt 0 v) (numberAt 1 v)))
+    ∷ form "op=n p=H corr=C cond=L parity=B d=1 x=L z=L" (λ v. noiseLine (Kind.single (pauliAt 2 3 v)) v)
+    ∷ form "op=n p=H corr=C cond=L parity=B d=2 q=Q" (λ v. noiseLine (Kind.depolarizing (listAt 2 v)) v)
+    ∷ form "op=n p=H corr=C cond=L parity=B d=3 n=N" (λ v. noiseLine (Kind.uniform (numberAt 2 v)) v)
+    ∷ form "op=n p=H corr=C cond=L parity=B d=4 n=N" (λ v. noiseLine (Kind.weighted (numberAt 2 v)) v)
+    ∷ form "x=L z=L" (λ v. some (Written.element none (pauliAt 0 1 v)))
+    ∷ form "w=H x=L z=L" (λ v. some (Written.element (some (numberAt 0 v)) (pauliAt 0 1 v)))
+    ∷ []
+
+unfoldable pub said : (List Value → Option Written) → Option (List Value) → Option Written
+said says none = none
+said says (some v) = says v
+
+unfoldable pub orLater : Option Written → Option Written → Option Written
+orLater none later = later
+orLater (some w) later = some w
+
+-- what a line says by the first form that it has
+unfoldable pub readBy : List Form → List ℕ → Option Written
+readBy [] l = none
+readBy (f ∷ fs) l = let later = readBy fs l in orLater (said (f .says) (valuesOf (f .template) l)) later
+
+unfoldable pub readLine : List ℕ → Option Written
+readLine l = readBy forms l
