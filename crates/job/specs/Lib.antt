@@ -1,8 +1,9 @@
 -- Definitions, to be believed, in document 01's order: lines and instructions, binary64, the Clifford table, the forms of lines, tests 2 to 12, and
--- the whole job with test 1.
+-- the whole job with test 1; and what calls reply.
 pub mod Line
 pub mod Float
 pub mod Clifford
 pub mod Grammar
 pub mod Checks
 pub mod Job
+pub mod Reply

@@ -2,7 +2,8 @@
 use mathlib.Core.Bool.{Bool}
 use mathlib.Core.List.{List}
 use mathlib.Core.Option.{Option}
-use Prim.Native.Nat.{ℕ}
+use Prim.Native.Nat.{ℕ, _-_, _^_}
+use lib.ListN.{length}
 use Rattle.pauli.specs.Bits.{members}
 use Rattle.pauli.specs.Pauli.{Pauli}
 use Rattle.pauli.specs.Gate.{Gate}
@@ -52,6 +53,13 @@ pub data Distribution : Type 0 where
   depolarizing : List ℕ → Distribution
   uniform : List SparsePauli → Distribution
   weighted : List WeightedPauli → Distribution
+
+-- the elements of a distribution in number: 1, 4^k - 1 or n
+unfoldable pub sizeOf : Distribution → ℕ
+sizeOf (Distribution.single P) = 1
+sizeOf (Distribution.depolarizing qs) = 4 ^ length qs - 1
+sizeOf (Distribution.uniform Ps) = length Ps
+sizeOf (Distribution.weighted es) = length es
 
 -- A noise line's probability (by its bits), correlation, condition (its outcomes, none where the list is empty, and their parity) and distribution.
 pub record Noise : Type 0 where

@@ -1,0 +1,4 @@
+-- Definitions, to be believed: what a noise line draws, settling on lists, and execution with the noise in place.
+pub mod Draws
+pub mod Settle
+pub mod Execute

@@ -1,0 +1,2 @@
+// So far this crate holds the definitions (specs/) of draws, of settling on lists and of execution.
+pub fn nothing() {}

@@ -1,0 +1,38 @@
+-- What the calls that write text, or that count, reply. Assumes nothing.
+use mathlib.Core.Bool.{Bool, _&&_}
+use mathlib.Core.List.{List, _++_}
+use Prim.Native.Nat.{ℕ}
+use lib.Dec.{leb}
+use lib.ListN.{length, drop}
+use Rattle.job.specs.declared.Answer.{Answer}
+use Rattle.job.specs.Job.{maxBytes, accepted}
+
+-- words or bytes put in front of what stands beyond them
+abbrev pub over : List ℕ → List ℕ → List ℕ
+over front old = front ++ drop (length front) old
+
+-- the answer, the byte figure, and the lent bytes after the call
+pub record TextReply : Type 0 where
+  pub answered : Answer
+  pub figure : ℕ
+  pub out : List ℕ
+
+-- a refusal with a figure of 0; all memory is untouched
+abbrev pub refusedText : Answer → List ℕ → TextReply
+refusedText a out = record { answered = a; figure = 0; out = out }
+
+-- whether a text fits the lent bytes and the limit (15)
+abbrev pub textFits : List ℕ → List ℕ → Bool
+textFits text out = leb (length text) (length out) && leb (length text) maxBytes
+
+-- the byte figure is what was written
+abbrev pub writtenText : List ℕ → List ℕ → TextReply
+writtenText text out = record { answered = accepted; figure = length text; out = over text out }
+
+-- the answer and the count
+pub record CountReply : Type 0 where
+  pub answered : Answer
+  pub count : ℕ
+
+abbrev pub refusedCount : Answer → CountReply
+refusedCount a = record { answered = a; count = 0 }

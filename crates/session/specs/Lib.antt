@@ -1,0 +1,2 @@
+-- Definitions, to be believed: the printed session.
+pub mod Session
