@@ -1,13 +1,14 @@
 -- What the lines do to the frame and the deltas of one shot, as in document 01, "Frames and lines". Assumes nothing.
 use mathlib.Core.Bool.{Bool}
 use mathlib.Core.List.{List, [], _∷_}
-use Prim.Native.Nat.{ℕ, suc, _+_, _*_, _/_, _%_, _^_}
+use Prim.Native.Nat.{ℕ, suc, _+_, _*_}
 use lib.Dec.{eqb}
 use lib.ListN.{length, getD}
 use Rattle.pauli.specs.Bits.{Bits, _∩_, _△_, none, only, given, added, members, parity}
 use Rattle.pauli.specs.Pauli.{Pauli, identity, X-at, Z-at, _∗_, when, anticommutes, cleared}
 use Rattle.pauli.specs.Gate.{conjugated}
 use Rattle.job.specs.Line.{SparsePauli, pauliOf, Line}
+use Rattle.job.specs.Clifford.{bit}
 
 -- ---- exponentials and controlled Paulis
 
@@ -26,10 +27,6 @@ pub record Image : Type 0 where
   pub qubit : ℕ
   pub of-X : Pauli
   pub of-Z : Pauli
-
--- bit j of t
-unfoldable pub bit : ℕ → ℕ → Bool
-bit t j = eqb (t / 2 ^ j % 2) 1
 
 -- the operands whose place has a true bit in the row
 unfoldable pub placed : Bits → List ℕ → Bits

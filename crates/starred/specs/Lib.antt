@@ -1,0 +1,3 @@
+-- The table of starred cases, and the theorem that it holds.
+pub mod Cases
+pub mod Theorem
