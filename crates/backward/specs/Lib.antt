@@ -2,3 +2,5 @@
 pub mod Walk
 pub mod Settling
 pub mod Walking
+-- Laws of these definitions.
+pub mod Laws

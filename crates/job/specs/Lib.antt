@@ -7,3 +7,4 @@ pub mod Grammar
 pub mod Checks
 pub mod Job
 pub mod Reply
+pub mod InRange
