@@ -1,9 +1,9 @@
--- For whole lists of lines: the deltas' sum over S after a run is what the walk of S counts (document 01, demand 3). Assumes nothing.
+-- Run and walk keep one sum: from line to line, and so over whole lists. Assumes nothing.
 use mathlib.Core.Path.{_≡_, refl, ap, _∙_}
 use mathlib.Core.Bool.{Bool, true, false, _&&_}
 use mathlib.Core.List.{List, [], _∷_}
 use Prim.Native.Nat.{ℕ, _<_}
-use Rattle.pauli.specs.Bits.{Bits, none, _⊕_, _∩_, _△_, given, added, members, parity, odd}
+use Rattle.pauli.specs.Bits.{Bits, _⊕_, _∩_, _△_, given, added, members, parity, odd}
 use Rattle.pauli.specs.Pauli.{Pauli, identity, _∗_, when, anticommutes}
 use Rattle.pauli.specs.Laws.F2.{f2}
 use Rattle.pauli.specs.Laws.Parity.{added-is, parity-△, parity-given, parity-none, parity-only, parity-△-right, parity-given-right}
@@ -11,7 +11,7 @@ use Rattle.pauli.specs.Laws.Pairing.{pairing, anti-comm, anti-cleared}
 use Rattle.job.specs.Line.{pauliOf, Line}
 use Rattle.job.specs.InRange.{InRange, AllInRange}
 use Rattle.frames.specs.Forward.{onFrame, State, Setting, forward, run, start}
-use Rattle.backward.specs.Walk.{Carried, onObservable, carry, counts, Walk, oneMore, backward, walkBack, walk}
+use Rattle.backward.specs.Walk.{Carried, onObservable, carry, counts, Walk, oneMore, backward, walkBack}
 use Rattle.backward.specs.Laws.Transpose.{Transpose, unitary-transpose, clifford-transpose, exponentiate-transpose, controlledPauli-transpose, permute-transpose}
 
 -- Whether the frame and the observable anticommute, plus the deltas' sum over the set.
@@ -47,13 +47,6 @@ module _ (n m : ℕ) (F B : Pauli) (D S : Bits) where
   flip-step : (b : Bool) (id : ℕ) → id < m
       → anticommutes n F B ⊕ parity m (added D id b ∩ S) ≡ anticommutes n F B ⊕ parity m (D ∩ S) ⊕ (b && S id)
   flip-step b id h = simp lines
-
--- at the end of the job the observable is the identity, at its start the frame is the identity and no delta is set
-at-end : (n m : ℕ) (F : Pauli) (D S : Bits) → parity m (D ∩ S) ≡ anticommutes n F identity ⊕ parity m (D ∩ S) ⊕ false
-at-end n m F D S = simp pairing
-
-at-start : (n m : ℕ) (B : Pauli) (S : Bits) (b : Bool) → anticommutes n identity B ⊕ parity m (none ∩ S) ⊕ b ≡ b
-at-start n m B S b = simp (pairing, parity-none)
 
 plus-false : (a : Bool) → a ≡ a ⊕ false
 plus-false a = simp f2
@@ -96,11 +89,13 @@ module _ (c : Setting) where
   run-walk [] h s w = refl
   run-walk (l ∷ ls) (h, hs) s w = run-walk ls hs (forward c l s) w ∙ forward-backward l h s (walkBack c ls w)
 
-  -- Demand 3: from the zero start, the deltas' sum over S is the parity of what the walk of S counts.
-  pub deltas-count : (ls : List Line) → AllInRange (c .qubits) (c .outcomes) ls → (S : Bits)
-      → parity (c .outcomes) ((run c ls start) .deltas ∩ S) ≡ odd ((walk c ls S) .count)
-  unfolding total paired start walk odd
-  deltas-count ls h S =
-      at-end _ _ _ _ S
-      ∙ run-walk ls h start (record { carried = record { observable = identity; outcomes = S }; count = 0 })
-      ∙ at-start _ _ _ _ _
+  -- with the frame and the deltas of the start
+  pub total-start : (w : Walk) → total c start w ≡ odd (w .count)
+  unfolding total paired start
+  total-start w = simp (pairing, parity-none)
+
+  -- with the identity as observable, and nothing counted
+  pub total-end : (s : State) (S : Bits)
+      → parity (c .outcomes) (s .deltas ∩ S) ≡ total c s (record { carried = record { observable = identity; outcomes = S }; count = 0 })
+  unfolding total paired odd
+  total-end s S = simp pairing

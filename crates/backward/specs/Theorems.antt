@@ -1,0 +1,55 @@
+-- Theorems about a shot's run and its walk, for whole lists of lines (document 01, demand 3). Assumes nothing.
+use mathlib.Core.Path.{_≡_, refl, sym, ap, _∙_}
+use mathlib.Core.Bool.{true, false}
+use mathlib.Core.List.{List}
+use Prim.Native.Nat.{ℕ, _≤_}
+use lib.Dec.{ltb}
+use borrow.Author.Tests.{le-ltb}
+use Rattle.pauli.specs.Bits.{Bits, _∩_, members, parity, odd}
+use Rattle.text.specs.List.{isRising}
+use Rattle.job.specs.Line.{Line}
+use Rattle.job.specs.InRange.{Below, AllInRange}
+use Rattle.frames.specs.Forward.{State, Setting, run, start}
+use Rattle.backward.specs.Walk.{Walk, walkBack, walk}
+use Rattle.backward.specs.Shot.{sumOver, restricted, within}
+use Rattle.backward.specs.Laws.Duality.{run-walk, total-start, total-end}
+use Rattle.backward.specs.Laws.Sums.{sumOver-members}
+use Rattle.backward.specs.Laws.Linear.{run-quiet}
+use Rattle.backward.specs.Laws.Shots.{run-restricted, walkBack-restricted, walkBack-quiet, same-carried}
+
+module _ (c : Setting) (ls : List Line) where
+  -- For every set S of outcomes, the sum of the shot's deltas over S is 1 where the walk of S counts an odd number, and else 0.
+  pub deltas-count : AllInRange (c .qubits) (c .outcomes) ls → (S : Bits)
+      → parity (c .outcomes) ((run c ls start) .deltas ∩ S) ≡ odd ((walk c ls S) .count)
+  unfolding walk
+  deltas-count h S = total-end c (run c ls start) S ∙ run-walk c ls h start _ ∙ total-start c (walk c ls S)
+
+  -- The same for a set that is given as a rising list.
+  pub listed-deltas-count : AllInRange (c .qubits) (c .outcomes) ls → (ids : List ℕ) → isRising ids ≡ true → Below (c .outcomes) ids
+      → sumOver ids ((run c ls start) .deltas) ≡ odd ((walk c ls (members ids)) .count)
+  listed-deltas-count h ids r k = sumOver-members (c .outcomes) _ ids r k ∙ deltas-count h (members ids)
+
+  -- A shot in which the lines have no injection and no flip keeps the identity frame and deltas of 0, and its walk counts nothing. With the shots below
+  -- some number as the set, this is why the bits past the last shot are 0.
+  pub quiet-run : (shots : Bits) → shots (c .shot) ≡ false → within shots ls ≡ true → run c ls start ≡ start
+  quiet-run shots off h = run-quiet c shots off ls h
+
+  pub quiet-walk : (shots : Bits) → shots (c .shot) ≡ false → within shots ls ≡ true → (S : Bits) → (walk c ls S) .count ≡ 0
+  unfolding walk
+  quiet-walk shots off h S = walkBack-quiet c shots off ls h _
+
+  pub padding : (shots : ℕ) → within (λ shot. ltb shot shots) ls ≡ true → shots ≤ c .shot → run c ls start ≡ start
+  padding shots h past = quiet-run (λ shot. ltb shot shots) (le-ltb (c .shot) shots past) h
+
+-- Two lists that differ only in injections and flips outside a set of shots do the same in each shot of the set, from any start.
+module _ (c : Setting) (shots : Bits) (on : shots (c .shot) ≡ true) (ks ls : List Line) (same : restricted shots ks ≡ restricted shots ls) where
+  pub shots-apart-run : (s : State) → run c ks s ≡ run c ls s
+  shots-apart-run s = sym (run-restricted c shots on ks s) ∙ ap (λ l. run c l s) same ∙ run-restricted c shots on ls s
+
+  pub shots-apart-walk : (w : Walk) → walkBack c ks w ≡ walkBack c ls w
+  shots-apart-walk w = sym (walkBack-restricted c shots on ks w) ∙ ap (λ l. walkBack c l w) same ∙ walkBack-restricted c shots on ls w
+
+-- What is carried back is the same for every shot.
+pub carried-any-shot : (c d : Setting) → c .qubits ≡ d .qubits → (ls : List Line) (S : Bits) → (walk c ls S) .carried ≡ (walk d ls S) .carried
+unfolding walk
+carried-any-shot c d q ls S = same-carried c d q ls _ _ refl
