@@ -1,15 +1,17 @@
 -- Theorems about a shot's run and its walk, for whole lists of lines (document 01, demand 3). Assumes nothing.
 use mathlib.Core.Path.{_≡_, refl, sym, ap, _∙_}
-use mathlib.Core.Bool.{true, false}
-use mathlib.Core.List.{List}
+use mathlib.Core.Bool.{true, false, true≢false}
+use mathlib.Core.List.{List, [], _∷_}
 use Prim.Native.Nat.{ℕ, _≤_}
 use lib.Dec.{ltb}
 use borrow.Author.Tests.{le-ltb}
-use Rattle.pauli.specs.Bits.{Bits, _∩_, members, parity, odd}
+use Rattle.pauli.specs.Bits.{Bits, none, only, given, replaced, added, outside, _⊕_, _∩_, _△_, members, parity, odd}
+use Rattle.pauli.specs.Pauli.{Pauli, identity, X-at, Z-at, _∗_, when, anticommutes, cleared}
+use Rattle.pauli.specs.Gate.{prepareBell, controlledX, swapXZ}
 use Rattle.text.specs.List.{isRising}
 use Rattle.job.specs.Line.{Line}
 use Rattle.job.specs.InRange.{Below, AllInRange}
-use Rattle.frames.specs.Forward.{State, Setting, run, start}
+use Rattle.frames.specs.Forward.{bit, placed, tableRow, imagesFrom, imagesOf, imageSum, transformed, State, Setting, run, start}
 use Rattle.backward.specs.Walk.{Walk, walkBack, walk}
 use Rattle.backward.specs.Shot.{sumOver, restricted, within}
 use Rattle.backward.specs.Laws.Duality.{run-walk, total-start, total-end}
@@ -53,3 +55,18 @@ module _ (c : Setting) (shots : Bits) (on : shots (c .shot) ≡ true) (ks ls : L
 pub carried-any-shot : (c d : Setting) → c .qubits ≡ d .qubits → (ls : List Line) (S : Bits) → (walk c ls S) .carried ≡ (walk d ls S) .carried
 unfolding walk
 carried-any-shot c d q ls S = same-carried c d q ls _ _ refl
+
+-- ---- plausible and false, as document 01 has it: each is refuted by one frame and one observable
+
+-- PrepareBell walked forwards: Z on the first, and Z on the second.
+pub bell-forwards-fails : ((F B : Pauli) → anticommutes 2 (prepareBell 0 1 F) B ≡ anticommutes 2 F (prepareBell 0 1 B)) → ⊥
+unfolding anticommutes prepareBell controlledX swapXZ added replaced Z-at only none _∩_ _⊕_ parity
+bell-forwards-fails h = true≢false (h (Z-at 0) (Z-at 1))
+
+-- The untransposed table: for the Clifford that takes X to Y and Z to X (t is 7), X and Z.
+abbrev pub turned : Pauli → Pauli
+turned = transformed (0 ∷ []) (imagesOf (0 ∷ []) 7)
+
+pub untransposed-fails : ((F B : Pauli) → anticommutes 1 (turned F) B ≡ anticommutes 1 F (turned B)) → ⊥
+unfolding anticommutes transformed imagesOf imagesFrom tableRow placed bit imageSum cleared outside identity when given X-at Z-at only none _∗_ _△_ _∩_ _⊕_ parity
+untransposed-fails h = true≢false (h (X-at 0) (Z-at 0))

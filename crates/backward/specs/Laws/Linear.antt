@@ -1,18 +1,17 @@
 -- Lines without a fault in the shot are linear in frame and deltas; so a shot without faults stays at its start. Assumes nothing.
 use mathlib.Core.Path.{_≡_, refl, sym, ap, _∙_, fun-ext}
-use mathlib.Core.Bool.{Bool, true, false, not, not-eq-not, and-eq-true-iff}
+use mathlib.Core.Bool.{Bool, true, false, cond, not, not-eq-not, and-eq-true-iff}
 use mathlib.Core.List.{List, [], _∷_}
 use Prim.Native.Nat.{ℕ}
 use lib.Dec.{eqb}
 use borrow.Author.Tests.{ne-eqb}
-use Rattle.pauli.specs.Bits.{Bits, _⊕_, _△_, _∩_, added, members, parity}
+use Rattle.pauli.specs.Bits.{Bits, _⊕_, _△_, _∩_, replaced, added, members, parity}
 use Rattle.pauli.specs.Pauli.{Pauli, _∗_, when, anticommutes, cleared}
-use Rattle.pauli.specs.Gate.{Gate, gateWith, prepareBell, conjugated}
-use Rattle.pauli.specs.Laws.F2.{f2}
+use Rattle.pauli.specs.Gate.{Gate, swapXZ, addXtoZ, addZtoX, controlledX, controlledZ, exchanged, swapRows, gateWith, prepareBell, conjugated}
 use Rattle.pauli.specs.Laws.Parity.{bitwise, added-is, parity-△}
 use Rattle.pauli.specs.Laws.Pairing.{anti-∗}
-use Rattle.pauli.specs.Laws.Gates.{pauli-path, swapXZ-is, addXtoZ-is, addZtoX-is, controlledX-is, controlledZ-is, swapRows-is}
-use Rattle.pauli.specs.Laws.Group.{group, ∗-self, when-∗, when-⊕}
+use Rattle.pauli.specs.Laws.Gates.{pauli-path}
+use Rattle.pauli.specs.Laws.Group.{group, ∗-self, when-⊕}
 use Rattle.job.specs.Line.{pauliOf, Line}
 use Rattle.frames.specs.Forward.{exponentiate, controlledPauli, Image, imageSum, imagesOf, placesOf, transformed, State, Setting, onFrame, forward, run, start}
 use Rattle.backward.specs.Shot.{concerns, within}
@@ -20,6 +19,71 @@ use Rattle.backward.specs.Shot.{concerns, within}
 -- f keeps products
 abbrev Linear : (Pauli → Pauli) → Type 0
 Linear f = (F G : Pauli) → f (F ∗ G) ≡ f F ∗ f G
+
+-- ---- gates
+
+-- a bit put, or added, at q
+module _ (s t : Bits) (q : ℕ) (a b : Bool) where
+  replaced-linear : replaced (s △ t) q (a ⊕ b) ≡ replaced s q a △ replaced t q b
+  unfolding replaced _△_
+  replaced-linear = fun-ext (λ i. go i (eqb i q))
+    where
+      go : (i : ℕ) (e : Bool) → cond e (a ⊕ b) (s i ⊕ t i) ≡ cond e a (s i) ⊕ cond e b (t i)
+      go i true = refl
+      go i false = refl
+
+  added-linear : added (s △ t) q (a ⊕ b) ≡ added s q a △ added t q b
+  added-linear = simp added-is (fun-ext (λ i. simp bitwise))
+
+exchanged-linear : (a b : ℕ) (s t : Bits) → exchanged a b (s △ t) ≡ exchanged a b s △ exchanged a b t
+unfolding exchanged _△_
+exchanged-linear a b s t = ap (λ u. replaced u b (s a ⊕ t a)) (replaced-linear s t a (s b) (t b)) ∙ replaced-linear _ _ b (s a) (t a)
+
+swapXZ-linear : (q : ℕ) → Linear (swapXZ q)
+unfolding swapXZ _∗_ _△_
+swapXZ-linear q F G = pauli-path (replaced-linear (F .x) (G .x) q (F .z q) (G .z q)) (replaced-linear (F .z) (G .z) q (F .x q) (G .x q))
+
+addXtoZ-linear : (q : ℕ) → Linear (addXtoZ q)
+unfolding addXtoZ _∗_ _△_
+addXtoZ-linear q F G = pauli-path refl (added-linear (F .z) (G .z) q (F .x q) (G .x q))
+
+addZtoX-linear : (q : ℕ) → Linear (addZtoX q)
+unfolding addZtoX _∗_ _△_
+addZtoX-linear q F G = pauli-path (added-linear (F .x) (G .x) q (F .z q) (G .z q)) refl
+
+controlledX-linear : (a b : ℕ) → Linear (controlledX a b)
+unfolding controlledX _∗_ _△_
+controlledX-linear a b F G = pauli-path (added-linear (F .x) (G .x) b (F .x a) (G .x a)) (added-linear (F .z) (G .z) a (F .z b) (G .z b))
+
+controlledZ-linear : (a b : ℕ) → Linear (controlledZ a b)
+unfolding controlledZ _∗_ _△_
+controlledZ-linear a b F G =
+    pauli-path refl
+    (ap (λ u. added u a (F .x b ⊕ G .x b)) (added-linear (F .z) (G .z) b (F .x a) (G .x a)) ∙ added-linear _ _ a (F .x b) (G .x b))
+
+swapRows-linear : (a b : ℕ) → Linear (swapRows a b)
+unfolding swapRows _∗_
+swapRows-linear a b F G = pauli-path (exchanged-linear a b (F .x) (G .x)) (exchanged-linear a b (F .z) (G .z))
+
+gate-linear : (g : Gate) (a b : ℕ) → Linear (conjugated g a b)
+unfolding gateWith prepareBell
+gate-linear Gate.I a b F G = refl
+gate-linear Gate.X a b F G = refl
+gate-linear Gate.Y a b F G = refl
+gate-linear Gate.Z a b F G = refl
+gate-linear Gate.Hadamard a b F G = swapXZ-linear a F G
+gate-linear Gate.SqrtZ a b F G = addXtoZ-linear a F G
+gate-linear Gate.SqrtZInv a b F G = addXtoZ-linear a F G
+gate-linear Gate.SqrtX a b F G = addZtoX-linear a F G
+gate-linear Gate.SqrtXInv a b F G = addZtoX-linear a F G
+gate-linear Gate.SqrtY a b F G = swapXZ-linear a F G
+gate-linear Gate.SqrtYInv a b F G = swapXZ-linear a F G
+gate-linear Gate.ControlledX a b F G = controlledX-linear a b F G
+gate-linear Gate.ControlledZ a b F G = controlledZ-linear a b F G
+gate-linear Gate.Swap a b F G = swapRows-linear a b F G
+gate-linear Gate.PrepareBell a b F G = ap (controlledX a b) (swapXZ-linear a F G) ∙ controlledX-linear a b (swapXZ a F) (swapXZ a G)
+
+-- ---- the other actions on the frame
 
 ∗-x : (F G : Pauli) (q : ℕ) → (F ∗ G) .x q ≡ F .x q ⊕ G .x q
 unfolding _∗_ _△_
@@ -29,27 +93,7 @@ unfolding _∗_ _△_
 unfolding _∗_ _△_
 ∗-z F G q = refl
 
-ruleset linear = (f2, group, ∗-x, ∗-z, when-⊕, when-∗, anti-∗)
-
-ruleset gates = (linear, swapXZ-is, addXtoZ-is, addZtoX-is, controlledX-is, controlledZ-is, swapRows-is)
-
-gate-linear : (g : Gate) (a b : ℕ) → Linear (conjugated g a b)
-unfolding gateWith prepareBell
-gate-linear Gate.I a b F G = refl
-gate-linear Gate.X a b F G = refl
-gate-linear Gate.Y a b F G = refl
-gate-linear Gate.Z a b F G = refl
-gate-linear Gate.Hadamard a b F G = simp gates
-gate-linear Gate.SqrtZ a b F G = simp gates
-gate-linear Gate.SqrtZInv a b F G = simp gates
-gate-linear Gate.SqrtX a b F G = simp gates
-gate-linear Gate.SqrtXInv a b F G = simp gates
-gate-linear Gate.SqrtY a b F G = simp gates
-gate-linear Gate.SqrtYInv a b F G = simp gates
-gate-linear Gate.ControlledX a b F G = simp gates
-gate-linear Gate.ControlledZ a b F G = simp gates
-gate-linear Gate.Swap a b F G = simp gates
-gate-linear Gate.PrepareBell a b F G = simp gates
+ruleset linear = (group, when-⊕, anti-∗)
 
 cleared-linear : (qs : List ℕ) → Linear (cleared qs)
 unfolding cleared _∗_
@@ -77,9 +121,6 @@ unfolding controlledPauli
 controlledPauli-linear n C T F G = simp linear
 
 -- ---- frame and deltas together
-
-added-linear : (D E : Bits) (id : ℕ) (a b : Bool) → added (D △ E) id (a ⊕ b) ≡ added D id a △ added E id b
-added-linear D E id a b = simp added-is (fun-ext (λ i. simp bitwise))
 
 measure-linear : (n : ℕ) (F G : Pauli) (D E : Bits) (P : Pauli) (id : ℕ)
     → added (D △ E) id (anticommutes n (F ∗ G) P) ≡ added D id (anticommutes n F P) △ added E id (anticommutes n G P)
