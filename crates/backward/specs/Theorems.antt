@@ -8,6 +8,7 @@ use borrow.Author.Tests.{le-ltb}
 use Rattle.pauli.specs.Bits.{Bits, none, only, given, replaced, added, outside, _⊕_, _∩_, _△_, members, parity, odd}
 use Rattle.pauli.specs.Pauli.{Pauli, identity, X-at, Z-at, _∗_, when, anticommutes, cleared}
 use Rattle.pauli.specs.Gate.{prepareBell, controlledX, swapXZ}
+use Rattle.pauli.specs.Laws.Parity.{only-here}
 use Rattle.text.specs.List.{isRising}
 use Rattle.job.specs.Line.{Line}
 use Rattle.job.specs.InRange.{Below, AllInRange}
@@ -31,8 +32,14 @@ module _ (c : Setting) (ls : List Line) where
       → sumOver ids ((run c ls start) .deltas) ≡ odd ((walk c ls (members ids)) .count)
   listed-deltas-count h ids r k = sumOver-members (c .outcomes) _ ids r k ∙ deltas-count h (members ids)
 
-  -- A shot in which the lines have no injection and no flip keeps the identity frame and deltas of 0, and its walk counts nothing. With the shots below
-  -- some number as the set, this is why the bits past the last shot are 0.
+  -- A shot's run and walk, from any start, need no injection and no flip of other shots.
+  pub own-run : (s : State) → run c (restricted (only (c .shot)) ls) s ≡ run c ls s
+  own-run s = run-restricted c (only (c .shot)) (only-here (c .shot)) ls s
+
+  pub own-walk : (w : Walk) → walkBack c (restricted (only (c .shot)) ls) w ≡ walkBack c ls w
+  own-walk w = walkBack-restricted c (only (c .shot)) (only-here (c .shot)) ls w
+
+  -- If every injection and flip is in a shot of some set, a shot outside the set keeps the identity frame and deltas of 0, and its walk counts nothing.
   pub quiet-run : (shots : Bits) → shots (c .shot) ≡ false → within shots ls ≡ true → run c ls start ≡ start
   quiet-run shots off h = run-quiet c shots off ls h
 
@@ -40,6 +47,7 @@ module _ (c : Setting) (ls : List Line) where
   unfolding walk
   quiet-walk shots off h S = walkBack-quiet c shots off ls h _
 
+  -- The bits past the last shot are 0.
   pub padding : (shots : ℕ) → within (λ shot. ltb shot shots) ls ≡ true → shots ≤ c .shot → run c ls start ≡ start
   padding shots h past = quiet-run (λ shot. ltb shot shots) (le-ltb (c .shot) shots past) h
 

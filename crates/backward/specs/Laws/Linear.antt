@@ -1,4 +1,4 @@
--- Lines without a fault in the shot are linear in frame and deltas; so a shot without faults stays at its start. Assumes nothing.
+-- Lines without a fault (injection or flip) in the shot are linear in frame and deltas; so a shot without faults stays at its start. Assumes nothing.
 use mathlib.Core.Path.{_≡_, refl, sym, ap, _∙_, fun-ext}
 use mathlib.Core.Bool.{Bool, true, false, cond, not, not-eq-not, and-eq-true-iff}
 use mathlib.Core.List.{List, [], _∷_}

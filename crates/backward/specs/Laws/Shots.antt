@@ -1,4 +1,4 @@
--- A shot's run and walk do not notice the faults of other shots; what is carried back does not hang on the shot. Assumes nothing.
+-- A shot's run and walk do not notice the faults (injections and flips) of other shots; what is carried back does not hang on the shot. Assumes nothing.
 use mathlib.Core.Path.{_≡_, refl, sym, ap, ap₂, _∙_, fun-ext}
 use mathlib.Core.Bool.{Bool, true, false, cond, _&&_, true≢false, and-eq-true-iff}
 use mathlib.Core.List.{List, [], _∷_}
