@@ -4,4 +4,5 @@ pub mod Transpose
 pub mod Duality
 pub mod Sums
 pub mod Linear
-pub mod Shots
+pub mod RunShots
+pub mod WalkShots

@@ -6,19 +6,21 @@ use Prim.Native.Nat.{ℕ, _≤_}
 use lib.Dec.{ltb}
 use borrow.Author.Tests.{le-ltb}
 use Rattle.pauli.specs.Bits.{Bits, none, only, given, replaced, added, outside, _⊕_, _∩_, _△_, members, parity, odd}
-use Rattle.pauli.specs.Pauli.{Pauli, identity, X-at, Z-at, _∗_, when, anticommutes, cleared}
+use Rattle.pauli.specs.Pauli.{Pauli, identity, X-at, Y-at, Z-at, _∗_, when, anticommutes, cleared}
 use Rattle.pauli.specs.Gate.{prepareBell, controlledX, swapXZ}
 use Rattle.pauli.specs.Laws.Parity.{only-here}
 use Rattle.text.specs.List.{isRising}
 use Rattle.job.specs.Line.{Line}
-use Rattle.job.specs.InRange.{Below, AllInRange}
-use Rattle.frames.specs.Forward.{bit, placed, tableRow, imagesFrom, imagesOf, imageSum, transformed, State, Setting, run, start}
+use Rattle.job.specs.Checks.{allBelow}
+use Rattle.job.specs.InRange.{AllInRange}
+use Rattle.frames.specs.Forward.{imageSum, transformed, State, Setting, run, start}
 use Rattle.backward.specs.Walk.{Walk, walkBack, walk}
 use Rattle.backward.specs.Shot.{sumOver, restricted, within}
 use Rattle.backward.specs.Laws.Duality.{run-walk, total-start, total-end}
 use Rattle.backward.specs.Laws.Sums.{sumOver-members}
 use Rattle.backward.specs.Laws.Linear.{run-quiet}
-use Rattle.backward.specs.Laws.Shots.{run-restricted, walkBack-restricted, walkBack-quiet, same-carried}
+use Rattle.backward.specs.Laws.RunShots.{run-restricted}
+use Rattle.backward.specs.Laws.WalkShots.{walkBack-restricted, walkBack-quiet, same-carried}
 
 module _ (c : Setting) (ls : List Line) where
   -- For every set S of outcomes, the sum of the shot's deltas over S is 1 where the walk of S counts an odd number, and else 0.
@@ -28,7 +30,7 @@ module _ (c : Setting) (ls : List Line) where
   deltas-count h S = total-end c (run c ls start) S ∙ run-walk c ls h start _ ∙ total-start c (walk c ls S)
 
   -- The same for a set that is given as a rising list.
-  pub listed-deltas-count : AllInRange (c .qubits) (c .outcomes) ls → (ids : List ℕ) → isRising ids ≡ true → Below (c .outcomes) ids
+  pub listed-deltas-count : AllInRange (c .qubits) (c .outcomes) ls → (ids : List ℕ) → isRising ids ≡ true → allBelow (c .outcomes) ids ≡ true
       → sumOver ids ((run c ls start) .deltas) ≡ odd ((walk c ls (members ids)) .count)
   listed-deltas-count h ids r k = sumOver-members (c .outcomes) _ ids r k ∙ deltas-count h (members ids)
 
@@ -71,10 +73,10 @@ pub bell-forwards-fails : ((F B : Pauli) → anticommutes 2 (prepareBell 0 1 F) 
 unfolding anticommutes prepareBell controlledX swapXZ added replaced Z-at only none _∩_ _⊕_ parity
 bell-forwards-fails h = true≢false (h (Z-at 0) (Z-at 1))
 
--- The untransposed table: for the Clifford that takes X to Y and Z to X (t is 7), X and Z.
-abbrev pub turned : Pauli → Pauli
-turned = transformed (0 ∷ []) (imagesOf (0 ∷ []) 7)
+-- The untransposed table: for the Clifford that takes X to Y and Z to X, X and Z.
+abbrev pub cycled : Pauli → Pauli
+cycled = transformed (0 ∷ []) (record { qubit = 0; of-X = Y-at 0; of-Z = X-at 0 } ∷ [])
 
-pub untransposed-fails : ((F B : Pauli) → anticommutes 1 (turned F) B ≡ anticommutes 1 F (turned B)) → ⊥
-unfolding anticommutes transformed imagesOf imagesFrom tableRow placed bit imageSum cleared outside identity when given X-at Z-at only none _∗_ _△_ _∩_ _⊕_ parity
+pub untransposed-fails : ((F B : Pauli) → anticommutes 1 (cycled F) B ≡ anticommutes 1 F (cycled B)) → ⊥
+unfolding anticommutes transformed imageSum cleared outside identity when given X-at Y-at Z-at only none _∗_ _△_ _∩_ _⊕_ parity
 untransposed-fails h = true≢false (h (X-at 0) (Z-at 0))

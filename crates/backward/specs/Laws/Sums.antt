@@ -9,7 +9,7 @@ use borrow.Author.Tests.{ltb-true, ne-eqb}
 use Rattle.pauli.specs.Bits.{Bits, none, only, _⊕_, _∩_, _△_, outside, members, parity}
 use Rattle.pauli.specs.Laws.Parity.{at-or-off, parity-△-right, parity-only-right, parity-none-right}
 use Rattle.text.specs.List.{risesFrom, isRising}
-use Rattle.job.specs.InRange.{Below}
+use Rattle.job.specs.Checks.{allBelow}
 use Rattle.backward.specs.Shot.{sumOver}
 
 members-none : members [] ≡ none
@@ -36,8 +36,10 @@ rising-tail a [] r = refl
 rising-tail a (b ∷ l) r = ((and-eq-true-iff (ltb a b) (risesFrom b l)) .0 r) .1
 
 module _ (m : ℕ) (s : Bits) where
-  pub sumOver-members : (ids : List ℕ) → isRising ids ≡ true → Below m ids → sumOver ids s ≡ parity m (s ∩ members ids)
-  unfolding sumOver isRising
+  pub sumOver-members : (ids : List ℕ) → isRising ids ≡ true → allBelow m ids ≡ true → sumOver ids s ≡ parity m (s ∩ members ids)
+  unfolding sumOver isRising allBelow
   sumOver-members [] r h = rw members-none (sym (parity-none-right m s))
-  sumOver-members (a ∷ l) r (h, hs) =
-      rw (members-first a l (outside-rising a l a (omega arith) r)) (simp (parity-△-right, parity-only-right, sumOver-members l (rising-tail a l r) hs))
+  sumOver-members (a ∷ l) r h =
+      let (first, rest) = (and-eq-true-iff (ltb a m) (allBelow m l)) .0 h in
+      let below : a < m = ltb-true a m first in
+      rw (members-first a l (outside-rising a l a (omega arith) r)) (simp (parity-△-right, parity-only-right, sumOver-members l (rising-tail a l r) rest))

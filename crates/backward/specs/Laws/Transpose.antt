@@ -1,15 +1,18 @@
 -- What a line does to the observable going back is the transpose, under the commutation form, of what it does to a frame. Assumes nothing.
 use mathlib.Core.Path.{_≡_, refl, ap, ap₂, _∙_}
+use mathlib.Core.Bool.{true, and-eq-true-iff}
 use mathlib.Core.List.{List, [], _∷_, map}
 use Prim.Native.Nat.{ℕ, zero, suc, _<_}
 use native.Mathlib.Omega.{arith}
+use lib.Dec.{ltb}
 use lib.ListN.{getD}
+use borrow.Author.Tests.{ltb-true}
 use Rattle.pauli.specs.Pauli.{Pauli, X-at, Z-at, _∗_, when, anticommutes, cleared}
 use Rattle.pauli.specs.Gate.{Gate, swapXZ, addXtoZ, addZtoX, controlledX, controlledZ, swapRows, prepareBell, prepareBellBack, gateWith, conjugated, conjugatedBack}
 use Rattle.pauli.specs.Bits.{parity, _⊕_}
 use Rattle.pauli.specs.Laws.Pairing.{pairing, anti-comm, anti-cleared, anti-∗, anti-∗-right, anti-X-right, anti-Z-right}
 use Rattle.pauli.specs.Laws.Gates.{swapXZ-is, addXtoZ-is, addZtoX-is, controlledX-is, controlledZ-is, swapRows-is}
-use Rattle.job.specs.InRange.{Below}
+use Rattle.job.specs.Checks.{allBelow}
 use Rattle.frames.specs.Forward.{exponentiate, controlledPauli, Image, imagesFrom, imagesOf, imageSum, transformed, placesOf}
 use Rattle.backward.specs.Walk.{readings, cliffordBack, fetched, permuteBack}
 
@@ -21,6 +24,16 @@ Transpose n f g = (F B : Pauli) → anticommutes n (f F) B ≡ anticommutes n F 
 pub transpose-none : (f g : Pauli → Pauli) → Transpose 0 f g
 unfolding anticommutes parity _⊕_
 transpose-none f g F B = refl
+
+-- each number of the list is below n
+abbrev pub Below : ℕ → List ℕ → Type 0
+Below n [] = Unit {0}
+Below n (q ∷ qs) = (q < n) × Below n qs
+
+pub allBelow-below : (n : ℕ) (qs : List ℕ) → allBelow n qs ≡ true → Below n qs
+unfolding allBelow
+allBelow-below n [] h = tt
+allBelow-below n (q ∷ qs) h = let (first, rest) = (and-eq-true-iff (ltb q n) (allBelow n qs)) .0 h in (ltb-true q n first, allBelow-below n qs rest)
 
 -- every operand is below n, and so is the 0 that stands for one that is missing
 below-at : (n : ℕ) (qs : List ℕ) (i : ℕ) → 0 < n → Below n qs → getD qs i 0 < n
@@ -101,9 +114,9 @@ module _ (n : ℕ) where
   images-below qs t i [] h = tt
   images-below qs t i (q ∷ rest) (h, hs) = (h, images-below qs t (suc i) rest hs)
 
-  pub clifford-transpose : (qs : List ℕ) (t : ℕ) → Below n qs → Transpose n (transformed qs (imagesOf qs t)) (cliffordBack n qs (imagesOf qs t))
+  pub clifford-transpose : (qs : List ℕ) (t : ℕ) → allBelow n qs ≡ true → Transpose n (transformed qs (imagesOf qs t)) (cliffordBack n qs (imagesOf qs t))
   unfolding imagesOf
-  clifford-transpose qs t h = transformed-transpose qs (imagesOf qs t) (images-below qs t 0 qs h)
+  clifford-transpose qs t h = transformed-transpose qs (imagesOf qs t) (images-below qs t 0 qs (allBelow-below n qs h))
 
   places-below : (places s qs : List ℕ) → Below n qs → Below n (map qubitOf (placesOf places s qs))
   unfolding placesOf
@@ -129,11 +142,13 @@ module _ (n : ℕ) where
 
 -- ---- operands as a line lists them
 
-pub unitary-transpose : (n : ℕ) (g : Gate) (qs : List ℕ) → Below n qs
+pub unitary-transpose : (n : ℕ) (g : Gate) (qs : List ℕ) → allBelow n qs ≡ true
     → Transpose n (conjugated g (getD qs 0 0) (getD qs 1 0)) (conjugatedBack g (getD qs 0 0) (getD qs 1 0))
 unitary-transpose zero g qs h = transpose-none _ _
-unitary-transpose (suc n) g qs h = gate-transpose (suc n) g _ _ (below-at (suc n) qs 0 (omega arith) h) (below-at (suc n) qs 1 (omega arith) h)
+unitary-transpose (suc n) g qs h =
+    let below : Below (suc n) qs = allBelow-below (suc n) qs h in
+    gate-transpose (suc n) g _ _ (below-at (suc n) qs 0 (omega arith) below) (below-at (suc n) qs 1 (omega arith) below)
 
-pub permute-transpose : (n : ℕ) (s qs : List ℕ) → Below n qs → Transpose n (transformed qs (placesOf qs s qs)) (permuteBack s qs)
+pub permute-transpose : (n : ℕ) (s qs : List ℕ) → allBelow n qs ≡ true → Transpose n (transformed qs (placesOf qs s qs)) (permuteBack s qs)
 permute-transpose zero s qs h = transpose-none _ _
-permute-transpose (suc n) s qs h = permute-some (suc n) s qs (omega arith) h
+permute-transpose (suc n) s qs h = permute-some (suc n) s qs (omega arith) (allBelow-below (suc n) qs h)
