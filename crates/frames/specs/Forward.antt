@@ -4,11 +4,10 @@ use mathlib.Core.List.{List, [], _∷_}
 use Prim.Native.Nat.{ℕ, suc, _+_, _*_}
 use lib.Dec.{eqb}
 use lib.ListN.{length, getD}
-use Rattle.pauli.specs.Bits.{Bits, _∩_, _△_, none, only, given, added, members, parity}
+use Rattle.pauli.specs.Bits.{Bits, _∩_, _△_, none, only, given, added, members, parity, bit}
 use Rattle.pauli.specs.Pauli.{Pauli, identity, X-at, Z-at, _∗_, when, anticommutes, cleared}
 use Rattle.pauli.specs.Gate.{conjugated}
 use Rattle.job.specs.Line.{SparsePauli, pauliOf, Line}
-use Rattle.job.specs.Clifford.{bit}
 
 -- ---- exponentials and controlled Paulis
 

@@ -1,13 +1,9 @@
 -- The table of a Clifford on k qubits, for any k, by the places of its operands (test 7). Assumes nothing.
 use mathlib.Core.Bool.{Bool, true, not, _&&_, _||_}
-use Prim.Native.Nat.{ℕ, zero, suc, _+_, _*_, _/_, _%_, _^_}
+use Prim.Native.Nat.{ℕ, zero, suc, _+_, _*_, _^_}
 use lib.Dec.{eqb, ltb}
-use Rattle.pauli.specs.Bits.{_⊕_}
+use Rattle.pauli.specs.Bits.{_⊕_, bit}
 use Rattle.pauli.specs.Pauli.{Pauli, anticommutes}
-
--- bit j of t
-unfoldable pub bit : ℕ → ℕ → Bool
-bit t j = eqb (t / 2 ^ j % 2) 1
 
 -- Row r of the table t, as a Pauli on the places 0 to k-1: bit 2k × r + c of t is at column c, columns X then Z.
 unfoldable pub rowOver : ℕ → ℕ → ℕ → Pauli

@@ -1,3 +1,2 @@
--- Definitions, to be believed: bits in words, and the reply of a run.
-pub mod Words
+-- Definitions, to be believed: the reply of a run.
 pub mod Run

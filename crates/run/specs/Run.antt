@@ -13,7 +13,7 @@ use Rattle.frames.specs.Forward.{Setting, State, start}
 use Rattle.draws.specs.Draws.{Lent}
 use Rattle.draws.specs.Settle.{Settled, settle}
 use Rattle.draws.specs.Execute.{Ended, execute}
-use Rattle.run.specs.Words.{wordsPerRow, bitIn, pack}
+use Rattle.rows.specs.Words.{wordsPerRow, bitIn, pack}
 
 -- what a caller lends: the words of the frames' X and Z parts and of the deltas, as they are before the call; the noiseless bits; the two lists of
 -- draws and the base of the second

@@ -9,7 +9,7 @@ use Rattle.text.specs.Template.{Value, lineText}
 use Rattle.job.specs.declared.Header.{Header}
 use Rattle.job.specs.declared.Answer.{Answer}
 use Rattle.job.specs.Job.{answer, Job, jobOf, recordedIn, checkJob}
-use Rattle.run.specs.Words.{wordsPerRow, bitIn}
+use Rattle.rows.specs.Words.{wordsPerRow, bitIn}
 use Rattle.run.specs.Run.{Memory, RunReply, frameWords, outcomeWords, runReply}
 
 -- 65,536 bytes, 64 qubits, 256 outcomes, 64 shots at most

@@ -6,11 +6,11 @@ use Rattle.text.specs.Bytes.{bytes, until, extend, pieces, unlines}
 use Rattle.text.specs.List.{withFirst, numbersOf, listQ, risesFrom, isRising, onlyRising, listL, oneMember, listC, commas, listText}
 use Rattle.text.specs.Number.{allDecimal, decimalFrom, numberOf, allHex, hexFrom, hexOf, bitOf, decimalDigits, hexDigits}
 use Rattle.text.specs.Template.{aNumber, aList, valueOf, andThen, sameByte, atEnd, valuesOf, numbersIn, listsIn, valueText, firstText, lineText}
-use Rattle.pauli.specs.Bits.{_⊕_, none, only, _∩_, _△_, given, replaced, added, outside, members, parity, odd}
+use Rattle.pauli.specs.Bits.{_⊕_, none, only, _∩_, _△_, given, replaced, added, outside, members, parity, odd, bit}
 use Rattle.pauli.specs.Gate.{gates, gateFrom, gateOf, operandsOf, swapXZ, addXtoZ, addZtoX, controlledX, controlledZ, exchanged, swapRows, prepareBell, prepareBellBack, gateWith}
 use Rattle.pauli.specs.Pauli.{identity, X-at, Z-at, Y-at, _∗_, when, anticommutes, cleared}
 use Rattle.job.specs.Checks.{noContext, elementsOf, firstTotal, nextTotal, records, next, allBelow, eachBelow, eachShort, distinct, isPermutation, sameWeight, expected, headerFits, lineTests, kindQubits, kindDistinct, elementsFit, noiseTests, weightFits, totalFits, ownTests, lowest, refusalOf}
-use Rattle.job.specs.Clifford.{bit, rowOver, every, generatorsAnticommute, isClifford}
+use Rattle.job.specs.Clifford.{rowOver, every, generatorsAnticommute, isClifford}
 use Rattle.job.specs.Float.{isProbability, isWeight, isTotal}
 use Rattle.job.specs.Grammar.{unitaryLine, optional, noiseLine, forms, said, orLater, readBy, readLine}
 use Rattle.job.specs.Job.{wellEnded, nextOf, checkLines, checkJob, distributionOf, noiseOf, weightOf, gather, gathered, headerOf, jobOfLines, recordedBy, recordedIn}
@@ -20,7 +20,7 @@ use Rattle.draws.specs.Draws.{unitOf, selected, inserted, rising, depolarizingE
 use Rattle.draws.specs.Execute.{thenInPlace, injectShots, injectNoise, onMain, executeOne, executeThen, execute}
 use Rattle.draws.specs.Settle.{injectText, injection, noiseStep, stepOf, prefixed, settleThen, settle, settledText}
 use Rattle.run.specs.Run.{enoughWords, spentReply, finalState, finishedReply, settledReply, runReply}
-use Rattle.run.specs.Words.{bitIn, wordOf, tabulated, pack}
+use Rattle.rows.specs.Words.{bitIn, wordOf, tabulated, pack}
 use Rattle.backward.specs.Settling.{settledAnswer, settleReply}
 use Rattle.backward.specs.Walk.{readings, cliffordBack, fetched, permuteBack, carry, counts, backward, walkBack, walk}
 use Rattle.backward.specs.Walking.{noiseFirst, firstNoise, lineFirst, plainLines, walkable, walkAnswer, walkReply}

@@ -5,7 +5,7 @@ use mathlib.Core.List.{List, [], _∷_}
 use Prim.Native.Nat.{ℕ, zero, suc, _+_, _*_, _/_, _%_}
 use lib.Dec.{ltb}
 use lib.ListN.{getD}
-use Rattle.job.specs.Clifford.{bit}
+use Rattle.pauli.specs.Bits.{bit}
 
 -- ceil(shots/64) words a row
 abbrev pub wordsPerRow : ℕ → ℕ

@@ -1,0 +1,2 @@
+-- Definitions, to be believed: bits in words.
+pub mod Words
