@@ -4,3 +4,6 @@ pub mod Parity
 pub mod Pairing
 pub mod Gates
 pub mod Group
+pub mod Word
+pub mod Set
+pub mod Code

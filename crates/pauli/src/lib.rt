@@ -1,2 +1,208 @@
-// So far this crate holds the definitions (specs/).
-pub fn nothing() {}
+// Qubits, outcomes and shots by their numbers, fixed sets of them, and Pauli operators up to their phase.
+mod sets;
+
+pub use sets::add_qubit;
+use sets::exchange;
+pub use sets::has_outcome;
+pub use sets::has_qubit;
+pub use sets::outcomes;
+pub use sets::put_qubit;
+pub use sets::qubits;
+pub use sets::sum_of_outcomes;
+pub use sets::sum_of_qubits;
+ghost use mathlib.Core.Path.{_≡_};
+ghost use mathlib.Core.List.{[], _∷_};
+ghost use Prim.Native.Nat.{_<_};
+ghost use Rattle.pauli.specs.Pauli.{_∗_ as _times_, identity as Pauli·identity, anticommutes as Pauli·anticommutes, cleared};
+ghost use Rattle.pauli.specs.Gate.{swapXZ, addXtoZ, addZtoX, controlledX, controlledZ, swapRows, prepareBell, prepareBellBack, gateOf};
+ghost use Rattle.pauli.specs.Code.{actionWith, operandCount};
+ghost use Rattle.pauli.specs.Words.{asPauli};
+
+// A qubit's number is never taken for an outcome's or a shot's.
+pub struct QubitId(pub usize);
+
+pub struct OutcomeId(pub usize);
+
+pub struct Shot(pub usize);
+
+// How many qubits each gate takes, by its code.
+const OPERANDS: [u8; 15] = [1, 1, 1, 1, 1, 1, 1, 1, 1, 1, 1, 2, 2, 2, 2];
+
+// How many qubits the gate of a code takes, and 0 above 14, where there is no gate.
+pub fn operands(gate: u64) -> u8
+    ensures { λ r. ⌜ r ≡ operandCount (gateOf gate) ⌝ }
+{
+    if 15 <= gate {
+        return 0;
+    }
+    let k = gate as usize;
+    OPERANDS[k]
+}
+
+// A Pauli operator up to its phase: the qubits with an X part, and those with a Z part. Y has both.
+pub struct Pauli {
+    pub x: [u64; 4],
+    pub z: [u64; 4],
+}
+
+impl Pauli {
+    pub fn identity() -> Pauli
+        ensures { λ r. ⌜ asPauli r ≡ Pauli·identity ⌝ }
+    {
+        Pauli {
+            x: [0u64; 4],
+            z: [0u64; 4],
+        }
+    }
+
+    // The product, up to its phase.
+    pub fn multiply(self, other: Pauli) -> Pauli
+        ensures { λ r. ⌜ asPauli r ≡ (asPauli self times asPauli other) ⌝ }
+    {
+        let x = self.x;
+        let z = self.z;
+        let other_x = other.x;
+        let other_z = other.z;
+        Pauli {
+            x: sum_of_qubits(x, other_x),
+            z: sum_of_qubits(z, other_z),
+        }
+    }
+
+    // Whether X parts of the first on Z parts of the second, plus the reverse, are odd in number.
+    // The four words of clashes are added first, so that ones are counted once.
+    pub fn anticommutes(self, other: Pauli) -> bool
+        ensures { λ r. ⌜ r ≡ Pauli·anticommutes 256 (asPauli self) (asPauli other) ⌝ }
+    {
+        let x = self.x;
+        let z = self.z;
+        let other_x = other.x;
+        let other_z = other.z;
+        let mut w: u64 = 0;
+        let mut i = 0;
+        while i < 4 {
+            w ^= (x[i] & other_z[i]) ^ (z[i] & other_x[i]);
+            i += 1;
+        }
+        u64::count_ones(w) % 2 == 1
+    }
+
+    // Without its parts on q.
+    pub fn clear_qubit(self, q: QubitId) -> Pauli
+        ensures { λ r. ⌜ asPauli r ≡ cleared (q .0 ∷ []) (asPauli self) ⌝ }
+    {
+        let x = self.x;
+        let z = self.z;
+        Pauli {
+            x: put_qubit(x, q, false),
+            z: put_qubit(z, q, false),
+        }
+    }
+
+    // X and Z part of q exchanged: Hadamard and SqrtY.
+    pub fn swap_parts(self, q: QubitId) -> Pauli
+        ensures { λ r. ⌜ asPauli r ≡ swapXZ (q .0) (asPauli self) ⌝ }
+    {
+        let x = self.x;
+        let z = self.z;
+        Pauli {
+            x: put_qubit(x, q, has_qubit(z, q)),
+            z: put_qubit(z, q, has_qubit(x, q)),
+        }
+    }
+
+    // SqrtZ.
+    pub fn add_x_to_z(self, q: QubitId) -> Pauli
+        ensures { λ r. ⌜ asPauli r ≡ addXtoZ (q .0) (asPauli self) ⌝ }
+    {
+        let x = self.x;
+        let z = self.z;
+        Pauli {
+            x,
+            z: add_qubit(z, q, has_qubit(x, q)),
+        }
+    }
+
+    // SqrtX.
+    pub fn add_z_to_x(self, q: QubitId) -> Pauli
+        ensures { λ r. ⌜ asPauli r ≡ addZtoX (q .0) (asPauli self) ⌝ }
+    {
+        let x = self.x;
+        let z = self.z;
+        Pauli {
+            x: add_qubit(x, q, has_qubit(z, q)),
+            z,
+        }
+    }
+
+    // ControlledX, with control a and target b: control X is added to target X, target Z to control Z.
+    pub fn controlled_x(self, a: QubitId, b: QubitId) -> Pauli
+        requires { ⌜ (a .0 < 256) × (b .0 < 256) ⌝ }
+        ensures { λ r. ⌜ asPauli r ≡ controlledX (a .0) (b .0) (asPauli self) ⌝ }
+    {
+        let x = self.x;
+        let z = self.z;
+        Pauli {
+            x: add_qubit(x, b, has_qubit(x, a)),
+            z: add_qubit(z, a, has_qubit(z, b)),
+        }
+    }
+
+    // ControlledZ: each X is added to the other's Z.
+    pub fn controlled_z(self, a: QubitId, b: QubitId) -> Pauli
+        requires { ⌜ (a .0 < 256) × (b .0 < 256) ⌝ }
+        ensures { λ r. ⌜ asPauli r ≡ controlledZ (a .0) (b .0) (asPauli self) ⌝ }
+    {
+        let x = self.x;
+        let z = self.z;
+        let with_b = add_qubit(z, b, has_qubit(x, a));
+        Pauli {
+            x,
+            z: add_qubit(with_b, a, has_qubit(x, b)),
+        }
+    }
+
+    // Swap: a and b exchanged.
+    pub fn swap(self, a: QubitId, b: QubitId) -> Pauli
+        requires { ⌜ (a .0 < 256) × (b .0 < 256) ⌝ }
+        ensures { λ r. ⌜ asPauli r ≡ swapRows (a .0) (b .0) (asPauli self) ⌝ }
+    {
+        let x = self.x;
+        let z = self.z;
+        Pauli {
+            x: exchange(x, a, b),
+            z: exchange(z, a, b),
+        }
+    }
+
+    // Conjugated by the gate of a code, on its operands a and b; a gate on one qubit takes no notice of b. A code above 14 has no gate.
+    pub fn conjugate(self, gate: u64, a: QubitId, b: QubitId) -> Pauli
+        requires { ⌜ (a .0 < 256) × (b .0 < 256) ⌝ }
+        ensures { λ r. ⌜ asPauli r ≡ actionWith prepareBell (gateOf gate) (a .0) (b .0) (asPauli self) ⌝ }
+    {
+        match gate {
+            0..=3 => self,
+            4 => self.swap_parts(a),
+            5..=6 => self.add_x_to_z(a),
+            7..=8 => self.add_z_to_x(a),
+            9..=10 => self.swap_parts(a),
+            11 => self.controlled_x(a, b),
+            12 => self.controlled_z(a, b),
+            13 => self.swap(a, b),
+            14 => self.swap_parts(a).controlled_x(a, b),
+            _ => self,
+        }
+    }
+
+    // The same going back: PrepareBell with its halves reversed, the others as forwards.
+    pub fn conjugate_back(self, gate: u64, a: QubitId, b: QubitId) -> Pauli
+        requires { ⌜ (a .0 < 256) × (b .0 < 256) ⌝ }
+        ensures { λ r. ⌜ asPauli r ≡ actionWith prepareBellBack (gateOf gate) (a .0) (b .0) (asPauli self) ⌝ }
+    {
+        match gate {
+            0..=13 => self.conjugate(gate, a, b),
+            14 => self.controlled_x(a, b).swap_parts(a),
+            _ => self,
+        }
+    }
+}

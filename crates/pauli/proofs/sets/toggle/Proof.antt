@@ -1,0 +1,30 @@
+-- `pauli::sets::toggle` meets its contract.
+use Prim.Native.Nat.{_%_}
+use native.Mathlib.Omega.{arith}
+use Rattle.pauli.specs.Laws.Word.{one-shl}
+use Rattle.pauli.specs.Laws.Set.{in-toggled}
+use borrow.Author.Needs.{needs}
+use Rattle.pauli.proofs.sets.toggle.Statement.{statement}
+use Rattle.pauli.proofs.sets.toggle.Tie as tie
+
+shl-set : tie.Need-shl-set
+shl-set c = search needs
+
+mul-set : tie.Need-mul-set
+mul-set c = search needs
+
+slice-read-set : tie.Need-slice-read-set
+slice-read-set c = search needs
+
+slice-write-set : tie.Need-slice-write-set
+slice-write-set c = search needs
+
+same-length : tie.Need-same-length
+same-length c = search needs
+
+returns : tie.Need-returns
+returns c = (search needs, rw (one-shl (c .before .args .q % 64) (omega arith)) (in-toggled (c .before .args .set .now) (c .before .args .q) (c .before .pre)))
+
+pub toggle-spec : {M : Type 1} → statement M
+toggle-spec =
+    tie.close (tie.spec shl-set mul-set slice-read-set slice-write-set same-length returns)

@@ -1,0 +1,142 @@
+-- Laws of the bits of a word. Assumes nothing.
+use mathlib.Core.Path.{_≡_, refl, sym, ap, _∙_, fun-ext}
+use mathlib.Core.Bool.{Bool, true, false, not, true≢false, _&&_}
+use Prim.Native.Nat.{ℕ, zero, suc, _+_, _-_, _*_, _/_, _%_, _^_, _<_, _≤_}
+use native.Mathlib.Omega.{arith}
+use native.Mathlib.Nat.{one-mul, mod-eq-of-lt, zero-div, div-eq-of-lt, div-self, lt-of-lt-of-le, mul-mod-left, pow-suc}
+use native.Mathlib.Numerals.{one-add, add-one}
+use native.Mathlib.Decide.{ℕ-discrete, decLt}
+use borrow.Author.Tests.{eq-eqb, ne-eqb}
+use lib.Dec.{eqb}
+use lib.Pow.{pow-lt, pow-pos, pow-add, pow-mono, shr-shr, shr-lt, shl-shr}
+use lib.Bits.{bitXor, bitAnd, xor-shr, xor-mod, and-shr, and-mod}
+use lib.Count.{ones, ones-step}
+use Rattle.pauli.specs.Bits.{Bits, _⊕_, parity}
+use Rattle.pauli.specs.Words.{bit}
+use Rattle.pauli.specs.Laws.F2.{f2}
+
+pub one-shl : (k : ℕ) → k < 64 → 1 * 2 ^ k % 2 ^ 64 ≡ 2 ^ k
+one-shl k h = rw one-mul (mod-eq-of-lt (pow-lt h))
+
+pub bit-is : (w k : ℕ) → bit w k ≡ eqb (w / 2 ^ k % 2) 1
+unfolding bit
+bit-is w k = refl
+
+pub bit-zero : (k : ℕ) → bit 0 k ≡ false
+unfolding bit
+bit-zero k = rw zero-div
+
+pub bit-shr : (w j k : ℕ) → bit (w / 2 ^ j) k ≡ bit w (j + k)
+unfolding bit
+bit-shr w j k = rw shr-shr
+
+-- ---- an operation on words that works bit by bit
+
+module _
+    (op : ℕ → ℕ → ℕ)
+    (f : Bool → Bool → Bool)
+    (op-shr : (a b k : ℕ) → op a b / 2 ^ k ≡ op (a / 2 ^ k) (b / 2 ^ k))
+    (op-mod : (a b k : ℕ) → op a b % 2 ^ k ≡ op (a % 2 ^ k) (b % 2 ^ k))
+    (e₀₀ : eqb (op 0 0) 1 ≡ f false false)
+    (e₀₁ : eqb (op 0 1) 1 ≡ f false true)
+    (e₁₀ : eqb (op 1 0) 1 ≡ f true false)
+    (e₁₁ : eqb (op 1 1) 1 ≡ f true true)
+  where
+    digits : (x y : ℕ) → x < 2 → y < 2 → eqb (op x y) 1 ≡ f (eqb x 1) (eqb y 1)
+    digits zero zero hx hy = e₀₀
+    digits zero (suc zero) hx hy = e₀₁
+    digits (suc zero) zero hx hy = e₁₀
+    digits (suc zero) (suc zero) hx hy = e₁₁
+    digits zero (suc (suc y)) hx hy = absurd (omega arith)
+    digits (suc zero) (suc (suc y)) hx hy = absurd (omega arith)
+    digits (suc (suc x)) y hx hy = absurd (omega arith)
+
+    bit-op : (a b k : ℕ) → bit (op a b) k ≡ f (bit a k) (bit b k)
+    unfolding bit
+    bit-op a b k = rw (op-shr, op-mod (a / 2 ^ k) (b / 2 ^ k) 1) (digits (a / 2 ^ k % 2) (b / 2 ^ k % 2) (omega arith) (omega arith))
+
+pub bit-xor : (a b k : ℕ) → bit (bitXor a b) k ≡ bit a k ⊕ bit b k
+unfolding _⊕_
+bit-xor = bit-op bitXor _⊕_ xor-shr xor-mod refl refl refl refl
+
+pub bit-and : (a b k : ℕ) → bit (bitAnd a b) k ≡ (bit a k && bit b k)
+bit-and = bit-op bitAnd _&&_ and-shr and-mod refl refl refl refl
+
+-- ---- a word below a power of two
+
+-- a word below 2 ^ j has no bit from j on
+pub bit-high : (w j k : ℕ) → w < 2 ^ j → j ≤ k → bit w k ≡ false
+unfolding bit
+bit-high w j k h le = rw (div-eq-of-lt (lt-of-lt-of-le h (pow-mono le)))
+
+-- the one bit of a power of two
+pub bit-pow : (j k : ℕ) → bit (2 ^ j) k ≡ eqb j k
+bit-pow j k = by-order (decLt j k) (decLt k j)
+  where
+    shifted : (i : ℕ) → bit (2 ^ (suc i + k)) k ≡ false
+    shifted i = bit-is (2 ^ (suc i + k)) k ∙ rw (pow-add 2 (suc i) k, shl-shr, pow-suc 2 i, mul-mod-left)
+
+    by-order : Dec (j < k) → Dec (k < j) → bit (2 ^ j) k ≡ eqb j k
+    by-order (yes h) _ = bit-high (2 ^ j) k k (pow-lt h) (omega arith) ∙ sym (ne-eqb j k (λ (e : j ≡ k). omega arith))
+    by-order (no h₁) (yes h₂) =
+        let e : j ≡ suc (j - suc k) + k = omega arith in
+        ap (λ m. bit (2 ^ m) k) e ∙ shifted (j - suc k) ∙ sym (ne-eqb j k (λ (e : j ≡ k). omega arith))
+    by-order (no h₁) (no h₂) =
+        let e : j ≡ k = omega arith in
+        rw e (bit-is (2 ^ k) k ∙ rw (div-self (pow-pos k)) (sym (eq-eqb k k refl)))
+
+-- ---- the parity of a word's bits is that of its count of ones
+
+parity-front : (n : ℕ) (s : Bits) → parity (suc n) s ≡ s 0 ⊕ parity n (λ i. s (suc i))
+unfolding parity
+parity-front zero s = refl
+parity-front (suc n) s = rw (parity-front n s) (simp f2)
+
+odd-plus : (d n : ℕ) → d < 2 → eqb ((d + n) % 2) 1 ≡ eqb d 1 ⊕ eqb (n % 2) 1
+unfolding _⊕_
+odd-plus zero n h = let e : 0 + n ≡ n = omega arith in rw e
+odd-plus (suc zero) n h = go (ℕ-discrete (n % 2) 1)
+  where
+    go : Dec (n % 2 ≡ 1) → eqb ((1 + n) % 2) 1 ≡ not (eqb (n % 2) 1)
+    go (yes e) = rw e (ne-eqb _ _ (λ (f : (1 + n) % 2 ≡ 1). omega arith))
+    go (no e) =
+        let f : (1 + n) % 2 ≡ 1 = omega (arith, e) in
+        rw (ne-eqb _ _ e) (eq-eqb _ _ f)
+odd-plus (suc (suc d)) n h = absurd (omega arith)
+
+pub parity-word : (k w : ℕ) → w < 2 ^ k → parity k (bit w) ≡ eqb (ones w % 2) 1
+unfolding parity
+parity-word zero w h = let z : w ≡ 0 = omega arith in rw z (unfold ones in refl)
+parity-word (suc k) w h =
+    let first : bit w 0 ≡ eqb (w % 2) 1 = bit-is w 0 ∙ last in
+    let rest : (λ i. bit w (suc i)) ≡ bit (w / 2) = fun-ext (λ i. sym (bit-shr w 1 i ∙ ap (bit w) (one-add i))) in
+    parity-front k (bit w)
+    ∙ rw (first, rest, ones-step w, odd-plus (w % 2) (ones (w / 2)) (omega arith), parity-word k (w / 2) (shr-lt k 1 (rw add-one h)))
+  where
+    last : eqb (w / 1 % 2) 1 ≡ eqb (w % 2) 1
+    last = let e : w / 1 ≡ w = omega arith in rw e
+
+-- ---- two words with the same bits are equal
+
+next : (w k : ℕ) → bit (w / 2) k ≡ bit w (suc k)
+next w k = bit-shr w 1 k ∙ ap (bit w) (one-add k)
+
+last-digit : (x y : ℕ) → x < 2 → y < 2 → eqb x 1 ≡ eqb y 1 → x ≡ y
+last-digit zero zero hx hy e = refl
+last-digit zero (suc zero) hx hy e = absurd (true≢false (sym e))
+last-digit (suc zero) zero hx hy e = absurd (true≢false e)
+last-digit (suc zero) (suc zero) hx hy e = refl
+last-digit zero (suc (suc y)) hx hy e = absurd (omega arith)
+last-digit (suc zero) (suc (suc y)) hx hy e = absurd (omega arith)
+last-digit (suc (suc x)) y hx hy e = absurd (omega arith)
+
+last-bit : (a b : ℕ) → bit a 0 ≡ bit b 0 → a % 2 ≡ b % 2
+unfolding bit
+last-bit a b e = let x : a / 1 % 2 ≡ b / 1 % 2 = last-digit (a / 1 % 2) (b / 1 % 2) (omega arith) (omega arith) e in omega arith
+
+pub same-bits : (j a b : ℕ) → a < 2 ^ j → b < 2 ^ j → ((k : ℕ) → k < j → bit a k ≡ bit b k) → a ≡ b
+same-bits zero a b ha hb e = omega arith
+same-bits (suc j) a b ha hb e =
+    let halves : a / 2 ≡ b / 2 = same-bits j (a / 2) (b / 2) (shr-lt j 1 (rw add-one ha)) (shr-lt j 1 (rw add-one hb)) (λ k h. next a k ∙ e (suc k) (omega arith) ∙ sym (next b k)) in
+    let last : a % 2 ≡ b % 2 = last-bit a b (e 0 (omega arith)) in
+    omega arith

@@ -1,0 +1,25 @@
+-- What words hold: a set has number q if bit q mod 64 of word q / 64 is 1; a Pauli is two such sets. Assumes nothing.
+use mathlib.Core.Bool.{Bool}
+use mathlib.Core.List.{List}
+use Prim.Native.Nat.{ℕ, _/_, _%_, _^_, _<_}
+use lib.Dec.{eqb}
+use lib.ListN.{length, getD}
+use Rattle.pauli.specs.declared.Pauli.{Pauli as Words}
+use Rattle.pauli.specs.Bits.{Bits}
+use Rattle.pauli.specs.Pauli.{Pauli}
+
+-- bit k of a word
+unfoldable pub bit : ℕ → ℕ → Bool
+bit w k = eqb (w / 2 ^ k % 2) 1
+
+-- the set that words hold
+unfoldable pub inSet : List ℕ → Bits
+inSet words q = bit (getD words (q / 64) 0) (q % 64)
+
+-- the Pauli that a struct of words holds
+unfoldable pub asPauli : Words → Pauli
+asPauli p = record { x = inSet (p .x); z = inSet (p .z) }
+
+-- each number of the list is below n
+pub record AllBelow (n : ℕ) (l : List ℕ) : Type 0 where
+  pub below : (i : ℕ) → i < length l → getD l i 0 < n

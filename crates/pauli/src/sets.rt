@@ -1,0 +1,156 @@
+// Fixed sets: 256 qubits in four words, 1,024 outcomes in sixteen. Number q is bit q mod 64 of word q / 64.
+//
+// One core over slices serves both widths. Outside this file a set is reached by QubitId or
+// OutcomeId, or by the list of numbers that a line holds. Every contract says the set as a
+// function from numbers to Bool, and nothing of words.
+use super::OutcomeId;
+use super::QubitId;
+ghost use mathlib.Core.Path.{_≡_};
+ghost use mathlib.Core.Bool.{true};
+ghost use Prim.Native.Nat.{_*_, _/_, _<_};
+ghost use lib.ListN.{length};
+ghost use Rattle.pauli.specs.Bits.{_△_, _∪_, replaced, added, members};
+ghost use Rattle.pauli.specs.Gate.{exchanged};
+ghost use Rattle.pauli.specs.Words.{inSet, AllBelow};
+
+// Whether q is in a set. A number past the last word is not.
+fn contains(set: &[u64], q: usize) -> bool
+    ensures { λ r. ⌜ r ≡ inSet (now (set .entry)) q ⌝ }
+{
+    let k = q / 64;
+    if set.len() <= k {
+        return false;
+    }
+    (set[k] >> (q % 64)) % 2 == 1
+}
+
+// Puts q into a set where it is not, and takes it out where it is.
+fn toggle(set: &mut [u64], q: usize)
+    requires { ⌜ q / 64 < length (now set) ⌝ }
+    ensures { λ _. ⌜ (length (now (set .exit)) ≡ length (now (set .entry))) × (inSet (now (set .exit)) ≡ added (inSet (now (set .entry))) q true) ⌝ }
+{
+    let k = q / 64;
+    set[k] ^= 1u64 << (q % 64);
+}
+
+// Adds a set of as many words to another: the symmetric difference.
+fn add_set(set: &mut [u64], other: &[u64])
+    requires { ⌜ length (now other) ≡ length (now set) ⌝ }
+    ensures { λ _. ⌜ (length (now (set .exit)) ≡ length (now (set .entry))) × (inSet (now (set .exit)) ≡ inSet (now (set .entry)) △ inSet (now (other .entry))) ⌝ }
+{
+    let mut j = 0;
+    while j < set.len() {
+        set[j] ^= other[j];
+        j += 1;
+    }
+}
+
+// Puts q into a set.
+fn insert(set: &mut [u64], q: usize)
+    requires { ⌜ q / 64 < length (now set) ⌝ }
+    ensures { λ _. ⌜ (length (now (set .exit)) ≡ length (now (set .entry))) × (inSet (now (set .exit)) ≡ replaced (inSet (now (set .entry))) q true) ⌝ }
+{
+    if contains(set, q) {
+        return;
+    }
+    toggle(set, q);
+}
+
+// Puts the listed numbers into a set.
+fn insert_all(set: &mut [u64], numbers: &[u64])
+    requires { ⌜ AllBelow (64 * length (now set)) (now numbers) ⌝ }
+    ensures { λ _. ⌜ (length (now (set .exit)) ≡ length (now (set .entry))) × (inSet (now (set .exit)) ≡ inSet (now (set .entry)) ∪ members (now (numbers .entry))) ⌝ }
+{
+    let mut i = 0;
+    while i < numbers.len() {
+        insert(set, numbers[i] as usize);
+        i += 1;
+    }
+}
+
+// The set of the listed qubits.
+pub fn qubits(numbers: &[u64]) -> [u64; 4]
+    requires { ⌜ AllBelow 256 (now numbers) ⌝ }
+    ensures { λ r. ⌜ inSet r ≡ members (now (numbers .entry)) ⌝ }
+{
+    let mut r = [0u64; 4];
+    insert_all(&mut r, numbers);
+    r
+}
+
+// The set of the listed outcomes.
+pub fn outcomes(numbers: &[u64]) -> [u64; 16]
+    requires { ⌜ AllBelow 1024 (now numbers) ⌝ }
+    ensures { λ r. ⌜ inSet r ≡ members (now (numbers .entry)) ⌝ }
+{
+    let mut r = [0u64; 16];
+    insert_all(&mut r, numbers);
+    r
+}
+
+// Whether a qubit is in a set.
+pub fn has_qubit(set: [u64; 4], q: QubitId) -> bool
+    ensures { λ r. ⌜ r ≡ inSet set (q .0) ⌝ }
+{
+    let q = q.0;
+    contains(&set, q)
+}
+
+// Whether an outcome is in a set.
+pub fn has_outcome(set: [u64; 16], id: OutcomeId) -> bool
+    ensures { λ r. ⌜ r ≡ inSet set (id .0) ⌝ }
+{
+    let id = id.0;
+    contains(&set, id)
+}
+
+// The sum of two sets of qubits.
+pub fn sum_of_qubits(a: [u64; 4], b: [u64; 4]) -> [u64; 4]
+    ensures { λ r. ⌜ inSet r ≡ inSet a △ inSet b ⌝ }
+{
+    let mut r = a;
+    add_set(&mut r, &b);
+    r
+}
+
+// The sum of two sets of outcomes.
+pub fn sum_of_outcomes(a: [u64; 16], b: [u64; 16]) -> [u64; 16]
+    ensures { λ r. ⌜ inSet r ≡ inSet a △ inSet b ⌝ }
+{
+    let mut r = a;
+    add_set(&mut r, &b);
+    r
+}
+
+// The set with b added to the bit of q.
+pub fn add_qubit(set: [u64; 4], q: QubitId, b: bool) -> [u64; 4]
+    requires { ⌜ (b ≡ true → q .0 < 256) ⌝ }
+    ensures { λ r. ⌜ inSet r ≡ added (inSet set) (q .0) b ⌝ }
+{
+    if !b {
+        return set;
+    }
+    let q = q.0;
+    let mut r = set;
+    toggle(&mut r, q);
+    r
+}
+
+// The set with b put for the bit of q: what the two differ by is added.
+pub fn put_qubit(set: [u64; 4], q: QubitId, b: bool) -> [u64; 4]
+    requires { ⌜ (b ≡ true → q .0 < 256) ⌝ }
+    ensures { λ r. ⌜ inSet r ≡ replaced (inSet set) (q .0) b ⌝ }
+{
+    let differs = has_qubit(set, q) != b;
+    add_qubit(set, q, differs)
+}
+
+// The set with the bits of a and b exchanged.
+pub fn exchange(set: [u64; 4], a: QubitId, b: QubitId) -> [u64; 4]
+    requires { ⌜ (a .0 < 256) × (b .0 < 256) ⌝ }
+    ensures { λ r. ⌜ inSet r ≡ exchanged (a .0) (b .0) (inSet set) ⌝ }
+{
+    let at_b = has_qubit(set, b);
+    let at_a = has_qubit(set, a);
+    put_qubit(put_qubit(set, a, at_b), b, at_a)
+}
