@@ -1,15 +1,15 @@
--- Gates by their codes: every code has an action and a count of operands, those above 14 too, which are no gates. Assumes nothing.
+-- Gates by their codes, also above 14, where no code has a gate. Assumes nothing.
 use mathlib.Core.Option.{Option, none, some}
 use Prim.Native.Nat.{ℕ}
 use Rattle.pauli.specs.Pauli.{Pauli}
-use Rattle.pauli.specs.Gate.{Gate, gateOf, operandsOf, gateWith}
+use Rattle.pauli.specs.Gate.{Gate, operandsOf}
 
--- the gate's action; no gate, no change
-unfoldable pub actionWith : (ℕ → ℕ → Pauli → Pauli) → Option Gate → ℕ → ℕ → Pauli → Pauli
-actionWith bell none a b F = F
-actionWith bell (some g) a b F = gateWith bell g a b F
+-- what a code's gate does; no gate, no change
+unfoldable pub byGate : (Gate → ℕ → ℕ → Pauli → Pauli) → Option Gate → ℕ → ℕ → Pauli → Pauli
+byGate action none a b F = F
+byGate action (some g) a b F = action g a b F
 
--- the gate's count of operands; no gate, 0
+-- how many qubits a code's gate takes; no gate, none
 unfoldable pub operandCount : Option Gate → ℕ
 operandCount none = 0
 operandCount (some g) = operandsOf g

@@ -1,9 +1,12 @@
--- Laws, for the proofs that cite them: sums mod 2, sets, the commutation of Paulis, gates as products, the group of Paulis. Nothing here has to be believed.
+-- Laws, for the proofs that cite them: sums mod 2, sets, the commutation of Paulis, gates as products, the group of Paulis; then words: their bits,
+-- parities, sets and Paulis in words, gates by code. Nothing here has to be believed.
 pub mod F2
 pub mod Parity
 pub mod Pairing
 pub mod Gates
 pub mod Group
 pub mod Word
+pub mod Parts
 pub mod Set
+pub mod Clash
 pub mod Code

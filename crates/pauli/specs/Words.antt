@@ -4,7 +4,7 @@ use mathlib.Core.List.{List}
 use Prim.Native.Nat.{ℕ, _/_, _%_, _^_, _<_}
 use lib.Dec.{eqb}
 use lib.ListN.{length, getD}
-use Rattle.pauli.specs.declared.Pauli.{Pauli as Words}
+use Rattle.pauli.specs.declared.Pauli.{Pauli as PauliWords}
 use Rattle.pauli.specs.Bits.{Bits}
 use Rattle.pauli.specs.Pauli.{Pauli}
 
@@ -17,7 +17,7 @@ unfoldable pub inSet : List ℕ → Bits
 inSet words q = bit (getD words (q / 64) 0) (q % 64)
 
 -- the Pauli that a struct of words holds
-unfoldable pub asPauli : Words → Pauli
+unfoldable pub asPauli : PauliWords → Pauli
 asPauli p = record { x = inSet (p .x); z = inSet (p .z) }
 
 -- each number of the list is below n

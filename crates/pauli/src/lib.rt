@@ -2,7 +2,6 @@
 mod sets;
 
 pub use sets::add_qubit;
-use sets::exchange;
 pub use sets::has_outcome;
 pub use sets::has_qubit;
 pub use sets::outcomes;
@@ -13,10 +12,11 @@ pub use sets::sum_of_qubits;
 ghost use mathlib.Core.Path.{_≡_};
 ghost use mathlib.Core.List.{[], _∷_};
 ghost use Prim.Native.Nat.{_<_};
+ghost use Rattle.pauli.specs.Bits.{members};
 ghost use Rattle.pauli.specs.Pauli.{_∗_ as _times_, identity as Pauli·identity, anticommutes as Pauli·anticommutes, cleared};
-ghost use Rattle.pauli.specs.Gate.{swapXZ, addXtoZ, addZtoX, controlledX, controlledZ, swapRows, prepareBell, prepareBellBack, gateOf};
-ghost use Rattle.pauli.specs.Code.{actionWith, operandCount};
-ghost use Rattle.pauli.specs.Words.{asPauli};
+ghost use Rattle.pauli.specs.Gate.{swapXZ, addXtoZ, addZtoX, controlledX, controlledZ, swapRows, gateOf, conjugated, conjugatedBack};
+ghost use Rattle.pauli.specs.Code.{byGate, operandCount};
+ghost use Rattle.pauli.specs.Words.{asPauli, AllBelow};
 
 // A qubit's number is never taken for an outcome's or a shot's.
 pub struct QubitId(pub usize);
@@ -52,6 +52,17 @@ impl Pauli {
         Pauli {
             x: [0u64; 4],
             z: [0u64; 4],
+        }
+    }
+
+    // The Pauli that a line writes: the qubits with an X part, and those with a Z part.
+    pub fn from_lists(x: &[u64], z: &[u64]) -> Pauli
+        requires { ⌜ AllBelow 256 (now x) × AllBelow 256 (now z) ⌝ }
+        ensures { λ r. ⌜ asPauli r ≡ record { x = members (now (x .entry)); z = members (now (z .entry)) } ⌝ }
+    {
+        Pauli {
+            x: qubits(x),
+            z: qubits(z),
         }
     }
 
@@ -170,15 +181,15 @@ impl Pauli {
         let x = self.x;
         let z = self.z;
         Pauli {
-            x: exchange(x, a, b),
-            z: exchange(z, a, b),
+            x: sets::exchange(x, a, b),
+            z: sets::exchange(z, a, b),
         }
     }
 
     // Conjugated by the gate of a code, on its operands a and b; a gate on one qubit takes no notice of b. A code above 14 has no gate.
     pub fn conjugate(self, gate: u64, a: QubitId, b: QubitId) -> Pauli
         requires { ⌜ (a .0 < 256) × (b .0 < 256) ⌝ }
-        ensures { λ r. ⌜ asPauli r ≡ actionWith prepareBell (gateOf gate) (a .0) (b .0) (asPauli self) ⌝ }
+        ensures { λ r. ⌜ asPauli r ≡ byGate conjugated (gateOf gate) (a .0) (b .0) (asPauli self) ⌝ }
     {
         match gate {
             0..=3 => self,
@@ -197,7 +208,7 @@ impl Pauli {
     // The same going back: PrepareBell with its halves reversed, the others as forwards.
     pub fn conjugate_back(self, gate: u64, a: QubitId, b: QubitId) -> Pauli
         requires { ⌜ (a .0 < 256) × (b .0 < 256) ⌝ }
-        ensures { λ r. ⌜ asPauli r ≡ actionWith prepareBellBack (gateOf gate) (a .0) (b .0) (asPauli self) ⌝ }
+        ensures { λ r. ⌜ asPauli r ≡ byGate conjugatedBack (gateOf gate) (a .0) (b .0) (asPauli self) ⌝ }
     {
         match gate {
             0..=13 => self.conjugate(gate, a, b),

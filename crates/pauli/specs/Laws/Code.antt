@@ -1,4 +1,4 @@
--- Laws over ranges of gate codes. Assumes nothing.
+-- Gates by ranges of their codes. Assumes nothing.
 use mathlib.Core.Path.{_≡_, refl, subst}
 use mathlib.Core.List.{List, [], _∷_}
 use mathlib.Core.Option.{none}
@@ -9,20 +9,24 @@ use native.Mathlib.Omega.{arith}
 use lib.ListN.{length}
 use Rattle.pauli.specs.Pauli.{Pauli}
 use Rattle.pauli.specs.Gate.{Gate, gates, gateFrom, gateOf, gateWith, swapXZ, addXtoZ, addZtoX}
-use Rattle.pauli.specs.Code.{actionWith}
+use Rattle.pauli.specs.Code.{byGate}
 
--- R holds at the n numbers from k on
-abbrev pub Each : (ℕ → Type 0) → ℕ → ℕ → Type 0
-Each R k zero = Unit
-Each R k (suc n) = R k × Each R (suc k) n
+-- ---- two functions with the same values over a range
 
-pub each-at : (R : ℕ → Type 0) (k n : ℕ) → Each R k n → (i : ℕ) → k ≤ i → i < k + n → R i
-each-at R k zero e i h g = absurd (omega arith)
-each-at R k (suc n) e i h g = go (ℕ-discrete k i) (each-at R (suc k) n (e .1) i)
+-- the values at the n numbers from k on, for antt to compute
+abbrev pub valuesFrom : {A : Type 0} → ℕ → ℕ → (ℕ → A) → List A
+valuesFrom k zero f = []
+valuesFrom k (suc n) f = f k ∷ valuesFrom (suc k) n f
+
+pub same-at : {A : Type 0} (f g : ℕ → A) (k n : ℕ) → valuesFrom k n f ≡ valuesFrom k n g → (i : ℕ) → k ≤ i → i < k + n → f i ≡ g i
+same-at f g k zero e i h l = absurd (omega arith)
+same-at f g k (suc n) e i h l = go (ℕ-discrete k i) (cc) (same-at f g (suc k) n (cc) i)
   where
-    go : Dec (k ≡ i) → (k < i → i < suc k + n → R i) → R i
-    go (yes p) later = subst R p (e .0)
-    go (no p) later = later (omega (arith, p)) (omega arith)
+    go : Dec (k ≡ i) → f k ≡ g k → (k < i → i < suc k + n → f i ≡ g i) → f i ≡ g i
+    go (yes p) here later = subst (λ (j : ℕ). f j ≡ g j) p here
+    go (no p) here later = later (omega (arith, p)) (omega arith)
+
+-- ---- codes
 
 from-none : (gs : List Gate) (code : ℕ) → length gs ≤ code → gateFrom gs code ≡ none
 unfolding gateFrom
@@ -35,32 +39,32 @@ pub gate-none : (code : ℕ) → 15 ≤ code → gateOf code ≡ none
 unfolding gateOf gates
 gate-none code h = from-none gates code h
 
--- what the gates of a range of codes do alike
 module _ (bell : ℕ → ℕ → Pauli → Pauli) (a b : ℕ) (P : Pauli) (code : ℕ) where
-  abbrev Makes : Pauli → ℕ → Type 0
-  Makes Q k = Q ≡ actionWith bell (gateOf k) a b P
+  -- what the gate of a code makes of P
+  abbrev made : ℕ → Pauli
+  made k = byGate (gateWith bell) (gateOf k) a b P
 
-  pub idle-makes : code ≤ 3 → P ≡ actionWith bell (gateOf code) a b P
-  unfolding actionWith gateWith gateOf gateFrom gates
-  idle-makes h = each-at (Makes P) 0 4 (search) code (omega arith) (omega arith)
+  pub idle-made : code ≤ 3 → P ≡ made code
+  unfolding byGate gateWith gateOf gateFrom gates
+  idle-made h = same-at (λ _. P) made 0 4 refl code (omega arith) (omega arith)
 
-  pub sqrtZ-makes : 5 ≤ code → code ≤ 6 → addXtoZ a P ≡ actionWith bell (gateOf code) a b P
-  unfolding actionWith gateWith gateOf gateFrom gates
-  sqrtZ-makes h g = each-at (Makes (addXtoZ a P)) 5 2 (search) code (omega arith) (omega arith)
+  pub sqrtZ-made : 5 ≤ code → code ≤ 6 → addXtoZ a P ≡ made code
+  unfolding byGate gateWith gateOf gateFrom gates
+  sqrtZ-made h l = same-at (λ _. addXtoZ a P) made 5 2 refl code (omega arith) (omega arith)
 
-  pub sqrtX-makes : 7 ≤ code → code ≤ 8 → addZtoX a P ≡ actionWith bell (gateOf code) a b P
-  unfolding actionWith gateWith gateOf gateFrom gates
-  sqrtX-makes h g = each-at (Makes (addZtoX a P)) 7 2 (search) code (omega arith) (omega arith)
+  pub sqrtX-made : 7 ≤ code → code ≤ 8 → addZtoX a P ≡ made code
+  unfolding byGate gateWith gateOf gateFrom gates
+  sqrtX-made h l = same-at (λ _. addZtoX a P) made 7 2 refl code (omega arith) (omega arith)
 
-  pub sqrtY-makes : 9 ≤ code → code ≤ 10 → swapXZ a P ≡ actionWith bell (gateOf code) a b P
-  unfolding actionWith gateWith gateOf gateFrom gates
-  sqrtY-makes h g = each-at (Makes (swapXZ a P)) 9 2 (search) code (omega arith) (omega arith)
+  pub sqrtY-made : 9 ≤ code → code ≤ 10 → swapXZ a P ≡ made code
+  unfolding byGate gateWith gateOf gateFrom gates
+  sqrtY-made h l = same-at (λ _. swapXZ a P) made 9 2 refl code (omega arith) (omega arith)
 
-  -- below PrepareBell, no gate minds what PrepareBell does
-  pub alike : (bell′ : ℕ → ℕ → Pauli → Pauli) → code ≤ 13 → actionWith bell (gateOf code) a b P ≡ actionWith bell′ (gateOf code) a b P
-  unfolding actionWith gateWith gateOf gateFrom gates
-  alike bell′ h = each-at (λ k. actionWith bell (gateOf k) a b P ≡ actionWith bell′ (gateOf k) a b P) 0 14 (search depth 20) code (omega arith) (omega arith)
+  pub none-made : 15 ≤ code → P ≡ made code
+  unfolding byGate
+  none-made h = rw (gate-none code h)
 
-  pub none-makes : 15 ≤ code → P ≡ actionWith bell (gateOf code) a b P
-  unfolding actionWith
-  none-makes h = rw (gate-none code h)
+  -- codes below PrepareBell's don't mind what PrepareBell does
+  pub alike : (bell′ : ℕ → ℕ → Pauli → Pauli) → code ≤ 13 → made code ≡ byGate (gateWith bell′) (gateOf code) a b P
+  unfolding byGate gateWith gateOf gateFrom gates
+  alike bell′ h = same-at made (λ k. byGate (gateWith bell′) (gateOf k) a b P) 0 14 refl code (omega arith) (omega arith)

@@ -1,9 +1,8 @@
--- Laws of sets in words: one number changed, a sum, the numbers of a list, and the overlap of two Paulis. Assumes nothing.
-use mathlib.Core.Path.{_≡_, refl, sym, ap, ap₂, _∙_, fun-ext}
+-- Laws of sets in words: one number changed, the numbers of a list put in, the sum of two sets. Assumes nothing.
+use mathlib.Core.Path.{_≡_, refl, sym, ap, _∙_, fun-ext}
 use mathlib.Core.Bool.{Bool, true, false, not, _&&_, _||_, cond, true≢false, Bool·beq}
 use mathlib.Core.List.{List, [], _∷_, _++_}
 use Prim.Native.Nat.{ℕ, zero, suc, _+_, _*_, _/_, _%_, _^_, _≤_, _<_}
-use native.Mathlib.Nat.{lt-of-le-of-lt}
 use native.Mathlib.Omega.{arith}
 use native.Mathlib.Numerals.{add-one}
 use native.Mathlib.Decide.{ℕ-discrete, decLt}
@@ -11,19 +10,16 @@ use borrow.Author.Tests.{eq-eqb, ne-eqb}
 use lib.Dec.{eqb}
 use lib.ListN.{length, getD, set, take, replicate, length-set, List·getD-eq-default}
 use lib.Seq.{getD-set-same, getD-set-other, take-suc}
-use lib.Bits.{bitXor, bitAnd, xor-lt, and-le-l}
-use lib.Count.{ones}
-use Rattle.pauli.specs.declared.Pauli.{Pauli as Words}
-use Rattle.pauli.specs.Bits.{Bits, _⊕_, _∩_, _∪_, _△_, none, replaced, added, outside, members, parity}
-use Rattle.pauli.specs.Pauli.{anticommutes}
-use Rattle.pauli.specs.Words.{bit, inSet, asPauli}
-use Rattle.pauli.specs.Laws.F2.{f2, ⊕-comm}
-use Rattle.pauli.specs.Laws.Parity.{bitwise, at-or-off, replaced-is, added-is}
-use Rattle.pauli.specs.Laws.Word.{bit-zero, bit-xor, bit-and, bit-pow, parity-word}
+use lib.Bits.{bitXor}
+use Rattle.pauli.specs.Bits.{Bits, _⊕_, _∩_, _∪_, _△_, none, replaced, added, outside, members}
+use Rattle.pauli.specs.Words.{bit, inSet}
+use Rattle.pauli.specs.Laws.F2.{f2}
+use Rattle.pauli.specs.Laws.Parity.{at-or-off, replaced-is, added-is}
+use Rattle.pauli.specs.Laws.Word.{bit-zero, bit-xor, bit-pow}
 
 -- ---- one number of a set
 
--- words without q hold no q: a number in a set is below its width
+-- a number in a set is below the set's width
 pub in-below : (s : List ℕ) (q : ℕ) → inSet s q ≡ true → q < 64 * length s
 unfolding inSet
 in-below s q h = by-order (decLt (q / 64) (length s))
@@ -79,11 +75,11 @@ pub replaced-added : (s : Bits) (q : ℕ) (b : Bool) → replaced s q b ≡ adde
 replaced-added s q b = replaced-is s q b ∙ sym (added-is s q (s q ⊕ b))
 
 -- so a number is put in by no change where it is there, and else by one
-pub inserted : (s : Bits) (q : ℕ) → s q ≡ true → s ≡ replaced s q true
-inserted s q h = added-false s q ∙ sym (replaced-added s q true ∙ rw h (simp f2))
+pub put-same : (s : Bits) (q : ℕ) → s q ≡ true → s ≡ replaced s q true
+put-same s q h = added-false s q ∙ sym (replaced-added s q true ∙ rw h (simp f2))
 
-pub inserted-new : (s : Bits) (q : ℕ) → s q ≡ false → added s q true ≡ replaced s q true
-inserted-new s q h = sym (replaced-added s q true ∙ rw h (simp f2))
+pub put-new : (s : Bits) (q : ℕ) → s q ≡ false → added s q true ≡ replaced s q true
+put-new s q h = sym (replaced-added s q true ∙ rw h (simp f2))
 
 pub differ-⊕ : (a b : Bool) → not (Bool·beq a b) ≡ a ⊕ b
 unfolding _⊕_
@@ -177,73 +173,3 @@ module _ (before other now : List ℕ) (j : ℕ) (s : Summed before other j now)
           let b : length before ≤ k = omega (arith, g) in
           let d : length other ≤ k = omega (arith, g) in
           rw (List·getD-eq-default now 0 a, List·getD-eq-default before 0 b, List·getD-eq-default other 0 d)
-
--- ---- the parity of the qubits at which two Paulis clash, word by word
-
-parity-plus : (m n : ℕ) (s : Bits) → parity (m + n) s ≡ parity m (λ k. s (n + k)) ⊕ parity n s
-unfolding parity
-parity-plus zero n s = let e : 0 + n ≡ n = omega arith in rw e (simp f2)
-parity-plus (suc m) n s =
-    let e : suc m + n ≡ suc (m + n) = omega arith in
-    let f : n + m ≡ m + n = omega arith in
-    rw (e, f) (ap (λ (b : Bool). s (m + n) ⊕ b) (parity-plus m n s) ∙ simp f2)
-
-parity-sum : (n : ℕ) (s t : Bits) → parity n (s △ t) ≡ parity n s ⊕ parity n t
-parity-sum zero s t = simp bitwise
-parity-sum (suc n) s t = simp (bitwise, parity-sum n s t)
-
-parity-empty : (n : ℕ) → parity n none ≡ false
-parity-empty zero = simp bitwise
-parity-empty (suc n) = simp (bitwise, parity-empty n)
-
-parity-same : (n : ℕ) (s t : Bits) → ((k : ℕ) → k < n → s k ≡ t k) → parity n s ≡ parity n t
-unfolding parity
-parity-same zero s t e = refl
-parity-same (suc n) s t e = ap₂ _⊕_ (e n (omega arith)) (parity-same n s t (λ k h. e k (omega arith)))
-
--- no member from n on: the members below n are all
-pub parity-within : (n m : ℕ) (s : Bits) → ((i : ℕ) → n ≤ i → s i ≡ false) → parity (m + n) s ≡ parity n s
-unfolding none
-parity-within n m s h =
-    let empty : (λ k. s (n + k)) ≡ none = fun-ext (λ k. h (n + k) (omega arith)) in
-    parity-plus m n s ∙ rw (empty, parity-empty m) (simp f2)
-
--- a further word: its bits are the next 64 numbers
-word-more : (s : Bits) (j w v : ℕ) → ((k : ℕ) → k < 64 → s (64 * j + k) ≡ bit v k)
-    → parity (64 * j) s ≡ parity 64 (bit w) → parity (64 * (j + 1)) s ≡ parity 64 (bit (bitXor w v))
-unfolding _△_
-word-more s j w v e ih =
-    let bits : bit (bitXor w v) ≡ bit w △ bit v = fun-ext (λ k. bit-xor w v k) in
-    let n : 64 * (j + 1) ≡ 64 + 64 * j = omega arith in
-    rw n
-    (parity-plus 64 (64 * j) s
-    ∙ ap₂ _⊕_ (parity-same 64 (λ k. s (64 * j + k)) (bit v) e) ih
-    ∙ ⊕-comm (parity 64 (bit v)) (parity 64 (bit w))
-    ∙ sym (ap (parity 64) bits ∙ parity-sum 64 (bit w) (bit v)))
-
--- the qubits at which two Paulis clash
-unfoldable pub clash : Words → Words → Bits
-clash p q = (inSet (p .x) ∩ inSet (q .z)) △ (inSet (p .z) ∩ inSet (q .x))
-
-pub clash-none : (p q : Words) → parity (64 * 0) (clash p q) ≡ parity 64 (bit 0)
-clash-none p q = let e : bit 0 ≡ none = fun-ext (λ k. unfold none in bit-zero k) in rw (e, parity-empty 64) (unfold parity in refl)
-
-pub clash-more : (p q : Words) (j w : ℕ) → parity (64 * j) (clash p q) ≡ parity 64 (bit w)
-    → parity (64 * (j + 1)) (clash p q)
-    ≡ parity 64 (bit (bitXor w (bitXor (bitAnd (getD (p .x) j 0) (getD (q .z) j 0)) (bitAnd (getD (p .z) j 0) (getD (q .x) j 0)))))
-unfolding clash _∩_ _△_ inSet
-clash-more p q j w ih = word-more (clash p q) j w _ at ih
-  where
-    at : (k : ℕ) → k < 64 → clash p q (64 * j + k) ≡ bit (bitXor (bitAnd (getD (p .x) j 0) (getD (q .z) j 0)) (bitAnd (getD (p .z) j 0) (getD (q .x) j 0))) k
-    at k h =
-        let word : (64 * j + k) / 64 ≡ j = omega arith in
-        let place : (64 * j + k) % 64 ≡ k = omega arith in
-        rw (word, place) (sym (bit-xor _ _ k ∙ ap₂ _⊕_ (bit-and _ _ k) (bit-and _ _ k)))
-
-pub clash-fits : (w x v z u : ℕ) → w < 2 ^ 64 → x < 2 ^ 64 → z < 2 ^ 64 → bitXor w (bitXor (bitAnd x v) (bitAnd z u)) < 2 ^ 64
-clash-fits w x v z u h hx hz =
-    xor-lt 64 w _ h (xor-lt 64 _ _ (lt-of-le-of-lt (and-le-l x v) hx) (lt-of-le-of-lt (and-le-l z u) hz))
-
-pub clash-all : (p q : Words) (j w : ℕ) → j ≡ 4 → w < 2 ^ 64 → parity (64 * j) (clash p q) ≡ parity 64 (bit w) → eqb (ones w % 2) 1 ≡ anticommutes 256 (asPauli p) (asPauli q)
-unfolding anticommutes asPauli clash
-clash-all p q j w e h f = sym (parity-word 64 w h) ∙ sym f ∙ rw e (parity-sum 256 _ _)

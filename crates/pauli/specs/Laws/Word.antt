@@ -1,19 +1,17 @@
 -- Laws of the bits of a word. Assumes nothing.
-use mathlib.Core.Path.{_≡_, refl, sym, ap, _∙_, fun-ext}
-use mathlib.Core.Bool.{Bool, true, false, not, true≢false, _&&_}
+use mathlib.Core.Path.{_≡_, refl, sym, ap, _∙_}
+use mathlib.Core.Bool.{Bool, true, false, true≢false, _&&_}
 use Prim.Native.Nat.{ℕ, zero, suc, _+_, _-_, _*_, _/_, _%_, _^_, _<_, _≤_}
 use native.Mathlib.Omega.{arith}
 use native.Mathlib.Nat.{one-mul, mod-eq-of-lt, zero-div, div-eq-of-lt, div-self, lt-of-lt-of-le, mul-mod-left, pow-suc}
 use native.Mathlib.Numerals.{one-add, add-one}
-use native.Mathlib.Decide.{ℕ-discrete, decLt}
+use native.Mathlib.Decide.{decLt}
 use borrow.Author.Tests.{eq-eqb, ne-eqb}
 use lib.Dec.{eqb}
 use lib.Pow.{pow-lt, pow-pos, pow-add, pow-mono, shr-shr, shr-lt, shl-shr}
 use lib.Bits.{bitXor, bitAnd, xor-shr, xor-mod, and-shr, and-mod}
-use lib.Count.{ones, ones-step}
-use Rattle.pauli.specs.Bits.{Bits, _⊕_, parity}
+use Rattle.pauli.specs.Bits.{_⊕_}
 use Rattle.pauli.specs.Words.{bit}
-use Rattle.pauli.specs.Laws.F2.{f2}
 
 pub one-shl : (k : ℕ) → k < 64 → 1 * 2 ^ k % 2 ^ 64 ≡ 2 ^ k
 one-shl k h = rw one-mul (mod-eq-of-lt (pow-lt h))
@@ -84,37 +82,6 @@ bit-pow j k = by-order (decLt j k) (decLt k j)
     by-order (no h₁) (no h₂) =
         let e : j ≡ k = omega arith in
         rw e (bit-is (2 ^ k) k ∙ rw (div-self (pow-pos k)) (sym (eq-eqb k k refl)))
-
--- ---- the parity of a word's bits is that of its count of ones
-
-parity-front : (n : ℕ) (s : Bits) → parity (suc n) s ≡ s 0 ⊕ parity n (λ i. s (suc i))
-unfolding parity
-parity-front zero s = refl
-parity-front (suc n) s = rw (parity-front n s) (simp f2)
-
-odd-plus : (d n : ℕ) → d < 2 → eqb ((d + n) % 2) 1 ≡ eqb d 1 ⊕ eqb (n % 2) 1
-unfolding _⊕_
-odd-plus zero n h = let e : 0 + n ≡ n = omega arith in rw e
-odd-plus (suc zero) n h = go (ℕ-discrete (n % 2) 1)
-  where
-    go : Dec (n % 2 ≡ 1) → eqb ((1 + n) % 2) 1 ≡ not (eqb (n % 2) 1)
-    go (yes e) = rw e (ne-eqb _ _ (λ (f : (1 + n) % 2 ≡ 1). omega arith))
-    go (no e) =
-        let f : (1 + n) % 2 ≡ 1 = omega (arith, e) in
-        rw (ne-eqb _ _ e) (eq-eqb _ _ f)
-odd-plus (suc (suc d)) n h = absurd (omega arith)
-
-pub parity-word : (k w : ℕ) → w < 2 ^ k → parity k (bit w) ≡ eqb (ones w % 2) 1
-unfolding parity
-parity-word zero w h = let z : w ≡ 0 = omega arith in rw z (unfold ones in refl)
-parity-word (suc k) w h =
-    let first : bit w 0 ≡ eqb (w % 2) 1 = bit-is w 0 ∙ last in
-    let rest : (λ i. bit w (suc i)) ≡ bit (w / 2) = fun-ext (λ i. sym (bit-shr w 1 i ∙ ap (bit w) (one-add i))) in
-    parity-front k (bit w)
-    ∙ rw (first, rest, ones-step w, odd-plus (w % 2) (ones (w / 2)) (omega arith), parity-word k (w / 2) (shr-lt k 1 (rw add-one h)))
-  where
-    last : eqb (w / 1 % 2) 1 ≡ eqb (w % 2) 1
-    last = let e : w / 1 ≡ w = omega arith in rw e
 
 -- ---- two words with the same bits are equal
 

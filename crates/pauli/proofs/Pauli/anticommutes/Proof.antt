@@ -7,7 +7,7 @@ use mir.Syntax.{w64}
 use mir.Val.{Fits}
 use Rattle.pauli.specs.Bits.{parity}
 use Rattle.pauli.specs.Words.{bit}
-use Rattle.pauli.specs.Laws.Set.{clash, clash-none, clash-fits, clash-more, clash-all}
+use Rattle.pauli.specs.Laws.Clash.{clash, clash-none, clash-fits, clash-more, clash-all}
 use borrow.Author.Needs.{needs}
 use Rattle.pauli.proofs.Pauli.anticommutes.Statement.{statement}
 use Rattle.pauli.proofs.Pauli.anticommutes.Tie as tie

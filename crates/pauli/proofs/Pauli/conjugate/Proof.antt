@@ -2,8 +2,8 @@
 use mathlib.Core.Path.{_∙_}
 use native.Mathlib.Omega.{arith}
 use Rattle.pauli.specs.Gate.{gates, gateFrom, gateOf, gateWith, prepareBell}
-use Rattle.pauli.specs.Code.{actionWith}
-use Rattle.pauli.specs.Laws.Code.{idle-makes, sqrtZ-makes, sqrtX-makes, sqrtY-makes, none-makes}
+use Rattle.pauli.specs.Code.{byGate}
+use Rattle.pauli.specs.Laws.Code.{idle-made, sqrtZ-made, sqrtX-made, sqrtY-made, none-made}
 use borrow.Author.Needs.{needs}
 use Rattle.pauli.proofs.Pauli.conjugate.Statement.{statement}
 use Rattle.pauli.proofs.Pauli.conjugate.Tie as tie
@@ -36,39 +36,39 @@ swap-parts-requires-3 : tie.Need-swap-parts-requires-3
 swap-parts-requires-3 c κs = search needs
 
 returns : tie.Need-returns
-unfolding actionWith gateWith gateOf gateFrom gates
+unfolding byGate gateWith gateOf gateFrom gates
 returns c = c .swap-parts .ensures ∙ rw (c .before .match .keys1)
 
 returns-2 : tie.Need-returns-2
-unfolding actionWith gateWith gateOf gateFrom gates
+unfolding byGate gateWith gateOf gateFrom gates
 returns-2 c = c .controlled-x .ensures ∙ rw (c .before .match .keys2)
 
 returns-3 : tie.Need-returns-3
-unfolding actionWith gateWith gateOf gateFrom gates
+unfolding byGate gateWith gateOf gateFrom gates
 returns-3 c = c .controlled-z .ensures ∙ rw (c .before .match .keys3)
 
 returns-4 : tie.Need-returns-4
-unfolding actionWith gateWith gateOf gateFrom gates
+unfolding byGate gateWith gateOf gateFrom gates
 returns-4 c = c .swap .ensures ∙ rw (c .before .match .keys4)
 
 returns-5 : tie.Need-returns-5
-unfolding actionWith gateWith gateOf gateFrom gates prepareBell
+unfolding byGate gateWith gateOf gateFrom gates prepareBell
 returns-5 c = c .controlled-x2 .ensures ∙ rw (c .before .swap-parts2 .ensures, c .before .before .match .keys5)
 
 returns-6 : tie.Need-returns-6
-returns-6 c = idle-makes prepareBell _ _ _ _ (omega arith)
+returns-6 c = idle-made prepareBell _ _ _ _ (omega arith)
 
 returns-7 : tie.Need-returns-7
-returns-7 c = c .add-x-to-z .ensures ∙ sqrtZ-makes prepareBell _ _ _ _ (omega arith) (omega arith)
+returns-7 c = c .add-x-to-z .ensures ∙ sqrtZ-made prepareBell _ _ _ _ (omega arith) (omega arith)
 
 returns-8 : tie.Need-returns-8
-returns-8 c = c .add-z-to-x .ensures ∙ sqrtX-makes prepareBell _ _ _ _ (omega arith) (omega arith)
+returns-8 c = c .add-z-to-x .ensures ∙ sqrtX-made prepareBell _ _ _ _ (omega arith) (omega arith)
 
 returns-9 : tie.Need-returns-9
-returns-9 c = c .swap-parts3 .ensures ∙ sqrtY-makes prepareBell _ _ _ _ (omega arith) (omega arith)
+returns-9 c = c .swap-parts3 .ensures ∙ sqrtY-made prepareBell _ _ _ _ (omega arith) (omega arith)
 
 returns-10 : tie.Need-returns-10
-returns-10 c = none-makes prepareBell _ _ _ _ (omega arith)
+returns-10 c = none-made prepareBell _ _ _ _ (omega arith)
 
 pub conjugate-spec : {M : Type 1} → statement M
 conjugate-spec =

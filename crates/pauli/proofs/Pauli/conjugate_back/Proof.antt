@@ -2,8 +2,8 @@
 use mathlib.Core.Path.{_∙_}
 use native.Mathlib.Omega.{arith}
 use Rattle.pauli.specs.Gate.{gates, gateFrom, gateOf, gateWith, prepareBell, prepareBellBack}
-use Rattle.pauli.specs.Code.{actionWith}
-use Rattle.pauli.specs.Laws.Code.{alike, none-makes}
+use Rattle.pauli.specs.Code.{byGate}
+use Rattle.pauli.specs.Laws.Code.{alike, none-made}
 use borrow.Author.Needs.{needs}
 use Rattle.pauli.proofs.Pauli.conjugate_back.Statement.{statement}
 use Rattle.pauli.proofs.Pauli.conjugate_back.Tie as tie
@@ -18,14 +18,14 @@ conjugate-requires : tie.Need-conjugate-requires
 conjugate-requires c κs = search needs
 
 returns : tie.Need-returns
-unfolding actionWith gateWith gateOf gateFrom gates prepareBellBack
+unfolding byGate gateWith gateOf gateFrom gates prepareBellBack
 returns c = c .swap-parts .ensures ∙ rw (c .before .controlled-x .ensures, c .before .before .match .keys1)
 
 returns-2 : tie.Need-returns-2
 returns-2 c = c .conjugate .ensures ∙ alike prepareBell _ _ _ _ prepareBellBack (omega arith)
 
 returns-3 : tie.Need-returns-3
-returns-3 c = none-makes prepareBellBack _ _ _ _ (omega arith)
+returns-3 c = none-made prepareBellBack _ _ _ _ (omega arith)
 
 pub conjugate-back-spec : {M : Type 1} → statement M
 conjugate-back-spec =

@@ -3,7 +3,6 @@ use Rattle.pauli.specs.Pauli.{identity}
 use Rattle.pauli.specs.Words.{asPauli}
 use Rattle.pauli.specs.Laws.Gates.{pauli-path}
 use Rattle.pauli.specs.Laws.Set.{in-none}
-use borrow.Author.Needs.{needs}
 use Rattle.pauli.proofs.Pauli.identity.Statement.{statement}
 use Rattle.pauli.proofs.Pauli.identity.Tie as tie
 
