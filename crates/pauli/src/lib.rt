@@ -16,7 +16,7 @@ ghost use Rattle.pauli.specs.Bits.{members};
 ghost use Rattle.pauli.specs.Pauli.{_∗_ as _times_, identity as Pauli·identity, anticommutes as Pauli·anticommutes, cleared};
 ghost use Rattle.pauli.specs.Gate.{swapXZ, addXtoZ, addZtoX, controlledX, controlledZ, swapRows, gateOf, conjugated, conjugatedBack};
 ghost use Rattle.pauli.specs.Code.{byGate, operandCount};
-ghost use Rattle.pauli.specs.Words.{asPauli, AllBelow};
+ghost use Rattle.pauli.specs.Fixed.{asPauli, AllBelow};
 
 // A qubit's number is never taken for an outcome's or a shot's.
 pub struct QubitId(pub usize);
@@ -122,7 +122,7 @@ impl Pauli {
         }
     }
 
-    // SqrtZ.
+    // The X part of q added to its Z part: SqrtZ.
     pub fn add_x_to_z(self, q: QubitId) -> Pauli
         ensures { λ r. ⌜ asPauli r ≡ addXtoZ (q .0) (asPauli self) ⌝ }
     {
@@ -134,7 +134,7 @@ impl Pauli {
         }
     }
 
-    // SqrtX.
+    // The Z part of q added to its X part: SqrtX.
     pub fn add_z_to_x(self, q: QubitId) -> Pauli
         ensures { λ r. ⌜ asPauli r ≡ addZtoX (q .0) (asPauli self) ⌝ }
     {
@@ -146,7 +146,8 @@ impl Pauli {
         }
     }
 
-    // ControlledX, with control a and target b: control X is added to target X, target Z to control Z.
+    // ControlledX: the X part of the control a is added to the target b's, the target's Z part to the
+    // control's.
     pub fn controlled_x(self, a: QubitId, b: QubitId) -> Pauli
         requires { ⌜ (a .0 < 256) × (b .0 < 256) ⌝ }
         ensures { λ r. ⌜ asPauli r ≡ controlledX (a .0) (b .0) (asPauli self) ⌝ }
@@ -159,7 +160,7 @@ impl Pauli {
         }
     }
 
-    // ControlledZ: each X is added to the other's Z.
+    // ControlledZ: each X part is added to the other's Z part.
     pub fn controlled_z(self, a: QubitId, b: QubitId) -> Pauli
         requires { ⌜ (a .0 < 256) × (b .0 < 256) ⌝ }
         ensures { λ r. ⌜ asPauli r ≡ controlledZ (a .0) (b .0) (asPauli self) ⌝ }
@@ -186,7 +187,8 @@ impl Pauli {
         }
     }
 
-    // Conjugated by the gate of a code, on its operands a and b; a gate on one qubit takes no notice of b. A code above 14 has no gate.
+    // Conjugated by the gate of a code on its operands a and b, of which a gate on one qubit has
+    // no b. A code above 14 has no gate and changes nothing.
     pub fn conjugate(self, gate: u64, a: QubitId, b: QubitId) -> Pauli
         requires { ⌜ (a .0 < 256) × (b .0 < 256) ⌝ }
         ensures { λ r. ⌜ asPauli r ≡ byGate conjugated (gateOf gate) (a .0) (b .0) (asPauli self) ⌝ }
@@ -205,7 +207,7 @@ impl Pauli {
         }
     }
 
-    // The same going back: PrepareBell with its halves reversed, the others as forwards.
+    // The same going back: PrepareBell with its halves reversed, the other gates as forwards.
     pub fn conjugate_back(self, gate: u64, a: QubitId, b: QubitId) -> Pauli
         requires { ⌜ (a .0 < 256) × (b .0 < 256) ⌝ }
         ensures { λ r. ⌜ asPauli r ≡ byGate conjugatedBack (gateOf gate) (a .0) (b .0) (asPauli self) ⌝ }

@@ -11,7 +11,7 @@ ghost use Prim.Native.Nat.{_*_, _/_, _<_};
 ghost use lib.ListN.{length};
 ghost use Rattle.pauli.specs.Bits.{_△_, _∪_, replaced, added, members};
 ghost use Rattle.pauli.specs.Gate.{exchanged};
-ghost use Rattle.pauli.specs.Words.{inSet, AllBelow};
+ghost use Rattle.pauli.specs.Fixed.{inSet, AllBelow};
 
 // Whether q is in a set. A number past the last word is not.
 fn contains(set: &[u64], q: usize) -> bool

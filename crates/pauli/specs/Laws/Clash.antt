@@ -8,9 +8,9 @@ use lib.ListN.{getD}
 use lib.Bits.{bitXor, bitAnd, xor-lt, and-le-l}
 use lib.Count.{ones}
 use Rattle.pauli.specs.declared.Pauli.{Pauli as PauliWords}
-use Rattle.pauli.specs.Bits.{Bits, _⊕_, _∩_, _△_, none, parity}
+use Rattle.pauli.specs.Bits.{Bits, _⊕_, _∩_, _△_, none, parity, bit}
 use Rattle.pauli.specs.Pauli.{anticommutes}
-use Rattle.pauli.specs.Words.{bit, inSet, asPauli}
+use Rattle.pauli.specs.Fixed.{inSet, asPauli}
 use Rattle.pauli.specs.Laws.Word.{bit-zero, bit-xor, bit-and}
 use Rattle.pauli.specs.Laws.Parts.{parity-sum, parity-empty, word-more, parity-word}
 
@@ -18,6 +18,7 @@ use Rattle.pauli.specs.Laws.Parts.{parity-sum, parity-empty, word-more, 
 unfoldable pub clash : PauliWords → PauliWords → Bits
 clash p q = (inSet (p .x) ∩ inSet (q .z)) △ (inSet (p .z) ∩ inSet (q .x))
 
+-- before the first word, after a further one, and after the last
 pub clash-none : (p q : PauliWords) → parity (64 * 0) (clash p q) ≡ parity 64 (bit 0)
 clash-none p q = let e : bit 0 ≡ none = fun-ext (λ k. unfold none in bit-zero k) in rw (e, parity-empty 64) (unfold parity in refl)
 
@@ -33,6 +34,7 @@ clash-more p q j w ih = word-more (clash p q) j w _ at ih
         let place : (64 * j + k) % 64 ≡ k = omega arith in
         rw (word, place) (sym (bit-xor _ _ k ∙ ap₂ _⊕_ (bit-and _ _ k) (bit-and _ _ k)))
 
+-- the sum of the words' clashes is a word
 pub clash-fits : (w x v z u : ℕ) → w < 2 ^ 64 → x < 2 ^ 64 → z < 2 ^ 64 → bitXor w (bitXor (bitAnd x v) (bitAnd z u)) < 2 ^ 64
 clash-fits w x v z u h hx hz =
     xor-lt 64 w _ h (xor-lt 64 _ _ (lt-of-le-of-lt (and-le-l x v) hx) (lt-of-le-of-lt (and-le-l z u) hz))

@@ -10,12 +10,12 @@ use lib.Dec.{eqb}
 use lib.Bits.{bitXor}
 use lib.Count.{ones, ones-step}
 use lib.Pow.{shr-lt}
-use Rattle.pauli.specs.Bits.{Bits, _⊕_, _△_, none, parity}
-use Rattle.pauli.specs.Words.{bit}
+use Rattle.pauli.specs.Bits.{Bits, _⊕_, _△_, none, parity, bit}
 use Rattle.pauli.specs.Laws.F2.{f2, ⊕-comm}
 use Rattle.pauli.specs.Laws.Parity.{bitwise}
 use Rattle.pauli.specs.Laws.Word.{bit-is, bit-shr, bit-xor}
 
+-- the numbers below n, and the m numbers from n on
 parity-plus : (m n : ℕ) (s : Bits) → parity (m + n) s ≡ parity m (λ k. s (n + k)) ⊕ parity n s
 unfolding parity
 parity-plus zero n s = let e : 0 + n ≡ n = omega arith in rw e (simp f2)
@@ -24,6 +24,7 @@ parity-plus (suc m) n s =
     let f : n + m ≡ m + n = omega arith in
     rw (e, f) (ap (λ (b : Bool). s (m + n) ⊕ b) (parity-plus m n s) ∙ simp f2)
 
+-- the sum of two sets
 pub parity-sum : (n : ℕ) (s t : Bits) → parity n (s △ t) ≡ parity n s ⊕ parity n t
 parity-sum zero s t = simp bitwise
 parity-sum (suc n) s t = simp (bitwise, parity-sum n s t)
@@ -44,7 +45,7 @@ parity-within n m s h =
     let empty : (λ k. s (n + k)) ≡ none = fun-ext (λ k. h (n + k) (omega arith)) in
     parity-plus m n s ∙ rw (empty, parity-empty m) (simp f2)
 
--- a further word: its bits are the next 64 numbers
+-- a further word: its bits are the set at the next 64 numbers
 pub word-more : (s : Bits) (j w v : ℕ) → ((k : ℕ) → k < 64 → s (64 * j + k) ≡ bit v k)
     → parity (64 * j) s ≡ parity 64 (bit w) → parity (64 * (j + 1)) s ≡ parity 64 (bit (bitXor w v))
 unfolding _△_
@@ -59,11 +60,13 @@ word-more s j w v e ih =
 
 -- ---- the parity of a word's bits is that of its count of ones
 
+-- 0, and the n numbers from 1 on
 parity-front : (n : ℕ) (s : Bits) → parity (suc n) s ≡ s 0 ⊕ parity n (λ i. s (suc i))
 unfolding parity
 parity-front zero s = refl
 parity-front (suc n) s = rw (parity-front n s) (simp f2)
 
+-- a digit and a number
 odd-plus : (d n : ℕ) → d < 2 → eqb ((d + n) % 2) 1 ≡ eqb d 1 ⊕ eqb (n % 2) 1
 unfolding _⊕_
 odd-plus zero n h = let e : 0 + n ≡ n = omega arith in rw e

@@ -11,8 +11,8 @@ use lib.Dec.{eqb}
 use lib.ListN.{length, getD, set, take, replicate, length-set, List·getD-eq-default}
 use lib.Seq.{getD-set-same, getD-set-other, take-suc}
 use lib.Bits.{bitXor}
-use Rattle.pauli.specs.Bits.{Bits, _⊕_, _∩_, _∪_, _△_, none, replaced, added, outside, members}
-use Rattle.pauli.specs.Words.{bit, inSet}
+use Rattle.pauli.specs.Bits.{Bits, _⊕_, _∩_, _∪_, _△_, none, replaced, added, outside, members, bit}
+use Rattle.pauli.specs.Fixed.{inSet}
 use Rattle.pauli.specs.Laws.F2.{f2}
 use Rattle.pauli.specs.Laws.Parity.{at-or-off, replaced-is, added-is}
 use Rattle.pauli.specs.Laws.Word.{bit-zero, bit-xor, bit-pow}
@@ -34,6 +34,7 @@ in-below s q h = by-order (decLt (q / 64) (length s))
 pub qubit-below : (s : List ℕ) (q : ℕ) (b : Bool) → length s ≡ 4 → b ≡ inSet s q → b ≡ true → q < 256
 qubit-below s q b l e t = let h = in-below s q (sym e ∙ t) in omega arith
 
+-- words of 0 hold no number
 pub in-none : (n : ℕ) → inSet (replicate n 0) ≡ none
 unfolding inSet none
 in-none n = fun-ext (λ i. go n (i / 64) (i % 64))
@@ -62,6 +63,7 @@ in-toggled s q h = fun-ext (λ i. go i (ℕ-discrete (i / 64) (q / 64)) (ℕ-dis
         rw (w, getD-set-same s (q / 64) (bitXor (getD s (q / 64) 0) (2 ^ (q % 64))) 0 h, ne-eqb i q e)
         (bit-xor (getD s (q / 64) 0) (2 ^ (q % 64)) (i % 64) ∙ rw (bit-pow (q % 64) (i % 64), ne-eqb _ _ d) (simp f2))
 
+-- to add false changes nothing
 pub added-false : (s : Bits) (q : ℕ) → s ≡ added s q false
 unfolding added
 added-false s q = fun-ext (λ i. go (s i) (eqb i q))
@@ -81,6 +83,7 @@ put-same s q h = added-false s q ∙ sym (replaced-added s q true ∙ rw h (simp
 pub put-new : (s : Bits) (q : ℕ) → s q ≡ false → added s q true ≡ replaced s q true
 put-new s q h = sym (replaced-added s q true ∙ rw h (simp f2))
 
+-- the code's test for two bits that differ is their sum
 pub differ-⊕ : (a b : Bool) → not (Bool·beq a b) ≡ a ⊕ b
 unfolding _⊕_
 differ-⊕ true true = refl
@@ -94,12 +97,14 @@ either true b d f g = f refl
 either false true d f g = g refl
 either false false d f g = absurd (true≢false (sym d))
 
+-- false put for the bit of q takes q out
 pub cleared-replaced : (s : Bits) (q : ℕ) → replaced s q false ≡ s ∩ outside (q ∷ [])
 unfolding replaced _∩_ outside
 cleared-replaced s q = fun-ext (at-or-off (λ i e. cond e false (s i) ≡ (s i && (not e && true))) q (simp f2) (λ i. simp f2))
 
 -- ---- the numbers of a list, put into a set one after the other
 
+-- a list with q at its end
 members-snoc : (l : List ℕ) (q i : ℕ) → members (l ++ q ∷ []) i ≡ cond (eqb i q) true (members l i)
 unfolding members outside
 members-snoc [] q i = go (eqb i q)
@@ -127,6 +132,7 @@ pub none-∪ : (s : Bits) → none ∪ s ≡ s
 unfolding _∪_ none
 none-∪ s = refl
 
+-- one number more of the list
 pub members-more : (s t : Bits) (l : List ℕ) (j : ℕ) → j < length l → t ≡ s ∪ members (take j l) → replaced t (getD l j 0) true ≡ s ∪ members (take (j + 1) l)
 unfolding _∪_ replaced
 members-more s t l j h e =

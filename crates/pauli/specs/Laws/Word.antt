@@ -10,12 +10,13 @@ use borrow.Author.Tests.{eq-eqb, ne-eqb}
 use lib.Dec.{eqb}
 use lib.Pow.{pow-lt, pow-pos, pow-add, pow-mono, shr-shr, shr-lt, shl-shr}
 use lib.Bits.{bitXor, bitAnd, xor-shr, xor-mod, and-shr, and-mod}
-use Rattle.pauli.specs.Bits.{_⊕_}
-use Rattle.pauli.specs.Words.{bit}
+use Rattle.pauli.specs.Bits.{_⊕_, bit}
 
+-- 1 shifted to place k of a word
 pub one-shl : (k : ℕ) → k < 64 → 1 * 2 ^ k % 2 ^ 64 ≡ 2 ^ k
 one-shl k h = rw one-mul (mod-eq-of-lt (pow-lt h))
 
+-- the definition, for simp and rw where it stays shut
 pub bit-is : (w k : ℕ) → bit w k ≡ eqb (w / 2 ^ k % 2) 1
 unfolding bit
 bit-is w k = refl
@@ -24,6 +25,7 @@ pub bit-zero : (k : ℕ) → bit 0 k ≡ false
 unfolding bit
 bit-zero k = rw zero-div
 
+-- the bits of a word shifted down
 pub bit-shr : (w j k : ℕ) → bit (w / 2 ^ j) k ≡ bit w (j + k)
 unfolding bit
 bit-shr w j k = rw shr-shr

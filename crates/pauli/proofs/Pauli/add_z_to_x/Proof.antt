@@ -1,7 +1,7 @@
 -- `pauli::Pauli::add_z_to_x` meets its contract.
 use mathlib.Core.Path.{refl}
 use Rattle.pauli.specs.Gate.{addZtoX}
-use Rattle.pauli.specs.Words.{asPauli}
+use Rattle.pauli.specs.Fixed.{asPauli}
 use Rattle.pauli.specs.Laws.Gates.{pauli-path}
 use Rattle.pauli.specs.Laws.Set.{qubit-below}
 use borrow.Author.Needs.{needs}

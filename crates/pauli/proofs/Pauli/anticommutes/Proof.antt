@@ -5,8 +5,7 @@ use native.Mathlib.Omega.{arith}
 use lib.ListN.{getD}
 use mir.Syntax.{w64}
 use mir.Val.{Fits}
-use Rattle.pauli.specs.Bits.{parity}
-use Rattle.pauli.specs.Words.{bit}
+use Rattle.pauli.specs.Bits.{parity, bit}
 use Rattle.pauli.specs.Laws.Clash.{clash, clash-none, clash-fits, clash-more, clash-all}
 use borrow.Author.Needs.{needs}
 use Rattle.pauli.proofs.Pauli.anticommutes.Statement.{statement}

@@ -1,6 +1,6 @@
 -- `pauli::Pauli::controlled_x` meets its contract.
 use Rattle.pauli.specs.Gate.{controlledX}
-use Rattle.pauli.specs.Words.{asPauli}
+use Rattle.pauli.specs.Fixed.{asPauli}
 use Rattle.pauli.specs.Laws.Gates.{pauli-path}
 use borrow.Author.Needs.{needs}
 use Rattle.pauli.proofs.Pauli.controlled_x.Statement.{statement}

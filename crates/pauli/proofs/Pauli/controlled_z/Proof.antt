@@ -1,7 +1,7 @@
 -- `pauli::Pauli::controlled_z` meets its contract.
 use mathlib.Core.Path.{refl}
 use Rattle.pauli.specs.Gate.{controlledZ}
-use Rattle.pauli.specs.Words.{asPauli}
+use Rattle.pauli.specs.Fixed.{asPauli}
 use Rattle.pauli.specs.Laws.Gates.{pauli-path}
 use borrow.Author.Needs.{needs}
 use Rattle.pauli.proofs.Pauli.controlled_z.Statement.{statement}

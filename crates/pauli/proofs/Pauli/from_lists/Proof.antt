@@ -1,5 +1,5 @@
 -- `pauli::Pauli::from_lists` meets its contract.
-use Rattle.pauli.specs.Words.{asPauli}
+use Rattle.pauli.specs.Fixed.{asPauli}
 use Rattle.pauli.specs.Laws.Gates.{pauli-path}
 use borrow.Author.Needs.{needs}
 use Rattle.pauli.proofs.Pauli.from_lists.Statement.{statement}

@@ -1,6 +1,6 @@
 -- `pauli::Pauli::identity` meets its contract.
 use Rattle.pauli.specs.Pauli.{identity}
-use Rattle.pauli.specs.Words.{asPauli}
+use Rattle.pauli.specs.Fixed.{asPauli}
 use Rattle.pauli.specs.Laws.Gates.{pauli-path}
 use Rattle.pauli.specs.Laws.Set.{in-none}
 use Rattle.pauli.proofs.Pauli.identity.Statement.{statement}

@@ -1,6 +1,6 @@
 -- `pauli::Pauli::multiply` meets its contract.
 use Rattle.pauli.specs.Pauli.{_∗_}
-use Rattle.pauli.specs.Words.{asPauli}
+use Rattle.pauli.specs.Fixed.{asPauli}
 use Rattle.pauli.specs.Laws.Gates.{pauli-path}
 use borrow.Author.Needs.{needs}
 use Rattle.pauli.proofs.Pauli.multiply.Statement.{statement}

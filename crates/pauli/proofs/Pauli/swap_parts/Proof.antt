@@ -1,6 +1,6 @@
 -- `pauli::Pauli::swap_parts` meets its contract.
 use Rattle.pauli.specs.Gate.{swapXZ}
-use Rattle.pauli.specs.Words.{asPauli}
+use Rattle.pauli.specs.Fixed.{asPauli}
 use Rattle.pauli.specs.Laws.Gates.{pauli-path}
 use Rattle.pauli.specs.Laws.Set.{qubit-below}
 use borrow.Author.Needs.{needs}

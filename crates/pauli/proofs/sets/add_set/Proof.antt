@@ -1,4 +1,4 @@
--- `pauli::sets::add_set` meets its contract.
+-- `pauli::sets::add_set` meets its contract. The loop's invariant: the first j words are sums, the others are as before.
 use Prim.Native.Nat.{_-_}
 use native.Mathlib.Omega.{arith}
 use mathlib.Core.Path.{refl}

@@ -1,6 +1,7 @@
 -- `pauli::sets::contains` meets its contract.
 use lib.ListN.{List·getD-eq-default}
-use Rattle.pauli.specs.Words.{bit, inSet}
+use Rattle.pauli.specs.Bits.{bit}
+use Rattle.pauli.specs.Fixed.{inSet}
 use mathlib.Core.Path.{sym}
 use Rattle.pauli.specs.Laws.Word.{bit-zero}
 use borrow.Author.Needs.{needs}

@@ -1,11 +1,11 @@
--- `pauli::sets::insert_all` meets its contract.
+-- `pauli::sets::insert_all` meets its contract. The loop's invariant: the first i numbers have been put in.
 use Prim.Native.Nat.{_-_, _≤_}
 use native.Mathlib.Omega.{arith}
 use mathlib.Core.Path.{_≡_, refl, _∙_}
 use lib.ListN.{length, take}
 use lib.Seq.{take-all}
 use Rattle.pauli.specs.Bits.{_∪_, members}
-use Rattle.pauli.specs.Words.{inSet}
+use Rattle.pauli.specs.Fixed.{inSet}
 use Rattle.pauli.specs.Laws.Set.{∪-nothing, members-more}
 use Rattle.pauli.proofs.sets.insert_all.Statement.{statement}
 use Rattle.pauli.proofs.sets.insert_all.Tie as tie

@@ -1,16 +1,10 @@
--- What words hold: a set has number q if bit q mod 64 of word q / 64 is 1; a Pauli is two such sets. Assumes nothing.
-use mathlib.Core.Bool.{Bool}
+-- Fixed sets and Paulis in words: a set has number q if bit q mod 64 of word q / 64 is 1; a Pauli is two such sets. Assumes nothing.
 use mathlib.Core.List.{List}
-use Prim.Native.Nat.{ℕ, _/_, _%_, _^_, _<_}
-use lib.Dec.{eqb}
+use Prim.Native.Nat.{ℕ, _/_, _%_, _<_}
 use lib.ListN.{length, getD}
 use Rattle.pauli.specs.declared.Pauli.{Pauli as PauliWords}
-use Rattle.pauli.specs.Bits.{Bits}
+use Rattle.pauli.specs.Bits.{Bits, bit}
 use Rattle.pauli.specs.Pauli.{Pauli}
-
--- bit k of a word
-unfoldable pub bit : ℕ → ℕ → Bool
-bit w k = eqb (w / 2 ^ k % 2) 1
 
 -- the set that words hold
 unfoldable pub inSet : List ℕ → Bits
