@@ -3,7 +3,7 @@
 use mathlib.Core.Path.{_≡_}
 use mathlib.Core.Bool.{Bool, true, false, not, _&&_, cond}
 use mathlib.Core.List.{List, [], _∷_, _++_, map}
-use Prim.Native.Nat.{ℕ, zero, suc, _+_, _*_, _<_}
+use Prim.Native.Nat.{ℕ, zero, suc, _+_, _*_, _<_, _≤_}
 use lib.Dec.{eqb}
 use lib.IntN.{ℤ, pos, negℤ, _+ℤ_, _-ℤ_, _*ℤ_}
 use lib.ListN.{length, getD}
@@ -194,6 +194,15 @@ ExtendsTable n qs t = Extends n qs (IsRow qs t) (λ i. IsRow qs t (length qs + i
 abbrev pub ExtendsPlaces : ℕ → List ℕ → List ℕ → (Pauli → Pauli) → Type 0
 ExtendsPlaces n s qs =
     Extends n qs (λ i P. P ≡ X-at (getD qs (getD s i 0) 0)) (λ i P. P ≡ Z-at (getD qs (getD s i 0) 0))
+
+-- P has no parts but on the n qubits
+pub record Within (n : ℕ) (P : Pauli) : Type 0 where
+  pub in-x : (i : ℕ) → n ≤ i → P .x i ≡ false
+  pub in-z : (i : ℕ) → n ≤ i → P .z i ≡ false
+
+-- f keeps the commutation of the Paulis on the n qubits
+abbrev pub KeepsCommutation : ℕ → (Pauli → Pauli) → Type 0
+KeepsCommutation n f = (P Q : Pauli) → Within n P → Within n Q → anticommutes n (f P) (f Q) ≡ anticommutes n P Q
 
 -- ---- lines
 

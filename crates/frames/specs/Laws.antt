@@ -8,3 +8,10 @@ pub mod Sums
 pub mod Takes
 pub mod Unitaries
 pub mod Gates
+pub mod Places
+pub mod Generators
+pub mod Images
+pub mod Commutation
+pub mod Clifford
+pub mod Permutation
+pub mod Lines

@@ -3,3 +3,5 @@ pub mod Forward
 pub mod Conjugation
 -- Laws of these definitions.
 pub mod Laws
+-- Theorems on conjugation.
+pub mod Theorems

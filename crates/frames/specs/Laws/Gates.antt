@@ -8,14 +8,14 @@ use native.Mathlib.Nat.{not-suc-le-zero}
 use native.Mathlib.Decide.{ℕ-discrete}
 use native.Mathlib.Omega.{arith}
 use Rattle.pauli.specs.Bits.{Bits, _⊕_, _△_, none, only}
-use Rattle.pauli.specs.Pauli.{Pauli, identity, X-at, Y-at, Z-at, _∗_, when, anticommutes}
+use Rattle.pauli.specs.Pauli.{Pauli, identity, X-at, Y-at, Z-at, _∗_, anticommutes}
 use Rattle.pauli.specs.Gate.{Gate, operandsOf, swapXZ, addXtoZ, addZtoX, controlledX, controlledZ, swapRows, prepareBell, gateWith, conjugated}
 use Rattle.pauli.specs.Laws.Parity.{at-or-off, only-here, only-off, △-at}
 use Rattle.pauli.specs.Laws.Pairing.{pairing, anti-comm, anti-X, anti-Z}
 use Rattle.pauli.specs.Laws.Gates.{swapXZ-is, addXtoZ-is, addZtoX-is, controlledX-is, controlledZ-is, swapRows-is}
 use Rattle.pauli.specs.Laws.Group.{group, X-Z, when-∗, when-⊕}
 use Rattle.frames.specs.Forward.{exponentiate, controlledPauli}
-use Rattle.frames.specs.Conjugation.{one, timesI, timesI^, phaseOne, phase, termProduct, product, phased, pauliSum, sqrtSum, controlledSum, hadamardSum, swapSum, gateSum, Takes, IsUnitary}
+use Rattle.frames.specs.Conjugation.{phaseOne, phase, termProduct, product, phased, pauliSum, sqrtSum, controlledSum, hadamardSum, swapSum, gateSum, Takes, IsUnitary}
 use Rattle.frames.specs.Laws.Terms.{turned, turned-turned, turned-four, phased-turned, ⊙-one, ⊙-turned, pauli-⊙}
 use Rattle.frames.specs.Laws.Takes.{product-takes, product-unitary}
 use Rattle.frames.specs.Laws.Unitaries.{pauli-takes, pauli-unitary, exponential-takes, exponential-unitary, sqrt-takes, sqrt-unitary, controlled-takes, controlled-unitary}

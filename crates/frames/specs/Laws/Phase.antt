@@ -1,7 +1,7 @@
 -- The phase of a product of Paulis: it is associative, 1 for a square, and the other way round it has the sign of the commutation.
 -- By the sign of a product in the order X then Z. Assumes nothing.
 use mathlib.Core.Path.{_≡_, refl, sym, ap, ap₂, _∙_}
-use mathlib.Core.Bool.{Bool, true, false, not, _&&_, cond, true≢false}
+use mathlib.Core.Bool.{Bool, true, false, _&&_, cond}
 use Prim.Native.Nat.{ℕ, zero, suc, _+_}
 use native.Mathlib.Nat.{zero-add}
 use Rattle.pauli.specs.Bits.{none, _⊕_, _∩_, _△_, parity}
@@ -9,8 +9,8 @@ use Rattle.pauli.specs.Pauli.{Pauli, identity, _∗_, anticommutes}
 use Rattle.pauli.specs.Laws.F2.{f2}
 use Rattle.pauli.specs.Laws.Parity.{parity-comm, parity-△, parity-△-right}
 use Rattle.pauli.specs.Laws.Group.{∗-comm, ∗-assoc}
-use Rattle.frames.specs.Conjugation.{Gaussian, timesI^, timesI, phaseOne, phase, same}
-use Rattle.frames.specs.Laws.Gaussian.{signed, signed-signed, signed-false, phases, timesI^-signed, timesI^-comm, timesI^-add, timesI^-cancel, timesI-four}
+use Rattle.frames.specs.Conjugation.{Gaussian, timesI^, phaseOne, phase}
+use Rattle.frames.specs.Laws.Gaussian.{signed, signed-false, phases, timesI^-signed, timesI^-comm, timesI^-add, timesI^-cancel, timesI-four}
 
 -- the number of Y's, on one qubit and on n
 unfoldable ysOne : Bool → Bool → ℕ

@@ -8,11 +8,11 @@ use Rattle.pauli.specs.Laws.F2.{f2, ⊕-self, ⊕-comm}
 use Rattle.pauli.specs.Laws.Group.{∗-comm}
 use Rattle.frames.specs.Conjugation.{phaseOne, phase, same}
 
-and-split : (a b : Bool) → a && b ≡ true → (a ≡ true) × (b ≡ true)
+pub and-split : (a b : Bool) → a && b ≡ true → (a ≡ true) × (b ≡ true)
 and-split true b e = (refl, e)
 and-split false b e = absurd (true≢false (sym e))
 
-equal-bits : (a b : Bool) → not (a ⊕ b) ≡ true → a ≡ b
+pub equal-bits : (a b : Bool) → not (a ⊕ b) ≡ true → a ≡ b
 unfolding _⊕_
 equal-bits true true e = refl
 equal-bits true false e = absurd (true≢false (sym e))

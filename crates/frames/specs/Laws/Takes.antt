@@ -1,17 +1,15 @@
 -- What holds of every sum: it takes products to products, and one sum after another takes a Pauli as the two do; what a unitary takes a Pauli
 -- to is determined on the n qubits, and commutation is kept; a product of unitaries is a unitary. Assumes nothing.
-use mathlib.Core.Path.{_≡_, refl, sym, ap, ap₂, _∙_, subst}
-use mathlib.Core.Bool.{Bool, true, false, not, cond, true≢false}
-use mathlib.Core.List.{[], _∷_, _++_, map}
-use Prim.Native.Nat.{ℕ, zero, suc, _+_, _*_, _<_, _≤_}
-use native.Mathlib.Nat.{zero-add, add-zero, mul-zero}
+use mathlib.Core.Path.{_≡_, refl, sym, ap, ap₂, _∙_}
+use mathlib.Core.Bool.{Bool, true, false, cond}
+use mathlib.Core.List.{[], _∷_, map}
+use Prim.Native.Nat.{ℕ, zero, suc, _+_, _*_, _<_}
 use native.Mathlib.Omega.{arith}
 use lib.IntN.{pos, natAbs, _+ℤ_, pos-ne-negsuc, +ℤ-idr, *ℤ-zero, zero-*ℤ}
-use Rattle.pauli.specs.Bits.{_⊕_}
 use Rattle.pauli.specs.Pauli.{Pauli, identity, _∗_, anticommutes}
 use Rattle.pauli.specs.Laws.Group.{∗-comm, ∗-self, ∗-identity}
-use Rattle.frames.specs.Conjugation.{Gaussian, whole, nought, one, plus, times, timesI, timesI^, phase, Term, Sum, termProduct, product, adjoint, same, coefficientOf, phased, pauliSum, Takes, IsUnitary}
-use Rattle.frames.specs.Laws.Gaussian.{gaussian-path, plus-nought, times-comm, one-times, timesI^-zero, timesI^-nought, timesI^-times, timesI^-add, timesI^-comm, timesI^-cancel, twice, phases}
+use Rattle.frames.specs.Conjugation.{Gaussian, whole, nought, one, times, timesI, timesI^, phase, Term, Sum, termProduct, product, adjoint, same, coefficientOf, phased, pauliSum, Takes, IsUnitary}
+use Rattle.frames.specs.Laws.Gaussian.{gaussian-path, plus-nought, times-comm, one-times, timesI^-zero, timesI^-nought, timesI^-times, timesI^-comm, timesI^-cancel, twice, phases}
 use Rattle.frames.specs.Laws.Phase.{phase-identity, identity-phase}
 use Rattle.frames.specs.Laws.Same.{same-self, same-comm, same-∗}
 use Rattle.frames.specs.Laws.Terms.{term-path, turned, turned-turned, turned-comm, turned-⊙, ⊙-turned, phased-turned, pauli-⊙, swapped}

@@ -1,11 +1,10 @@
 -- The sums that document 01 lists: each is a unitary up to a factor, and what it takes a Pauli to. Assumes nothing.
 use mathlib.Core.Path.{_≡_, refl, sym, ap, ap₂, _∙_, subst}
-use mathlib.Core.Bool.{Bool, true, false, not, _&&_, cond, true≢false}
-use mathlib.Core.List.{List, [], _∷_, _++_, map}
-use Prim.Native.Nat.{ℕ, zero, suc, _+_, _<_, _≤_}
+use mathlib.Core.Bool.{Bool, true, false, cond, true≢false}
+use mathlib.Core.List.{List, [], _∷_, map}
+use Prim.Native.Nat.{ℕ, _+_}
 use native.Mathlib.Omega.{arith}
 use lib.IntN.{pos}
-use Rattle.pauli.specs.Bits.{_⊕_}
 use Rattle.pauli.specs.Pauli.{Pauli, identity, _∗_, when, anticommutes}
 use Rattle.pauli.specs.Laws.Pairing.{anti-identity}
 use Rattle.pauli.specs.Laws.Group.{group, ∗-comm}
