@@ -20,15 +20,9 @@ pub record Gaussian : Type 0 where
   pub re : ℤ
   pub im : ℤ
 
--- a whole number
-unfoldable pub whole : ℤ → Gaussian
-whole a = record { re = a; im = pos 0 }
-
-abbrev pub nought : Gaussian
-nought = whole (pos 0)
-
-abbrev pub one : Gaussian
-one = whole (pos 1)
+-- a number from 0 up
+unfoldable pub whole : ℕ → Gaussian
+whole a = record { re = pos a; im = pos 0 }
 
 unfoldable pub plus : Gaussian → Gaussian → Gaussian
 plus c d = record { re = c .re +ℤ d .re; im = c .im +ℤ d .im }
@@ -91,7 +85,7 @@ unfoldable pub product : ℕ → Sum → Sum → Sum
 product n [] W = []
 product n (t ∷ U) W = map (termProduct n t) W ++ product n U W
 
--- the adjoint, as X, Y and Z are their own
+-- the adjoint: coefficients are conjugated, and X, Y and Z are their own adjoints
 unfoldable pub adjointTerm : Term → Term
 adjointTerm t = record { coefficient = complexConjugate (t .coefficient); pauli = t .pauli }
 
@@ -105,12 +99,12 @@ same (suc n) P R = not (P .x n ⊕ R .x n) && not (P .z n ⊕ R .z n) && same n 
 
 -- The coefficient of R in a sum, once the terms with the same Pauli are added up. Two sums are equal if these are, for each R.
 unfoldable pub coefficientOf : ℕ → Sum → Pauli → Gaussian
-coefficientOf n [] R = nought
-coefficientOf n (t ∷ U) R = plus (cond (same n (t .pauli) R) (t .coefficient) nought) (coefficientOf n U R)
+coefficientOf n [] R = whole 0
+coefficientOf n (t ∷ U) R = plus (cond (same n (t .pauli) R) (t .coefficient) (whole 0)) (coefficientOf n U R)
 
 -- i to the power k, times P
 unfoldable pub phased : ℕ → Pauli → Term
-phased k P = record { coefficient = timesI^ k one; pauli = P }
+phased k P = record { coefficient = timesI^ k (whole 1); pauli = P }
 
 -- a Pauli is itself
 abbrev pub pauliSum : Pauli → Sum
@@ -125,7 +119,7 @@ pub record Takes (n : ℕ) (U : Sum) (Q Q′ : Pauli) : Type 0 where
 pub record IsUnitary (n : ℕ) (U : Sum) : Type 0 where
   pub factor : ℕ
   pub positive : 0 < factor
-  pub equal : (R : Pauli) → coefficientOf n (product n U (adjoint U)) R ≡ cond (same n identity R) (whole (pos factor)) nought
+  pub equal : (R : Pauli) → coefficientOf n (product n U (adjoint U)) R ≡ cond (same n identity R) (whole factor) (whole 0)
 
 -- ---- the unitaries, up to a factor
 
@@ -206,8 +200,8 @@ KeepsCommutation n f = (P Q : Pauli) → Within n P → Within n Q → anticommu
 
 -- ---- lines
 
--- Whether a line is a unitary: operands below n, as many as the gate takes, none twice; a Clifford's table; a permutation of the places;
--- control and target that commute.
+-- Whether a line is a unitary, by tests 4 to 7: operands below n, as many as the gate takes, none twice; a Clifford's table; a permutation of
+-- the places. And control and target commute.
 unfoldable pub isUnitaryLine : ℕ → Line → Bool
 isUnitaryLine n (Line.unitary g qs) = allBelow n qs && distinct qs && eqb (length qs) (operandsOf g)
 isUnitaryLine n (Line.clifford qs t) = allBelow n qs && distinct qs && isClifford (length qs) t

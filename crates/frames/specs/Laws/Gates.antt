@@ -16,9 +16,11 @@ use Rattle.pauli.specs.Laws.Gates.{swapXZ-is, addXtoZ-is, addZtoX-is, controlle
 use Rattle.pauli.specs.Laws.Group.{group, X-Z, when-∗, when-⊕}
 use Rattle.frames.specs.Forward.{exponentiate, controlledPauli}
 use Rattle.frames.specs.Conjugation.{phaseOne, phase, termProduct, product, phased, pauliSum, sqrtSum, controlledSum, hadamardSum, swapSum, gateSum, Takes, IsUnitary}
-use Rattle.frames.specs.Laws.Terms.{turned, turned-turned, turned-four, phased-turned, ⊙-one, ⊙-turned, pauli-⊙}
-use Rattle.frames.specs.Laws.Takes.{product-takes, product-unitary}
-use Rattle.frames.specs.Laws.Unitaries.{pauli-takes, pauli-unitary, exponential-takes, exponential-unitary, sqrt-takes, sqrt-unitary, controlled-takes, controlled-unitary}
+use Rattle.frames.specs.Laws.Terms.{phasedTerm, phasedTerm-add, phasedTerm-four, phased-as-term, ⊙-one, ⊙-phasedTerm, pauli-⊙}
+use Rattle.frames.specs.Laws.Takes.{product-takes}
+use Rattle.frames.specs.Laws.Unitary.{product-unitary}
+use Rattle.frames.specs.Laws.Roots.{pauli-takes, pauli-unitary, exponential-takes, exponential-unitary, sqrt-takes, sqrt-unitary}
+use Rattle.frames.specs.Laws.Controlled.{controlled-takes, controlled-unitary}
 
 -- ---- how many members a set has below n
 
@@ -65,7 +67,7 @@ phase-count (suc n) s P Q px pz qx qz = rw (px n, pz n, qx n, qz n) (ap₂ _+_ (
     xy false = unfold phaseOne countOne in refl
 
 phased-four : (P : Pauli) → phased 4 P ≡ phased 0 P
-phased-four P = phased-turned 4 P ∙ turned-four _
+phased-four P = phased-as-term 4 P ∙ phasedTerm-four _
 
 -- ---- Hadamard
 
@@ -77,10 +79,10 @@ module _ (n a : ℕ) (h : a < n) where
   -- X + Z is X (1 - iY)
   hadamard-is : product n (pauliSum (X-at a)) (sqrtSum (Y-at a)) ≡ hadamardSum a
   unfolding product
-  hadamard-is = ap₂ (λ s t. s ∷ t ∷ []) (⊙-one n _) (ap (λ t. termProduct n (phased 0 (X-at a)) t) (phased-turned 3 (Y-at a)) ∙ ⊙-turned n 3 _ _ ∙ ap (turned 3) XY ∙ turned-turned 3 1 _ ∙ turned-four _)
+  hadamard-is = ap₂ (λ s t. s ∷ t ∷ []) (⊙-one n _) (ap (λ t. termProduct n (phased 0 (X-at a)) t) (phased-as-term 3 (Y-at a)) ∙ ⊙-phasedTerm n 3 _ _ ∙ ap (phasedTerm 3) XY ∙ phasedTerm-add 3 1 _ ∙ phasedTerm-four _)
     where
-      XY : termProduct n (phased 0 (X-at a)) (phased 0 (Y-at a)) ≡ turned 1 (phased 0 (Z-at a))
-      XY = pauli-⊙ n (X-at a) (Y-at a) ∙ ap₂ phased phase-XY (simp (← X-Z, group)) ∙ phased-turned 1 (Z-at a)
+      XY : termProduct n (phased 0 (X-at a)) (phased 0 (Y-at a)) ≡ phasedTerm 1 (phased 0 (Z-at a))
+      XY = pauli-⊙ n (X-at a) (Y-at a) ∙ ap₂ phased phase-XY (simp (← X-Z, group)) ∙ phased-as-term 1 (Z-at a)
 
 ruleset rows = (pairing, swapXZ-is, addXtoZ-is, addZtoX-is, controlledX-is, controlledZ-is, swapRows-is)
 

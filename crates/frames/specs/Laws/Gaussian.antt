@@ -6,7 +6,7 @@ use native.Mathlib.Nat.{suc-add, zero-add}
 use lib.IntN.{ℤ, pos, negℤ, _+ℤ_, _-ℤ_, _*ℤ_, +ℤ-comm, +ℤ-assoc, +ℤ-idl, +ℤ-idr, +ℤ-invr, negℤ-negℤ, negℤ-+ℤ, *ℤ-comm, zero-*ℤ, *ℤ-zero, *ℤ-one, one as oneℤ}
 use Rattle.pauli.specs.Bits.{_⊕_, odd}
 use Rattle.pauli.specs.Laws.F2.{f2}
-use Rattle.frames.specs.Conjugation.{Gaussian, whole, nought, one, plus, times, complexConjugate, timesI, timesI^}
+use Rattle.frames.specs.Conjugation.{Gaussian, whole, plus, times, complexConjugate, timesI, timesI^}
 use Rattle.frames.specs.Laws.Integer.{+ℤ-left-comm, +ℤ-*ℤ, *ℤ-+ℤ, negℤ-*ℤ, *ℤ-negℤ, *ℤ-assoc}
 
 pub gaussian-path : {c d : Gaussian} → c .re ≡ d .re → c .im ≡ d .im → c ≡ d
@@ -28,12 +28,12 @@ plus-assoc c d e = gaussian-path (+ℤ-assoc (c .re) (d .re) (e .re)) (+ℤ-asso
 pub plus-left-comm : (c d e : Gaussian) → plus c (plus d e) ≡ plus d (plus c e)
 plus-left-comm c d e = sym (plus-assoc c d e) ∙ ap (λ s. plus s e) (plus-comm c d) ∙ plus-assoc d c e
 
-pub nought-plus : (c : Gaussian) → plus nought c ≡ c
+pub zero-plus : (c : Gaussian) → plus (whole 0) c ≡ c
 unfolding plus whole
-nought-plus c = gaussian-path (+ℤ-idl (c .re)) (+ℤ-idl (c .im))
+zero-plus c = gaussian-path (+ℤ-idl (c .re)) (+ℤ-idl (c .im))
 
-pub plus-nought : (c : Gaussian) → plus c nought ≡ c
-plus-nought c = plus-comm c nought ∙ nought-plus c
+pub plus-zero : (c : Gaussian) → plus c (whole 0) ≡ c
+plus-zero c = plus-comm c (whole 0) ∙ zero-plus c
 
 -- ---- products
 
@@ -54,14 +54,14 @@ times-plus c d e = gaussian-path (simp ring) (simp ring)
 pub plus-times : (c d e : Gaussian) → times (plus c d) e ≡ plus (times c e) (times d e)
 plus-times c d e = times-comm (plus c d) e ∙ times-plus e c d ∙ ap₂ plus (times-comm e c) (times-comm e d)
 
-pub nought-times : (c : Gaussian) → times nought c ≡ nought
+pub zero-times : (c : Gaussian) → times (whole 0) c ≡ whole 0
 unfolding times whole
-nought-times c = gaussian-path (ap₂ _-ℤ_ (zero-*ℤ (c .re)) (zero-*ℤ (c .im))) (ap₂ _+ℤ_ (zero-*ℤ (c .im)) (zero-*ℤ (c .re)))
+zero-times c = gaussian-path (ap₂ _-ℤ_ (zero-*ℤ (c .re)) (zero-*ℤ (c .im))) (ap₂ _+ℤ_ (zero-*ℤ (c .im)) (zero-*ℤ (c .re)))
 
-pub times-nought : (c : Gaussian) → times c nought ≡ nought
-times-nought c = times-comm c nought ∙ nought-times c
+pub times-zero : (c : Gaussian) → times c (whole 0) ≡ whole 0
+times-zero c = times-comm c (whole 0) ∙ zero-times c
 
-pub times-one : (c : Gaussian) → times c one ≡ c
+pub times-one : (c : Gaussian) → times c (whole 1) ≡ c
 unfolding times whole
 times-one c =
     gaussian-path (ap₂ _-ℤ_ (by-one (c .re)) (*ℤ-zero (c .im)) ∙ +ℤ-idr (c .re)) (ap₂ _+ℤ_ (*ℤ-zero (c .re)) (by-one (c .im)) ∙ +ℤ-idl (c .im))
@@ -69,8 +69,8 @@ times-one c =
     by-one : (a : ℤ) → a *ℤ pos 1 ≡ a
     by-one a = unfold oneℤ in *ℤ-one a
 
-pub one-times : (c : Gaussian) → times one c ≡ c
-one-times c = times-comm one c ∙ times-one c
+pub one-times : (c : Gaussian) → times (whole 1) c ≡ c
+one-times c = times-comm (whole 1) c ∙ times-one c
 
 -- ---- times i
 
@@ -78,9 +78,9 @@ timesI-plus : (c d : Gaussian) → timesI (plus c d) ≡ plus (timesI c) (timesI
 unfolding plus timesI
 timesI-plus c d = gaussian-path (negℤ-+ℤ (c .im) (d .im)) refl
 
-timesI-nought : timesI nought ≡ nought
+timesI-zero : timesI (whole 0) ≡ whole 0
 unfolding timesI whole
-timesI-nought = refl
+timesI-zero = refl
 
 timesI-times : (c d : Gaussian) → times (timesI c) d ≡ timesI (times c d)
 unfolding times timesI
@@ -104,10 +104,10 @@ unfolding timesI^
 timesI^-plus zero c d = refl
 timesI^-plus (suc k) c d = ap timesI (timesI^-plus k c d) ∙ timesI-plus (timesI^ k c) (timesI^ k d)
 
-pub timesI^-nought : (k : ℕ) → timesI^ k nought ≡ nought
+pub timesI^-of-zero : (k : ℕ) → timesI^ k (whole 0) ≡ whole 0
 unfolding timesI^
-timesI^-nought zero = refl
-timesI^-nought (suc k) = ap timesI (timesI^-nought k) ∙ timesI-nought
+timesI^-of-zero zero = refl
+timesI^-of-zero (suc k) = ap timesI (timesI^-of-zero k) ∙ timesI-zero
 
 pub timesI^-times : (k : ℕ) (c d : Gaussian) → times (timesI^ k c) d ≡ timesI^ k (times c d)
 unfolding timesI^
@@ -153,7 +153,7 @@ unfolding signed
 signed-false c = refl
 
 -- minus c cancels c
-pub plus-minus : (c : Gaussian) → plus c (signed true c) ≡ nought
+pub plus-minus : (c : Gaussian) → plus c (signed true c) ≡ whole 0
 unfolding plus signed timesI whole
 plus-minus c = gaussian-path (+ℤ-invr (c .re)) (+ℤ-invr (c .im))
 

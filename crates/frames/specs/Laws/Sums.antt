@@ -5,16 +5,16 @@ use mathlib.Core.Bool.{Bool, true, false, cond}
 use mathlib.Core.List.{[], _∷_, _++_, map}
 use Prim.Native.Nat.{ℕ}
 use Rattle.pauli.specs.Pauli.{Pauli, _∗_}
-use Rattle.frames.specs.Conjugation.{Gaussian, nought, plus, times, timesI^, phase, Term, Sum, termProduct, product, adjointTerm, adjoint, same, coefficientOf}
-use Rattle.frames.specs.Laws.Gaussian.{plus-assoc, plus-left-comm, nought-plus, times-plus, plus-times, nought-times, times-nought, timesI^-plus, timesI^-nought, timesI^-times, times-timesI^}
+use Rattle.frames.specs.Conjugation.{Gaussian, whole, plus, times, timesI^, phase, Term, Sum, termProduct, product, adjointTerm, adjoint, same, coefficientOf}
+use Rattle.frames.specs.Laws.Gaussian.{plus-assoc, plus-left-comm, zero-plus, times-plus, plus-times, zero-times, times-zero, timesI^-plus, timesI^-of-zero, timesI^-times, times-timesI^}
 use Rattle.frames.specs.Laws.Same.{same-∗, same-∗-right, phase-same, same-phase}
-use Rattle.frames.specs.Laws.Terms.{turned, turned-⊙, ⊙-turned, ⊙-assoc, adjoint-⊙}
+use Rattle.frames.specs.Laws.Terms.{phasedTerm, phasedTerm-⊙, ⊙-phasedTerm, ⊙-assoc, adjoint-⊙}
 
 -- ---- coefficients
 
 -- what a term adds to the coefficient of R
 unfoldable pub share : ℕ → Term → Pauli → Gaussian
-share n t R = cond (same n (t .pauli) R) (t .coefficient) nought
+share n t R = cond (same n (t .pauli) R) (t .coefficient) (whole 0)
 
 pub coefficient-∷ : (n : ℕ) (t : Term) (U : Sum) (R : Pauli) → coefficientOf n (t ∷ U) R ≡ plus (share n t R) (coefficientOf n U R)
 unfolding coefficientOf share
@@ -22,7 +22,7 @@ coefficient-∷ n t U R = refl
 
 pub coefficient-++ : (n : ℕ) (U W : Sum) (R : Pauli) → coefficientOf n (U ++ W) R ≡ plus (coefficientOf n U R) (coefficientOf n W R)
 unfolding coefficientOf
-coefficient-++ n [] W R = sym (nought-plus _)
+coefficient-++ n [] W R = sym (zero-plus _)
 coefficient-++ n (t ∷ U) W R = ap (plus _) (coefficient-++ n U W R) ∙ sym (plus-assoc _ _ _)
 
 -- a term, times a sum with the coefficients f; and the other way round
@@ -38,41 +38,41 @@ module _ (n : ℕ) where
   share-left t w R = go (same n (w .pauli) (t .pauli ∗ R)) refl
     where
       go : (b : Bool) → same n (w .pauli) (t .pauli ∗ R) ≡ b
-          → cond (same n (t .pauli ∗ w .pauli) R) (timesI^ (phase n (t .pauli) (w .pauli)) (times (t .coefficient) (w .coefficient))) nought
-          ≡ times (t .coefficient) (timesI^ (phase n (t .pauli) (t .pauli ∗ R)) (cond (same n (w .pauli) (t .pauli ∗ R)) (w .coefficient) nought))
+          → cond (same n (t .pauli ∗ w .pauli) R) (timesI^ (phase n (t .pauli) (w .pauli)) (times (t .coefficient) (w .coefficient))) (whole 0)
+          ≡ times (t .coefficient) (timesI^ (phase n (t .pauli) (t .pauli ∗ R)) (cond (same n (w .pauli) (t .pauli ∗ R)) (w .coefficient) (whole 0)))
       go true e =
           rw (same-∗ n (t .pauli) (w .pauli) R, e)
           (ap (λ (k : ℕ). timesI^ k (times (t .coefficient) (w .coefficient))) (phase-same n (t .pauli) (w .pauli) (t .pauli ∗ R) e) ∙ sym (times-timesI^ _ _ _))
-      go false e = rw (same-∗ n (t .pauli) (w .pauli) R, e) (sym (ap (times (t .coefficient)) (timesI^-nought _) ∙ times-nought _))
+      go false e = rw (same-∗ n (t .pauli) (w .pauli) R, e) (sym (ap (times (t .coefficient)) (timesI^-of-zero _) ∙ times-zero _))
 
   share-right : (w t : Term) (R : Pauli) → share n (termProduct n w t) R ≡ onRight n (share n w) t R
   unfolding share onRight termProduct
   share-right w t R = go (same n (w .pauli) (R ∗ t .pauli)) refl
     where
       go : (b : Bool) → same n (w .pauli) (R ∗ t .pauli) ≡ b
-          → cond (same n (w .pauli ∗ t .pauli) R) (timesI^ (phase n (w .pauli) (t .pauli)) (times (w .coefficient) (t .coefficient))) nought
-          ≡ times (timesI^ (phase n (R ∗ t .pauli) (t .pauli)) (cond (same n (w .pauli) (R ∗ t .pauli)) (w .coefficient) nought)) (t .coefficient)
+          → cond (same n (w .pauli ∗ t .pauli) R) (timesI^ (phase n (w .pauli) (t .pauli)) (times (w .coefficient) (t .coefficient))) (whole 0)
+          ≡ times (timesI^ (phase n (R ∗ t .pauli) (t .pauli)) (cond (same n (w .pauli) (R ∗ t .pauli)) (w .coefficient) (whole 0))) (t .coefficient)
       go true e =
           rw (same-∗-right n (t .pauli) (w .pauli) R, e)
           (ap (λ (k : ℕ). timesI^ k (times (w .coefficient) (t .coefficient))) (same-phase n (w .pauli) (R ∗ t .pauli) (t .pauli) e) ∙ sym (timesI^-times _ _ _))
       go false e =
           rw (same-∗-right n (t .pauli) (w .pauli) R, e)
-          (sym (ap (λ c. times c (t .coefficient)) (timesI^-nought _) ∙ nought-times _))
+          (sym (ap (λ c. times c (t .coefficient)) (timesI^-of-zero _) ∙ zero-times _))
 
   -- ---- both are linear
 
   module _ (t : Term) (R : Pauli) where
-    left-nought : onLeft n t (λ S. nought) R ≡ nought
+    left-zero : onLeft n t (λ S. (whole 0)) R ≡ whole 0
     unfolding onLeft
-    left-nought = ap (times (t .coefficient)) (timesI^-nought _) ∙ times-nought _
+    left-zero = ap (times (t .coefficient)) (timesI^-of-zero _) ∙ times-zero _
 
     left-plus : (f g : Pauli → Gaussian) → onLeft n t (λ S. plus (f S) (g S)) R ≡ plus (onLeft n t f R) (onLeft n t g R)
     unfolding onLeft
     left-plus f g = ap (times (t .coefficient)) (timesI^-plus _ _ _) ∙ times-plus _ _ _
 
-    right-nought : onRight n (λ S. nought) t R ≡ nought
+    right-zero : onRight n (λ S. (whole 0)) t R ≡ whole 0
     unfolding onRight
-    right-nought = ap (λ c. times c (t .coefficient)) (timesI^-nought _) ∙ nought-times _
+    right-zero = ap (λ c. times c (t .coefficient)) (timesI^-of-zero _) ∙ zero-times _
 
     right-plus : (f g : Pauli → Gaussian) → onRight n (λ S. plus (f S) (g S)) t R ≡ plus (onRight n f t R) (onRight n g t R)
     unfolding onRight
@@ -85,7 +85,7 @@ module _ (n : ℕ) where
 
   -- a term times a sum, and a sum times a term
   pub map-left : (t : Term) (W : Sum) (R : Pauli) → coefficientOf n (map (termProduct n t) W) R ≡ onLeft n t (coefficientOf n W) R
-  map-left t [] R = unfold coefficientOf in sym (left-nought t R)
+  map-left t [] R = unfold coefficientOf in sym (left-zero t R)
   map-left t (w ∷ W) R =
       coefficient-∷ n (termProduct n t w) (map (termProduct n t) W) R
       ∙ ap₂ plus (share-left t w R) (map-left t W R)
@@ -93,7 +93,7 @@ module _ (n : ℕ) where
       ∙ ap (λ f. onLeft n t f R) (sym (coefficient-is w W))
 
   pub map-right : (U : Sum) (t : Term) (R : Pauli) → coefficientOf n (map (λ u. termProduct n u t) U) R ≡ onRight n (coefficientOf n U) t R
-  map-right [] t R = unfold coefficientOf in sym (right-nought t R)
+  map-right [] t R = unfold coefficientOf in sym (right-zero t R)
   map-right (u ∷ U) t R =
       coefficient-∷ n (termProduct n u t) (map (λ v. termProduct n v t) U) R
       ∙ ap₂ plus (share-right u t R) (map-right U t R)
@@ -102,11 +102,11 @@ module _ (n : ℕ) where
 
   -- by the terms of the first factor, and by those of the second
   fromLeft : Sum → (Pauli → Gaussian) → Pauli → Gaussian
-  fromLeft [] f R = nought
+  fromLeft [] f R = (whole 0)
   fromLeft (t ∷ U) f R = plus (onLeft n t f R) (fromLeft U f R)
 
   fromRight : (Pauli → Gaussian) → Sum → Pauli → Gaussian
-  fromRight f [] R = nought
+  fromRight f [] R = (whole 0)
   fromRight f (t ∷ W) R = plus (onRight n f t R) (fromRight f W R)
 
   product-left : (U W : Sum) (R : Pauli) → coefficientOf n (product n U W) R ≡ fromLeft U (coefficientOf n W) R
@@ -114,14 +114,14 @@ module _ (n : ℕ) where
   product-left [] W R = refl
   product-left (t ∷ U) W R = coefficient-++ n (map (termProduct n t) W) (product n U W) R ∙ ap₂ plus (map-left t W R) (product-left U W R)
 
-  from-nought : (W : Sum) (R : Pauli) → fromRight (λ S. nought) W R ≡ nought
+  from-zero : (W : Sum) (R : Pauli) → fromRight (λ S. (whole 0)) W R ≡ whole 0
   unfolding fromRight
-  from-nought [] R = refl
-  from-nought (t ∷ W) R = ap₂ plus (right-nought t R) (from-nought W R) ∙ nought-plus _
+  from-zero [] R = refl
+  from-zero (t ∷ W) R = ap₂ plus (right-zero t R) (from-zero W R) ∙ zero-plus _
 
   from-plus : (f g : Pauli → Gaussian) (W : Sum) (R : Pauli) → fromRight (λ S. plus (f S) (g S)) W R ≡ plus (fromRight f W R) (fromRight g W R)
   unfolding fromRight
-  from-plus f g [] R = sym (nought-plus _)
+  from-plus f g [] R = sym (zero-plus _)
   from-plus f g (t ∷ W) R = ap₂ plus (right-plus t R f g) (from-plus f g W R) ∙ crossed _ _ _ _
     where
       crossed : (a b c d : Gaussian) → plus (plus a b) (plus c d) ≡ plus (plus a c) (plus b d)
@@ -135,7 +135,7 @@ module _ (n : ℕ) where
 
   product-right : (U W : Sum) (R : Pauli) → coefficientOf n (product n U W) R ≡ fromRight (coefficientOf n U) W R
   unfolding product coefficientOf
-  product-right [] W R = sym (from-nought W R)
+  product-right [] W R = sym (from-zero W R)
   product-right (t ∷ U) W R =
       coefficient-++ n (map (termProduct n t) W) (product n U W) R
       ∙ ap₂ plus (from-share t W R) (product-right U W R)
@@ -155,8 +155,8 @@ e then f = record { at = λ R. e .at R ∙ f .at R }
 pub back : {n : ℕ} {U W : Sum} → Equal n U W → Equal n W U
 back e = record { at = λ R. sym (e .at R) }
 
-pub listed : {n : ℕ} {U W : Sum} → U ≡ W → Equal n U W
-listed {n} e = record { at = λ R. ap (λ U. coefficientOf n U R) e }
+pub terms-equal : {n : ℕ} {U W : Sum} → U ≡ W → Equal n U W
+terms-equal {n} e = record { at = λ R. ap (λ U. coefficientOf n U R) e }
 
 -- equal sums may be put for one another in a product
 pub in-second : {n : ℕ} (U : Sum) {W W′ : Sum} → Equal n W W′ → Equal n (product n U W) (product n U W′)
@@ -170,18 +170,18 @@ in-first {n} {U} {U′} W e =
 -- ---- products of sums
 
 -- i to the power k, times a sum
-abbrev pub turnedSum : ℕ → Sum → Sum
-turnedSum k U = map (turned k) U
+abbrev pub phasedSum : ℕ → Sum → Sum
+phasedSum k U = map (phasedTerm k) U
 
-pub turned-coefficient : (n k : ℕ) (U : Sum) (R : Pauli) → coefficientOf n (turnedSum k U) R ≡ timesI^ k (coefficientOf n U R)
-unfolding coefficientOf turned
-turned-coefficient n k [] R = sym (timesI^-nought k)
-turned-coefficient n k (t ∷ U) R =
-    ap₂ plus (within (same n (t .pauli) R) (t .coefficient)) (turned-coefficient n k U R) ∙ sym (timesI^-plus k _ _)
+pub phasedSum-coefficient : (n k : ℕ) (U : Sum) (R : Pauli) → coefficientOf n (phasedSum k U) R ≡ timesI^ k (coefficientOf n U R)
+unfolding coefficientOf phasedTerm
+phasedSum-coefficient n k [] R = sym (timesI^-of-zero k)
+phasedSum-coefficient n k (t ∷ U) R =
+    ap₂ plus (within (same n (t .pauli) R) (t .coefficient)) (phasedSum-coefficient n k U R) ∙ sym (timesI^-plus k _ _)
   where
-    within : (b : Bool) (c : Gaussian) → cond b (timesI^ k c) nought ≡ timesI^ k (cond b c nought)
+    within : (b : Bool) (c : Gaussian) → cond b (timesI^ k c) (whole 0) ≡ timesI^ k (cond b c (whole 0))
     within true c = refl
-    within false c = sym (timesI^-nought k)
+    within false c = sym (timesI^-of-zero k)
 
 map-++ : (f : Term → Term) (U W : Sum) → map f (U ++ W) ≡ map f U ++ map f W
 map-++ f [] W = refl
@@ -220,24 +220,24 @@ module _ (n : ℕ) where
   product-assoc (t ∷ U) M W =
       product-++ (map (termProduct n t) M) (product n U M) W ∙ ap₂ _++_ (sym (term-product t M W)) (product-assoc U M W)
 
-  pub turned-product : (k : ℕ) (U W : Sum) → product n (turnedSum k U) W ≡ turnedSum k (product n U W)
+  pub phasedSum-product : (k : ℕ) (U W : Sum) → product n (phasedSum k U) W ≡ phasedSum k (product n U W)
   unfolding product
-  turned-product k [] W = refl
-  turned-product k (t ∷ U) W =
+  phasedSum-product k [] W = refl
+  phasedSum-product k (t ∷ U) W =
       ap₂ _++_
-      (sym (map-map (turned k) (termProduct n t) (termProduct n (turned k t)) (λ w. sym (turned-⊙ n k t w)) W))
-      (turned-product k U W)
-      ∙ sym (map-++ (turned k) (map (termProduct n t) W) (product n U W))
+      (sym (map-map (phasedTerm k) (termProduct n t) (termProduct n (phasedTerm k t)) (λ w. sym (phasedTerm-⊙ n k t w)) W))
+      (phasedSum-product k U W)
+      ∙ sym (map-++ (phasedTerm k) (map (termProduct n t) W) (product n U W))
 
-  pub product-turned : (k : ℕ) (U W : Sum) → product n U (turnedSum k W) ≡ turnedSum k (product n U W)
+  pub product-phasedSum : (k : ℕ) (U W : Sum) → product n U (phasedSum k W) ≡ phasedSum k (product n U W)
   unfolding product
-  product-turned k [] W = refl
-  product-turned k (t ∷ U) W =
+  product-phasedSum k [] W = refl
+  product-phasedSum k (t ∷ U) W =
       ap₂ _++_
-      (map-map (termProduct n t) (turned k) (λ w. turned k (termProduct n t w)) (⊙-turned n k t) W
-      ∙ sym (map-map (turned k) (termProduct n t) (λ w. turned k (termProduct n t w)) (λ w. refl) W))
-      (product-turned k U W)
-      ∙ sym (map-++ (turned k) (map (termProduct n t) W) (product n U W))
+      (map-map (termProduct n t) (phasedTerm k) (λ w. phasedTerm k (termProduct n t w)) (⊙-phasedTerm n k t) W
+      ∙ sym (map-map (phasedTerm k) (termProduct n t) (λ w. phasedTerm k (termProduct n t w)) (λ w. refl) W))
+      (product-phasedSum k U W)
+      ∙ sym (map-++ (phasedTerm k) (map (termProduct n t) W) (product n U W))
 
   -- ---- the adjoint of a product
 
