@@ -1,13 +1,14 @@
 -- What the lines do to the frame and the deltas of one shot, as in document 01, "Frames and lines". Assumes nothing.
 use mathlib.Core.Bool.{Bool}
 use mathlib.Core.List.{List, [], _∷_}
-use Prim.Native.Nat.{ℕ, suc, _+_, _*_}
+use Prim.Native.Nat.{ℕ, suc, _+_}
 use lib.Dec.{eqb}
 use lib.ListN.{length, getD}
-use Rattle.pauli.specs.Bits.{Bits, _∩_, _△_, none, only, given, added, members, parity, bit}
+use Rattle.pauli.specs.Bits.{Bits, _∩_, _△_, none, only, given, added, members, parity}
 use Rattle.pauli.specs.Pauli.{Pauli, identity, X-at, Z-at, _∗_, when, anticommutes, cleared}
 use Rattle.pauli.specs.Gate.{conjugated}
-use Rattle.job.specs.Line.{SparsePauli, pauliOf, Line}
+use Rattle.job.specs.Line.{pauliOf, Line}
+use Rattle.job.specs.Clifford.{rowOver}
 
 -- ---- exponentials and controlled Paulis
 
@@ -32,11 +33,11 @@ unfoldable pub placed : Bits → List ℕ → Bits
 placed row [] = none
 placed row (q ∷ qs) = given (row 0) (only q) △ placed (λ j. row (suc j)) qs
 
--- Row r of the table t on the operands qs, k in number: bit 2k × r + c of t is at column c, columns X then Z.
+-- row r of the table t on the operands qs: its parts at the places are put on the operands there
 unfoldable pub tableRow : List ℕ → ℕ → ℕ → Pauli
 tableRow qs t r =
-    let k = length qs in
-    record { x = placed (λ j. bit t (2 * k * r + j)) qs; z = placed (λ j. bit t (2 * k * r + (k + j))) qs }
+    let row = rowOver (length qs) t r in
+    record { x = placed (row .x) qs; z = placed (row .z) qs }
 
 -- The images of the operands from place i on: rows 0 to k-1 are the images of X, the next k of Z.
 unfoldable pub imagesFrom : List ℕ → ℕ → ℕ → List ℕ → List Image

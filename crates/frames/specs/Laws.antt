@@ -1,0 +1,23 @@
+-- Laws, for the proofs that cite them. Nothing here has to be believed.
+-- Sums of Paulis: whole and Gaussian integers, phases of products, terms, sums, what sums take Paulis to, unitaries.
+pub mod Integer
+pub mod Gaussian
+pub mod Phase
+pub mod Same
+pub mod Terms
+pub mod Sums
+pub mod Takes
+pub mod Unitary
+-- The sums that document 01 lists, and the gates.
+pub mod Roots
+pub mod Controlled
+pub mod Gates
+-- Images extended to products: operands by their places, generators, maps that extend images, Cliffords, permutations.
+pub mod Places
+pub mod Generators
+pub mod Images
+pub mod Commutation
+pub mod Clifford
+pub mod Permutation
+-- What the tests of a line say of its operands.
+pub mod Lines

@@ -1,0 +1,181 @@
+-- Theorems on conjugation: what the lines do to a frame is conjugation by the unitaries that document 01 gives, and these determine it. Nothing
+-- here has to be believed.
+use mathlib.Core.Path.{_≡_, refl, sym, ap₂, _∙_}
+use mathlib.Core.Bool.{true, false, _&&_, true≢false}
+use mathlib.Core.Logic.{_↔_}
+use mathlib.Core.List.{List, [], _∷_}
+use Prim.Native.Nat.{ℕ, _*_, _^_, _<_}
+use native.Mathlib.Omega.{arith}
+use lib.Dec.{eqb, leb}
+use lib.ListN.{length, getD}
+use borrow.Author.Tests.{not-true}
+use Rattle.pauli.specs.Pauli.{Pauli, X-at, Z-at, _∗_, anticommutes}
+use Rattle.pauli.specs.Gate.{Gate, operandsOf}
+use Rattle.pauli.specs.Laws.Pairing.{anti-comm}
+use Rattle.job.specs.Line.{pauliOf, Line}
+use Rattle.job.specs.Clifford.{isClifford}
+use Rattle.job.specs.Checks.{maxCliffordQubits, Context, allBelow, distinct, isPermutation, test, lineTests, lowest}
+use Rattle.frames.specs.Forward.{imagesOf, placesOf, transformed, State, Setting, forward}
+use Rattle.frames.specs.Conjugation.{Sum, same, pauliSum, exponentialSum, controlledSum, gateSum, Takes, IsUnitary, ExtendsTable, ExtendsPlaces, Within, KeepsCommutation, isUnitaryLine, Conjugates}
+use Rattle.frames.specs.Laws.Takes as Takings
+use Rattle.frames.specs.Laws.Unitary as Unitary
+use Rattle.frames.specs.Laws.Roots as Roots
+use Rattle.frames.specs.Laws.Controlled as Controlled
+use Rattle.frames.specs.Laws.Gates as Gates
+use Rattle.frames.specs.Laws.Generators as Generators
+use Rattle.frames.specs.Laws.Commutation.{generators-keep, keeps-generators, images-unique, images-commute}
+use Rattle.frames.specs.Laws.Clifford as Clifford
+use Rattle.frames.specs.Laws.Permutation as Permutation
+use Rattle.frames.specs.Laws.Lines.{tested, operands, passes-operands, passes-last}
+
+-- ---- lines
+
+-- For every line that is a unitary, what `forward` does to every frame is what the unitary takes it to, and the deltas stay.
+pub forward-conjugates : (c : Setting) (l : Line) → isUnitaryLine (c .qubits) l ≡ true → (s : State)
+    → Conjugates (c .qubits) l (s .frame) ((forward c l s) .frame) × ((forward c l s) .deltas ≡ s .deltas)
+unfolding isUnitaryLine Conjugates forward
+forward-conjugates c (Line.unitary g qs) u s = (Gates.gate-takes (c .qubits) g _ _ (operands (c .qubits) g qs (tested _ qs _ u)) (s .frame), refl)
+forward-conjugates c (Line.clifford qs t) u s = ((transformed qs (imagesOf qs t), Clifford.clifford-extends (c .qubits) qs (tested _ qs _ u .once) t, refl), refl)
+forward-conjugates c (Line.pauli P) u s = (Roots.pauli-takes (c .qubits) (pauliOf P) (s .frame), refl)
+forward-conjugates c (Line.exponential P) u s = (Roots.exponential-takes (c .qubits) (pauliOf P) (s .frame), refl)
+forward-conjugates c (Line.controlled C T) u s =
+    (Controlled.controlled-takes (c .qubits) (pauliOf C) (pauliOf T) (anti-comm (c .qubits) (pauliOf T) (pauliOf C) ∙ not-true _ u) (s .frame), refl)
+forward-conjugates c (Line.permute p qs) u s =
+    let l = tested (c .qubits) qs (isPermutation (length qs) p) u in
+    ((transformed qs (placesOf qs p qs), Permutation.permutation-extends (c .qubits) p qs (l .once) (Permutation.test-permutes (length qs) p (l .last) .as-many), refl), refl)
+forward-conjugates c (Line.measure P id) u s = absurd (true≢false (sym u))
+forward-conjugates c (Line.allocate id angle) u s = absurd (true≢false (sym u))
+forward-conjugates c (Line.conditional P ids par) u s = absurd (true≢false (sym u))
+forward-conjugates c (Line.reset qs) u s = absurd (true≢false (sym u))
+forward-conjugates c (Line.inject shot P) u s = absurd (true≢false (sym u))
+forward-conjugates c (Line.flip shot id) u s = absurd (true≢false (sym u))
+
+-- A gate, a Clifford and a permutation that pass their tests are unitary lines. (A Pauli and an exponential always are, and a controlled Pauli where
+-- control and target commute.)
+pub checked-gate : (c : Context) (g : Gate) (qs : List ℕ) → lowest (lineTests c (Line.unitary g qs)) ≡ 0 → isUnitaryLine (c .header .qubits) (Line.unitary g qs) ≡ true
+unfolding isUnitaryLine lineTests
+checked-gate c g qs e = let p = passes-operands _ qs (eqb (length qs) (operandsOf g)) _ [] e in ap₂ _&&_ (ap₂ _&&_ (p .0) (p .1)) (p .2)
+
+pub checked-clifford : (c : Context) (qs : List ℕ) (t : ℕ) → lowest (lineTests c (Line.clifford qs t)) ≡ 0 → isUnitaryLine (c .header .qubits) (Line.clifford qs t) ≡ true
+unfolding isUnitaryLine lineTests
+checked-clifford c qs t e =
+    let p = passes-operands _ qs (leb (length qs) maxCliffordQubits) _ (test 7 (isClifford (length qs) t) ∷ []) e in
+    ap₂ _&&_ (ap₂ _&&_ (p .0) (p .1)) (passes-last 7 (omega arith) (isClifford (length qs) t) (p .3))
+
+pub checked-permutation : (c : Context) (s qs : List ℕ) → lowest (lineTests c (Line.permute s qs)) ≡ 0 → isUnitaryLine (c .header .qubits) (Line.permute s qs) ≡ true
+unfolding isUnitaryLine lineTests
+checked-permutation c s qs e =
+    let p = passes-operands _ qs true _ (test 6 (isPermutation (length qs) s) ∷ []) e in
+    ap₂ _&&_ (ap₂ _&&_ (p .0) (p .1)) (passes-last 6 (omega arith) (isPermutation (length qs) s) (p .3))
+
+-- ---- the sums
+
+-- Each gate's sum is a unitary up to a factor, where its operands are as the line's test wants them.
+pub gate-unitary : (n : ℕ) (g : Gate) (qs : List ℕ) → isUnitaryLine n (Line.unitary g qs) ≡ true → IsUnitary n (gateSum n g (getD qs 0 0) (getD qs 1 0))
+unfolding isUnitaryLine
+gate-unitary n g qs u = Gates.gate-unitary n g _ _ (operands n g qs (tested n qs _ u))
+
+-- So is a Pauli,
+pub pauli-unitary : (n : ℕ) (P : Pauli) → IsUnitary n (pauliSum P)
+pauli-unitary = Roots.pauli-unitary
+
+-- an exponential,
+pub exponential-unitary : (n : ℕ) (P : Pauli) → IsUnitary n (exponentialSum P)
+exponential-unitary = Roots.exponential-unitary
+
+-- and a controlled Pauli whose control and target commute;
+pub controlled-unitary : (n : ℕ) (C T : Pauli) → anticommutes n C T ≡ false → IsUnitary n (controlledSum n C T)
+controlled-unitary n C T e = Controlled.controlled-unitary n C T (anti-comm n T C ∙ e)
+
+-- if the two anticommute it is no unitary.
+pub anticommuting-refused : (n : ℕ) (C T : Pauli) → anticommutes n C T ≡ true → IsUnitary n (controlledSum n C T) → ⊥
+anticommuting-refused n C T e = Controlled.anticommuting-refused n C T (anti-comm n T C ∙ e)
+
+-- What a unitary takes a Pauli to is determined on the n qubits,
+pub takes-unique : (n : ℕ) (U : Sum) → IsUnitary n U → (Q Q₁ Q₂ : Pauli) → Takes n U Q Q₁ → Takes n U Q Q₂ → same n Q₁ Q₂ ≡ true
+takes-unique n U u Q Q₁ Q₂ = Unitary.takes-unique u
+
+-- it keeps products,
+pub takes-∗ : (n : ℕ) (U : Sum) (P P′ Q Q′ : Pauli) → Takes n U P P′ → Takes n U Q Q′ → Takes n U (P ∗ Q) (P′ ∗ Q′)
+takes-∗ n U P P′ Q Q′ = Takings.takes-∗ n
+
+-- and it keeps commutation.
+pub takes-commutes : (n : ℕ) (U : Sum) → IsUnitary n U → (P P′ Q Q′ : Pauli) → Takes n U P P′ → Takes n U Q Q′ → anticommutes n P′ Q′ ≡ anticommutes n P Q
+takes-commutes n U u P P′ Q Q′ = Unitary.takes-commutes u
+
+-- ---- Cliffords and permutations
+
+-- Two maps that keep products and agree on X and Z of each of the n qubits agree on every Pauli on the n qubits.
+pub products-agree : (n : ℕ) (f g : Pauli → Pauli) → ((P Q : Pauli) → f (P ∗ Q) ≡ f P ∗ f Q) → ((P Q : Pauli) → g (P ∗ Q) ≡ g P ∗ g Q)
+    → ((q : ℕ) → q < n → f (X-at q) ≡ g (X-at q)) → ((q : ℕ) → q < n → f (Z-at q) ≡ g (Z-at q)) → (P : Pauli) → Within n P → f P ≡ g P
+products-agree = Generators.products-agree
+
+-- The map of a Clifford line extends its table: X on operand i goes to row i, Z to row k + i, and the other qubits stay.
+pub clifford-extends : (n : ℕ) (qs : List ℕ) (t : ℕ) → distinct qs ≡ true → ExtendsTable n qs t (transformed qs (imagesOf qs t))
+clifford-extends n qs t d = Clifford.clifford-extends n qs d t
+
+-- The map of a permutation line extends its places.
+pub permutation-extends : (n : ℕ) (s qs : List ℕ) → distinct qs ≡ true → length s ≡ length qs → ExtendsPlaces n s qs (transformed qs (placesOf qs s qs))
+permutation-extends n s qs d = Permutation.permutation-extends n s qs d
+
+-- A table passes test 7 exactly where it has no bits from 4k² up and the map that extends it keeps commutation: 7 refuses no Clifford.
+pub clifford-test : (n : ℕ) (qs : List ℕ) (t : ℕ) → allBelow n qs ≡ true → distinct qs ≡ true → (f : Pauli → Pauli) → ExtendsTable n qs t f
+    → (isClifford (length qs) t ≡ true) ↔ ((t < 2 ^ (4 * (length qs * length qs))) × KeepsCommutation n f)
+clifford-test n qs t b d f e = (
+  λ c. let r = Clifford.test-rows (length qs) t c in (r .0, generators-keep n qs b d _ _ f (Clifford.table-onto n qs d t f e) (r .1)),
+  λ k. Clifford.rows-test (length qs) t (k .0) (keeps-generators n qs b d _ _ f (Clifford.table-onto n qs d t f e) (k .1)),
+)
+
+-- A list of as many places as there are operands passes test 6 exactly where the map that extends it keeps commutation.
+pub permutation-test : (n : ℕ) (s qs : List ℕ) → allBelow n qs ≡ true → distinct qs ≡ true → length s ≡ length qs → allBelow (length qs) s ≡ true
+    → (f : Pauli → Pauli) → ExtendsPlaces n s qs f → (isPermutation (length qs) s ≡ true) ↔ KeepsCommutation n f
+permutation-test n s qs b d l b′ f e = (
+  λ p. generators-keep n qs b d _ _ f (Permutation.places-onto n s qs d l b′ f e) (Permutation.once-commutes (length qs) s l b′ (Permutation.test-permutes (length qs) s p .once)),
+  λ k. Permutation.permutes-test (length qs) s (record { as-many = l; below = b′; once = Permutation.commutes-once (length qs) s l b′ (keeps-generators n qs b d _ _ f (Permutation.places-onto n s qs d l b′ f e) k) }),
+)
+
+-- ---- all lines
+
+-- What a unitary line takes a Pauli on the n qubits to is determined on them: with `forward-conjugates`, it is what `forward` makes of it.
+pub conjugation-unique : (n : ℕ) (l : Line) → isUnitaryLine n l ≡ true → (Q Q₁ Q₂ : Pauli) → Within n Q → Conjugates n l Q Q₁ → Conjugates n l Q Q₂
+    → same n Q₁ Q₂ ≡ true
+unfolding isUnitaryLine Conjugates
+conjugation-unique n (Line.unitary g qs) u Q Q₁ Q₂ w a b = takes-unique n _ (gate-unitary n g qs u) Q Q₁ Q₂ a b
+conjugation-unique n (Line.clifford qs t) u Q Q₁ Q₂ w (f, a, p) (g, b, q) =
+    let l = tested n qs (isClifford (length qs) t) u in
+    images-unique n qs (l .below) (l .once) _ _ f g (Clifford.table-onto n qs (l .once) t f a) (Clifford.table-onto n qs (l .once) t g b) Q Q₁ Q₂ w p q
+conjugation-unique n (Line.pauli P) u Q Q₁ Q₂ w a b = takes-unique n _ (pauli-unitary n (pauliOf P)) Q Q₁ Q₂ a b
+conjugation-unique n (Line.exponential P) u Q Q₁ Q₂ w a b = takes-unique n _ (exponential-unitary n (pauliOf P)) Q Q₁ Q₂ a b
+conjugation-unique n (Line.controlled C T) u Q Q₁ Q₂ w a b = takes-unique n _ (controlled-unitary n (pauliOf C) (pauliOf T) (not-true _ u)) Q Q₁ Q₂ a b
+conjugation-unique n (Line.permute s qs) u Q Q₁ Q₂ w (f, a, p) (g, b, q) =
+    let l = tested n qs (isPermutation (length qs) s) u in
+    let r = Permutation.test-permutes (length qs) s (l .last) in
+    images-unique n qs (l .below) (l .once) _ _ f g (Permutation.places-onto n s qs (l .once) (r .as-many) (r .below) f a) (Permutation.places-onto n s qs (l .once) (r .as-many) (r .below) g b) Q Q₁ Q₂ w p q
+conjugation-unique n (Line.measure P id) u Q Q₁ Q₂ w a b = absurd a
+conjugation-unique n (Line.allocate id angle) u Q Q₁ Q₂ w a b = absurd a
+conjugation-unique n (Line.conditional P ids par) u Q Q₁ Q₂ w a b = absurd a
+conjugation-unique n (Line.reset qs) u Q Q₁ Q₂ w a b = absurd a
+conjugation-unique n (Line.inject shot P) u Q Q₁ Q₂ w a b = absurd a
+conjugation-unique n (Line.flip shot id) u Q Q₁ Q₂ w a b = absurd a
+
+-- A unitary line keeps the commutation of the Paulis on the n qubits.
+pub conjugation-commutes : (n : ℕ) (l : Line) → isUnitaryLine n l ≡ true → (P P′ Q Q′ : Pauli) → Within n P → Within n Q → Conjugates n l P P′ → Conjugates n l Q Q′
+    → anticommutes n P′ Q′ ≡ anticommutes n P Q
+unfolding isUnitaryLine Conjugates
+conjugation-commutes n (Line.unitary g qs) u P P′ Q Q′ w w′ a b = takes-commutes n _ (gate-unitary n g qs u) P P′ Q Q′ a b
+conjugation-commutes n (Line.clifford qs t) u P P′ Q Q′ w w′ (f, a, p) (g, b, q) =
+    let l = tested n qs (isClifford (length qs) t) u in
+    images-commute n qs (l .below) (l .once) _ _ f g (Clifford.table-onto n qs (l .once) t f a) (Clifford.table-onto n qs (l .once) t g b) (Clifford.test-rows (length qs) t (l .last) .1) P P′ Q Q′ w w′ p q
+conjugation-commutes n (Line.pauli R) u P P′ Q Q′ w w′ a b = takes-commutes n _ (pauli-unitary n (pauliOf R)) P P′ Q Q′ a b
+conjugation-commutes n (Line.exponential R) u P P′ Q Q′ w w′ a b = takes-commutes n _ (exponential-unitary n (pauliOf R)) P P′ Q Q′ a b
+conjugation-commutes n (Line.controlled C T) u P P′ Q Q′ w w′ a b = takes-commutes n _ (controlled-unitary n (pauliOf C) (pauliOf T) (not-true _ u)) P P′ Q Q′ a b
+conjugation-commutes n (Line.permute s qs) u P P′ Q Q′ w w′ (f, a, p) (g, b, q) =
+    let l = tested n qs (isPermutation (length qs) s) u in
+    let r = Permutation.test-permutes (length qs) s (l .last) in
+    images-commute n qs (l .below) (l .once) _ _ f g (Permutation.places-onto n s qs (l .once) (r .as-many) (r .below) f a) (Permutation.places-onto n s qs (l .once) (r .as-many) (r .below) g b) (Permutation.once-commutes (length qs) s (r .as-many) (r .below) (r .once)) P P′ Q Q′ w w′ p q
+conjugation-commutes n (Line.measure R id) u P P′ Q Q′ w w′ a b = absurd a
+conjugation-commutes n (Line.allocate id angle) u P P′ Q Q′ w w′ a b = absurd a
+conjugation-commutes n (Line.conditional R ids par) u P P′ Q Q′ w w′ a b = absurd a
+conjugation-commutes n (Line.reset qs) u P P′ Q Q′ w w′ a b = absurd a
+conjugation-commutes n (Line.inject shot R) u P P′ Q Q′ w w′ a b = absurd a
+conjugation-commutes n (Line.flip shot id) u P P′ Q Q′ w w′ a b = absurd a
