@@ -2,3 +2,5 @@
 pub mod Draws
 pub mod Settle
 pub mod Execute
+-- Laws of these definitions.
+pub mod Laws

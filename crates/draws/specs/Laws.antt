@@ -1,0 +1,2 @@
+-- Laws, for the proofs that cite them: execution and settling. Nothing here has to be believed.
+pub mod Settling
