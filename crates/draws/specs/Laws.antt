@@ -1,2 +1,3 @@
--- Laws, for the proofs that cite them: execution and settling. Nothing here has to be believed.
+-- Laws, for the proofs that cite them: execution and settling, which words are read. Nothing here has to be believed.
 pub mod Settling
+pub mod Words
