@@ -1,3 +1,4 @@
 -- Laws, for the proofs that cite them: execution and settling, which words are read. Nothing here has to be believed.
 pub mod Settling
 pub mod Words
+pub mod Spent
