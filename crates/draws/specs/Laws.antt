@@ -1,5 +1,6 @@
--- Laws, for the proofs that cite them: execution and settling, which words are read, faults. Nothing here has to be believed.
+-- Laws, for the proofs that cite them: execution and settling, which words are read, faults, u. Nothing here has to be believed.
 pub mod Settling
 pub mod Words
 pub mod Spent
 pub mod Faults
+pub mod Unit
