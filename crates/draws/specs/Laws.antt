@@ -4,3 +4,4 @@ pub mod Words
 pub mod Spent
 pub mod Faults
 pub mod Unit
+pub mod Elements
