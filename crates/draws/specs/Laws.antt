@@ -2,6 +2,7 @@
 pub mod Tests
 pub mod Settling
 pub mod Words
+pub mod Enough
 pub mod Spent
 pub mod Faults
 pub mod Unit

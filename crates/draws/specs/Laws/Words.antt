@@ -12,7 +12,7 @@ use lib.ListN.{length, take, drop, length-append, take-append-drop}
 use lib.Seq.{drop-append-seam, take-append-seam, drop-append-le, take-append-le}
 use lib.Ieee.{Float, le}
 use Rattle.pauli.specs.Bits.{Bits}
-use Rattle.job.specs.Line.{WeightedPauli, Distribution, Noise, Instruction, Placed}
+use Rattle.job.specs.Line.{Line, WeightedPauli, Distribution, Noise, Instruction, Placed}
 use Rattle.job.specs.Float.{float, nought}
 use Rattle.draws.specs.Draws.{falls, Choice, limitOf, bounded, byWeight, chooseFrom, isSatisfied, ShotDraw, faultOf, drawShot, Lent, Fault, Draws, alsoFault, thenShots, drawShots, drawLine, partOf, mainAfter}
 use Rattle.draws.specs.Settle.{SettledLine, injection, Step, noiseStep, stepOf, Settled, prefixed, settleThen, settle}
@@ -227,6 +227,33 @@ noise-took lent main text n = which (n .correlation) refl
 pub step-took : (lent : Lent) (main text : List ℕ) (i : Instruction) → StepTook (λ m. stepOf lent m text i) main (stepOf lent main text i)
 step-took lent main text (Instruction.line l) = unfold stepOf StepTook in took-none main (λ vs. refl)
 step-took lent main text (Instruction.noise n) = noise-took lent main text n
+
+-- The main list is read by noise without corr alone, and there it is read on.
+pub main-read : (lent : Lent) (main text : List ℕ) (n : Noise) (ls : List SettledLine) (left : List ℕ) → n .correlation ≡ none
+    → stepOf lent main text (Instruction.noise n) ≡ Step.lines ls left
+    → (fs : List Fault) × (drawLine lent n main ≡ Draws.drawn fs left) × (ls ≡ map (injection (n .distribution)) fs)
+unfolding partOf mainAfter
+main-read lent main text n ls left c e = go (drawLine lent n main) refl
+  where
+    go : (o : Draws) → drawLine lent n main ≡ o → (fs : List Fault) × (drawLine lent n main ≡ Draws.drawn fs left) × (ls ≡ map (injection (n .distribution)) fs)
+    go Draws.spent d = let no : _≡_ {A = ℕ} 0 1 = cc (step-spent lent main text n c d) in absurd (omega arith)
+    go (Draws.drawn fs rest) d =
+        let same : rest ≡ left = cc (step-drawn lent main text n c fs rest d) in
+        (fs, d ∙ ap (Draws.drawn fs) same, cc (step-drawn lent main text n c fs rest d))
+
+pub main-kept : (lent : Lent) (main text : List ℕ) (n : Noise) (ls : List SettledLine) (left : List ℕ) (p : ℕ) → n .correlation ≡ some p
+    → stepOf lent main text (Instruction.noise n) ≡ Step.lines ls left → left ≡ main
+unfolding mainAfter
+main-kept lent main text n ls left p c e = go (drawLine lent n (partOf lent main (some p))) refl
+  where
+    go : (o : Draws) → drawLine lent n (partOf lent main (some p)) ≡ o → left ≡ main
+    go Draws.spent d = cc (step-spent lent main text n c d)
+    go (Draws.drawn fs rest) d = cc (step-drawn lent main text n c fs rest d)
+
+pub line-kept : (lent : Lent) (main text : List ℕ) (l : Line) (ls : List SettledLine) (left : List ℕ)
+    → stepOf lent main text (Instruction.line l) ≡ Step.lines ls left → left ≡ main
+unfolding stepOf
+line-kept lent main text l ls left e = cc
 
 -- ---- a job
 
