@@ -4,3 +4,5 @@ pub mod Settle
 pub mod Execute
 -- Laws of these definitions.
 pub mod Laws
+-- Theorems on them.
+pub mod Theorems

@@ -66,6 +66,11 @@ unfoldable pub Enough : Draws → Type 0
 Enough Draws.spent = ⊥
 Enough (Draws.drawn fs left) = Unit
 
+pub enough-drawn : (o : Draws) → Enough o → (fs : List Fault) × (left : List ℕ) × (o ≡ Draws.drawn fs left)
+unfolding Enough
+enough-drawn Draws.spent t = absurd t
+enough-drawn (Draws.drawn fs left) t = (fs, left, refl)
+
 module _ (lent : Lent) (n : Noise) (p : 0 < sizeOf (n .distribution)) (h : sizeOf (n .distribution) < 2 ^ 64) where
   after-word : (bits : Bits) (w : ℕ) (vs : List ℕ) (m : ℕ) → ShotEnds m (drawShot n bits (w ∷ vs ++ replicate (suc m) 0))
   unfolding drawShot ShotEnds

@@ -3,8 +3,8 @@ use mathlib.Core.Path.{_≡_, refl, sym, ap, _∙_, subst}
 use mathlib.Core.Bool.{Bool, true, false, cond, _&&_}
 use mathlib.Core.List.{List, [], _∷_, map}
 use mathlib.Core.Option.{Option, none, some}
-use Prim.Native.Nat.{ℕ, zero, suc, _+_, _-_, _^_, _%_, _<_, _≤_, min}
-use native.Mathlib.Nat.{mod-lt, pow-le-pow-right, not-suc-le-zero}
+use Prim.Native.Nat.{ℕ, zero, suc, _+_, _-_, _*_, _/_, _^_, _%_, _<_, _≤_, min}
+use native.Mathlib.Nat.{mod-lt, div-add-mod', mul-mod-left, pow-le-pow-right, not-suc-le-zero}
 use native.Mathlib.Omega.{arith}
 use lib.Dec.{ltb, lit<}
 use lib.ListN.{length, getD, length-set, length-map, List·getD-map}
@@ -112,6 +112,12 @@ bounded-below c (w ∷ ws) h = go (ltb w (limitOf c)) (bounded-below c ws h)
     go : (b : Bool) → ChoiceBelow c (bounded c ws) → ChoiceBelow c (cond b (Choice.chosen (w % c) ws) (bounded c ws))
     go true t = mod-lt w h
     go false t = t
+
+-- The limit is a multiple of c: as many words below it give one element as another.
+pub limit-whole : (c : ℕ) → 0 < c → limitOf c % c ≡ 0
+limit-whole c h =
+    let whole : limitOf c ≡ (2 ^ 64 - 1) / c * c = omega (arith, div-add-mod' (2 ^ 64 - 1) c) in
+    ap (λ (k : ℕ). k % c) whole ∙ mul-mod-left ((2 ^ 64 - 1) / c) c
 
 running-length : (total s : Float) (ws : List Float) → length (runningFrom total s ws) ≡ length ws
 unfolding runningFrom

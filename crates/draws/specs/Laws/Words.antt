@@ -1,10 +1,11 @@
 -- Laws: which words are read. What a choice, a shot, a noise line, an instruction or a job reads is a beginning of its list, and what comes after
 -- that beginning has no influence; so draws are spent only where each longer list is read past the end of this one. Assumes nothing.
-use mathlib.Core.Path.{_≡_, refl, sym, ap, _∙_}
+use mathlib.Core.Path.{_≡_, refl, sym, ap, _∙_, subst}
 use mathlib.Core.Bool.{Bool, true, false, cond, _&&_}
-use mathlib.Core.List.{List, [], _∷_, _++_, map, append-assoc}
+use mathlib.Core.List.{List, [], _∷_, _++_, map, append-assoc, append-nil}
 use mathlib.Core.Option.{Option, none, some}
 use Prim.Native.Nat.{ℕ, zero, suc, _+_, _-_, _^_, _%_, _<_, _≤_}
+use native.Mathlib.Nat.{not-suc-le-zero}
 use native.Mathlib.Decide.{decLt}
 use native.Mathlib.Omega.{arith}
 use lib.Dec.{ltb}
@@ -182,6 +183,30 @@ line-took lent n ws = go (le (float (n .probability)) nought) (shots-took lent n
     go : (b : Bool) → DrawsTook all ws (all ws) → DrawsTook (λ vs. cond b (Draws.drawn [] vs) (all vs)) ws (cond b (Draws.drawn [] ws) (all ws))
     go true t = took-none ws (λ vs. refl)
     go false t = t
+
+module _ (lent : Lent) (n : Noise) (ws : List ℕ) where
+  pub drawn-took : (fs : List Fault) (left : List ℕ) → drawLine lent n ws ≡ Draws.drawn fs left → Took (drawLine lent n) (Draws.drawn fs) ws left
+  unfolding DrawsTook
+  drawn-took fs left e = subst (DrawsTook (drawLine lent n) ws) e (line-took lent n ws)
+
+  -- Draws are spent exactly where each longer list that is drawn from is read past the end of this one.
+  pub spent-past : drawLine lent n ws ≡ Draws.spent → (vs : List ℕ) (fs : List Fault) (left : List ℕ) → drawLine lent n (ws ++ vs) ≡ Draws.drawn fs left
+      → length left < length vs
+  spent-past s vs fs left e = took-past (drawLine lent n) (Draws.drawn fs) ws vs left never longer
+    where
+      never : (rest : List ℕ) → drawLine lent n ws ≡ Draws.drawn fs rest → ⊥
+      never rest d = let no : _≡_ {A = ℕ} 0 1 = cc in omega arith
+
+      longer : Took (drawLine lent n) (Draws.drawn fs) (ws ++ vs) left
+      longer = unfold DrawsTook in subst (DrawsTook (drawLine lent n) (ws ++ vs)) e (line-took lent n (ws ++ vs))
+
+  pub past-spent : ((vs : List ℕ) (fs : List Fault) (left : List ℕ) → drawLine lent n (ws ++ vs) ≡ Draws.drawn fs left → length left < length vs)
+      → drawLine lent n ws ≡ Draws.spent
+  past-spent past = go (drawLine lent n ws) refl
+    where
+      go : (o : Draws) → drawLine lent n ws ≡ o → drawLine lent n ws ≡ Draws.spent
+      go Draws.spent e = e
+      go (Draws.drawn fs left) e = absurd (not-suc-le-zero (past [] fs left (ap (drawLine lent n) (append-nil ws) ∙ e)))
 
 -- ---- an instruction
 
