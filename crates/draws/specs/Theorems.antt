@@ -1,25 +1,28 @@
 -- Theorems, for a reader of the claim: settling and execution agree, which words are read and when draws are spent, what falls, and cases of
 -- document 01 that compute. Their proofs stand in Laws. Assumes nothing.
-use mathlib.Core.Path.{_≡_, refl, sym, ap, _∙_, subst}
-use mathlib.Core.Bool.{Bool, true, false}
-use mathlib.Core.List.{List, [], _∷_, _++_, map, append-nil}
+use mathlib.Core.Path.{_≡_, refl, ap, _∙_}
+use mathlib.Core.Bool.{Bool, true, false, _&&_}
+use mathlib.Core.List.{List, [], _∷_, _++_, map}
 use mathlib.Core.Logic.{_↔_}
 use mathlib.Core.Option.{Option, none, some}
-use Prim.Native.Nat.{ℕ, zero, suc, _+_, _-_, _*_, _/_, _%_, _^_, _<_, _≤_}
+use Prim.Native.Nat.{ℕ, _+_, _-_, _*_, _/_, _%_, _^_, _<_, _≤_}
 use native.Mathlib.Omega.{arith}
-use lib.Dec.{ltb}
+use lib.Dec.{eqb, ltb}
 use lib.ListN.{length, getD, drop, replicate}
-use lib.Ieee.{Float, binary64, ofBits, ofInt, add, div, lt, le}
+use lib.Ieee.{Float, ofBits, ofInt, add, div, lt, le}
 use lib.Ieee.Exact.{HasValue}
-use Rattle.text.specs.List.{isRising}
-use Rattle.pauli.specs.Bits.{members}
+use Rattle.text.specs.Bytes.{bytes}
+use Rattle.text.specs.Number.{decimalDigits}
+use Rattle.text.specs.List.{isRising, commas, listText}
+use Rattle.text.specs.Template.{valueText, firstText, lineText}
+use Rattle.pauli.specs.Bits.{_⊕_, members}
 use Rattle.job.specs.Line.{SparsePauli, pauliOf, Line, WeightedPauli, Distribution, sizeOf, Noise, Instruction, Placed}
-use Rattle.job.specs.Float.{float, nought, one}
+use Rattle.job.specs.Float.{float, one}
 use Rattle.job.specs.Clifford.{bit}
 use Rattle.job.specs.Checks.{allBelow, distinct}
 use Rattle.frames.specs.Forward.{Setting, State, run}
-use Rattle.draws.specs.Draws.{unitOf, falls, elementAt, depolarizingElement, Choice, limitOf, bounded, runningSums, chooseFrom, isSatisfied, Lent, Fault, Draws, drawLine, partOf, mainAfter}
-use Rattle.draws.specs.Settle.{SettledLine, Step, stepOf, Settled, settle, settledList}
+use Rattle.draws.specs.Draws.{unitOf, falls, elementAt, selected, inserted, rising, depolarizingElement, noPauli, Choice, limitOf, bounded, totalFrom, runningFrom, runningSums, belowUnit, byWeight, chooseFrom, sumOver, isSatisfied, faultOf, drawShot, Lent, Fault, Draws, alsoFault, thenShots, drawShots, drawLine, partOf, mainAfter}
+use Rattle.draws.specs.Settle.{SettledLine, injectText, injection, Step, noiseStep, stepOf, Settled, prefixed, settleThen, settle, settledList}
 use Rattle.draws.specs.Execute.{Ended, execute}
 use Rattle.draws.specs.Laws.Settling.{onSettled, execute-settle}
 use Rattle.draws.specs.Laws.Words as words
@@ -169,3 +172,160 @@ settle-within lent main is ls b e = within.settle-within lent main is ls b e
 -- A job without noise settles to itself, with its texts, whatever is lent.
 pub settle-copies : (lent : Lent) (main : List ℕ) (is : List Placed) → within.noiseFree is ≡ true → settle lent main is ≡ Settled.settled (within.copies is)
 settle-copies lent main is f = within.settle-copies lent main is f
+
+-- ---- cases of document 01, computed
+
+-- the element that a choice takes
+unfoldable pub taken : Distribution → Choice → Option SparsePauli
+taken d Choice.spent = none
+taken d (Choice.chosen e left) = some (elementAt d e)
+
+-- the element that one word gives
+abbrev pub givenBy : Distribution → ℕ → Option SparsePauli
+givenBy d w = taken d (chooseFrom d (w ∷ []))
+
+-- k = 1, on any qubit: word 0 gives X, 1 Z, 2 Y, and 2^64 - 1 is rejected. The word before that one is taken.
+pub one-qubit : (q : ℕ)
+    → map (givenBy (Distribution.depolarizing (q ∷ []))) (0 ∷ 1 ∷ 2 ∷ (2 ^ 64 - 1) ∷ (2 ^ 64 - 2) ∷ [])
+    ≡ some (record { x = q ∷ []; z = [] })
+    ∷ some (record { x = []; z = q ∷ [] })
+    ∷ some (record { x = q ∷ []; z = q ∷ [] })
+    ∷ none
+    ∷ some (record { x = q ∷ []; z = q ∷ [] })
+    ∷ []
+unfolding taken chooseFrom bounded elementAt depolarizingElement selected rising inserted
+one-qubit q = refl
+
+-- Two qubits in falling order: the first of the list has the lower bits, and the lists are rising. 15 elements: the limit is 2^64 - 1 itself, so
+-- 2^64 - 2 is the last element.
+pub two-qubits : map (givenBy (Distribution.depolarizing (7 ∷ 3 ∷ []))) (0 ∷ 3 ∷ 4 ∷ 14 ∷ (2 ^ 64 - 2) ∷ (2 ^ 64 - 1) ∷ [])
+    ≡ some (record { x = 7 ∷ []; z = [] })
+    ∷ some (record { x = 3 ∷ []; z = [] })
+    ∷ some (record { x = 3 ∷ 7 ∷ []; z = [] })
+    ∷ some (record { x = 3 ∷ 7 ∷ []; z = 3 ∷ 7 ∷ [] })
+    ∷ some (record { x = 3 ∷ 7 ∷ []; z = 3 ∷ 7 ∷ [] })
+    ∷ none
+    ∷ []
+unfolding taken chooseFrom bounded elementAt depolarizingElement selected rising inserted
+two-qubits = refl
+
+-- d=3 with one element reads a word all the same; a rejected word is spent.
+pub one-element : (P : SparsePauli) (ws : List ℕ) → chooseFrom (Distribution.uniform (P ∷ [])) ((2 ^ 64 - 1) ∷ 5 ∷ ws) ≡ Choice.chosen 0 ws
+unfolding chooseFrom bounded
+one-element P ws = refl
+
+-- with seven, words from 2^64 - 2 up are rejected
+pub seven : map limitOf (1 ∷ 3 ∷ 7 ∷ []) ≡ (2 ^ 64 - 1) ∷ (2 ^ 64 - 1) ∷ (2 ^ 64 - 2) ∷ []
+seven = refl
+
+abbrev pub half : ℕ
+half = 0x3fe0_0000_0000_0000
+
+abbrev pub whole : ℕ
+whole = 0x3ff0_0000_0000_0000
+
+-- u < p is strict: p = 1/2, p = 1 and the least p above zero, 2^-1074
+pub at-p : (falls (2 ^ 63 - 1) (float half) ≡ true)
+    × (falls (2 ^ 63) (float half) ≡ false)
+    × (falls (2 ^ 64 - 1) (float whole) ≡ true)
+    × (falls 2047 (float 1) ≡ true)
+    × (falls 2048 (float 1) ≡ false)
+unfolding unitOf div ofInt lt ofBits
+at-p = (refl, refl, refl, refl, refl)
+
+-- ---- weights
+
+-- 0.1 and 0.2: their sum is 0.30000000000000004, and 0.1 over it is a third
+pub tenths : runningSums (float 0x3fb9_9999_9999_999a ∷ float 0x3fc9_9999_9999_999a ∷ []) ≡ float 0x3fd5_5555_5555_5555 ∷ one ∷ []
+unfolding totalFrom runningFrom add div ofBits
+tenths = refl
+
+-- 3, 1, 1, 2: each place adds its own quotient, each sum is rounded (5/7 is ..b7), and the last is set to 1.0 (it came to ..ff)
+pub sevenths : runningSums (float 0x4008_0000_0000_0000 ∷ float whole ∷ float whole ∷ float 0x4000_0000_0000_0000 ∷ [])
+    ≡ float 0x3fdb_6db6_db6d_b6db ∷ float 0x3fe2_4924_9249_2492 ∷ float 0x3fe6_db6d_b6db_6db6 ∷ one ∷ []
+unfolding totalFrom runningFrom add div ofBits
+sevenths = refl
+
+-- equal weights, so many
+abbrev pub equal : ℕ → Distribution
+equal k = Distribution.weighted (replicate k record { weight = whole; pauli = record { x = []; z = [] } })
+
+-- Halves: u = 1/2 still takes the first place; the next u does not. Thirds: the two u about 1/3 take different places.
+pub halves : (chooseFrom (equal 2) ((2 ^ 63) ∷ []) ≡ Choice.chosen 0 [])
+    × (chooseFrom (equal 2) ((2 ^ 63 + 2048) ∷ []) ≡ Choice.chosen 1 [])
+    × (chooseFrom (equal 3) ((3002399751580330 * 2048) ∷ []) ≡ Choice.chosen 0 [])
+    × (chooseFrom (equal 3) ((3002399751580331 * 2048) ∷ []) ≡ Choice.chosen 1 [])
+    × (chooseFrom (equal 3) ((2 ^ 64 - 1) ∷ []) ≡ Choice.chosen 2 [])
+unfolding chooseFrom byWeight totalFrom runningFrom belowUnit unitOf add div ofInt lt ofBits
+halves = (refl, refl, refl, refl, refl)
+
+-- ---- lines and jobs
+
+-- depolarizing noise on one qubit, with a probability, a corr and a condition
+abbrev pub noiseOn : ℕ → ℕ → Option ℕ → List ℕ → Bool → Noise
+noiseOn q p corr ids par = record { probability = p; correlation = corr; outcomes = ids; parity = par; distribution = Distribution.depolarizing (q ∷ []) }
+
+-- what is lent beside the main list, for so many shots: outcome 3 is 1 in shot 1 alone, and the others are 0
+abbrev pub lentFor : ℕ → Lent
+lentFor shots = record { noiseless = λ id shot. eqb id 3 && eqb shot 1; second = 9 ∷ 9 ∷ 0 ∷ 1 ∷ []; base = 2 ^ 64 - 1; shots = shots }
+
+abbrev pub fault : ℕ → ℕ → Fault
+fault shot e = record { shot = shot; element = e }
+
+-- With p at or below zero (0, -0, -1) no word is read.
+pub no-word : (lent : Lent) (q : ℕ) (corr : Option ℕ) (ids : List ℕ) (par : Bool) (ws : List ℕ)
+    → map (λ (p : ℕ). drawLine lent (noiseOn q p corr ids par) ws) (0 ∷ 0x8000_0000_0000_0000 ∷ 0xbff0_0000_0000_0000 ∷ [])
+    ≡ replicate 3 (Draws.drawn [] ws)
+unfolding drawLine le ofBits
+no-word lent q corr ids par ws = refl
+
+-- opens what a noise line's draws compute with
+drawing : Unit {0}
+unfolding drawLine drawShots thenShots alsoFault drawShot faultOf isSatisfied sumOver _⊕_ chooseFrom bounded unitOf div ofInt lt le ofBits
+drawing = tt
+
+-- p = 1/2, three shots: a fault with element 2, none, and a fault whose first word is rejected; in a fourth shot a word is missing
+pub three-shots : drawLine (lentFor 3) (noiseOn 0 half none [] false) (0 ∷ 2 ∷ (2 ^ 63) ∷ (2 ^ 63 - 1) ∷ (2 ^ 64 - 1) ∷ 3 ∷ []) ≡ Draws.drawn (fault 0 2 ∷ fault 2 0 ∷ []) []
+unfolding drawing
+three-shots = refl
+
+pub a-fourth : drawLine (lentFor 4) (noiseOn 0 half none [] false) (0 ∷ 2 ∷ (2 ^ 63) ∷ (2 ^ 63 - 1) ∷ (2 ^ 64 - 1) ∷ 3 ∷ []) ≡ Draws.spent
+unfolding drawing
+a-fourth = refl
+
+-- p = 1 and the condition that outcomes 1 and 3 sum to 1: an element in shot 1 alone, where one is chosen; that they sum to 0: in the other two
+pub on-condition : drawLine (lentFor 3) (noiseOn 0 whole none (1 ∷ 3 ∷ []) true) (0 ∷ 0 ∷ 1 ∷ 0 ∷ 7 ∷ []) ≡ Draws.drawn (fault 1 1 ∷ []) (7 ∷ [])
+unfolding drawing
+on-condition = refl
+
+pub on-zero : drawLine (lentFor 3) (noiseOn 0 whole none (1 ∷ 3 ∷ []) false) (0 ∷ 1 ∷ 0 ∷ 0 ∷ 2 ∷ 7 ∷ []) ≡ Draws.drawn (fault 0 1 ∷ fault 2 2 ∷ []) (7 ∷ [])
+unfolding drawing
+on-zero = refl
+
+-- an instruction in a line
+abbrev pub inLine : ℕ → Noise → Placed
+inLine k n = record { number = k; text = []; instruction = Instruction.noise n }
+
+-- One shot, base 2^64 - 1: corr 3 begins at place 2 of the second list, at each of its lines anew, and the main list is read on.
+abbrev pub correlated : List Placed
+correlated =
+    inLine 2 (noiseOn 0 whole none [] false)
+    ∷ inLine 3 (noiseOn 0 whole (some 3) [] false)
+    ∷ inLine 4 (noiseOn 5 whole (some 3) [] false)
+    ∷ inLine 5 (noiseOn 0 whole none [] false)
+    ∷ []
+
+pub settles : settle (lentFor 1) (0 ∷ 0 ∷ 0 ∷ 2 ∷ []) correlated
+    ≡ Settled.settled (map (λ (e : Fault). injection (Distribution.depolarizing (0 ∷ [])) e) (fault 0 0 ∷ fault 0 1 ∷ []) ++ injection (Distribution.depolarizing (5 ∷ [])) (fault 0 1) ∷ injection (Distribution.depolarizing (0 ∷ [])) (fault 0 2) ∷ [])
+unfolding drawing settle settleThen prefixed stepOf noiseStep mainAfter partOf
+settles = refl
+
+-- a word fewer in the main list, and line 5 is where it is spent
+pub stops : settle (lentFor 1) (0 ∷ 0 ∷ 0 ∷ []) correlated ≡ Settled.spentAt 5
+unfolding drawing settle settleThen prefixed stepOf noiseStep mainAfter partOf
+stops = refl
+
+-- an injection's text; the identity has empty lists
+pub inject-text : (injectText 3 record { x = 1 ∷ 12 ∷ []; z = [] } ≡ bytes "op=i shot=3 x=1,12 z=-") × (injectText 0 noPauli ≡ bytes "op=i shot=0 x=- z=-")
+unfolding injectText noPauli lineText firstText valueText listText commas decimalDigits bytes
+inject-text = (refl, refl)

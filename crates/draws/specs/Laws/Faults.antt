@@ -1,9 +1,9 @@
 -- Laws: the faults of a noise line. Their shots rise and are shots of the job, and their elements are elements of the distribution. Assumes nothing.
-use mathlib.Core.Path.{_≡_, refl, sym, ap, _∙_, subst}
+use mathlib.Core.Path.{_≡_, refl, ap, _∙_, subst}
 use mathlib.Core.Bool.{Bool, true, false, cond, _&&_}
 use mathlib.Core.List.{List, [], _∷_, map}
-use mathlib.Core.Option.{Option, none, some}
-use Prim.Native.Nat.{ℕ, zero, suc, _+_, _-_, _*_, _/_, _^_, _%_, _<_, _≤_, min}
+use mathlib.Core.Option.{none, some}
+use Prim.Native.Nat.{ℕ, zero, suc, _+_, _-_, _*_, _/_, _^_, _%_, _<_, _≤_}
 use native.Mathlib.Nat.{mod-lt, div-add-mod', mul-mod-left, pow-le-pow-right, not-suc-le-zero}
 use native.Mathlib.Omega.{arith}
 use lib.Dec.{ltb, lit<}
@@ -15,7 +15,7 @@ use Rattle.pauli.specs.Bits.{Bits}
 use Rattle.job.specs.Line.{SparsePauli, WeightedPauli, Distribution, sizeOf, Noise}
 use Rattle.job.specs.Float.{float, nought, one}
 use Rattle.job.specs.Checks.{allBelow}
-use Rattle.draws.specs.Draws.{unitOf, falls, noPauli, elementAt, Choice, limitOf, bounded, totalFrom, runningFrom, runningSums, belowUnit, placeOf, byWeight, chooseFrom, isSatisfied, ShotDraw, faultOf, drawShot, Lent, Fault, Draws, alsoFault, thenShots, drawShots, drawLine}
+use Rattle.draws.specs.Draws.{falls, noPauli, elementAt, Choice, limitOf, bounded, totalFrom, runningFrom, runningSums, byWeight, chooseFrom, isSatisfied, ShotDraw, faultOf, drawShot, Lent, Fault, Draws, alsoFault, thenShots, drawShots, drawLine}
 
 abbrev pub shotsOf : List Fault → List ℕ
 shotsOf = map (λ (f : Fault). f .shot)

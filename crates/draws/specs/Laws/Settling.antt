@@ -2,13 +2,13 @@
 use mathlib.Core.Path.{_≡_, refl, sym, ap, _∙_}
 use mathlib.Core.Bool.{Bool, true, false, cond}
 use mathlib.Core.List.{List, [], _∷_, _++_, map}
-use mathlib.Core.Option.{Option, none, some}
+use mathlib.Core.Option.{none, some}
 use Prim.Native.Nat.{ℕ, zero, suc}
 use lib.Ieee.{le}
 use Rattle.job.specs.Line.{Line, Distribution, Noise, Instruction, Placed}
 use Rattle.job.specs.Float.{float, nought}
 use Rattle.frames.specs.Forward.{Setting, State, forward, run}
-use Rattle.draws.specs.Draws.{Lent, Fault, ShotDraw, Draws, drawShot, alsoFault, thenShots, drawShots, drawLine, partOf, mainAfter}
+use Rattle.draws.specs.Draws.{Lent, Fault, ShotDraw, Draws, drawShot, alsoFault, thenShots, drawShots, drawLine, partOf}
 use Rattle.draws.specs.Settle.{SettledLine, injection, Step, noiseStep, stepOf, Settled, prefixed, settleThen, settle, settledList}
 use Rattle.draws.specs.Execute.{Executed, thenInPlace, injectShots, injectNoise, onMain, executeOne, Ended, executeThen, execute}
 

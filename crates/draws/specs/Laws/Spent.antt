@@ -1,6 +1,6 @@
 -- Laws: how far a job has read the main list, and at which line its draws are spent. Assumes nothing.
 use mathlib.Core.Path.{_≡_, refl, sym, ap, _∙_, fun-ext}
-use mathlib.Core.Bool.{Bool, true, false, cond}
+use mathlib.Core.Bool.{cond}
 use mathlib.Core.List.{List, [], _∷_, _++_, map, append-assoc}
 use mathlib.Core.Option.{Option, none, some}
 use Prim.Native.Nat.{ℕ, zero, suc, _+_, _-_, _^_, _%_}
@@ -10,9 +10,9 @@ use lib.ListN.{length, drop}
 use lib.Ieee.{le}
 use Rattle.job.specs.Line.{Noise, Instruction, Placed}
 use Rattle.job.specs.Float.{float, nought}
-use Rattle.draws.specs.Draws.{ShotDraw, drawShot, Lent, Fault, Draws, thenShots, drawShots, drawLine, partOf, mainAfter}
-use Rattle.draws.specs.Settle.{SettledLine, injection, Step, noiseStep, stepOf, Settled, prefixed, settleThen, settle}
-use Rattle.draws.specs.Laws.Words.{Took, took-more, DrawsTook, line-took, step-drawn, step-spent, StepTook, step-took}
+use Rattle.draws.specs.Draws.{ShotDraw, drawShot, Lent, Draws, thenShots, drawShots, drawLine, partOf, mainAfter}
+use Rattle.draws.specs.Settle.{SettledLine, injection, Step, stepOf, Settled, prefixed, settleThen, settle}
+use Rattle.draws.specs.Laws.Words.{took-more, DrawsTook, line-took, step-drawn, step-spent, StepTook, step-took}
 
 -- ---- how far the main list is read
 

@@ -1,18 +1,17 @@
 -- Laws: the lines that stand for noise, and settling a job without noise. Assumes nothing.
 use mathlib.Core.Path.{_≡_, refl, sym, ap, _∙_, subst}
-use mathlib.Core.Bool.{Bool, true, false, cond, _&&_, and-assoc}
+use mathlib.Core.Bool.{Bool, true, false, _&&_, and-assoc}
 use mathlib.Core.List.{List, [], _∷_, _++_, map}
 use Prim.Native.Nat.{ℕ, _<_, _≤_}
 use native.Mathlib.Omega.{arith}
-use lib.Dec.{eqb, ltb}
+use lib.Dec.{ltb}
 use borrow.Author.Tests.{ltb-true, ne-eqb}
-use Rattle.pauli.specs.Pauli.{Pauli, _∗_, when}
 use Rattle.pauli.specs.Laws.Group.{when-false, ∗-identity}
 use Rattle.job.specs.Line.{SparsePauli, pauliOf, Line, Distribution, Noise, Instruction, Placed}
 use Rattle.job.specs.Checks.{allBelow}
 use Rattle.frames.specs.Forward.{Setting, State, forward, run}
-use Rattle.draws.specs.Draws.{Lent, elementAt, Fault, Draws, drawLine, partOf, mainAfter}
-use Rattle.draws.specs.Settle.{SettledLine, injection, Step, noiseStep, stepOf, Settled, prefixed, settleThen, settle, settledList}
+use Rattle.draws.specs.Draws.{Lent, elementAt, Fault, Draws, drawLine, partOf}
+use Rattle.draws.specs.Settle.{SettledLine, injection, Step, stepOf, Settled, prefixed, settleThen, settle, settledList}
 use Rattle.draws.specs.Laws.Tests.{&&-first, &&-second}
 use Rattle.draws.specs.Laws.Words.{step-drawn, step-spent}
 use Rattle.draws.specs.Laws.Settling.{settledList-append}

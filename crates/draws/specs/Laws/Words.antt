@@ -10,10 +10,10 @@ use native.Mathlib.Decide.{decLt}
 use native.Mathlib.Omega.{arith}
 use lib.Dec.{ltb}
 use lib.ListN.{length, take, drop, length-append, take-append-drop}
-use lib.Seq.{drop-append-seam, take-append-seam, drop-append-le, take-append-le}
+use lib.Seq.{drop-append-seam, take-append-seam, take-append-le}
 use lib.Ieee.{Float, le}
 use Rattle.pauli.specs.Bits.{Bits}
-use Rattle.job.specs.Line.{Line, WeightedPauli, Distribution, Noise, Instruction, Placed}
+use Rattle.job.specs.Line.{Line, Distribution, Noise, Instruction, Placed}
 use Rattle.job.specs.Float.{float, nought}
 use Rattle.draws.specs.Draws.{falls, Choice, limitOf, bounded, byWeight, chooseFrom, isSatisfied, ShotDraw, faultOf, drawShot, Lent, Fault, Draws, alsoFault, thenShots, drawShots, drawLine, partOf, mainAfter}
 use Rattle.draws.specs.Settle.{SettledLine, injection, Step, noiseStep, stepOf, Settled, prefixed, settleThen, settle}
