@@ -7,4 +7,5 @@ pub mod Spent
 pub mod Faults
 pub mod Unit
 pub mod Elements
+pub mod Depolarizing
 pub mod Within

@@ -16,6 +16,7 @@ use Rattle.text.specs.Number.{decimalDigits}
 use Rattle.text.specs.List.{isRising, commas, listText}
 use Rattle.text.specs.Template.{valueText, firstText, lineText}
 use Rattle.pauli.specs.Bits.{_⊕_, members}
+use Rattle.pauli.specs.Pauli.{Pauli, identity}
 use Rattle.job.specs.Line.{SparsePauli, pauliOf, Line, WeightedPauli, Distribution, sizeOf, Noise, Instruction, Placed}
 use Rattle.job.specs.Float.{float, one}
 use Rattle.job.specs.Clifford.{bit}
@@ -31,6 +32,7 @@ use Rattle.draws.specs.Laws.Spent as spent
 use Rattle.draws.specs.Laws.Faults as faults
 use Rattle.draws.specs.Laws.Unit as unit
 use Rattle.draws.specs.Laws.Elements as elements
+use Rattle.draws.specs.Laws.Depolarizing as depolarizing
 use Rattle.draws.specs.Laws.Within as within
 
 -- ---- settling and execution
@@ -156,6 +158,20 @@ module _ (qs : List ℕ) (d : distinct qs ≡ true) (e : ℕ) where
       → elements.Writable n (length qs) (depolarizingElement qs e .x) × elements.Writable n (length qs) (depolarizingElement qs e .z)
   unfolding depolarizingElement
   depolarizing-written n b = (elements.selected-writable n (e + 1) qs d b, elements.selected-writable n ((e + 1) / 2) qs d b)
+
+-- The elements are all Paulis on the qubits but the identity, each once.
+module _ (qs : List ℕ) where
+  pub depolarizing-once : distinct qs ≡ true → (e f : ℕ) → e < sizeOf (Distribution.depolarizing qs) → f < sizeOf (Distribution.depolarizing qs)
+      → pauliOf (depolarizingElement qs e) ≡ pauliOf (depolarizingElement qs f) → e ≡ f
+  depolarizing-once d e f a b same = depolarizing.element-once qs d e f a b same
+
+  pub depolarizing-some : distinct qs ≡ true → (e : ℕ) → e < sizeOf (Distribution.depolarizing qs)
+      → pauliOf (depolarizingElement qs e) ≡ identity → ⊥
+  depolarizing-some d e a same = depolarizing.element-some qs d e a same
+
+  pub depolarizing-every : (P : Pauli) → ((q : ℕ) → members qs q ≡ false → (P .x q ≡ false) × (P .z q ≡ false)) → (P ≡ identity → ⊥)
+      → (e : ℕ) × (e < sizeOf (Distribution.depolarizing qs)) × (pauliOf (depolarizingElement qs e) ≡ P)
+  depolarizing-every P on different = depolarizing.element-every qs P on different
 
 -- ---- settled lines
 
