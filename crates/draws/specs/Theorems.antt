@@ -59,7 +59,8 @@ executed-ended c lent is main s ls e = execute-settle c lent is main s ∙ ap (o
 
 module _ (lent : Lent) (n : Noise) (ws : List ℕ) where
   -- What a line reads is a beginning of its part: more words change nothing, and what is left is a suffix of what was there.
-  pub line-more : (fs : List Fault) (left vs : List ℕ) → drawLine lent n ws ≡ Draws.drawn fs left → drawLine lent n (ws ++ vs) ≡ Draws.drawn fs (left ++ vs)
+  pub line-more : (fs : List Fault) (left vs : List ℕ) → drawLine lent n ws ≡ Draws.drawn fs left
+      → drawLine lent n (ws ++ vs) ≡ Draws.drawn fs (left ++ vs)
   line-more fs left vs e = words.took-more (words.drawn-took lent n ws fs left e) vs
 
   pub line-suffix : (fs : List Fault) (left : List ℕ) → drawLine lent n ws ≡ Draws.drawn fs left → (k : ℕ) × (k ≤ length ws) × (left ≡ drop k ws)
@@ -186,7 +187,8 @@ pub settle-within : (lent : Lent) (main : List ℕ) (is : List Placed) (ls : Lis
 settle-within lent main is ls b e = within.settle-within lent main is ls b e
 
 -- A job without noise settles to itself, with its texts, whatever is lent.
-pub settle-copies : (lent : Lent) (main : List ℕ) (is : List Placed) → within.noiseFree is ≡ true → settle lent main is ≡ Settled.settled (within.copies is)
+pub settle-copies : (lent : Lent) (main : List ℕ) (is : List Placed) → within.noiseFree is ≡ true
+    → settle lent main is ≡ Settled.settled (within.copies is)
 settle-copies lent main is f = within.settle-copies lent main is f
 
 -- ---- cases of document 01, computed
@@ -246,7 +248,7 @@ pub at-p : (falls (2 ^ 63 - 1) (float half) ≡ true)
     × (falls (2 ^ 64 - 1) (float whole) ≡ true)
     × (falls 2047 (float 1) ≡ true)
     × (falls 2048 (float 1) ≡ false)
-unfolding unitOf div ofInt lt ofBits
+unfolding unitOf div ofInt lt le ofBits
 at-p = (refl, refl, refl, refl, refl)
 
 -- ---- weights
@@ -272,14 +274,15 @@ pub halves : (chooseFrom (equal 2) ((2 ^ 63) ∷ []) ≡ Choice.chosen 0 [])
     × (chooseFrom (equal 3) ((3002399751580330 * 2048) ∷ []) ≡ Choice.chosen 0 [])
     × (chooseFrom (equal 3) ((3002399751580331 * 2048) ∷ []) ≡ Choice.chosen 1 [])
     × (chooseFrom (equal 3) ((2 ^ 64 - 1) ∷ []) ≡ Choice.chosen 2 [])
-unfolding chooseFrom byWeight totalFrom runningFrom belowUnit unitOf add div ofInt lt ofBits
+unfolding chooseFrom byWeight totalFrom runningFrom belowUnit unitOf add div ofInt lt le ofBits
 halves = (refl, refl, refl, refl, refl)
 
 -- ---- lines and jobs
 
 -- depolarizing noise on one qubit, with a probability, a corr and a condition
 abbrev pub noiseOn : ℕ → ℕ → Option ℕ → List ℕ → Bool → Noise
-noiseOn q p corr ids par = record { probability = p; correlation = corr; outcomes = ids; parity = par; distribution = Distribution.depolarizing (q ∷ []) }
+noiseOn q p corr ids par =
+    record { probability = p; correlation = corr; outcomes = ids; parity = par; distribution = Distribution.depolarizing (q ∷ []) }
 
 -- what is lent beside the main list, for so many shots: outcome 3 is 1 in shot 1 alone, and the others are 0
 abbrev pub lentFor : ℕ → Lent
@@ -301,7 +304,8 @@ unfolding drawLine drawShots thenShots alsoFault drawShot faultOf isSatisfied su
 drawing = tt
 
 -- p = 1/2, three shots: a fault with element 2, none, and a fault whose first word is rejected; in a fourth shot a word is missing
-pub three-shots : drawLine (lentFor 3) (noiseOn 0 half none [] false) (0 ∷ 2 ∷ (2 ^ 63) ∷ (2 ^ 63 - 1) ∷ (2 ^ 64 - 1) ∷ 3 ∷ []) ≡ Draws.drawn (fault 0 2 ∷ fault 2 0 ∷ []) []
+pub three-shots : drawLine (lentFor 3) (noiseOn 0 half none [] false) (0 ∷ 2 ∷ (2 ^ 63) ∷ (2 ^ 63 - 1) ∷ (2 ^ 64 - 1) ∷ 3 ∷ [])
+    ≡ Draws.drawn (fault 0 2 ∷ fault 2 0 ∷ []) []
 unfolding drawing
 three-shots = refl
 
@@ -314,7 +318,8 @@ pub on-condition : drawLine (lentFor 3) (noiseOn 0 whole none (1 ∷ 3 ∷ []) t
 unfolding drawing
 on-condition = refl
 
-pub on-zero : drawLine (lentFor 3) (noiseOn 0 whole none (1 ∷ 3 ∷ []) false) (0 ∷ 1 ∷ 0 ∷ 0 ∷ 2 ∷ 7 ∷ []) ≡ Draws.drawn (fault 0 1 ∷ fault 2 2 ∷ []) (7 ∷ [])
+pub on-zero : drawLine (lentFor 3) (noiseOn 0 whole none (1 ∷ 3 ∷ []) false) (0 ∷ 1 ∷ 0 ∷ 0 ∷ 2 ∷ 7 ∷ [])
+    ≡ Draws.drawn (fault 0 1 ∷ fault 2 2 ∷ []) (7 ∷ [])
 unfolding drawing
 on-zero = refl
 
@@ -331,8 +336,11 @@ correlated =
     ∷ inLine 5 (noiseOn 0 whole none [] false)
     ∷ []
 
-pub settles : settle (lentFor 1) (0 ∷ 0 ∷ 0 ∷ 2 ∷ []) correlated
-    ≡ Settled.settled (map (λ (e : Fault). injection (Distribution.depolarizing (0 ∷ [])) e) (fault 0 0 ∷ fault 0 1 ∷ []) ++ injection (Distribution.depolarizing (5 ∷ [])) (fault 0 1) ∷ injection (Distribution.depolarizing (0 ∷ [])) (fault 0 2) ∷ [])
+-- the injection of an element in shot 0 on one qubit
+abbrev pub on : ℕ → ℕ → SettledLine
+on q e = injection (Distribution.depolarizing (q ∷ [])) (fault 0 e)
+
+pub settles : settle (lentFor 1) (0 ∷ 0 ∷ 0 ∷ 2 ∷ []) correlated ≡ Settled.settled (on 0 0 ∷ on 0 1 ∷ on 5 1 ∷ on 0 2 ∷ [])
 unfolding drawing settle settleThen prefixed stepOf noiseStep mainAfter partOf
 settles = refl
 
@@ -342,6 +350,7 @@ unfolding drawing settle settleThen prefixed stepOf noiseStep mainAfter partOf
 stops = refl
 
 -- an injection's text; the identity has empty lists
-pub inject-text : (injectText 3 record { x = 1 ∷ 12 ∷ []; z = [] } ≡ bytes "op=i shot=3 x=1,12 z=-") × (injectText 0 noPauli ≡ bytes "op=i shot=0 x=- z=-")
+pub inject-text : (injectText 3 record { x = 1 ∷ 12 ∷ []; z = [] } ≡ bytes "op=i shot=3 x=1,12 z=-")
+    × (injectText 0 noPauli ≡ bytes "op=i shot=0 x=- z=-")
 unfolding injectText noPauli lineText firstText valueText listText commas decimalDigits bytes
 inject-text = (refl, refl)

@@ -129,7 +129,8 @@ code-below x z (q ∷ qs) = rw (pow-suc 4 (length qs)) (omega (arith, code-below
 -- one more qubit
 member-given : (s : Bits) (q : ℕ) (qs : List ℕ) (i : ℕ) → (s q && eqb i q) || (members qs i && s i) ≡ members (q ∷ qs) i && s i
 member-given s q qs i =
-    at-or-off (λ j b. (s q && b) || (members qs j && s j) ≡ (b || members qs j) && s j) q (here (s q) (members qs q)) (λ j. off (s q) (members qs j && s j)) i
+    at-or-off (λ j b. (s q && b) || (members qs j && s j) ≡ (b || members qs j) && s j) q
+    (here (s q) (members qs q)) (λ j. off (s q) (members qs j && s j)) i
     ∙ ap (λ (b : Bool). b && s i) (sym (members-cons q qs i))
   where
     here : (a m : Bool) → (a && true) || (m && a) ≡ a

@@ -49,7 +49,8 @@ unfolding byWeight ChoiceEnds
 weight-enough sums [] m = record { before = []; whole = refl }
 weight-enough sums (v ∷ vs) m = ends-fewer record { before = vs; whole = refl }
 
-choice-enough : (d : Distribution) → 0 < sizeOf d → sizeOf d < 2 ^ 64 → (vs : List ℕ) (m : ℕ) → ChoiceEnds m (chooseFrom d (vs ++ replicate (suc m) 0))
+choice-enough : (d : Distribution) → 0 < sizeOf d → sizeOf d < 2 ^ 64 → (vs : List ℕ) (m : ℕ)
+    → ChoiceEnds m (chooseFrom d (vs ++ replicate (suc m) 0))
 unfolding chooseFrom sizeOf ChoiceEnds
 choice-enough (Distribution.single P) p h vs m = ends-fewer record { before = vs; whole = refl }
 choice-enough (Distribution.depolarizing qs) p h vs m = bounded-enough (4 ^ length qs - 1) (limit-positive (4 ^ length qs - 1) p h) vs m
@@ -74,7 +75,8 @@ enough-drawn (Draws.drawn fs left) t = (fs, left, refl)
 module _ (lent : Lent) (n : Noise) (p : 0 < sizeOf (n .distribution)) (h : sizeOf (n .distribution) < 2 ^ 64) where
   after-word : (bits : Bits) (w : ℕ) (vs : List ℕ) (m : ℕ) → ShotEnds m (drawShot n bits (w ∷ vs ++ replicate (suc m) 0))
   unfolding drawShot ShotEnds
-  after-word bits w vs m = go (falls w (float (n .probability)) && isSatisfied n bits) (chooseFrom (n .distribution) rest) (choice-enough (n .distribution) p h vs m)
+  after-word bits w vs m =
+      go (falls w (float (n .probability)) && isSatisfied n bits) (chooseFrom (n .distribution) rest) (choice-enough (n .distribution) p h vs m)
     where
       rest : List ℕ
       rest = vs ++ replicate (suc m) 0
@@ -109,7 +111,8 @@ module _ (lent : Lent) (n : Noise) (p : 0 < sizeOf (n .distribution)) (h : sizeO
       fault e Draws.spent t = unfold alsoFault in t
       fault e (Draws.drawn fs left) t = unfold alsoFault Enough in tt
 
-      go : (o : ShotDraw) → ShotEnds (count + count) o → ((vs : List ℕ) → EndsIn (count + count) vs → Enough (later vs)) → Enough (thenShots shot o later)
+      go : (o : ShotDraw) → ShotEnds (count + count) o → ((vs : List ℕ) → EndsIn (count + count) vs → Enough (later vs))
+          → Enough (thenShots shot o later)
       go ShotDraw.spent t ih = unfold ShotEnds in absurd t
       go (ShotDraw.drew none vs) t ih = unfold thenShots ShotEnds in ih vs t
       go (ShotDraw.drew (some e) vs) t ih = unfold thenShots ShotEnds in fault e (later vs) (ih vs t)
@@ -122,6 +125,7 @@ module _ (lent : Lent) (n : Noise) (p : 0 < sizeOf (n .distribution)) (h : sizeO
       longer : List ℕ
       longer = ws ++ replicate (lent .shots + lent .shots) 0
 
-      go : (b : Bool) → Enough (drawShots lent n (lent .shots) 0 longer) → Enough (cond b (Draws.drawn [] longer) (drawShots lent n (lent .shots) 0 longer))
+      go : (b : Bool) → Enough (drawShots lent n (lent .shots) 0 longer)
+          → Enough (cond b (Draws.drawn [] longer) (drawShots lent n (lent .shots) 0 longer))
       go true t = unfold Enough in tt
       go false t = t

@@ -54,7 +54,8 @@ unfoldable DrawsWithin : ℕ → ℕ → Draws → Type 0
 DrawsWithin low high Draws.spent = Unit
 DrawsWithin low high (Draws.drawn fs left) = RisesWithin low high (shotsOf fs)
 
-shots-within : (lent : Lent) (n : Noise) (count shot high : ℕ) (ws : List ℕ) → shot + count ≤ high → DrawsWithin shot high (drawShots lent n count shot ws)
+shots-within : (lent : Lent) (n : Noise) (count shot high : ℕ) (ws : List ℕ) → shot + count ≤ high
+    → DrawsWithin shot high (drawShots lent n count shot ws)
 unfolding drawShots DrawsWithin RisesWithin
 shots-within lent n zero shot high ws h = tt
 shots-within lent n (suc count) shot high ws h =
@@ -155,7 +156,8 @@ shot-below n bits [] h = tt
 shot-below n bits (w ∷ ws) h =
     go (falls w (float (n .probability)) && isSatisfied n bits) (chooseFrom (n .distribution) ws) (choice-below (n .distribution) ws h)
   where
-    go : (b : Bool) (o : Choice) → ChoiceBelow (sizeOf (n .distribution)) o → ShotBelow (sizeOf (n .distribution)) (cond b (faultOf o) (ShotDraw.drew none ws))
+    go : (b : Bool) (o : Choice) → ChoiceBelow (sizeOf (n .distribution)) o
+        → ShotBelow (sizeOf (n .distribution)) (cond b (faultOf o) (ShotDraw.drew none ws))
     go false o t = tt
     go true Choice.spent t = unfold faultOf in tt
     go true (Choice.chosen e left) t = unfold faultOf ChoiceBelow in t

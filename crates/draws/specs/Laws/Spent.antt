@@ -201,12 +201,14 @@ unfolding partOf extra
 part-more lent us main vs none = refl
 part-more lent us main vs (some c) = drop-append ((lent .base + c) % 2 ^ 64) (lent .second) us
 
-left-more : (c : Option ℕ) (lent : Lent) (us main vs left : List ℕ) → mainAfter c (main ++ vs) (left ++ extra lent us vs c) ≡ mainAfter c main left ++ vs
+left-more : (c : Option ℕ) (lent : Lent) (us main vs left : List ℕ)
+    → mainAfter c (main ++ vs) (left ++ extra lent us vs c) ≡ mainAfter c main left ++ vs
 unfolding mainAfter extra
 left-more none lent us main vs left = refl
 left-more (some c) lent us main vs left = refl
 
-shots-same : (lent : Lent) (us : List ℕ) (n : Noise) (count shot : ℕ) (ws : List ℕ) → drawShots (lengthened us lent) n count shot ws ≡ drawShots lent n count shot ws
+shots-same : (lent : Lent) (us : List ℕ) (n : Noise) (count shot : ℕ) (ws : List ℕ)
+    → drawShots (lengthened us lent) n count shot ws ≡ drawShots lent n count shot ws
 unfolding drawShots
 shots-same lent us n zero shot ws = refl
 shots-same lent us n (suc count) shot ws = go (drawShot n (λ id. lent .noiseless id shot) ws) (shots-same lent us n count (suc shot))

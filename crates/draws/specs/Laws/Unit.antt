@@ -28,7 +28,9 @@ scaled (fin false m e) n h v =
     let room : n * 2 ^ 1021 < 2 ^ 2098 = lt-of-lt-of-le (mul-lt-mul-of-pos-right h (pow-pos 1021)) (lit≤ tt) in
     let exact : HasValue (round binary64 false n (2 ^ 53)) false n (2 ^ 53) =
     round-exact binary64 false n (2 ^ 53) n 1021 (lit< tt) h room (sym (mul-assoc n (2 ^ 1021) (2 ^ 53))) in
-    subst (λ (z : Float). HasValue z false n (2 ^ 53)) (sym (round-same binary64 false (m * up e * 1) (1 * 2 ^ 53 * down e) n (2 ^ 53) (mul-pos (lit< tt) (down-pos e)) (lit< tt) same)) exact
+    let is : round binary64 false (m * up e * 1) (1 * 2 ^ 53 * down e) ≡ round binary64 false n (2 ^ 53) =
+    round-same binary64 false (m * up e * 1) (1 * 2 ^ 53 * down e) n (2 ^ 53) (mul-pos (lit< tt) (down-pos e)) (lit< tt) same in
+    subst (λ (z : Float). HasValue z false n (2 ^ 53)) (sym is) exact
 
 -- Nothing is lost: u is finite, not negative, and exactly the fraction floor(w / 2048) / 2 ^ 53.
 pub unit-exact : (w : ℕ) → w < 2 ^ 64 → HasValue (unitOf w) false (w / 2048) (2 ^ 53)

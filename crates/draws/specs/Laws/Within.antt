@@ -89,7 +89,8 @@ below-append : (shots : ℕ) (ls ms : List Line) → allActBelow shots (ls ++ ms
 unfolding allActBelow
 below-append shots [] ms = refl
 below-append shots (l ∷ ls) ms =
-    ap (λ (b : Bool). actsBelow shots l && b) (below-append shots ls ms) ∙ sym (and-assoc (actsBelow shots l) (allActBelow shots ls) (allActBelow shots ms))
+    ap (λ (b : Bool). actsBelow shots l && b) (below-append shots ls ms)
+    ∙ sym (and-assoc (actsBelow shots l) (allActBelow shots ls) (allActBelow shots ms))
 
 -- whether a job's own lines act in shots below so many, as test 10 wants it
 unfoldable pub ownBelow : ℕ → Instruction → Bool
@@ -108,19 +109,28 @@ step-within lent main text (Instruction.line l) ls left b e =
     rw (← own) (unfold allActBelow in rw b)
 step-within lent main text (Instruction.noise n) ls left b e =
     let s : Injections lent n ls = noise-injects lent main text n ls left e in
-    ap (λ (l : List SettledLine). allActBelow (lent .shots) (settledList l)) (s .are) ∙ injected-below (lent .shots) (n .distribution) (s .faults) ∙ s .below
+    ap (λ (l : List SettledLine). allActBelow (lent .shots) (settledList l)) (s .are)
+    ∙ injected-below (lent .shots) (n .distribution) (s .faults)
+    ∙ s .below
 
 unfoldable SettledBelow : ℕ → Settled → Type 0
 SettledBelow shots (Settled.spentAt k) = Unit
 SettledBelow shots (Settled.settled ls) = allActBelow shots (settledList ls) ≡ true
 
 -- the settled list acts in shots of the job
-settle-below : (lent : Lent) (main : List ℕ) (is : List Placed) → allOwnBelow (lent .shots) is ≡ true → SettledBelow (lent .shots) (settle lent main is)
+settle-below : (lent : Lent) (main : List ℕ) (is : List Placed) → allOwnBelow (lent .shots) is ≡ true
+    → SettledBelow (lent .shots) (settle lent main is)
 unfolding settle allOwnBelow
 settle-below lent main [] b = unfold SettledBelow allActBelow in refl
 settle-below lent main (i ∷ is) b =
-    go (stepOf lent main (i .text) (i .instruction)) refl (λ left. settle-below lent left is (&&-second (ownBelow (lent .shots) (i .instruction)) (allOwnBelow (lent .shots) is) b))
+    go (stepOf lent main (i .text) (i .instruction)) refl (&&-first own rest b) (λ left. settle-below lent left is (&&-second own rest b))
   where
+    own : Bool
+    own = ownBelow (lent .shots) (i .instruction)
+
+    rest : Bool
+    rest = allOwnBelow (lent .shots) is
+
     joined : (ls : List SettledLine) → allActBelow (lent .shots) (settledList ls) ≡ true → (o : Settled) → SettledBelow (lent .shots) o
         → SettledBelow (lent .shots) (prefixed ls o)
     joined ls h (Settled.spentAt k) r = unfold prefixed SettledBelow in tt
@@ -128,12 +138,12 @@ settle-below lent main (i ∷ is) b =
         unfold prefixed SettledBelow in
         (ap (allActBelow (lent .shots)) (settledList-append ls ms) ∙ below-append (lent .shots) (settledList ls) (settledList ms) ∙ rw (h, r))
 
-    go : (o : Step) → stepOf lent main (i .text) (i .instruction) ≡ o → ((left : List ℕ) → SettledBelow (lent .shots) (settle lent left is))
+    go : (o : Step) → stepOf lent main (i .text) (i .instruction) ≡ o → own ≡ true → ((left : List ℕ) → SettledBelow (lent .shots) (settle lent left is))
         → SettledBelow (lent .shots) (settleThen (i .number) o (λ left. settle lent left is))
-    go Step.spent d ih = unfold settleThen SettledBelow in tt
-    go (Step.lines ls left) d ih =
+    go Step.spent d f ih = unfold settleThen SettledBelow in tt
+    go (Step.lines ls left) d f ih =
         unfold settleThen in
-        joined ls (step-within lent main (i .text) (i .instruction) ls left (&&-first (ownBelow (lent .shots) (i .instruction)) (allOwnBelow (lent .shots) is) b) d) (settle lent left is) (ih left)
+        joined ls (step-within lent main (i .text) (i .instruction) ls left f d) (settle lent left is) (ih left)
 
 pub settle-within : (lent : Lent) (main : List ℕ) (is : List Placed) (ls : List SettledLine) → allOwnBelow (lent .shots) is ≡ true
     → settle lent main is ≡ Settled.settled ls → allActBelow (lent .shots) (settledList ls) ≡ true
@@ -164,9 +174,11 @@ pub settle-copies : (lent : Lent) (main : List ℕ) (is : List Placed) → noise
 unfolding settle noiseFree copies
 settle-copies lent main [] f = refl
 settle-copies lent main (i ∷ is) f =
-    go (i .instruction) (&&-first (isLine (i .instruction)) (noiseFree is) f) (settle-copies lent main is (&&-second (isLine (i .instruction)) (noiseFree is) f))
+    go (i .instruction) (&&-first (isLine (i .instruction)) (noiseFree is) f)
+    (settle-copies lent main is (&&-second (isLine (i .instruction)) (noiseFree is) f))
   where
     go : (j : Instruction) → isLine j ≡ true → settle lent main is ≡ Settled.settled (copies is)
         → settleThen (i .number) (stepOf lent main (i .text) j) (λ left. settle lent left is) ≡ Settled.settled (copyOf (i .text) j (copies is))
-    go (Instruction.line l) f ih = unfold settleThen stepOf copyOf in (ap (prefixed (record { line = l; text = i .text } ∷ [])) ih ∙ (unfold prefixed in refl))
+    go (Instruction.line l) f ih =
+        unfold settleThen stepOf copyOf in (ap (prefixed (record { line = l; text = i .text } ∷ [])) ih ∙ (unfold prefixed in refl))
     go (Instruction.noise n) f ih = unfold isLine in cc

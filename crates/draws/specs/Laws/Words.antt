@@ -64,11 +64,13 @@ took-none : {O : Type 0} {f done : List ℕ → O} (ws : List ℕ) → ((vs : Li
 took-none ws e = record { used = []; whole = refl; alone = e }
 
 -- a word is read, and then the rest as another reader does
-took-word : {O : Type 0} {f g done : List ℕ → O} {ws left : List ℕ} (w : ℕ) → ((vs : List ℕ) → g (w ∷ vs) ≡ f vs) → Took f done ws left → Took g done (w ∷ ws) left
+took-word : {O : Type 0} {f g done : List ℕ → O} {ws left : List ℕ} (w : ℕ) → ((vs : List ℕ) → g (w ∷ vs) ≡ f vs) → Took f done ws left
+    → Took g done (w ∷ ws) left
 took-word w e t = record { used = w ∷ t .used; whole = ap (λ (l : List ℕ). w ∷ l) (t .whole); alone = λ vs. e (t .used ++ vs) ∙ t .alone vs }
 
 -- what is made of it
-took-map : {O P : Type 0} {f done : List ℕ → O} {ws left : List ℕ} (k : O → P) → Took f done ws left → Took (λ vs. k (f vs)) (λ vs. k (done vs)) ws left
+took-map : {O P : Type 0} {f done : List ℕ → O} {ws left : List ℕ} (k : O → P) → Took f done ws left
+    → Took (λ vs. k (f vs)) (λ vs. k (done vs)) ws left
 took-map k t = record { used = t .used; whole = t .whole; alone = λ vs. ap k (t .alone vs) }
 
 -- one reader, and then another from what the first one left
@@ -78,7 +80,11 @@ took-then {h = h} k {left = left} e t u =
     record {
       used = t .used ++ u .used;
       whole = t .whole ∙ ap (λ (l : List ℕ). t .used ++ l) (u .whole) ∙ sym (append-assoc (t .used) (u .used) left);
-      alone = λ rest. ap h (append-assoc (t .used) (u .used) rest) ∙ e (t .used ++ (u .used ++ rest)) (u .used ++ rest) (t .alone (u .used ++ rest)) ∙ ap k (u .alone rest);
+      alone =
+          λ rest.
+          ap h (append-assoc (t .used) (u .used) rest)
+          ∙ e (t .used ++ (u .used ++ rest)) (u .used ++ rest) (t .alone (u .used ++ rest))
+          ∙ ap k (u .alone rest);
     }
 
 -- ---- a choice
@@ -93,7 +99,8 @@ unfolding bounded ChoiceTook
 bounded-took c [] = tt
 bounded-took c (w ∷ ws) = go (ltb w (limitOf c)) refl (bounded c ws) (bounded-took c ws)
   where
-    go : (b : Bool) → ltb w (limitOf c) ≡ b → (o : Choice) → ChoiceTook (bounded c) ws o → ChoiceTook (bounded c) (w ∷ ws) (cond b (Choice.chosen (w % c) ws) o)
+    go : (b : Bool) → ltb w (limitOf c) ≡ b → (o : Choice) → ChoiceTook (bounded c) ws o
+        → ChoiceTook (bounded c) (w ∷ ws) (cond b (Choice.chosen (w % c) ws) o)
     go true e o t = record { used = w ∷ []; whole = refl; alone = λ vs. rw e }
     go false e Choice.spent t = tt
     go false e (Choice.chosen a left) t = took-word w (λ vs. rw e) t
@@ -144,7 +151,8 @@ then-fault : (shot : ℕ) (later : List ℕ → Draws) {o : ShotDraw} {e : ℕ} 
 unfolding thenShots
 then-fault shot later e = rw e
 
-pub shots-took : (lent : Lent) (n : Noise) (count shot : ℕ) (ws : List ℕ) → DrawsTook (drawShots lent n count shot) ws (drawShots lent n count shot ws)
+pub shots-took : (lent : Lent) (n : Noise) (count shot : ℕ) (ws : List ℕ)
+    → DrawsTook (drawShots lent n count shot) ws (drawShots lent n count shot ws)
 unfolding drawShots DrawsTook
 shots-took lent n zero shot ws = took-none ws (λ vs. refl)
 shots-took lent n (suc count) shot ws = go (first ws) (shot-took n (λ id. lent .noiseless id shot) ws) (shots-took lent n count (suc shot))
@@ -162,7 +170,8 @@ shots-took lent n (suc count) shot ws = go (first ws) (shot-took n (λ id. lent 
     quiet vs t Draws.spent u = tt
     quiet vs t (Draws.drawn fs left) u = unfold DrawsTook in took-then (λ (o : Draws). o) (λ us rest e. then-quiet shot later e) t u
 
-    fault : (e : ℕ) (vs : List ℕ) → Took first (ShotDraw.drew (some e)) ws vs → (o : Draws) → DrawsTook later vs o → DrawsTook both ws (alsoFault record { shot = shot; element = e } o)
+    fault : (e : ℕ) (vs : List ℕ) → Took first (ShotDraw.drew (some e)) ws vs → (o : Draws) → DrawsTook later vs o
+        → DrawsTook both ws (alsoFault record { shot = shot; element = e } o)
     fault e vs t Draws.spent u = unfold alsoFault in tt
     fault e vs t (Draws.drawn fs left) u =
         unfold DrawsTook alsoFault in
@@ -190,7 +199,8 @@ module _ (lent : Lent) (n : Noise) (ws : List ℕ) where
   drawn-took fs left e = subst (DrawsTook (drawLine lent n) ws) e (line-took lent n ws)
 
   -- Draws are spent exactly where each longer list that is drawn from is read past the end of this one.
-  pub spent-past : drawLine lent n ws ≡ Draws.spent → (vs : List ℕ) (fs : List Fault) (left : List ℕ) → drawLine lent n (ws ++ vs) ≡ Draws.drawn fs left
+  pub spent-past : drawLine lent n ws ≡ Draws.spent → (vs : List ℕ) (fs : List Fault) (left : List ℕ)
+      → drawLine lent n (ws ++ vs) ≡ Draws.drawn fs left
       → length left < length vs
   spent-past s vs fs left e = took-past (drawLine lent n) (Draws.drawn fs) ws vs left never longer
     where
@@ -260,7 +270,8 @@ pub main-read : (lent : Lent) (main text : List ℕ) (n : Noise) (ls : List Sett
 unfolding partOf mainAfter
 main-read lent main text n ls left c e = go (drawLine lent n main) refl
   where
-    go : (o : Draws) → drawLine lent n main ≡ o → (fs : List Fault) × (drawLine lent n main ≡ Draws.drawn fs left) × (ls ≡ map (injection (n .distribution)) fs)
+    go : (o : Draws) → drawLine lent n main ≡ o
+        → (fs : List Fault) × (drawLine lent n main ≡ Draws.drawn fs left) × (ls ≡ map (injection (n .distribution)) fs)
     go Draws.spent d = let no : _≡_ {A = ℕ} 0 1 = cc (step-spent lent main text n c d) in absurd (omega arith)
     go (Draws.drawn fs rest) d =
         let same : rest ≡ left = cc (step-drawn lent main text n c fs rest d) in
