@@ -2,3 +2,7 @@
 pub mod Draws
 pub mod Settle
 pub mod Execute
+-- Laws of these definitions.
+pub mod Laws
+-- Theorems on them.
+pub mod Theorems

@@ -1,0 +1,11 @@
+-- Laws, for the proofs that cite them: execution and settling, which words are read, faults, u. Nothing here has to be believed.
+pub mod Tests
+pub mod Settling
+pub mod Words
+pub mod Enough
+pub mod Spent
+pub mod Faults
+pub mod Unit
+pub mod Elements
+pub mod Depolarizing
+pub mod Within

@@ -1,0 +1,227 @@
+-- Laws: the faults of a noise line. Their shots rise and are shots of the job, and their elements are elements of the distribution. Assumes nothing.
+use mathlib.Core.Path.{_≡_, refl, ap, _∙_, subst}
+use mathlib.Core.Bool.{Bool, true, false, cond, _&&_}
+use mathlib.Core.List.{List, [], _∷_, map}
+use mathlib.Core.Option.{none, some}
+use Prim.Native.Nat.{ℕ, zero, suc, _+_, _-_, _*_, _/_, _^_, _%_, _<_, _≤_}
+use native.Mathlib.Nat.{mod-lt, div-add-mod', mul-mod-left, pow-le-pow-right, not-suc-le-zero}
+use native.Mathlib.Omega.{arith}
+use lib.Dec.{ltb, lit<}
+use lib.ListN.{length, getD, length-set, length-map, List·getD-map}
+use lib.Ieee.{Float, le}
+use borrow.Author.Tests.{lt-ltb}
+use Rattle.text.specs.List.{risesFrom, isRising}
+use Rattle.pauli.specs.Bits.{Bits}
+use Rattle.job.specs.Line.{SparsePauli, WeightedPauli, Distribution, sizeOf, Noise}
+use Rattle.job.specs.Float.{float, nought, one}
+use Rattle.job.specs.Checks.{allBelow}
+use Rattle.draws.specs.Draws.{falls, noPauli, elementAt, Choice, limitOf, bounded, totalFrom, runningFrom, runningSums, byWeight, chooseFrom, isSatisfied, ShotDraw, faultOf, drawShot, Lent, Fault, Draws, alsoFault, thenShots, drawShots, drawLine}
+
+abbrev pub shotsOf : List Fault → List ℕ
+shotsOf = map (λ (f : Fault). f .shot)
+
+abbrev pub elementsOf : List Fault → List ℕ
+elementsOf = map (λ (f : Fault). f .element)
+
+-- ---- shots
+
+-- rising from a number on, and below another
+unfoldable RisesWithin : ℕ → ℕ → List ℕ → Type 0
+RisesWithin low high [] = Unit
+RisesWithin low high (s ∷ ss) = (low ≤ s) × (s < high) × RisesWithin (suc s) high ss
+
+rises-lower : (low high : ℕ) (ss : List ℕ) → RisesWithin (suc low) high ss → RisesWithin low high ss
+unfolding RisesWithin
+rises-lower low high [] r = tt
+rises-lower low high (s ∷ ss) r = (omega arith, r .1, r .2)
+
+rises-from : (s high : ℕ) (ss : List ℕ) → RisesWithin (suc s) high ss → risesFrom s ss ≡ true
+unfolding RisesWithin risesFrom
+rises-from s high [] r = refl
+rises-from s high (t ∷ ss) r = rw (lt-ltb s t (r .0), rises-from t high ss (r .2))
+
+rises-rising : (low high : ℕ) (ss : List ℕ) → RisesWithin low high ss → isRising ss ≡ true
+unfolding RisesWithin isRising
+rises-rising low high [] r = refl
+rises-rising low high (s ∷ ss) r = rises-from s high ss (r .2)
+
+rises-below : (low high : ℕ) (ss : List ℕ) → RisesWithin low high ss → allBelow high ss ≡ true
+unfolding RisesWithin allBelow
+rises-below low high [] r = refl
+rises-below low high (s ∷ ss) r = rw (lt-ltb s high (r .1), rises-below (suc s) high ss (r .2))
+
+unfoldable DrawsWithin : ℕ → ℕ → Draws → Type 0
+DrawsWithin low high Draws.spent = Unit
+DrawsWithin low high (Draws.drawn fs left) = RisesWithin low high (shotsOf fs)
+
+shots-within : (lent : Lent) (n : Noise) (count shot high : ℕ) (ws : List ℕ) → shot + count ≤ high
+    → DrawsWithin shot high (drawShots lent n count shot ws)
+unfolding drawShots DrawsWithin RisesWithin
+shots-within lent n zero shot high ws h = tt
+shots-within lent n (suc count) shot high ws h =
+    go (drawShot n (λ id. lent .noiseless id shot) ws) (λ vs. shots-within lent n count (suc shot) high vs (omega arith))
+  where
+    later : List ℕ → Draws
+    later = drawShots lent n count (suc shot)
+
+    quiet : (o : Draws) → DrawsWithin (suc shot) high o → DrawsWithin shot high o
+    quiet Draws.spent r = tt
+    quiet (Draws.drawn fs left) r = unfold DrawsWithin in rises-lower shot high (shotsOf fs) r
+
+    fault : (e : ℕ) (o : Draws) → DrawsWithin (suc shot) high o → DrawsWithin shot high (alsoFault record { shot = shot; element = e } o)
+    fault e Draws.spent r = unfold alsoFault in tt
+    fault e (Draws.drawn fs left) r = unfold alsoFault DrawsWithin RisesWithin in (omega arith, omega arith, r)
+
+    go : (o : ShotDraw) → ((vs : List ℕ) → DrawsWithin (suc shot) high (later vs)) → DrawsWithin shot high (thenShots shot o later)
+    go ShotDraw.spent ih = unfold thenShots in tt
+    go (ShotDraw.drew none vs) ih = unfold thenShots in quiet (later vs) (ih vs)
+    go (ShotDraw.drew (some e) vs) ih = unfold thenShots in fault e (later vs) (ih vs)
+
+line-within : (lent : Lent) (n : Noise) (ws : List ℕ) → DrawsWithin 0 (lent .shots) (drawLine lent n ws)
+unfolding drawLine DrawsWithin RisesWithin
+line-within lent n ws = go (le (float (n .probability)) nought) (shots-within lent n (lent .shots) 0 (lent .shots) ws (omega arith))
+  where
+    go : (b : Bool) → DrawsWithin 0 (lent .shots) (drawShots lent n (lent .shots) 0 ws)
+        → DrawsWithin 0 (lent .shots) (cond b (Draws.drawn [] ws) (drawShots lent n (lent .shots) 0 ws))
+    go true r = tt
+    go false r = r
+
+module _ (lent : Lent) (n : Noise) (ws : List ℕ) (fs : List Fault) (left : List ℕ) (e : drawLine lent n ws ≡ Draws.drawn fs left) where
+  within : RisesWithin 0 (lent .shots) (shotsOf fs)
+  unfolding DrawsWithin
+  within = subst (DrawsWithin 0 (lent .shots)) e (line-within lent n ws)
+
+  -- strictly rising
+  pub shots-rising : isRising (shotsOf fs) ≡ true
+  shots-rising = rises-rising 0 (lent .shots) (shotsOf fs) within
+
+  -- shots of the job
+  pub shots-below : allBelow (lent .shots) (shotsOf fs) ≡ true
+  shots-below = rises-below 0 (lent .shots) (shotsOf fs) within
+
+-- ---- elements
+
+unfoldable pub ChoiceBelow : ℕ → Choice → Type 0
+ChoiceBelow size Choice.spent = Unit
+ChoiceBelow size (Choice.chosen e left) = e < size
+
+bounded-below : (c : ℕ) (ws : List ℕ) → 0 < c → ChoiceBelow c (bounded c ws)
+unfolding bounded ChoiceBelow
+bounded-below c [] h = tt
+bounded-below c (w ∷ ws) h = go (ltb w (limitOf c)) (bounded-below c ws h)
+  where
+    go : (b : Bool) → ChoiceBelow c (bounded c ws) → ChoiceBelow c (cond b (Choice.chosen (w % c) ws) (bounded c ws))
+    go true t = mod-lt w h
+    go false t = t
+
+-- The limit is a multiple of c: as many words below it give one element as another.
+pub limit-whole : (c : ℕ) → 0 < c → limitOf c % c ≡ 0
+limit-whole c h =
+    let whole : limitOf c ≡ (2 ^ 64 - 1) / c * c = omega (arith, div-add-mod' (2 ^ 64 - 1) c) in
+    ap (λ (k : ℕ). k % c) whole ∙ mul-mod-left ((2 ^ 64 - 1) / c) c
+
+running-length : (total s : Float) (ws : List Float) → length (runningFrom total s ws) ≡ length ws
+unfolding runningFrom
+running-length total s [] = refl
+running-length total s (w ∷ ws) = ap suc (running-length total _ ws)
+
+sums-length : (ws : List Float) → length (runningSums ws) ≡ length ws
+sums-length ws =
+    let running = runningFrom (totalFrom nought ws) nought ws in
+    length-set running (length ws - 1) one ∙ running-length (totalFrom nought ws) nought ws
+
+weight-below : (ws : List Float) (vs : List ℕ) → 0 < length ws → ChoiceBelow (length ws) (byWeight (runningSums ws) vs)
+unfolding byWeight ChoiceBelow
+weight-below ws [] h = tt
+weight-below ws (v ∷ vs) h = omega (arith, sums-length ws)
+
+pub choice-below : (d : Distribution) (ws : List ℕ) → 0 < sizeOf d → ChoiceBelow (sizeOf d) (chooseFrom d ws)
+unfolding sizeOf chooseFrom ChoiceBelow
+choice-below (Distribution.single P) ws h = lit< tt
+choice-below (Distribution.depolarizing qs) ws h = bounded-below (4 ^ length qs - 1) ws h
+choice-below (Distribution.uniform Ps) ws h = bounded-below (length Ps) ws h
+choice-below (Distribution.weighted es) ws h =
+    let floats = map (λ (w : WeightedPauli). float (w .weight)) es in
+    let same : length floats ≡ length es = length-map es (λ (w : WeightedPauli). float (w .weight)) in
+    subst (λ (k : ℕ). ChoiceBelow k (byWeight (runningSums floats) ws)) same (weight-below floats ws (omega arith))
+
+unfoldable ShotBelow : ℕ → ShotDraw → Type 0
+ShotBelow size ShotDraw.spent = Unit
+ShotBelow size (ShotDraw.drew none left) = Unit
+ShotBelow size (ShotDraw.drew (some e) left) = e < size
+
+shot-below : (n : Noise) (bits : Bits) (ws : List ℕ) → 0 < sizeOf (n .distribution) → ShotBelow (sizeOf (n .distribution)) (drawShot n bits ws)
+unfolding drawShot ShotBelow
+shot-below n bits [] h = tt
+shot-below n bits (w ∷ ws) h =
+    go (falls w (float (n .probability)) && isSatisfied n bits) (chooseFrom (n .distribution) ws) (choice-below (n .distribution) ws h)
+  where
+    go : (b : Bool) (o : Choice) → ChoiceBelow (sizeOf (n .distribution)) o
+        → ShotBelow (sizeOf (n .distribution)) (cond b (faultOf o) (ShotDraw.drew none ws))
+    go false o t = tt
+    go true Choice.spent t = unfold faultOf in tt
+    go true (Choice.chosen e left) t = unfold faultOf ChoiceBelow in t
+
+unfoldable DrawsBelow : ℕ → Draws → Type 0
+DrawsBelow size Draws.spent = Unit
+DrawsBelow size (Draws.drawn fs left) = allBelow size (elementsOf fs) ≡ true
+
+elements-within : (lent : Lent) (n : Noise) → 0 < sizeOf (n .distribution) → (count shot : ℕ) (ws : List ℕ)
+    → DrawsBelow (sizeOf (n .distribution)) (drawShots lent n count shot ws)
+unfolding drawShots DrawsBelow
+elements-within lent n h zero shot ws = unfold allBelow in refl
+elements-within lent n h (suc count) shot ws =
+    go (drawShot n (λ id. lent .noiseless id shot) ws) (shot-below n (λ id. lent .noiseless id shot) ws h) (elements-within lent n h count (suc shot))
+  where
+    size : ℕ
+    size = sizeOf (n .distribution)
+
+    later : List ℕ → Draws
+    later = drawShots lent n count (suc shot)
+
+    fault : (e : ℕ) → e < size → (o : Draws) → DrawsBelow size o → DrawsBelow size (alsoFault record { shot = shot; element = e } o)
+    fault e b Draws.spent r = unfold alsoFault in tt
+    fault e b (Draws.drawn fs left) r = unfold alsoFault DrawsBelow allBelow in rw (lt-ltb e size b, r)
+
+    go : (o : ShotDraw) → ShotBelow size o → ((vs : List ℕ) → DrawsBelow size (later vs)) → DrawsBelow size (thenShots shot o later)
+    go ShotDraw.spent b ih = unfold thenShots in tt
+    go (ShotDraw.drew none vs) b ih = unfold thenShots in ih vs
+    go (ShotDraw.drew (some e) vs) b ih = unfold thenShots ShotBelow in fault e b (later vs) (ih vs)
+
+line-below : (lent : Lent) (n : Noise) (ws : List ℕ) → 0 < sizeOf (n .distribution) → DrawsBelow (sizeOf (n .distribution)) (drawLine lent n ws)
+unfolding drawLine DrawsBelow
+line-below lent n ws h = go (le (float (n .probability)) nought) (elements-within lent n h (lent .shots) 0 ws)
+  where
+    go : (b : Bool) → DrawsBelow (sizeOf (n .distribution)) (drawShots lent n (lent .shots) 0 ws)
+        → DrawsBelow (sizeOf (n .distribution)) (cond b (Draws.drawn [] ws) (drawShots lent n (lent .shots) 0 ws))
+    go true r = unfold allBelow in refl
+    go false r = r
+
+-- elements of the distribution, wherever it has any
+pub elements-below : (lent : Lent) (n : Noise) (ws : List ℕ) (fs : List Fault) (left : List ℕ) → 0 < sizeOf (n .distribution)
+    → drawLine lent n ws ≡ Draws.drawn fs left → allBelow (sizeOf (n .distribution)) (elementsOf fs) ≡ true
+unfolding DrawsBelow
+elements-below lent n ws fs left h e = subst (DrawsBelow (sizeOf (n .distribution))) e (line-below lent n ws h)
+
+-- all Paulis but the identity on at least one qubit are some
+pub depolarizing-size : (qs : List ℕ) → 0 < length qs → 0 < sizeOf (Distribution.depolarizing qs)
+unfolding sizeOf
+depolarizing-size qs h = let four : 4 ≤ 4 ^ length qs = pow-le-pow-right {n = 4} (lit< tt) {i = 1} {j = length qs} h in omega arith
+
+-- An element below the size is one of the list: what stands past its end is never taken.
+pub getD-any : {A : Type 0} (l : List A) (i : ℕ) (a b : A) → i < length l → getD l i a ≡ getD l i b
+getD-any [] i a b h = absurd (not-suc-le-zero h)
+getD-any (x ∷ l) zero a b h = refl
+getD-any (x ∷ l) (suc i) a b h = getD-any l i a b (omega arith)
+
+pub element-uniform : (Ps : List SparsePauli) (e : ℕ) (P : SparsePauli) → e < sizeOf (Distribution.uniform Ps)
+    → elementAt (Distribution.uniform Ps) e ≡ getD Ps e P
+unfolding sizeOf elementAt
+element-uniform Ps e P h = getD-any Ps e noPauli P h
+
+pub element-weighted : (es : List WeightedPauli) (e : ℕ) (w : WeightedPauli) → e < sizeOf (Distribution.weighted es)
+    → elementAt (Distribution.weighted es) e ≡ getD es e w .pauli
+unfolding sizeOf elementAt
+element-weighted es e w h =
+    getD-any (map (λ (v : WeightedPauli). v .pauli) es) e noPauli (w .pauli) (rw (length-map es (λ (v : WeightedPauli). v .pauli)) h)
+    ∙ List·getD-map (λ (v : WeightedPauli). v .pauli) es e w

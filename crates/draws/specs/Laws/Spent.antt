@@ -1,0 +1,269 @@
+-- Laws: how far a job has read the main list, and at which line its draws are spent. Assumes nothing.
+use mathlib.Core.Path.{_≡_, refl, sym, ap, _∙_, fun-ext}
+use mathlib.Core.Bool.{cond}
+use mathlib.Core.List.{List, [], _∷_, _++_, map, append-assoc}
+use mathlib.Core.Option.{Option, none, some}
+use Prim.Native.Nat.{ℕ, zero, suc, _+_, _-_, _^_, _%_}
+use native.Mathlib.Nat.{zero-sub, sub-zero, suc-sub-suc}
+use native.Mathlib.Omega.{arith}
+use lib.ListN.{length, drop}
+use lib.Ieee.{le}
+use Rattle.job.specs.Line.{Noise, Instruction, Placed}
+use Rattle.job.specs.Float.{float, nought}
+use Rattle.draws.specs.Draws.{ShotDraw, drawShot, Lent, Draws, thenShots, drawShots, drawLine, partOf, mainAfter}
+use Rattle.draws.specs.Settle.{SettledLine, injection, Step, stepOf, Settled, prefixed, settleThen, settle}
+use Rattle.draws.specs.Laws.Words.{took-more, DrawsTook, line-took, step-drawn, step-spent, StepTook, step-took}
+
+-- ---- how far the main list is read
+
+-- what is left of the main list after an instruction, and after some instructions; where draws are spent, what was there
+unfoldable pub leftBy : List ℕ → Step → List ℕ
+leftBy main Step.spent = main
+leftBy main (Step.lines ls left) = left
+
+unfoldable pub mainLeft : Lent → List ℕ → List Placed → List ℕ
+mainLeft lent main [] = main
+mainLeft lent main (i ∷ is) = mainLeft lent (leftBy main (stepOf lent main (i .text) (i .instruction))) is
+
+-- the words with which the main list began, before what is left of it
+pub record Suffix (main left : List ℕ) : Type 0 where
+  pub used : List ℕ
+  pub whole : main ≡ used ++ left
+
+pub left-suffix : (lent : Lent) (main : List ℕ) (is : List Placed) → Suffix main (mainLeft lent main is)
+unfolding mainLeft
+left-suffix lent main [] = record { used = []; whole = refl }
+left-suffix lent main (i ∷ is) =
+    go (stepOf lent main (i .text) (i .instruction)) (step-took lent main (i .text) (i .instruction)) (λ mid. left-suffix lent mid is)
+  where
+    step : List ℕ → Step
+    step m = stepOf lent m (i .text) (i .instruction)
+
+    go : (o : Step) → StepTook step main o → ((mid : List ℕ) → Suffix mid (mainLeft lent mid is)) → Suffix main (mainLeft lent (leftBy main o) is)
+    go Step.spent t ih = unfold leftBy in ih main
+    go (Step.lines ls mid) t ih =
+        unfold leftBy StepTook in
+        record {
+          used = t .used ++ ih mid .used;
+          whole = t .whole ∙ ap (λ (l : List ℕ). t .used ++ l) (ih mid .whole) ∙ sym (append-assoc (t .used) (ih mid .used) (mainLeft lent mid is));
+        }
+
+-- ---- instructions after others
+
+-- one job's outcome, and then that of the instructions after it
+unfoldable pub followed : Settled → Settled → Settled
+followed (Settled.spentAt k) later = Settled.spentAt k
+followed (Settled.settled ls) later = prefixed ls later
+
+prefixed-followed : (ls : List SettledLine) (o later : Settled) → prefixed ls (followed o later) ≡ followed (prefixed ls o) later
+unfolding prefixed followed
+prefixed-followed ls (Settled.spentAt k) later = refl
+prefixed-followed ls (Settled.settled ms) (Settled.spentAt k) = refl
+prefixed-followed ls (Settled.settled ms) (Settled.settled ns) = ap Settled.settled (sym (append-assoc ls ms ns))
+
+prefixed-none : (o : Settled) → prefixed [] o ≡ o
+unfolding prefixed
+prefixed-none (Settled.spentAt k) = refl
+prefixed-none (Settled.settled ls) = refl
+
+pub settle-append : (lent : Lent) (main : List ℕ) (is js : List Placed)
+    → settle lent main (is ++ js) ≡ followed (settle lent main is) (settle lent (mainLeft lent main is) js)
+unfolding settle mainLeft
+settle-append lent main [] js = unfold followed in sym (prefixed-none (settle lent main js))
+settle-append lent main (i ∷ is) js = go (stepOf lent main (i .text) (i .instruction)) (λ mid. settle-append lent mid is js)
+  where
+    go : (o : Step)
+        → ((mid : List ℕ) → settle lent mid (is ++ js) ≡ followed (settle lent mid is) (settle lent (mainLeft lent mid is) js))
+        → settleThen (i .number) o (λ mid. settle lent mid (is ++ js))
+        ≡ followed (settleThen (i .number) o (λ mid. settle lent mid is)) (settle lent (mainLeft lent (leftBy main o) is) js)
+    go Step.spent ih = unfold settleThen followed in refl
+    go (Step.lines ls mid) ih =
+        unfold settleThen leftBy in
+        (ap (prefixed ls) (ih mid) ∙ prefixed-followed ls (settle lent mid is) (settle lent (mainLeft lent mid is) js))
+
+-- ---- the line at which draws are spent
+
+-- The instructions before it settle; it is noise, in line k, and needs a word past its part of the lists.
+pub record SpentAt (lent : Lent) (main : List ℕ) (is : List Placed) (k : ℕ) : Type 0 where
+  pub before : List Placed
+  pub here : Placed
+  pub after : List Placed
+  pub noise : Noise
+  pub lines : List SettledLine
+  pub list : is ≡ before ++ (here ∷ after)
+  pub number : here .number ≡ k
+  pub is-noise : here .instruction ≡ Instruction.noise noise
+  pub settles : settle lent main before ≡ Settled.settled lines
+  pub spent : drawLine lent noise (partOf lent (mainLeft lent main before) (noise .correlation)) ≡ Draws.spent
+
+settle-stops : (lent : Lent) (main : List ℕ) (i : Placed) (is : List Placed) → stepOf lent main (i .text) (i .instruction) ≡ Step.spent
+    → settle lent main (i ∷ is) ≡ Settled.spentAt (i .number)
+unfolding settle settleThen
+settle-stops lent main i is e = ap (λ (o : Step). settleThen (i .number) o (λ left. settle lent left is)) e
+
+pub settle-goes : (lent : Lent) (main : List ℕ) (i : Placed) (is : List Placed) (ls : List SettledLine) (left : List ℕ)
+    → stepOf lent main (i .text) (i .instruction) ≡ Step.lines ls left → settle lent main (i ∷ is) ≡ prefixed ls (settle lent left is)
+unfolding settle settleThen
+settle-goes lent main i is ls left e = ap (λ (o : Step). settleThen (i .number) o (λ left. settle lent left is)) e
+
+pub left-goes : (lent : Lent) (main : List ℕ) (i : Placed) (is : List Placed) (ls : List SettledLine) (left : List ℕ)
+    → stepOf lent main (i .text) (i .instruction) ≡ Step.lines ls left → mainLeft lent main (i ∷ is) ≡ mainLeft lent left is
+unfolding mainLeft leftBy
+left-goes lent main i is ls left e = ap (λ (o : Step). mainLeft lent (leftBy main o) is) e
+
+prefixed-spent : (ls : List SettledLine) (o : Settled) (k : ℕ) → prefixed ls o ≡ Settled.spentAt k → o ≡ Settled.spentAt k
+unfolding prefixed
+prefixed-spent ls (Settled.spentAt j) k e = e
+prefixed-spent ls (Settled.settled ms) k e = cc
+
+pub at-spent : {lent : Lent} {main : List ℕ} {is : List Placed} {k : ℕ} → SpentAt lent main is k → settle lent main is ≡ Settled.spentAt k
+at-spent {lent} {main} {is} {k} s =
+    let left = mainLeft lent main (s .before) in
+    let stops : stepOf lent left (s .here .text) (s .here .instruction) ≡ Step.spent =
+    ap (stepOf lent left (s .here .text)) (s .is-noise) ∙ step-spent lent left (s .here .text) (s .noise) refl (s .spent) in
+    ap (settle lent main) (s .list)
+    ∙ settle-append lent main (s .before) (s .here ∷ s .after)
+    ∙ ap (λ (o : Settled). followed o (settle lent left (s .here ∷ s .after))) (s .settles)
+    ∙ ap (followed (Settled.settled (s .lines))) (settle-stops lent left (s .here) (s .after) stops ∙ ap Settled.spentAt (s .number))
+    ∙ (unfold followed prefixed in refl)
+
+-- an instruction whose draws are spent is noise
+pub record SpentNoise (lent : Lent) (main : List ℕ) (i : Instruction) : Type 0 where
+  pub noise : Noise
+  pub is-noise : i ≡ Instruction.noise noise
+  pub spent : drawLine lent noise (partOf lent main (noise .correlation)) ≡ Draws.spent
+
+pub spent-noise : (lent : Lent) (main text : List ℕ) (i : Instruction) → stepOf lent main text i ≡ Step.spent → SpentNoise lent main i
+unfolding stepOf
+spent-noise lent main text (Instruction.line l) e = let no : _≡_ {A = ℕ} 0 1 = cc in absurd (omega arith)
+spent-noise lent main text (Instruction.noise n) e = go (drawLine lent n (partOf lent main (n .correlation))) refl
+  where
+    go : (o : Draws) → drawLine lent n (partOf lent main (n .correlation)) ≡ o → SpentNoise lent main (Instruction.noise n)
+    go Draws.spent d = record { noise = n; is-noise = refl; spent = d }
+    go (Draws.drawn fs left) d = let no : _≡_ {A = ℕ} 0 1 = cc (step-drawn lent main text n refl fs left d) in absurd (omega arith)
+
+pub spent-at : (lent : Lent) (main : List ℕ) (is : List Placed) (k : ℕ) → settle lent main is ≡ Settled.spentAt k → SpentAt lent main is k
+unfolding settle
+spent-at lent main [] k e = let no : _≡_ {A = ℕ} 0 1 = cc in absurd (omega arith)
+spent-at lent main (i ∷ is) k e = go (stepOf lent main (i .text) (i .instruction)) refl (λ left. spent-at lent left is k)
+  where
+    go : (o : Step) → stepOf lent main (i .text) (i .instruction) ≡ o
+        → ((left : List ℕ) → settle lent left is ≡ Settled.spentAt k → SpentAt lent left is k) → SpentAt lent main (i ∷ is) k
+    go Step.spent d ih =
+        let s : SpentNoise lent main (i .instruction) = spent-noise lent main (i .text) (i .instruction) d in
+        record {
+          before = [];
+          here = i;
+          after = is;
+          noise = s .noise;
+          lines = [];
+          list = refl;
+          number = cc (settle-stops lent main i is d);
+          is-noise = s .is-noise;
+          settles = refl;
+          spent = unfold mainLeft in s .spent;
+        }
+    go (Step.lines ls left) d ih =
+        let s : SpentAt lent left is k = ih left (prefixed-spent ls (settle lent left is) k (sym (settle-goes lent main i is ls left d) ∙ e)) in
+        record {
+          before = i ∷ s .before;
+          here = s .here;
+          after = s .after;
+          noise = s .noise;
+          lines = ls ++ s .lines;
+          list = ap (λ (l : List Placed). i ∷ l) (s .list);
+          number = s .number;
+          is-noise = s .is-noise;
+          settles = settle-goes lent main i (s .before) ls left d ∙ ap (prefixed ls) (s .settles) ∙ (unfold prefixed in refl);
+          spent =
+              ap (λ (l : List ℕ). drawLine lent (s .noise) (partOf lent l (s .noise .correlation))) (left-goes lent main i (s .before) ls left d)
+              ∙ s .spent;
+        }
+
+-- ---- more words after both lists change nothing that was settled
+
+abbrev pub lengthened : List ℕ → Lent → Lent
+lengthened us lent = record { noiseless = lent .noiseless; second = lent .second ++ us; base = lent .base; shots = lent .shots }
+
+drop-append : (k : ℕ) (xs ys : List ℕ) → drop k (xs ++ ys) ≡ drop k xs ++ drop (k - length xs) ys
+drop-append zero [] ys = refl
+drop-append zero (x ∷ xs) ys = rw (zero-sub (suc (length xs)))
+drop-append (suc k) [] ys = rw (sub-zero (suc k))
+drop-append (suc k) (x ∷ xs) ys = rw (suc-sub-suc k (length xs)) (drop-append k xs ys)
+
+-- what more a part holds
+extra : Lent → List ℕ → List ℕ → Option ℕ → List ℕ
+extra lent us vs none = vs
+extra lent us vs (some c) = drop ((lent .base + c) % 2 ^ 64 - length (lent .second)) us
+
+part-more : (lent : Lent) (us main vs : List ℕ) (c : Option ℕ) → partOf (lengthened us lent) (main ++ vs) c ≡ partOf lent main c ++ extra lent us vs c
+unfolding partOf extra
+part-more lent us main vs none = refl
+part-more lent us main vs (some c) = drop-append ((lent .base + c) % 2 ^ 64) (lent .second) us
+
+left-more : (c : Option ℕ) (lent : Lent) (us main vs left : List ℕ)
+    → mainAfter c (main ++ vs) (left ++ extra lent us vs c) ≡ mainAfter c main left ++ vs
+unfolding mainAfter extra
+left-more none lent us main vs left = refl
+left-more (some c) lent us main vs left = refl
+
+shots-same : (lent : Lent) (us : List ℕ) (n : Noise) (count shot : ℕ) (ws : List ℕ)
+    → drawShots (lengthened us lent) n count shot ws ≡ drawShots lent n count shot ws
+unfolding drawShots
+shots-same lent us n zero shot ws = refl
+shots-same lent us n (suc count) shot ws = go (drawShot n (λ id. lent .noiseless id shot) ws) (shots-same lent us n count (suc shot))
+  where
+    go : (o : ShotDraw) → ((vs : List ℕ) → drawShots (lengthened us lent) n count (suc shot) vs ≡ drawShots lent n count (suc shot) vs)
+        → thenShots shot o (drawShots (lengthened us lent) n count (suc shot)) ≡ thenShots shot o (drawShots lent n count (suc shot))
+    go o ih = ap (thenShots shot o) (fun-ext ih)
+
+line-same : (lent : Lent) (us : List ℕ) (n : Noise) (ws : List ℕ) → drawLine (lengthened us lent) n ws ≡ drawLine lent n ws
+unfolding drawLine
+line-same lent us n ws = ap (cond (le (float (n .probability)) nought) (Draws.drawn [] ws)) (shots-same lent us n (lent .shots) 0 ws)
+
+-- more words left
+unfoldable leaving : List ℕ → Step → Step
+leaving vs Step.spent = Step.spent
+leaving vs (Step.lines ls left) = Step.lines ls (left ++ vs)
+
+step-more : (lent : Lent) (us main vs text : List ℕ) (i : Instruction) {ls : List SettledLine} {left : List ℕ}
+    → stepOf lent main text i ≡ Step.lines ls left → stepOf (lengthened us lent) (main ++ vs) text i ≡ Step.lines ls (left ++ vs)
+unfolding leaving
+step-more lent us main vs text (Instruction.line l) e = unfold stepOf in ap (leaving vs) e
+step-more lent us main vs text (Instruction.noise n) {ls} {left} e =
+    go (drawLine lent n (partOf lent main (n .correlation))) refl (line-took lent n (partOf lent main (n .correlation)))
+  where
+    go : (o : Draws) → drawLine lent n (partOf lent main (n .correlation)) ≡ o → DrawsTook (drawLine lent n) (partOf lent main (n .correlation)) o
+        → stepOf (lengthened us lent) (main ++ vs) text (Instruction.noise n) ≡ Step.lines ls (left ++ vs)
+    go Draws.spent d t = cc (step-spent lent main text n refl d)
+    go (Draws.drawn fs rest) d t =
+        let more = extra lent us vs (n .correlation) in
+        let longer : drawLine (lengthened us lent) n (partOf (lengthened us lent) (main ++ vs) (n .correlation)) ≡ Draws.drawn fs (rest ++ more) =
+        line-same lent us n _ ∙ ap (drawLine lent n) (part-more lent us main vs (n .correlation)) ∙ (unfold DrawsTook in took-more t more) in
+        step-drawn (lengthened us lent) (main ++ vs) text n refl fs (rest ++ more) longer
+        ∙ ap (Step.lines (map (injection (n .distribution)) fs)) (left-more (n .correlation) lent us main vs rest)
+        ∙ ap (leaving vs) (sym (step-drawn lent main text n refl fs rest d) ∙ e)
+
+pub settled-more : (lent : Lent) (us main vs : List ℕ) (is : List Placed) {ls : List SettledLine}
+    → settle lent main is ≡ Settled.settled ls → settle (lengthened us lent) (main ++ vs) is ≡ Settled.settled ls
+unfolding settle
+settled-more lent us main vs [] e = e
+settled-more lent us main vs (i ∷ is) {ls} e =
+    go (stepOf lent main (i .text) (i .instruction)) refl (λ mid ms h. settled-more lent us mid vs is h)
+  where
+    later : List ℕ → Settled
+    later mid = settle (lengthened us lent) (mid ++ vs) is
+
+    end : (ms : List SettledLine) (mid : List ℕ) (o : Settled) → settle lent mid is ≡ o → prefixed ms o ≡ Settled.settled ls
+        → ((ns : List SettledLine) → settle lent mid is ≡ Settled.settled ns → later mid ≡ Settled.settled ns)
+        → prefixed ms (later mid) ≡ Settled.settled ls
+    end ms mid (Settled.spentAt k) d h ih = unfold prefixed in cc
+    end ms mid (Settled.settled ns) d h ih = ap (prefixed ms) (ih ns d) ∙ h
+
+    go : (o : Step) → stepOf lent main (i .text) (i .instruction) ≡ o
+        → ((mid : List ℕ) (ns : List SettledLine) → settle lent mid is ≡ Settled.settled ns → later mid ≡ Settled.settled ns)
+        → settle (lengthened us lent) (main ++ vs) (i ∷ is) ≡ Settled.settled ls
+    go Step.spent d ih = cc (settle-stops lent main i is d)
+    go (Step.lines ms mid) d ih =
+        settle-goes (lengthened us lent) (main ++ vs) i is ms (mid ++ vs) (step-more lent us main vs (i .text) (i .instruction) d)
+        ∙ end ms mid (settle lent mid is) refl (sym (settle-goes lent main i is ms mid d) ∙ e) (ih mid)
