@@ -8,3 +8,7 @@ pub mod Checks
 pub mod Job
 pub mod Reply
 pub mod InRange
+-- What an accepted job is known for.
+pub mod Sound
+-- Laws of these definitions.
+pub mod Laws

@@ -1,0 +1,7 @@
+-- Laws, for the proofs that cite them. Nothing here has to be believed.
+-- The tests of a line that passes.
+pub mod Tests
+-- What a line says, by the letters of its form.
+pub mod Forms
+-- The one form that a line can have, by its first bytes.
+pub mod Dispatch
