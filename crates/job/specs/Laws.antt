@@ -1,7 +1,11 @@
 -- Laws, for the proofs that cite them. Nothing here has to be believed.
+-- Lists by their places.
+pub mod Lists
 -- The tests of a line that passes.
 pub mod Tests
 -- What a line says, by the letters of its form.
 pub mod Forms
 -- The one form that a line can have, by its first bytes.
 pub mod Dispatch
+-- A line that passes is sound.
+pub mod Lines

@@ -12,6 +12,7 @@ use Rattle.text.specs.Laws.Values.{both}
 use Rattle.job.specs.Line.{Line}
 use Rattle.job.specs.Grammar.{Kind, Written}
 use Rattle.job.specs.Sound.{Every}
+use Rattle.job.specs.Laws.Lists.{every-map}
 use Rattle.job.specs.Checks.{Context, Test, lineTests, noiseTests, ownTests, tests, lowest, refusalOf}
 
 -- the numbers of some tests
@@ -63,10 +64,6 @@ unfolding refusalOf
 refusal-passes c last w e = lowest-passes 0 (tests c last w) (tests-rise c last w) e
 
 -- ---- the lowest number
-
-pub every-map : {A : Type 0} (P Q : A → Type 0) (l : List A) → ((a : A) → P a → Q a) → Every P l → Every Q l
-every-map P Q [] f p = tt
-every-map P Q (a ∷ l) f p = (f a (p .0), every-map P Q l f (p .1))
 
 -- later numbers are higher
 numbers-above : (a : ℕ) (ts : List Test) → risesFrom a (testNumbers ts) ≡ true → Every (λ (t : Test). a < t .number) ts
