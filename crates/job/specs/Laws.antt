@@ -9,3 +9,7 @@ pub mod Forms
 pub mod Dispatch
 -- A line that passes is sound.
 pub mod Lines
+-- An accepted job line by line.
+pub mod Accepted
+-- The instructions of accepted lines are sound.
+pub mod Gather

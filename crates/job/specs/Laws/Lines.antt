@@ -26,7 +26,7 @@ module _ (n : ℕ) where
   unfolding eachBelow
   first-below l ls e = both (allBelow n l) (eachBelow n ls) e
 
-first-short : (l : List ℕ) (ls : List (List ℕ)) → eachShort (l ∷ ls) ≡ true → (length l ≤ 31) × (eachShort ls ≡ true)
+pub first-short : (l : List ℕ) (ls : List (List ℕ)) → eachShort (l ∷ ls) ≡ true → (length l ≤ 31) × (eachShort ls ≡ true)
 unfolding eachShort
 first-short l ls e = let parts = both (leb (length l) 31) (eachShort ls) e in (leb-true _ _ (parts .0), parts .1)
 
@@ -37,8 +37,7 @@ first-pauli n P ls f b s =
     let bx = first-below n (P .x) (P .z ∷ ls) b in
     let bz = first-below n (P .z) ls (bx .1) in
     let sx = first-short (P .x) (P .z ∷ ls) s in
-    let sz = first-short (P .z) ls (sx .1) in
-    (
+    let sz = first-short (P .z) ls (sx .1) in (
       record {
         x = record { rising = f .x .rising; below = bx .0; few = sx .0 };
         z = record { rising = f .z .rising; below = bz .0; few = sz .0 };
