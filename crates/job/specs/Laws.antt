@@ -11,5 +11,9 @@ pub mod Dispatch
 pub mod Lines
 -- An accepted job line by line.
 pub mod Accepted
+-- From the bytes of an accepted job to its lines.
+pub mod Begun
 -- The instructions of accepted lines are sound.
 pub mod Gather
+-- The outcomes that instructions record.
+pub mod Recorded

@@ -12,3 +12,5 @@ pub mod InRange
 pub mod Sound
 -- Laws of these definitions.
 pub mod Laws
+-- What a reader wants to know of the tests.
+pub mod Theorems

@@ -1,9 +1,9 @@
 -- What an accepted job is known for: definitions of the hypotheses that theorems and contracts use. The limits are document 01's, written out, so that
 -- they do not hang on the tests'. `checked-sound` (Theorems) proves all of it of a job that passes tests 1 to 12. Assumes nothing.
-use Prim.Native.Nat.{ℕ, _+_, _^_, _≤_, _<_}
+use Prim.Native.Nat.{ℕ, zero, suc, _+_, _^_, _≤_, _<_}
 use mathlib.Core.Path.{_≡_}
 use mathlib.Core.Bool.{true, false}
-use mathlib.Core.List.{List, [], _∷_, map}
+use mathlib.Core.List.{List, [], _∷_, _++_, map}
 use mathlib.Core.Option.{Option, none, some}
 use lib.Ieee.{Float, binary64, add}
 use lib.ListN.{length}
@@ -163,6 +163,31 @@ unfoldable pub InstructionsSound : Header → ℕ → List Placed → Type 0
 InstructionsSound h r [] = Unit {0}
 InstructionsSound h r (i ∷ is) = InstructionSound h r (i .instruction) × InstructionsSound h (r + recordedBy (i .instruction)) is
 
+-- the ids that lines record, in their order
+unfoldable pub idsOf : Instruction → List ℕ
+idsOf (Instruction.line (Line.unitary g qs)) = []
+idsOf (Instruction.line (Line.clifford qs t)) = []
+idsOf (Instruction.line (Line.pauli P)) = []
+idsOf (Instruction.line (Line.exponential P)) = []
+idsOf (Instruction.line (Line.controlled C T)) = []
+idsOf (Instruction.line (Line.permute s qs)) = []
+idsOf (Instruction.line (Line.measure P id)) = id ∷ []
+idsOf (Instruction.line (Line.allocate id angle)) = id ∷ []
+idsOf (Instruction.line (Line.conditional P ids par)) = []
+idsOf (Instruction.line (Line.reset qs)) = []
+idsOf (Instruction.line (Line.inject shot P)) = []
+idsOf (Instruction.line (Line.flip shot id)) = []
+idsOf (Instruction.noise n) = []
+
+unfoldable pub idsIn : List Placed → List ℕ
+idsIn [] = []
+idsIn (i ∷ is) = idsOf (i .instruction) ++ idsIn is
+
+-- so many numbers, from one on
+unfoldable pub countUp : ℕ → ℕ → List ℕ
+countUp from zero = []
+countUp from (suc n) = from ∷ countUp (suc from) n
+
 -- 1 to 256 qubits, 0 to 1,024 outcomes, 1 to 4,096 shots
 pub record HeaderSound (h : Header) : Type 0 where
   pub some-qubits : 1 ≤ h .qubits
@@ -181,4 +206,6 @@ pub record JobSound (job : List ℕ) (j : Job) : Type 0 where
   pub gathers : j .instructions ≡ gathered 2 rest .instructions
   pub header : HeaderSound (j .header)
   pub instructions : InstructionsSound (j .header) 0 (j .instructions)
+  -- the ids recorded are 0, 1, 2 and so on, each below outcomes
+  pub ids : idsIn (j .instructions) ≡ countUp 0 (recordedIn (j .instructions))
   pub recorded : recordedIn (j .instructions) ≤ j .header .outcomes

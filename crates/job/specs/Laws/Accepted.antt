@@ -8,6 +8,7 @@ use native.Mathlib.Omega.{arith}
 use borrow.Author.Tests.{eqb-true, eqb-false, eq-eqb, ne-eqb, not-true, not-false}
 use lib.Dec.{eqb, ltb}
 use Rattle.text.specs.Laws.Values.{both}
+use Rattle.job.specs.declared.Header.{Header}
 use Rattle.job.specs.declared.Answer.{Answer}
 use Rattle.job.specs.Grammar.{Written, readLine}
 use Rattle.job.specs.Checks.{Context, next, expected, headerFits, ownTests, refusalOf}
@@ -83,6 +84,10 @@ good-says c last none f e = absurd (omega arith)
 good-says c last (some w) f e = (w, refl, f)
 
 -- ---- lines behind the header
+
+-- The context between two instructions of a job with this header, where so many outcomes are recorded.
+unfoldable pub between : Header → ℕ → Context
+between h r = record { begun = true; header = h; recorded = r; due = 0; total = none }
 
 -- Lines that are accepted in a context behind the header; where there are none, no elements are due.
 pub record Accepted (k : ℕ) (c : Context) (ls : List (List ℕ)) : Type 0 where
