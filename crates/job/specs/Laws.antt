@@ -17,3 +17,5 @@ pub mod Begun
 pub mod Gather
 -- The outcomes that instructions record.
 pub mod Recorded
+-- Accepted lines instruction by instruction.
+pub mod Instructions

@@ -1,10 +1,10 @@
 -- An accepted job from its bytes to its lines: the header, and accepted lines behind it. Laws. Assumes nothing.
-use Prim.Native.Nat.{ℕ, suc, _≤_, _<_}
+use Prim.Native.Nat.{ℕ, _≤_, _<_}
 use native.Mathlib.Omega.{arith}
-use mathlib.Core.Path.{_≡_, refl, sym, ap, _∙_}
-use mathlib.Core.Bool.{Bool, true, false, cond, not, _&&_, true≢false}
+use mathlib.Core.Path.{_≡_, refl, sym}
+use mathlib.Core.Bool.{Bool, true, false, cond, _&&_, true≢false}
 use mathlib.Core.List.{List, [], _∷_}
-use mathlib.Core.Option.{Option, none, some}
+use mathlib.Core.Option.{some}
 use borrow.Author.Tests.{leb-true, ltb-true}
 use lib.Dec.{eqb, ltb, leb}
 use lib.ListN.{length}
@@ -12,8 +12,8 @@ use Rattle.text.specs.Bytes.{LF, extend, pieces, lines}
 use Rattle.text.specs.Laws.Values.{both}
 use Rattle.job.specs.declared.Header.{Header}
 use Rattle.job.specs.Grammar.{Written, readLine}
-use Rattle.job.specs.Checks.{Context, noContext, inRange, next, headerFits, refusalOf}
-use Rattle.job.specs.Job.{answer, accepted, isLast, nextOf, wellEnded, checkLines, checkJob, gathered, headerOf, Job, jobOfLines, jobOf}
+use Rattle.job.specs.Checks.{noContext, inRange, next, headerFits}
+use Rattle.job.specs.Job.{answer, accepted, isLast, nextOf, wellEnded, checkLines, checkJob, gathered, headerOf, jobOfLines, jobOf}
 use Rattle.job.specs.Laws.Forms.{line-fits}
 use Rattle.job.specs.Laws.Accepted.{passes-first, zero-passes, good-says, Passing, passing, between, Accepted}
 

@@ -1,8 +1,7 @@
 -- A line's mark, one byte, names the one form that the line can have, so that code which looks at the mark reads by one template. Assumes nothing.
-use Prim.Native.Nat.{ℕ, zero, suc, _<_}
-use native.Mathlib.Omega.{arith}
-use mathlib.Core.Path.{_≡_, refl, sym, ap, _∙_}
-use mathlib.Core.Bool.{Bool, true, false, cond, not, _&&_, _||_, true≢false}
+use Prim.Native.Nat.{ℕ}
+use mathlib.Core.Path.{_≡_, refl, _∙_}
+use mathlib.Core.Bool.{Bool, true, false, cond, not, _&&_}
 use mathlib.Core.List.{List, [], _∷_}
 use mathlib.Core.Option.{Option, none, some}
 use borrow.Author.Tests.{ltb-true, eqb-true, eqb-false, not-true}
@@ -10,7 +9,7 @@ use lib.Dec.{eqb, ltb}
 use lib.ListN.{getD}
 use Rattle.text.specs.Bytes.{bytes}
 use Rattle.text.specs.Template.{Value, valuesOf, listAt}
-use Rattle.text.specs.Laws.Values.{both, none-some}
+use Rattle.text.specs.Laws.Values.{both}
 use Rattle.text.specs.Laws.Places.{behind, literals, same-place}
 use Rattle.job.specs.Grammar.{Kind, Written, noiseLine, Form, forms, said, orLater, readBy, readLine}
 

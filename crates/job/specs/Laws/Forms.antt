@@ -1,17 +1,17 @@
 -- What a line is known for by its form alone: L rises, Q is not empty, numbers and H are below 2^64. One law over the table of forms. Assumes nothing.
 use Prim.Native.Nat.{ℕ, zero, suc, _^_, _<_}
 use native.Mathlib.Omega.{arith}
-use mathlib.Core.Path.{_≡_, refl, sym, subst, _∙_}
-use mathlib.Core.Bool.{Bool, true, false, cond, _&&_, true≢false}
+use mathlib.Core.Path.{_≡_, refl}
+use mathlib.Core.Bool.{Bool, true, false, cond, _&&_}
 use mathlib.Core.List.{List, [], _∷_}
 use mathlib.Core.Option.{Option, none, some}
 use borrow.Author.Tests.{eq-eqb}
 use lib.Dec.{eqb}
-use lib.ListN.{length, getD}
+use lib.ListN.{length}
 use Rattle.pauli.specs.Gate.{Gate, gateOf}
 use Rattle.text.specs.Bytes.{bytes}
 use Rattle.text.specs.Template.{Value, valuesOf, numberAt, listAt}
-use Rattle.text.specs.Laws.Values.{none-some, Small, FitL, FitQ, FitC, NumberFits, ListFits, numberLetters, listLetters, Fits, values-fit}
+use Rattle.text.specs.Laws.Values.{FitL, FitQ, FitC, NumberFits, ListFits, numberLetters, listLetters, Fits, values-fit}
 use Rattle.job.specs.Line.{SparsePauli, Line}
 use Rattle.job.specs.Sound.{SmallOption, Every}
 use Rattle.job.specs.Grammar.{Kind, NoiseLine, Written, pauliAt, isOne, unitaryLine, optional, noiseLine, Form, forms, said, orLater, readBy, readLine}

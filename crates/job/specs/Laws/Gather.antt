@@ -1,25 +1,25 @@
 -- The instructions of accepted lines are sound: laws, by induction over the lines. Assumes nothing.
-use Prim.Native.Nat.{ℕ, zero, suc, _+_, _-_, _^_, _≤_, _<_}
+use Prim.Native.Nat.{ℕ, suc, _+_, _-_, _^_, _≤_, _<_}
 use native.Mathlib.Nat.{add-zero}
 use native.Mathlib.Numerals.{add-one}
 use native.Mathlib.Omega.{arith}
-use mathlib.Core.Path.{_≡_, refl, sym, ap, subst, _∙_}
+use mathlib.Core.Path.{_≡_, sym, _∙_}
 use mathlib.Core.Bool.{Bool, true, false, cond, not, _&&_, _||_, true≢false}
 use mathlib.Core.List.{List, [], _∷_, map}
 use mathlib.Core.Option.{Option, none, some}
-use borrow.Author.Tests.{ltb-true, ltb-false, leb-true, eqb-true, eq-eqb, ne-eqb, not-true, not-false}
+use borrow.Author.Tests.{ltb-true, ltb-false, leb-true, eqb-true, eq-eqb, not-false}
 use lib.Dec.{eqb, ltb, leb}
 use lib.Ieee.{Float, binary64, add}
 use lib.ListN.{length, length-map}
 use Rattle.text.specs.Laws.Values.{both}
-use Rattle.job.specs.Line.{SparsePauli, Line, WeightedPauli, Distribution, Noise, Instruction, Placed}
-use Rattle.job.specs.Float.{float, nought, isWeight, isTotal}
-use Rattle.job.specs.Grammar.{Kind, NoiseLine, Written, readLine}
-use Rattle.job.specs.Checks.{Context, elementsOf, firstTotal, nextTotal, records, next, noiseTests, kindQubits, kindDistinct, elementsFit, eachBelow, eachShort, sameWeight, expected, headerFits, weightFits, totalFits, ownTests, tests, refusalOf}
-use Rattle.job.specs.Job.{accepted, isLast, nextOf, checkLines, distributionOf, noiseOf, weightOf, Gathered, placedAt, gather, gathered, recordedBy}
-use Rattle.job.specs.Sound.{RisingBelow, Operands, Every, PauliSound, SmallOption, WeightedSound, totalFrom, weightsOf, DistributionSound, NoiseSound, InstructionSound, InstructionsSound}
+use Rattle.job.specs.Line.{SparsePauli, WeightedPauli, Instruction, Placed}
+use Rattle.job.specs.Float.{float, isWeight, isTotal}
+use Rattle.job.specs.Grammar.{Kind, NoiseLine, Written}
+use Rattle.job.specs.Checks.{Context, elementsOf, firstTotal, nextTotal, records, next, noiseTests, kindQubits, kindDistinct, elementsFit, eachBelow, eachShort, sameWeight, expected, headerFits, weightFits, totalFits, ownTests}
+use Rattle.job.specs.Job.{distributionOf, noiseOf, weightOf, Gathered, placedAt, gather, gathered, recordedBy}
+use Rattle.job.specs.Sound.{Every, PauliSound, SmallOption, WeightedSound, totalFrom, weightsOf, DistributionSound, NoiseSound, InstructionSound, InstructionsSound}
 use Rattle.job.specs.Laws.Tests.{AllPass}
-use Rattle.job.specs.Laws.Forms.{KindFits, NoiseFits, WrittenFits, SaidFits, line-fits}
+use Rattle.job.specs.Laws.Forms.{KindFits, NoiseFits, WrittenFits}
 use Rattle.job.specs.Laws.Lines.{pauli-sound, operands-sound, first-short, line-sound}
 use Rattle.job.specs.Laws.Accepted.{Passing, Accepted, accepted-first}
 
@@ -115,7 +115,7 @@ weights-more due (some t) (some v) P es some-due n small same fits ih =
 -- ---- line by line
 
 -- the outcomes recorded with the first instruction, as the context and as the list count them
-recorded-more : (b : Bool) (r : ℕ) → cond b (suc r) r ≡ r + cond b 1 0
+pub recorded-more : (b : Bool) (r : ℕ) → cond b (suc r) r ≡ r + cond b 1 0
 recorded-more true r = sym (add-one r)
 recorded-more false r = sym (add-zero r)
 

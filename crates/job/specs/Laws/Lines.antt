@@ -1,18 +1,16 @@
 -- A line that has a form and passes its tests is sound: laws, a clause for each kind of line. Assumes nothing.
-use Prim.Native.Nat.{ℕ, zero, suc, _+_, _^_, _≤_, _<_}
-use native.Mathlib.Omega.{arith}
-use mathlib.Core.Path.{_≡_, refl, sym, ap, _∙_}
-use mathlib.Core.Bool.{Bool, true, false, cond, not, _&&_, true≢false}
+use Prim.Native.Nat.{ℕ, _≤_}
+use mathlib.Core.Path.{_≡_}
+use mathlib.Core.Bool.{true, _&&_}
 use mathlib.Core.List.{List, [], _∷_, _++_}
-use mathlib.Core.Option.{Option, none, some}
 use borrow.Author.Tests.{ltb-true, leb-true, eqb-true, not-false}
 use lib.Dec.{eqb, ltb, leb}
 use lib.ListN.{length}
-use Rattle.text.specs.Laws.Values.{both, FitL, FitQ}
+use Rattle.text.specs.Laws.Values.{both, FitQ}
 use Rattle.job.specs.declared.Header.{Header}
 use Rattle.job.specs.Line.{SparsePauli, Line}
-use Rattle.job.specs.Checks.{Context, allBelow, eachBelow, eachShort, distinct, isPermutation, Test, lineTests, inRange, listsOf}
-use Rattle.job.specs.Sound.{RisingBelow, Operands, PauliSound, NextOutcome, LineSound, HeaderSound}
+use Rattle.job.specs.Checks.{Context, allBelow, eachBelow, eachShort, distinct, lineTests, inRange, listsOf}
+use Rattle.job.specs.Sound.{Operands, PauliSound, NextOutcome, LineSound, HeaderSound}
 use Rattle.pauli.specs.Gate.{operandsOf}
 use Rattle.job.specs.Laws.Lists.{below-first}
 use Rattle.job.specs.Laws.Tests.{AllPass}

@@ -1,16 +1,16 @@
 -- What the tests on lists say of the members at their places: laws. Assumes nothing.
-use Prim.Native.Nat.{ℕ, zero, suc, _+_, _≤_, _<_}
+use Prim.Native.Nat.{ℕ, zero, suc, _≤_, _<_}
 use native.Mathlib.Omega.{arith}
 use mathlib.Core.Path.{_≡_, refl, sym, ap, _∙_}
-use mathlib.Core.Bool.{Bool, true, false, cond, not, _&&_, true≢false, and-eq-true-iff}
+use mathlib.Core.Bool.{Bool, true, false, not, _&&_, true≢false}
 use mathlib.Core.List.{List, [], _∷_}
-use borrow.Author.Tests.{ltb-true, lt-ltb, leb-true, eqb-true, eqb-false, eq-eqb, ne-eqb, not-true, not-false}
-use lib.Dec.{eqb, ltb, leb}
+use borrow.Author.Tests.{ltb-true, lt-ltb, eqb-true, eq-eqb, not-true}
+use lib.Dec.{eqb, ltb}
 use lib.ListN.{length, getD}
 use Rattle.pauli.specs.Bits.{outside, members}
 use Rattle.text.specs.List.{risesFrom, isRising}
 use Rattle.text.specs.Laws.Values.{both}
-use Rattle.job.specs.Checks.{allBelow, distinct, isPermutation}
+use Rattle.job.specs.Checks.{allBelow, distinct}
 use Rattle.job.specs.Sound.{Every}
 
 -- ---- every member

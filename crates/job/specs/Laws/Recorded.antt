@@ -1,16 +1,20 @@
 -- The outcomes that sound instructions record: laws. Assumes nothing.
-use Prim.Native.Nat.{ℕ, zero, suc, _+_, _≤_, _<_}
+use Prim.Native.Nat.{ℕ, suc, _+_, _≤_, _<_}
 use native.Mathlib.Nat.{add-zero, zero-add}
 use native.Mathlib.Numerals.{add-one, one-add}
 use native.Mathlib.Omega.{arith}
 use mathlib.Core.Path.{_≡_, refl, sym, ap, _∙_}
-use mathlib.Core.Bool.{Bool, true, false, cond}
+use mathlib.Core.Bool.{true, true≢false}
 use mathlib.Core.List.{List, [], _∷_, _++_}
+use mathlib.Core.Option.{Option, some}
 use Rattle.job.specs.declared.Header.{Header}
 use Rattle.job.specs.Line.{Line, Instruction, Placed}
-use Rattle.job.specs.Checks.{records}
-use Rattle.job.specs.Job.{recordedBy, recordedIn}
+use Rattle.job.specs.Grammar.{Written, readLine}
+use Rattle.job.specs.Checks.{Context, records, next, headerFits}
+use Rattle.job.specs.Job.{nextOf, Gathered, gather, gathered, recordedBy, recordedIn}
 use Rattle.job.specs.Sound.{NextOutcome, LineSound, InstructionSound, InstructionsSound, idsOf, idsIn, countUp}
+use Rattle.job.specs.Laws.Accepted.{Passing, Accepted, accepted-first}
+use Rattle.job.specs.Laws.Gather.{recorded-more}
 
 -- what an instruction records where r outcomes are recorded before it: none, or the next one
 data Records (outcomes r : ℕ) : ℕ → List ℕ → Type 0 where
@@ -61,3 +65,35 @@ ids-count h r [] s = unfold countUp in refl
 ids-count h r (i ∷ is) s =
     ap (λ (l : List ℕ). idsOf (i .instruction) ++ l) (ids-count h (r + recordedBy (i .instruction)) is (s .1))
     ∙ records-count (instruction-records h r (i .instruction) (s .0)) (recordedIn is)
+
+-- ---- as the context counts
+
+-- the context behind some lines
+unfoldable pub contextAfter : Context → List (List ℕ) → Context
+contextAfter c [] = c
+contextAfter c (l ∷ ls) = contextAfter (nextOf c (readLine l)) ls
+
+-- one line adds to the context what it adds to the instructions
+counts-more : (k : ℕ) (c : Context) (l : List ℕ) (ls : List (List ℕ)) (w : Written) (g : Gathered) → c .begun ≡ true → Passing c ls w
+    → next c w .recorded + recordedIn (g .instructions) ≡ c .recorded + recordedIn (gather k l (some w) g .instructions)
+unfolding next gather recordedIn recordedBy headerFits
+counts-more k c l ls (Written.header h) g b t = absurd (true≢false (sym (t .header) ∙ rw b))
+counts-more k c l ls (Written.line i) g b t = omega (arith, recorded-more (records i) (c .recorded))
+counts-more k c l ls (Written.noise n) g b t = omega arith
+counts-more k c l ls (Written.element w P) g b t = refl
+
+after-first : (c : Context) (l : List ℕ) (ls : List (List ℕ)) (w : Written) → readLine l ≡ some w → contextAfter c (l ∷ ls) ≡ contextAfter (next c w) ls
+unfolding contextAfter nextOf
+after-first c l ls w e = ap (λ (o : Option Written). contextAfter (nextOf c o) ls) e
+
+-- behind accepted lines the context has counted the outcomes that their instructions record
+pub recorded-after : (k : ℕ) (c : Context) (ls : List (List ℕ)) → Accepted k c ls
+    → contextAfter c ls .recorded ≡ c .recorded + recordedIn (gathered k ls .instructions)
+unfolding gathered recordedIn
+recorded-after k c [] a = unfold contextAfter in sym (add-zero (c .recorded))
+recorded-after k c (l ∷ ls) a =
+    let f = accepted-first a in
+    ap (λ (d : Context). d .recorded) (after-first c l ls (f .says) (f .reads))
+    ∙ recorded-after (suc k) (next c (f .says)) ls (f .rest)
+    ∙ counts-more k c l ls (f .says) (gathered (suc k) ls) (a .begun) (f .passing)
+    ∙ ap (λ (o : Option Written). c .recorded + recordedIn (gather k l o (gathered (suc k) ls) .instructions)) (sym (f .reads))

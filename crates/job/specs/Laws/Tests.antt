@@ -4,13 +4,13 @@ use native.Mathlib.Omega.{arith}
 use mathlib.Core.Path.{_≡_, refl, sym, _∙_}
 use mathlib.Core.Bool.{Bool, true, false, cond, true≢false}
 use mathlib.Core.List.{List, [], _∷_, map}
-use mathlib.Core.Option.{Option, none, some}
+use mathlib.Core.Option.{some}
 use borrow.Author.Tests.{ltb-true}
 use lib.Dec.{ltb}
 use Rattle.text.specs.List.{risesFrom}
 use Rattle.text.specs.Laws.Values.{both}
 use Rattle.job.specs.Line.{Line}
-use Rattle.job.specs.Grammar.{Kind, Written}
+use Rattle.job.specs.Grammar.{Written}
 use Rattle.job.specs.Sound.{Every}
 use Rattle.job.specs.Laws.Lists.{every-map}
 use Rattle.job.specs.Checks.{Context, Test, lineTests, noiseTests, ownTests, tests, lowest, refusalOf}

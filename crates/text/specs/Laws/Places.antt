@@ -1,16 +1,16 @@
 -- The bytes that a line has from its template, and what follows where it has others: laws. Assumes nothing.
-use Prim.Native.Nat.{ℕ, zero, suc, _+_, _≤_, _<_}
+use Prim.Native.Nat.{ℕ, zero, suc, _+_, _<_}
 use native.Mathlib.Omega.{arith}
 use native.Mathlib.Numerals.{add-one}
 use mathlib.Core.Path.{_≡_, refl, sym, ap, _∙_}
 use mathlib.Core.Bool.{Bool, true, false, cond, true≢false}
 use mathlib.Core.List.{List, [], _∷_}
 use mathlib.Core.Option.{Option, none, some}
-use borrow.Author.Tests.{eqb-true, eq-eqb, ne-eqb}
+use borrow.Author.Tests.{eqb-true, ne-eqb}
 use lib.Dec.{eqb}
 use lib.ListN.{getD, take, drop}
 use Rattle.text.specs.Bytes.{space, until}
-use Rattle.text.specs.Template.{Value, isLetter, valueOf, andThen, sameByte, atEnd, valuesOf}
+use Rattle.text.specs.Template.{Value, isLetter, valueOf, andThen, sameByte, valuesOf}
 use Rattle.text.specs.Laws.Values.{none-some}
 
 -- what stands behind the first n spaces, nothing where there are fewer

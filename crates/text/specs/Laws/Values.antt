@@ -11,7 +11,7 @@ use lib.Dec.{eqb, ltb}
 use lib.ListN.{length, getD, take, drop}
 use Rattle.text.specs.Bytes.{comma, space, until, extend, pieces, split}
 use Rattle.text.specs.Number.{whenever, proper, allDecimal, decimalFrom, numberOf, hexDigit, allHex, hexFrom, hexOf, bitOf}
-use Rattle.text.specs.List.{withFirst, numbersOf, listQ, risesFrom, isRising, onlyRising, isDash, listL, oneMember, listC}
+use Rattle.text.specs.List.{withFirst, numbersOf, listQ, isRising, onlyRising, isDash, listL, oneMember, listC}
 use Rattle.text.specs.Template.{Value, number, list, aNumber, aList, isLetter, valueOf, andThen, sameByte, atEnd, valuesOf, numbersIn, listsIn, numberAt, listAt}
 
 -- ---- Booleans and options
