@@ -8,3 +8,9 @@ pub mod Checks
 pub mod Job
 pub mod Reply
 pub mod InRange
+-- What an accepted job is known for.
+pub mod Sound
+-- Laws of these definitions.
+pub mod Laws
+-- What a reader wants to know of the tests.
+pub mod Theorems

@@ -4,3 +4,5 @@ pub mod Bytes
 pub mod Number
 pub mod List
 pub mod Template
+-- Laws of these definitions.
+pub mod Laws

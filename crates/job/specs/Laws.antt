@@ -1,0 +1,21 @@
+-- Laws, for the proofs that cite them. Nothing here has to be believed.
+-- Lists by their places.
+pub mod Lists
+-- The tests of a line that passes.
+pub mod Tests
+-- What a line says, by the letters of its form.
+pub mod Forms
+-- The one form that a line can have, by its first bytes.
+pub mod Dispatch
+-- A line that passes is sound.
+pub mod Lines
+-- An accepted job line by line.
+pub mod Accepted
+-- From the bytes of an accepted job to its lines.
+pub mod Begun
+-- The instructions of accepted lines are sound.
+pub mod Gather
+-- The outcomes that instructions record.
+pub mod Recorded
+-- Accepted lines instruction by instruction.
+pub mod Instructions

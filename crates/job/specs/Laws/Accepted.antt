@@ -1,0 +1,125 @@
+-- An accepted job line by line: laws of the fold of the checks. Assumes nothing.
+use Prim.Native.Nat.{ℕ, suc}
+use mathlib.Core.Path.{_≡_, refl, ap, _∙_}
+use mathlib.Core.Bool.{Bool, true, false, cond, _&&_}
+use mathlib.Core.List.{List, [], _∷_}
+use mathlib.Core.Option.{Option, none, some}
+use native.Mathlib.Omega.{arith}
+use borrow.Author.Tests.{eqb-true, eqb-false, eq-eqb, ne-eqb, not-true, not-false}
+use lib.Dec.{eqb, ltb}
+use Rattle.text.specs.Laws.Values.{both}
+use Rattle.job.specs.declared.Header.{Header}
+use Rattle.job.specs.declared.Answer.{Answer}
+use Rattle.job.specs.Grammar.{Written, readLine}
+use Rattle.job.specs.Checks.{Context, next, expected, headerFits, ownTests, refusalOf}
+use Rattle.job.specs.Job.{answer, accepted, isLast, nextOf, checkLines}
+use Rattle.job.specs.Laws.Tests.{AllPass, refusal-passes}
+use Rattle.job.specs.Laws.Forms.{WrittenFits, SaidFits, line-fits}
+
+-- the number of a line among others
+abbrev pub numberAfter : Context → List ℕ → List (List ℕ) → ℕ
+numberAfter c l ls = refusalOf c (isLast ls) (readLine l)
+
+module _ (k : ℕ) (c : Context) (l : List ℕ) (ls : List (List ℕ)) where
+  -- a bad line ends the checks
+  pub checks-bad : (numberAfter c l ls ≡ 0 → ⊥) → checkLines k c (l ∷ ls) ≡ answer (numberAfter c l ls) k
+  unfolding checkLines
+  checks-bad h = rw (ne-eqb (numberAfter c l ls) 0 h)
+
+  -- behind a good line they go on
+  pub checks-good : numberAfter c l ls ≡ 0 → checkLines k c (l ∷ ls) ≡ checkLines (suc k) (nextOf c (readLine l)) ls
+  unfolding checkLines
+  checks-good h = rw (eq-eqb (numberAfter c l ls) 0 h)
+
+  -- the first line of an accepted list is good, and the rest is accepted in the next context
+  pub passes-first : checkLines k c (l ∷ ls) ≡ accepted → (numberAfter c l ls ≡ 0) × (checkLines (suc k) (nextOf c (readLine l)) ls ≡ accepted)
+  unfolding checkLines
+  passes-first p = go (eqb (numberAfter c l ls) 0) refl p
+    where
+      go : (b : Bool) → eqb (numberAfter c l ls) 0 ≡ b → cond b (checkLines (suc k) (nextOf c (readLine l)) ls) (answer (numberAfter c l ls) k) ≡ accepted
+          → (numberAfter c l ls ≡ 0) × (checkLines (suc k) (nextOf c (readLine l)) ls ≡ accepted)
+      go true e p = (eqb-true _ 0 e, p)
+      go false e p = absurd (eqb-false (numberAfter c l ls) 0 e (ap (λ (a : Answer). a .number) p))
+
+-- an answer with the number 0 says that all lines are accepted
+pub zero-passes : (k : ℕ) (c : Context) (ls : List (List ℕ)) → checkLines k c ls .number ≡ 0 → checkLines k c ls ≡ accepted
+unfolding checkLines
+zero-passes k c [] z = refl
+zero-passes k c (l ∷ ls) z = go (eqb (numberAfter c l ls) 0) refl z (zero-passes (suc k) (nextOf c (readLine l)) ls)
+  where
+    go : (b : Bool) → eqb (numberAfter c l ls) 0 ≡ b
+        → cond b (checkLines (suc k) (nextOf c (readLine l)) ls) (answer (numberAfter c l ls) k) .number ≡ 0
+        → (checkLines (suc k) (nextOf c (readLine l)) ls .number ≡ 0 → checkLines (suc k) (nextOf c (readLine l)) ls ≡ accepted)
+        → cond b (checkLines (suc k) (nextOf c (readLine l)) ls) (answer (numberAfter c l ls) k) ≡ accepted
+    go true e z ih = ih z
+    go false e z ih = absurd (eqb-false (numberAfter c l ls) 0 e z)
+
+-- whether lines are accepted does not hang on the number of the first
+pub passes-anywhere : (k m : ℕ) (c : Context) (ls : List (List ℕ)) → checkLines k c ls ≡ accepted → checkLines m c ls ≡ accepted
+passes-anywhere k m c [] p = unfold checkLines in refl
+passes-anywhere k m c (l ∷ ls) p =
+    let parts = passes-first k c l ls p in
+    checks-good m c l ls (parts .0) ∙ passes-anywhere (suc k) (suc m) (nextOf c (readLine l)) ls (parts .1)
+
+-- ---- what a good line is known for
+
+-- what a line says that passes all of its tests, with these lines behind it
+pub record Passing (c : Context) (ls : List (List ℕ)) (w : Written) : Type 0 where
+  pub due : expected c w ≡ true
+  -- on the job's last line no element is missing
+  pub ends : (isLast ls && ltb 0 (next c w .due)) ≡ false
+  pub header : headerFits c w ≡ true
+  pub own : AllPass (ownTests c w)
+
+pub passing : (c : Context) (ls : List (List ℕ)) (w : Written) → refusalOf c (isLast ls) (some w) ≡ 0 → Passing c ls w
+passing c ls w e =
+    let t = refusal-passes c (isLast ls) w e in
+    let form = both (expected c w) _ (not-false _ (t .0)) in
+    record { due = form .0; ends = not-true _ (form .1); header = not-false _ (t .1 .0); own = t .1 .1 }
+
+-- a good line has a form, and is good for its letters
+pub good-says : (c : Context) (last : Bool) (o : Option Written) → SaidFits o → refusalOf c last o ≡ 0 → (w : Written) × (o ≡ some w) × WrittenFits w
+unfolding refusalOf SaidFits
+good-says c last none f e = absurd (omega arith)
+good-says c last (some w) f e = (w, refl, f)
+
+-- ---- lines behind the header
+
+-- The context between two instructions of a job with this header, where so many outcomes are recorded.
+unfoldable pub between : Header → ℕ → Context
+between h r = record { begun = true; header = h; recorded = r; due = 0; total = none }
+
+-- Lines that are accepted in a context behind the header; where there are none, no elements are due.
+pub record Accepted (k : ℕ) (c : Context) (ls : List (List ℕ)) : Type 0 where
+  pub begun : c .begun ≡ true
+  pub ends : (isLast ls && ltb 0 (c .due)) ≡ false
+  pub passes : checkLines k c ls ≡ accepted
+
+-- the first of such lines, and the others
+pub record First (k : ℕ) (c : Context) (l : List ℕ) (ls : List (List ℕ)) : Type 0 where
+  pub says : Written
+  pub reads : readLine l ≡ some says
+  pub fits : WrittenFits says
+  pub passing : Passing c ls says
+  pub rest : Accepted (suc k) (next c says) ls
+
+begun-next : (c : Context) (w : Written) → c .begun ≡ true → next c w .begun ≡ true
+unfolding next
+begun-next c (Written.header h) e = refl
+begun-next c (Written.line l) e = e
+begun-next c (Written.noise n) e = e
+begun-next c (Written.element w P) e = e
+
+pub accepted-first : {k : ℕ} {c : Context} {l : List ℕ} {ls : List (List ℕ)} → Accepted k c (l ∷ ls) → First k c l ls
+unfolding nextOf
+accepted-first {k} {c} {l} {ls} a =
+    let parts = passes-first k c l ls (a .passes) in
+    let good = good-says c (isLast ls) (readLine l) (line-fits l) (parts .0) in
+    let own = passing c ls (good .0) (rw (good .1) at (parts .0)) in
+    record {
+      says = good .0;
+      reads = good .1;
+      fits = good .2;
+      passing = own;
+      rest = record { begun = begun-next c (good .0) (a .begun); ends = own .ends; passes = rw (good .1) at (parts .1) };
+    }

@@ -1,0 +1,119 @@
+-- A line that has a form and passes its tests is sound: laws, a clause for each kind of line. Assumes nothing.
+use Prim.Native.Nat.{ℕ, _≤_}
+use mathlib.Core.Path.{_≡_}
+use mathlib.Core.Bool.{true, _&&_}
+use mathlib.Core.List.{List, [], _∷_, _++_}
+use borrow.Author.Tests.{ltb-true, leb-true, eqb-true, not-false}
+use lib.Dec.{eqb, ltb, leb}
+use lib.ListN.{length}
+use Rattle.text.specs.Laws.Values.{both, FitQ}
+use Rattle.job.specs.declared.Header.{Header}
+use Rattle.job.specs.Line.{SparsePauli, Line}
+use Rattle.job.specs.Checks.{Context, allBelow, eachBelow, eachShort, distinct, lineTests, inRange, listsOf}
+use Rattle.job.specs.Sound.{Operands, PauliSound, NextOutcome, LineSound, HeaderSound}
+use Rattle.pauli.specs.Gate.{operandsOf}
+use Rattle.job.specs.Laws.Lists.{below-first}
+use Rattle.job.specs.Laws.Tests.{AllPass}
+use Rattle.job.specs.Laws.Forms.{PauliFits, LineFits}
+
+-- ---- tests 4 and 5 on lists
+
+module _ (n : ℕ) where
+  -- each of the lists is below n
+  first-below : (l : List ℕ) (ls : List (List ℕ)) → eachBelow n (l ∷ ls) ≡ true → (allBelow n l ≡ true) × (eachBelow n ls ≡ true)
+  unfolding eachBelow
+  first-below l ls e = both (allBelow n l) (eachBelow n ls) e
+
+pub first-short : (l : List ℕ) (ls : List (List ℕ)) → eachShort (l ∷ ls) ≡ true → (length l ≤ 31) × (eachShort ls ≡ true)
+unfolding eachShort
+first-short l ls e = let parts = both (leb (length l) 31) (eachShort ls) e in (leb-true _ _ (parts .0), parts .1)
+
+-- a Pauli whose two lists are the first
+first-pauli : (n : ℕ) (P : SparsePauli) (ls : List (List ℕ)) → PauliFits P → eachBelow n (listsOf P ++ ls) ≡ true → eachShort (listsOf P ++ ls) ≡ true
+    → PauliSound n P × (eachBelow n ls ≡ true) × (eachShort ls ≡ true)
+first-pauli n P ls f b s =
+    let bx = first-below n (P .x) (P .z ∷ ls) b in
+    let bz = first-below n (P .z) ls (bx .1) in
+    let sx = first-short (P .x) (P .z ∷ ls) s in
+    let sz = first-short (P .z) ls (sx .1) in (
+      record {
+        x = record { rising = f .x .rising; below = bx .0; few = sx .0 };
+        z = record { rising = f .z .rising; below = bz .0; few = sz .0 };
+      },
+      bz .1,
+      sz .1,
+    )
+
+pub pauli-sound : (n : ℕ) (P : SparsePauli) → PauliFits P → eachBelow n (listsOf P) ≡ true → eachShort (listsOf P) ≡ true → PauliSound n P
+pauli-sound n P f b s = first-pauli n P [] f b s .0
+
+pub operands-sound : (n : ℕ) (qs : List ℕ) → FitQ qs → eachBelow n (qs ∷ []) ≡ true → distinct qs ≡ true → eachShort (qs ∷ []) ≡ true → Operands n qs
+operands-sound n qs f b d s =
+    record { filled = f .filled; few = first-short qs [] s .0; apart = d; below = first-below n qs [] b .0 }
+
+-- an outcome's id by test 8
+outcome-sound : (c : Context) (id : ℕ) → (eqb id (c .recorded) && ltb id (c .header .outcomes)) ≡ true → NextOutcome (c .header .outcomes) (c .recorded) id
+outcome-sound c id e =
+    let parts = both (eqb id (c .recorded)) (ltb id (c .header .outcomes)) e in
+    record { next = eqb-true _ _ (parts .0); below = ltb-true _ _ (parts .1) }
+
+-- ---- lines
+
+pub line-sound : (c : Context) (l : Line) → LineFits l → AllPass (lineTests c l) → LineSound (c .header) (c .recorded) l
+unfolding LineFits lineTests LineSound
+line-sound c (Line.unitary g qs) f t =
+    let lists = both _ (eachShort (qs ∷ [])) (not-false _ (t .1 .0)) in
+    let own = both (eqb (length qs) (operandsOf g)) (distinct qs) (lists .0) in
+    record { operands = operands-sound _ qs f (not-false _ (t .0)) (own .1) (lists .1); count = eqb-true _ _ (own .0) }
+line-sound c (Line.clifford qs m) f t =
+    let lists = both _ (eachShort (qs ∷ [])) (not-false _ (t .1 .0)) in
+    let own = both (leb (length qs) 4) (distinct qs) (lists .0) in
+    record {
+      operands = operands-sound _ qs (f .0) (not-false _ (t .0)) (own .1) (lists .1);
+      few = leb-true _ _ (own .0);
+      table = not-false _ (t .1 .1 .0);
+      small = f .1;
+    }
+line-sound c (Line.pauli P) f t = pauli-sound _ P f (not-false _ (t .0)) (not-false _ (t .1 .0))
+line-sound c (Line.exponential P) f t = pauli-sound _ P f (not-false _ (t .0)) (not-false _ (t .1 .0))
+line-sound c (Line.controlled C T) f t =
+    let control = first-pauli _ C (listsOf T) (f .0) (not-false _ (t .0)) (not-false _ (t .1 .0)) in
+    record { control = control .0; target = pauli-sound _ T (f .1) (control .1) (control .2) }
+line-sound c (Line.permute s qs) f t =
+    let lists = both (distinct qs) (eachShort (s ∷ qs ∷ [])) (not-false _ (t .1 .0)) in
+    let rest = first-short s (qs ∷ []) (lists .1) in
+    record { operands = operands-sound _ qs (f .1) (not-false _ (t .0)) (lists .0) (rest .1); places = not-false _ (t .1 .1 .0) }
+line-sound c (Line.measure P id) f t =
+    record {
+      observable = pauli-sound _ P (f .0) (not-false _ (t .0)) (not-false _ (t .1 .0));
+      outcome = outcome-sound c id (not-false _ (t .1 .1 .0));
+    }
+line-sound c (Line.allocate id angle) f t = outcome-sound c id (not-false _ (t .0))
+line-sound c (Line.conditional P ids par) f t =
+    let rest = first-short ids (listsOf P) (not-false _ (t .1 .0)) in
+    record {
+      pauli = pauli-sound _ P (f .0) (not-false _ (t .0)) (rest .1);
+      known = record { rising = f .1 .rising; below = not-false _ (t .1 .1 .0); few = rest .0 };
+    }
+line-sound c (Line.reset qs) f t =
+    let lists = both (distinct qs) (eachShort (qs ∷ [])) (not-false _ (t .1 .0)) in
+    record { operands = operands-sound _ qs (f .0) (not-false _ (t .0)) (lists .0) (lists .1); one = f .1 }
+line-sound c (Line.inject shot P) f t =
+    record { within = ltb-true _ _ (not-false _ (t .1 .1 .0)); pauli = pauli-sound _ P (f .1) (not-false _ (t .0)) (not-false _ (t .1 .0)) }
+line-sound c (Line.flip shot id) f t = record { within = ltb-true _ _ (not-false _ (t .1 .0)); known = below-first _ id [] (not-false _ (t .0)) .0 }
+
+-- ---- the header
+
+pub header-sound : (h : Header) → inRange h ≡ true → HeaderSound h
+header-sound h e =
+    let a = both _ (leb (h .shots) 4096) e in
+    let b = both _ (leb 1 (h .shots)) (a .0) in
+    let c = both _ (leb (h .outcomes) 1024) (b .0) in
+    let d = both (leb 1 (h .qubits)) (leb (h .qubits) 256) (c .0) in
+    record {
+      some-qubits = leb-true _ _ (d .0);
+      few-qubits = leb-true _ _ (d .1);
+      few-outcomes = leb-true _ _ (c .1);
+      some-shots = leb-true _ _ (b .1);
+      few-shots = leb-true _ _ (a .1);
+    }
