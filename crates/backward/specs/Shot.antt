@@ -1,14 +1,9 @@
--- Definitions that the theorems about one shot use: the sum over a list of outcomes, and the lines that concern a set of shots. Assumes nothing.
+-- Definitions that the theorems about one shot use: the lines that concern a set of shots. Assumes nothing.
 use mathlib.Core.Bool.{Bool, true, false, cond, _&&_}
 use mathlib.Core.List.{List, [], _∷_}
 use Prim.Native.Nat.{ℕ}
-use Rattle.pauli.specs.Bits.{Bits, _⊕_}
+use Rattle.pauli.specs.Bits.{Bits}
 use Rattle.job.specs.Line.{Line}
-
--- the sum mod 2 of the bits at the listed numbers
-unfoldable pub sumOver : List ℕ → Bits → Bool
-sumOver [] s = false
-sumOver (i ∷ ids) s = s i ⊕ sumOver ids s
 
 -- An injection and a flip concern the set if their shot is in it; every other line concerns all shots.
 unfoldable pub concerns : Bits → Line → Bool

@@ -5,7 +5,7 @@ use mathlib.Core.List.{List, [], _∷_}
 use Prim.Native.Nat.{ℕ, _≤_}
 use lib.Dec.{ltb}
 use borrow.Author.Tests.{le-ltb}
-use Rattle.pauli.specs.Bits.{Bits, none, only, given, replaced, added, outside, _⊕_, _∩_, _△_, members, parity, odd}
+use Rattle.pauli.specs.Bits.{Bits, none, only, given, replaced, added, outside, _⊕_, _∩_, _△_, members, parity, sumOver, odd}
 use Rattle.pauli.specs.Pauli.{Pauli, identity, X-at, Y-at, Z-at, _∗_, when, anticommutes, cleared}
 use Rattle.pauli.specs.Gate.{prepareBell, controlledX, swapXZ}
 use Rattle.pauli.specs.Laws.Parity.{only-here}
@@ -15,7 +15,7 @@ use Rattle.job.specs.Checks.{allBelow}
 use Rattle.job.specs.InRange.{AllInRange}
 use Rattle.frames.specs.Forward.{imageSum, transformed, State, Setting, run, start}
 use Rattle.backward.specs.Walk.{Walk, walkBack, walk}
-use Rattle.backward.specs.Shot.{sumOver, restricted, within}
+use Rattle.backward.specs.Shot.{restricted, within}
 use Rattle.backward.specs.Laws.Duality.{run-walk, total-start, total-end}
 use Rattle.backward.specs.Laws.Sums.{sumOver-members}
 use Rattle.backward.specs.Laws.Linear.{run-quiet}

@@ -7,7 +7,7 @@ use lib.Dec.{eqb, ltb}
 use lib.ListN.{length, getD, drop, set}
 use lib.IntN.{pos}
 use lib.Ieee.{Float, binary64, ofInt, add, div, lt, le}
-use Rattle.pauli.specs.Bits.{Bits, _⊕_}
+use Rattle.pauli.specs.Bits.{Bits, _⊕_, sumOver}
 use Rattle.job.specs.Line.{SparsePauli, Line, WeightedPauli, Distribution, Noise}
 use Rattle.job.specs.Float.{float, nought, one}
 
@@ -102,11 +102,6 @@ chooseFrom (Distribution.uniform Ps) ws = bounded (length Ps) ws
 chooseFrom (Distribution.weighted es) ws = byWeight (runningSums (map (λ (e : WeightedPauli). float (e .weight)) es)) ws
 
 -- ---- a shot
-
--- the sum mod 2 of the bits of the listed outcomes
-unfoldable pub sumOver : List ℕ → Bits → Bool
-sumOver [] bits = false
-sumOver (id ∷ ids) bits = bits id ⊕ sumOver ids bits
 
 -- cond is none, or its noiseless bits in that shot sum to parity
 unfoldable pub isSatisfied : Noise → Bits → Bool

@@ -15,14 +15,13 @@ use Rattle.text.specs.Bytes.{bytes}
 use Rattle.text.specs.Number.{decimalDigits}
 use Rattle.text.specs.List.{isRising, commas, listText}
 use Rattle.text.specs.Template.{valueText, firstText, lineText}
-use Rattle.pauli.specs.Bits.{_⊕_, members}
+use Rattle.pauli.specs.Bits.{_⊕_, members, sumOver, bit}
 use Rattle.pauli.specs.Pauli.{Pauli, identity}
 use Rattle.job.specs.Line.{SparsePauli, pauliOf, Line, WeightedPauli, Distribution, sizeOf, Noise, Instruction, Placed}
 use Rattle.job.specs.Float.{float, one}
-use Rattle.job.specs.Clifford.{bit}
 use Rattle.job.specs.Checks.{allBelow, distinct}
 use Rattle.frames.specs.Forward.{Setting, State, run}
-use Rattle.draws.specs.Draws.{unitOf, falls, elementAt, selected, inserted, rising, depolarizingElement, noPauli, Choice, limitOf, bounded, totalFrom, runningFrom, runningSums, belowUnit, byWeight, chooseFrom, sumOver, isSatisfied, faultOf, drawShot, Lent, Fault, Draws, alsoFault, thenShots, drawShots, drawLine, partOf, mainAfter}
+use Rattle.draws.specs.Draws.{unitOf, falls, elementAt, selected, inserted, rising, depolarizingElement, noPauli, Choice, limitOf, bounded, totalFrom, runningFrom, runningSums, belowUnit, byWeight, chooseFrom, isSatisfied, faultOf, drawShot, Lent, Fault, Draws, alsoFault, thenShots, drawShots, drawLine, partOf, mainAfter}
 use Rattle.draws.specs.Settle.{SettledLine, injectText, injection, Step, noiseStep, stepOf, Settled, prefixed, settleThen, settle, settledList}
 use Rattle.draws.specs.Execute.{Ended, execute}
 use Rattle.draws.specs.Laws.Settling.{onSettled, execute-settle}

@@ -6,7 +6,7 @@ use Rattle.text.specs.Bytes.{bytes, until, extend, pieces, unlines}
 use Rattle.text.specs.List.{withFirst, numbersOf, listQ, risesFrom, isRising, onlyRising, listL, oneMember, listC, commas, listText}
 use Rattle.text.specs.Number.{allDecimal, decimalFrom, numberOf, allHex, hexFrom, hexOf, bitOf, decimalDigits, hexDigits}
 use Rattle.text.specs.Template.{aNumber, aList, valueOf, andThen, sameByte, atEnd, valuesOf, numbersIn, listsIn, valueText, firstText, lineText}
-use Rattle.pauli.specs.Bits.{_⊕_, none, only, _∩_, _△_, given, replaced, added, outside, members, parity, odd, bit}
+use Rattle.pauli.specs.Bits.{_⊕_, none, only, _∩_, _△_, given, replaced, added, outside, members, parity, sumOver, odd, bit}
 use Rattle.pauli.specs.Gate.{gates, gateFrom, gateOf, operandsOf, swapXZ, addXtoZ, addZtoX, controlledX, controlledZ, exchanged, swapRows, prepareBell, prepareBellBack, gateWith}
 use Rattle.pauli.specs.Pauli.{identity, X-at, Z-at, Y-at, _∗_, when, anticommutes, cleared}
 use Rattle.job.specs.Checks.{noContext, elementsOf, firstTotal, nextTotal, records, next, allBelow, eachBelow, eachShort, distinct, isPermutation, sameWeight, expected, headerFits, lineTests, kindQubits, kindDistinct, elementsFit, noiseTests, weightFits, totalFits, ownTests, lowest, refusalOf}
@@ -16,7 +16,7 @@ use Rattle.job.specs.Grammar.{unitaryLine, optional, noiseLine, forms, said, or
 use Rattle.job.specs.Job.{wellEnded, nextOf, checkLines, checkJob, distributionOf, noiseOf, weightOf, gather, gathered, headerOf, jobOfLines, recordedBy, recordedIn}
 use Rattle.job.specs.Line.{pauliOf, sizeOf}
 use Rattle.frames.specs.Forward.{exponentiate, controlledPauli, placed, tableRow, imagesFrom, imagesOf, placesOf, imageSum, transformed, forward, run, start}
-use Rattle.draws.specs.Draws.{unitOf, selected, inserted, rising, depolarizingElement, noPauli, elementAt, bounded, totalFrom, runningFrom, belowUnit, byWeight, chooseFrom, sumOver, isSatisfied, faultOf, drawShot, alsoFault, thenShots, drawShots, drawLine, partOf, mainAfter}
+use Rattle.draws.specs.Draws.{unitOf, selected, inserted, rising, depolarizingElement, noPauli, elementAt, bounded, totalFrom, runningFrom, belowUnit, byWeight, chooseFrom, isSatisfied, faultOf, drawShot, alsoFault, thenShots, drawShots, drawLine, partOf, mainAfter}
 use Rattle.draws.specs.Execute.{thenInPlace, injectShots, injectNoise, onMain, executeOne, executeThen, execute}
 use Rattle.draws.specs.Settle.{injectText, injection, noiseStep, stepOf, prefixed, settleThen, settle, settledText}
 use Rattle.run.specs.Run.{enoughWords, spentReply, finalState, finishedReply, settledReply, runReply}

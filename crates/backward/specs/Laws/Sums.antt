@@ -6,11 +6,10 @@ use Prim.Native.Nat.{ℕ, _≤_, _<_}
 use native.Mathlib.Omega.{arith}
 use lib.Dec.{ltb}
 use borrow.Author.Tests.{ltb-true, ne-eqb}
-use Rattle.pauli.specs.Bits.{Bits, none, only, _⊕_, _∩_, _△_, outside, members, parity}
+use Rattle.pauli.specs.Bits.{Bits, none, only, _⊕_, _∩_, _△_, outside, members, parity, sumOver}
 use Rattle.pauli.specs.Laws.Parity.{at-or-off, parity-△-right, parity-only-right, parity-none-right}
 use Rattle.text.specs.List.{risesFrom, isRising}
 use Rattle.job.specs.Checks.{allBelow}
-use Rattle.backward.specs.Shot.{sumOver}
 
 members-none : members [] ≡ none
 unfolding members outside none

@@ -10,12 +10,11 @@ use lib.Dec.{eqb, lit<}
 use lib.ListN.{length, getD}
 use lib.Pow.{pow-add}
 use borrow.Author.Tests.{eqb-true, eqb-false}
-use Rattle.pauli.specs.Bits.{Bits, none, members}
+use Rattle.pauli.specs.Bits.{Bits, none, members, bit}
 use Rattle.pauli.specs.Pauli.{Pauli, identity}
 use Rattle.pauli.specs.Laws.Parity.{at-or-off}
 use Rattle.pauli.specs.Laws.Gates.{pauli-path}
 use Rattle.job.specs.Line.{pauliOf, Distribution, sizeOf}
-use Rattle.job.specs.Clifford.{bit}
 use Rattle.job.specs.Checks.{distinct}
 use Rattle.draws.specs.Draws.{selected, depolarizingElement}
 use Rattle.draws.specs.Laws.Elements.{members-nil, members-cons, members-rising, selected-cons, bit-first, bit-later, element-x, element-z}
