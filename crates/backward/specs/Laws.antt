@@ -6,3 +6,4 @@ pub mod Sums
 pub mod Linear
 pub mod RunShots
 pub mod WalkShots
+pub mod Settled

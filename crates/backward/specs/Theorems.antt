@@ -3,6 +3,7 @@ use mathlib.Core.Path.{_≡_, refl, sym, ap, _∙_}
 use mathlib.Core.Bool.{true, false, true≢false}
 use mathlib.Core.List.{List, [], _∷_}
 use Prim.Native.Nat.{ℕ, _≤_}
+use native.Mathlib.Omega.{arith}
 use lib.Dec.{ltb}
 use borrow.Author.Tests.{le-ltb}
 use Rattle.pauli.specs.Bits.{Bits, none, only, given, replaced, added, outside, _⊕_, _∩_, _△_, members, parity, sumOver, odd}
@@ -10,14 +11,24 @@ use Rattle.pauli.specs.Pauli.{Pauli, identity, X-at, Y-at, Z-at, _∗_, when, a
 use Rattle.pauli.specs.Gate.{prepareBell, controlledX, swapXZ}
 use Rattle.pauli.specs.Laws.Parity.{only-here}
 use Rattle.text.specs.List.{isRising}
+use Rattle.job.specs.declared.Header.{Header}
 use Rattle.job.specs.Line.{Line}
 use Rattle.job.specs.Checks.{allBelow}
+use Rattle.job.specs.Job.{jobOf, recordedIn, checkJob}
 use Rattle.job.specs.InRange.{AllInRange}
-use Rattle.frames.specs.Forward.{imageSum, transformed, State, Setting, run, start}
+use Rattle.job.specs.Sound.{JobSound}
+use Rattle.job.specs.Theorems.{checked-sound}
+use Rattle.job.specs.Laws.Lists.{below-more}
+use Rattle.frames.specs.Forward.{imageSum, transformed, State, Setting, settingOf, run, start}
+use Rattle.draws.specs.Draws.{Lent}
+use Rattle.draws.specs.Settle.{SettledLine, Settled, settle, settledList}
+use Rattle.draws.specs.Execute.{Ended, execute}
+use Rattle.draws.specs.Theorems.{executed-spent, executed-ended}
 use Rattle.backward.specs.Walk.{Walk, walkBack, walk}
 use Rattle.backward.specs.Shot.{restricted, within}
 use Rattle.backward.specs.Laws.Duality.{run-walk, total-start, total-end}
 use Rattle.backward.specs.Laws.Sums.{sumOver-members}
+use Rattle.backward.specs.Laws.Settled.{ended-apart, ended-same, settled-in-range}
 use Rattle.backward.specs.Laws.Linear.{run-quiet}
 use Rattle.backward.specs.Laws.RunShots.{run-restricted}
 use Rattle.backward.specs.Laws.WalkShots.{walkBack-restricted, walkBack-quiet, same-carried}
@@ -65,6 +76,44 @@ module _ (c : Setting) (shots : Bits) (on : shots (c .shot) ≡ true) (ks ls : L
 pub carried-any-shot : (c d : Setting) → c .qubits ≡ d .qubits → (ls : List Line) (S : Bits) → (walk c ls S) .carried ≡ (walk d ls S) .carried
 unfolding walk
 carried-any-shot c d q ls S = same-carried c d q ls _ _ refl
+
+-- ---- demand 3
+
+-- Take any job that passes the checks, with lines of any kind, noise included, in any order. Run a shot of it to its end, from a cleared frame and
+-- deltas, whatever draw words, base and noiseless bits are lent. Then the job settles, and for every set of its recorded outcomes the sum of the
+-- set's deltas in that shot equals modulo 2 the count that the walk of the settled list makes for that set and shot.
+pub demand-3 : (job : List ℕ) → checkJob job .number ≡ 0 → (lent : Lent) (main : List ℕ) (shot : ℕ) (s : State)
+    → execute (settingOf (jobOf job .header) shot) lent (jobOf job .instructions) main start ≡ Ended.ended s
+    → (ls : List SettledLine)
+    × (settle lent main (jobOf job .instructions) ≡ Settled.settled ls)
+    × ((set : List ℕ) → isRising set ≡ true → allBelow (recordedIn (jobOf job .instructions)) set ≡ true
+    → sumOver set (s .deltas) ≡ odd (walk (settingOf (jobOf job .header) shot) (settledList ls) (members set) .count))
+demand-3 job accepted lent main shot s ended = settles (settle lent main (jobOf job .instructions)) refl
+  where
+    h : Header
+    h = jobOf job .header
+
+    sound : JobSound job (jobOf job)
+    sound = checked-sound job accepted
+
+    settles : (o : Settled) → settle lent main (jobOf job .instructions) ≡ o
+        → (ls : List SettledLine)
+        × (settle lent main (jobOf job .instructions) ≡ Settled.settled ls)
+        × ((set : List ℕ) → isRising set ≡ true → allBelow (recordedIn (jobOf job .instructions)) set ≡ true
+        → sumOver set (s .deltas) ≡ odd (walk (settingOf h shot) (settledList ls) (members set) .count))
+    settles (Settled.spentAt k) e = absurd (ended-apart k s (sym (executed-spent (settingOf h shot) lent (jobOf job .instructions) main start k e) ∙ ended))
+    settles (Settled.settled ls) e = (
+      ls,
+      e,
+      λ set rising recorded.
+          let final : s ≡ run (settingOf h shot) (settledList ls) start =
+          ended-same s _ (sym ended ∙ executed-ended (settingOf h shot) lent (jobOf job .instructions) main start ls e) in
+          let below : allBelow (h .outcomes) set ≡ true = below-more _ _ set (sound .recorded) recorded in
+          ap (λ (t : State). sumOver set (t .deltas)) final
+          ∙ listed-deltas-count (settingOf h shot) (settledList ls)
+          (settled-in-range h 0 lent main (jobOf job .instructions) ls (omega arith) (sound .instructions) e)
+          set rising below,
+    )
 
 -- ---- plausible and false, as document 01 has it: each is refuted by one frame and one observable
 

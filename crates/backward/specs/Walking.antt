@@ -10,6 +10,7 @@ use Rattle.job.specs.Line.{Line, Noise, Instruction, Placed}
 use Rattle.job.specs.Checks.{allBelow}
 use Rattle.job.specs.Job.{answer, accepted, Job, jobOf, recordedIn, checkJob}
 use Rattle.job.specs.Reply.{CountReply, refusedCount}
+use Rattle.frames.specs.Forward.{settingOf}
 use Rattle.backward.specs.Walk.{walk}
 
 -- the line of the first noise instruction
@@ -40,9 +41,7 @@ walkAnswer j shot set (some k) = refusedCount (answer 16 k)
 walkAnswer j shot set none =
     record {
       answered = accepted;
-      count =
-          walk record { qubits = j .header .qubits; outcomes = j .header .outcomes; shot = shot } (plainLines (j .instructions)) (members set)
-          .count;
+      count = walk (settingOf (j .header) shot) (plainLines (j .instructions)) (members set) .count;
     }
 
 -- Tests 1 to 12, then 17, then 16.

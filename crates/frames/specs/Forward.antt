@@ -7,6 +7,7 @@ use lib.ListN.{length, getD}
 use Rattle.pauli.specs.Bits.{Bits, _∩_, _△_, none, only, given, added, members, parity}
 use Rattle.pauli.specs.Pauli.{Pauli, identity, X-at, Z-at, _∗_, when, anticommutes, cleared}
 use Rattle.pauli.specs.Gate.{conjugated}
+use Rattle.job.specs.declared.Header.{Header}
 use Rattle.job.specs.Line.{pauliOf, Line}
 use Rattle.job.specs.Clifford.{rowOver}
 
@@ -74,6 +75,10 @@ pub record Setting : Type 0 where
   pub qubits : ℕ
   pub outcomes : ℕ
   pub shot : ℕ
+
+-- a shot of a job with this header
+abbrev pub settingOf : Header → ℕ → Setting
+settingOf h shot = record { qubits = h .qubits; outcomes = h .outcomes; shot = shot }
 
 abbrev pub onFrame : (Pauli → Pauli) → State → State
 onFrame f s = record { frame = f (s .frame); deltas = s .deltas }

@@ -9,7 +9,7 @@ use Rattle.job.specs.declared.Header.{Header}
 use Rattle.job.specs.declared.Answer.{Answer}
 use Rattle.job.specs.Job.{answer, accepted, Job, jobOf, checkJob}
 use Rattle.job.specs.Reply.{over}
-use Rattle.frames.specs.Forward.{Setting, State, start}
+use Rattle.frames.specs.Forward.{settingOf, State, start}
 use Rattle.draws.specs.Draws.{Lent}
 use Rattle.draws.specs.Settle.{Settled, settle}
 use Rattle.draws.specs.Execute.{Ended, execute}
@@ -74,8 +74,7 @@ finalState (Ended.ended s) = s
 abbrev pub stateIn : Job → Memory → ℕ → State
 stateIn j m s =
     finalState
-    (execute record { qubits = j .header .qubits; outcomes = j .header .outcomes; shot = s }
-    (lentOf (j .header) (m .noiseless) (m .second) (m .base)) (j .instructions) (m .main) start)
+    (execute (settingOf (j .header) s) (lentOf (j .header) (m .noiseless) (m .second) (m .base)) (j .instructions) (m .main) start)
 
 unfoldable pub finishedReply : Job → Memory → RunReply
 finishedReply j m =

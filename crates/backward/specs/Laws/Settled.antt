@@ -1,0 +1,106 @@
+-- Laws: how a shot ends, and that the lines to which the instructions of an accepted job settle are in range. Assumes nothing.
+use mathlib.Core.Path.{_≡_, refl, sym, ap, subst, _∙_}
+use mathlib.Core.Bool.{cond, true, false}
+use mathlib.Core.List.{List, [], _∷_, _++_, map}
+use Prim.Native.Nat.{ℕ, _+_, _<_, _≤_}
+use native.Mathlib.Nat.{add-zero}
+use native.Mathlib.Omega.{arith}
+use Rattle.job.specs.declared.Header.{Header}
+use Rattle.job.specs.Line.{Line, Distribution, Noise, Instruction, Placed}
+use Rattle.job.specs.Checks.{records}
+use Rattle.job.specs.Job.{recordedBy, recordedIn}
+use Rattle.job.specs.InRange.{InRange, AllInRange}
+use Rattle.job.specs.Sound.{LineSound, InstructionSound, InstructionsSound}
+use Rattle.job.specs.Laws.Recorded.{recorded-within}
+use Rattle.frames.specs.Forward.{State}
+use Rattle.draws.specs.Draws.{Lent, Fault}
+use Rattle.draws.specs.Settle.{SettledLine, injection, Step, stepOf, Settled, prefixed, settleThen, settle, settledList}
+use Rattle.draws.specs.Execute.{Ended}
+use Rattle.draws.specs.Laws.Settling.{settledList-append}
+use Rattle.draws.specs.Laws.Within.{injected, Injections, noise-injects}
+
+line-in-range : (h : Header) (r : ℕ) (l : Line) → r ≤ h .outcomes → LineSound h r l → InRange (h .qubits) (h .outcomes) l
+unfolding LineSound
+line-in-range h r (Line.unitary g qs) k s = s .operands .below
+line-in-range h r (Line.clifford qs t) k s = s .operands .below
+line-in-range h r (Line.pauli P) k s = tt
+line-in-range h r (Line.exponential P) k s = tt
+line-in-range h r (Line.controlled C T) k s = tt
+line-in-range h r (Line.permute p qs) k s = s .operands .below
+line-in-range h r (Line.measure P id) k s = s .outcome .below
+line-in-range h r (Line.allocate id angle) k s = tt
+line-in-range h r (Line.conditional P ids par) k s = tt
+line-in-range h r (Line.reset qs) k s = tt
+line-in-range h r (Line.inject shot P) k s = tt
+line-in-range h r (Line.flip shot id) k s = let known : id < r = s .known in omega arith
+
+append-in-range : (n m : ℕ) (ls ms : List Line) → AllInRange n m ls → AllInRange n m ms → AllInRange n m (ls ++ ms)
+append-in-range n m [] ms a b = b
+append-in-range n m (l ∷ ls) ms (f, a) b = (f, append-in-range n m ls ms a b)
+
+injected-in-range : (n m : ℕ) (d : Distribution) (fs : List Fault) → AllInRange n m (injected d fs)
+unfolding injection
+injected-in-range n m d [] = tt
+injected-in-range n m d (f ∷ fs) = (tt, injected-in-range n m d fs)
+
+-- ---- how a shot ends
+
+pub ended-apart : (k : ℕ) (s : State) → Ended.spentAt k ≡ Ended.ended s → ⊥
+ended-apart k s e = let z : _≡_ {A = ℕ} 0 1 = cc in omega arith
+
+pub ended-same : (s t : State) → Ended.ended s ≡ Ended.ended t → s ≡ t
+ended-same s t e = cc
+
+-- ---- an instruction, and a job
+
+module _ (h : Header) where
+  step-in-range : (r : ℕ) (lent : Lent) (main text : List ℕ) (i : Instruction) (ls : List SettledLine) (left : List ℕ) → r ≤ h .outcomes → InstructionSound h r i
+      → stepOf lent main text i ≡ Step.lines ls left → AllInRange (h .qubits) (h .outcomes) (settledList ls)
+  unfolding InstructionSound
+  step-in-range r lent main text (Instruction.line l) ls left k s e =
+      let own : record { line = l; text = text } ∷ [] ≡ ls = unfold stepOf in cc in
+      subst (λ (x : List SettledLine). AllInRange (h .qubits) (h .outcomes) (settledList x)) own (line-in-range h r l k s, tt)
+  step-in-range r lent main text (Instruction.noise n) ls left k s e =
+      let i : Injections lent n ls = noise-injects lent main text n ls left e in
+      subst (λ (x : List SettledLine). AllInRange (h .qubits) (h .outcomes) (settledList x)) (sym (i .are))
+      (injected-in-range (h .qubits) (h .outcomes) (n .distribution) (i .faults))
+
+  one-recorded : (i : Placed) → recordedIn (i ∷ []) ≡ recordedBy (i .instruction)
+  unfolding recordedIn
+  one-recorded i = add-zero _
+
+  recorded-next : (r : ℕ) (i : Placed) → r ≤ h .outcomes → InstructionSound h r (i .instruction) → r + recordedBy (i .instruction) ≤ h .outcomes
+  unfolding InstructionsSound
+  recorded-next r i k s = rw (one-recorded i) at (recorded-within h r (i ∷ []) (s, tt) k)
+
+  unfoldable SettledInRange : Settled → Type 0
+  SettledInRange (Settled.spentAt k) = Unit
+  SettledInRange (Settled.settled ls) = AllInRange (h .qubits) (h .outcomes) (settledList ls)
+
+  settle-range : (r : ℕ) (lent : Lent) (main : List ℕ) (is : List Placed) → r ≤ h .outcomes → InstructionsSound h r is → SettledInRange (settle lent main is)
+  unfolding settle InstructionsSound
+  settle-range r lent main [] k s = unfold SettledInRange in tt
+  settle-range r lent main (i ∷ is) k (first, rest) =
+      go (stepOf lent main (i .text) (i .instruction)) refl
+      (λ left. settle-range (r + recordedBy (i .instruction)) lent left is next rest)
+    where
+      next : r + recordedBy (i .instruction) ≤ h .outcomes
+      next = recorded-next r i k first
+
+      joined : (ls : List SettledLine) → AllInRange (h .qubits) (h .outcomes) (settledList ls) → (o : Settled) → SettledInRange o → SettledInRange (prefixed ls o)
+      joined ls a (Settled.spentAt n) b = unfold prefixed SettledInRange in tt
+      joined ls a (Settled.settled ms) b =
+          unfold prefixed SettledInRange in
+          (rw (settledList-append ls ms) (append-in-range (h .qubits) (h .outcomes) (settledList ls) (settledList ms) a b))
+
+      go : (o : Step) → stepOf lent main (i .text) (i .instruction) ≡ o → ((left : List ℕ) → SettledInRange (settle lent left is))
+          → SettledInRange (settleThen (i .number) o (λ left. settle lent left is))
+      go Step.spent e ih = unfold settleThen SettledInRange in tt
+      go (Step.lines ls left) e ih =
+          unfold settleThen in
+          joined ls (step-in-range r lent main (i .text) (i .instruction) ls left k first e) (settle lent left is) (ih left)
+
+  pub settled-in-range : (r : ℕ) (lent : Lent) (main : List ℕ) (is : List Placed) (ls : List SettledLine) → r ≤ h .outcomes → InstructionsSound h r is
+      → settle lent main is ≡ Settled.settled ls → AllInRange (h .qubits) (h .outcomes) (settledList ls)
+  unfolding SettledInRange
+  settled-in-range r lent main is ls k s e = subst SettledInRange e (settle-range r lent main is k s)
