@@ -3,18 +3,17 @@
 use mathlib.Core.Path.{_≡_, refl, sym, ap₂, _∙_}
 use mathlib.Core.Bool.{true, false, _&&_, true≢false}
 use mathlib.Core.Logic.{_↔_}
-use mathlib.Core.List.{List, [], _∷_}
+use mathlib.Core.List.{List}
 use Prim.Native.Nat.{ℕ, _*_, _^_, _<_}
-use native.Mathlib.Omega.{arith}
-use lib.Dec.{eqb, leb}
 use lib.ListN.{length, getD}
-use borrow.Author.Tests.{not-true}
+use borrow.Author.Tests.{not-true, eq-eqb}
 use Rattle.pauli.specs.Pauli.{Pauli, X-at, Z-at, _∗_, anticommutes}
 use Rattle.pauli.specs.Gate.{Gate, operandsOf}
 use Rattle.pauli.specs.Laws.Pairing.{anti-comm}
 use Rattle.job.specs.Line.{pauliOf, Line}
 use Rattle.job.specs.Clifford.{isClifford}
-use Rattle.job.specs.Checks.{maxCliffordQubits, Context, allBelow, distinct, isPermutation, test, lineTests, lowest}
+use Rattle.job.specs.Checks.{allBelow, distinct, isPermutation}
+use Rattle.job.specs.Sound.{UnitarySound, CliffordSound, PermuteSound}
 use Rattle.frames.specs.Forward.{imagesOf, placesOf, transformed, State, Setting, forward}
 use Rattle.frames.specs.Conjugation.{Sum, same, pauliSum, exponentialSum, controlledSum, gateSum, Takes, IsUnitary, ExtendsTable, ExtendsPlaces, Within, KeepsCommutation, isUnitaryLine, Conjugates}
 use Rattle.frames.specs.Laws.Takes as Takings
@@ -26,7 +25,7 @@ use Rattle.frames.specs.Laws.Generators as Generators
 use Rattle.frames.specs.Laws.Commutation.{generators-keep, keeps-generators, images-unique, images-commute}
 use Rattle.frames.specs.Laws.Clifford as Clifford
 use Rattle.frames.specs.Laws.Permutation as Permutation
-use Rattle.frames.specs.Laws.Lines.{tested, operands, passes-operands, passes-last}
+use Rattle.frames.specs.Laws.Lines.{tested, operands}
 
 -- ---- lines
 
@@ -50,23 +49,20 @@ forward-conjugates c (Line.reset qs) u s = absurd (true≢false (sym u))
 forward-conjugates c (Line.inject shot P) u s = absurd (true≢false (sym u))
 forward-conjugates c (Line.flip shot id) u s = absurd (true≢false (sym u))
 
--- A gate, a Clifford and a permutation that pass their tests are unitary lines. (A Pauli and an exponential always are, and a controlled Pauli where
--- control and target commute.)
-pub checked-gate : (c : Context) (g : Gate) (qs : List ℕ) → lowest (lineTests c (Line.unitary g qs)) ≡ 0 → isUnitaryLine (c .header .qubits) (Line.unitary g qs) ≡ true
-unfolding isUnitaryLine lineTests
-checked-gate c g qs e = let p = passes-operands _ qs (eqb (length qs) (operandsOf g)) _ [] e in ap₂ _&&_ (ap₂ _&&_ (p .0) (p .1)) (p .2)
+-- What tests 1 to 12 leave of a job's lines (`checked-sound` of crate job) are unitary lines: a gate,
+pub sound-gate : (n : ℕ) (g : Gate) (qs : List ℕ) → UnitarySound n g qs → isUnitaryLine n (Line.unitary g qs) ≡ true
+unfolding isUnitaryLine
+sound-gate n g qs s = ap₂ _&&_ (ap₂ _&&_ (s .operands .below) (s .operands .apart)) (eq-eqb (length qs) (operandsOf g) (s .count))
 
-pub checked-clifford : (c : Context) (qs : List ℕ) (t : ℕ) → lowest (lineTests c (Line.clifford qs t)) ≡ 0 → isUnitaryLine (c .header .qubits) (Line.clifford qs t) ≡ true
-unfolding isUnitaryLine lineTests
-checked-clifford c qs t e =
-    let p = passes-operands _ qs (leb (length qs) maxCliffordQubits) _ (test 7 (isClifford (length qs) t) ∷ []) e in
-    ap₂ _&&_ (ap₂ _&&_ (p .0) (p .1)) (passes-last 7 (omega arith) (isClifford (length qs) t) (p .3))
+-- a Clifford,
+pub sound-clifford : (n : ℕ) (qs : List ℕ) (t : ℕ) → CliffordSound n qs t → isUnitaryLine n (Line.clifford qs t) ≡ true
+unfolding isUnitaryLine
+sound-clifford n qs t s = ap₂ _&&_ (ap₂ _&&_ (s .operands .below) (s .operands .apart)) (s .table)
 
-pub checked-permutation : (c : Context) (s qs : List ℕ) → lowest (lineTests c (Line.permute s qs)) ≡ 0 → isUnitaryLine (c .header .qubits) (Line.permute s qs) ≡ true
-unfolding isUnitaryLine lineTests
-checked-permutation c s qs e =
-    let p = passes-operands _ qs true _ (test 6 (isPermutation (length qs) s) ∷ []) e in
-    ap₂ _&&_ (ap₂ _&&_ (p .0) (p .1)) (passes-last 6 (omega arith) (isPermutation (length qs) s) (p .3))
+-- and a permutation. (A Pauli and an exponential always are, and a controlled Pauli where control and target commute.)
+pub sound-permutation : (n : ℕ) (s qs : List ℕ) → PermuteSound n s qs → isUnitaryLine n (Line.permute s qs) ≡ true
+unfolding isUnitaryLine
+sound-permutation n s qs e = ap₂ _&&_ (ap₂ _&&_ (e .operands .below) (e .operands .apart)) (e .places)
 
 -- ---- the sums
 

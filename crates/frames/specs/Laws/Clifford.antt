@@ -10,6 +10,7 @@ use native.Mathlib.Omega.{arith}
 use lib.Dec.{eqb, ltb}
 use lib.ListN.{length}
 use borrow.Author.Tests.{ltb-true, ltb-false, lt-ltb, eq-eqb, ne-eqb}
+use Rattle.text.specs.Laws.Values.{both}
 use Rattle.pauli.specs.Bits.{_⊕_}
 use Rattle.pauli.specs.Pauli.{Pauli, anticommutes}
 use Rattle.pauli.specs.Laws.F2.{⊕-self}
@@ -19,7 +20,7 @@ use Rattle.job.specs.Clifford.{rowOver, every, generatorsAnticommute, isCliffor
 use Rattle.job.specs.Checks.{distinct}
 use Rattle.frames.specs.Forward.{tableRow, imagesFrom, imagesOf, transformed}
 use Rattle.frames.specs.Conjugation.{IsRow, ExtendsTable}
-use Rattle.frames.specs.Laws.Same.{and-split, equal-bits}
+use Rattle.frames.specs.Laws.Same.{equal-bits}
 use Rattle.frames.specs.Laws.Places.{placed-at, placed-off, by-places, onQubits}
 use Rattle.frames.specs.Laws.Images.{imagesBy, transformed-extends, extends-as}
 use Rattle.frames.specs.Laws.Commutation.{CommuteAsGenerators, ExtendsOnto}
@@ -29,7 +30,7 @@ use Rattle.frames.specs.Laws.Commutation.{CommuteAsGenerators, ExtendsOn
 every-holds : (n : ℕ) (f : ℕ → Bool) → every n f ≡ true → (i : ℕ) → i < n → f i ≡ true
 unfolding every
 every-holds zero f e i h = absurd (not-suc-le-zero h)
-every-holds (suc n) f e i h = go (ℕ-discrete i n) (and-split (f n) (every n f) e .0) (every-holds n f (and-split (f n) (every n f) e .1) i)
+every-holds (suc n) f e i h = go (ℕ-discrete i n) (both (f n) (every n f) e .0) (every-holds n f (both (f n) (every n f) e .1) i)
   where
     go : Dec (i ≡ n) → f n ≡ true → (i < n → f i ≡ true) → f i ≡ true
     go (yes p) here rest = ap f p ∙ here
@@ -94,7 +95,7 @@ module _ (k t : ℕ) where
   pub test-rows : isClifford k t ≡ true → (t < 2 ^ (4 * (k * k))) × RowsCommute
   unfolding isClifford fits
   test-rows e =
-      let s = and-split (ltb t (2 ^ (4 * (k * k)))) (every (2 * k) (λ r. every (2 * k) (fits r))) e in (
+      let s = both (ltb t (2 ^ (4 * (k * k)))) (every (2 * k) (λ r. every (2 * k) (fits r))) e in (
         ltb-true t (2 ^ (4 * (k * k))) (s .0),
         record {
           X-X = λ i j h h′. at (s .1) i j (omega (arith, h)) (omega (arith, h′)) ∙ generators-X-X k i j h h′;

@@ -10,9 +10,10 @@ use Rattle.pauli.specs.Bits.{none, only}
 use Rattle.pauli.specs.Pauli.{Pauli, X-at, Z-at, anticommutes}
 use Rattle.pauli.specs.Laws.Pairing.{anti-comm, anti-X, anti-Z, anti-X-right, anti-Z-right}
 use Rattle.job.specs.Checks.{allBelow, distinct}
+use Rattle.job.specs.Laws.Lists.{below-at}
 use Rattle.frames.specs.Conjugation.{same, Extends, Within, KeepsCommutation}
 use Rattle.frames.specs.Laws.Same.{same-self}
-use Rattle.frames.specs.Laws.Places.{where-is, below-at, placed-off, onQubits, anti-onQubits, X-on, Z-on}
+use Rattle.frames.specs.Laws.Places.{where-is, placed-off, onQubits, anti-onQubits, X-on, Z-on}
 use Rattle.frames.specs.Laws.Generators.{products-agree, Generator, of-X, of-Z, within-X, within-Z, commutation-kept}
 
 -- the images of X and Z on k places commute as the generators do

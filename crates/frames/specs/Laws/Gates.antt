@@ -182,13 +182,13 @@ module _ (n a b : ℕ) (h : a < n) (k : b < n) where
 -- ---- all fifteen
 
 -- The operands are below n, and different where there are two.
-pub record Operands (n : ℕ) (g : Gate) (a b : ℕ) : Type 0 where
+pub record GateOperands (n : ℕ) (g : Gate) (a b : ℕ) : Type 0 where
   pub first : a < n
   pub second : operandsOf g ≡ 2 → b < n
   pub different : operandsOf g ≡ 2 → a ≡ b → ⊥
 
 -- Each gate's unitary takes every frame to the frame that the gate's rule gives.
-pub gate-takes : (n : ℕ) (g : Gate) (a b : ℕ) → Operands n g a b → (Q : Pauli) → Takes n (gateSum n g a b) Q (conjugated g a b Q)
+pub gate-takes : (n : ℕ) (g : Gate) (a b : ℕ) → GateOperands n g a b → (Q : Pauli) → Takes n (gateSum n g a b) Q (conjugated g a b Q)
 unfolding gateSum gateWith prepareBell operandsOf
 gate-takes n Gate.I a b o Q = pauli-takes n identity Q
 gate-takes n Gate.X a b o Q = pauli-takes n (X-at a) Q
@@ -207,7 +207,7 @@ gate-takes n Gate.Swap a b o Q = swap-takes n a b (o .first) (o .second refl) (o
 gate-takes n Gate.PrepareBell a b o Q =
     product-takes n (hadamard-takes n a (o .first) Q) (controlledX-takes n a b (o .first) (o .second refl) (o .different refl) (swapXZ a Q))
 
-pub gate-unitary : (n : ℕ) (g : Gate) (a b : ℕ) → Operands n g a b → IsUnitary n (gateSum n g a b)
+pub gate-unitary : (n : ℕ) (g : Gate) (a b : ℕ) → GateOperands n g a b → IsUnitary n (gateSum n g a b)
 unfolding gateSum operandsOf
 gate-unitary n Gate.I a b o = pauli-unitary n identity
 gate-unitary n Gate.X a b o = pauli-unitary n (X-at a)

@@ -7,12 +7,13 @@ use native.Mathlib.Omega.{arith}
 use lib.Dec.{eqb}
 use lib.ListN.{length, getD}
 use borrow.Author.Tests.{eqb-true, eq-eqb}
+use Rattle.text.specs.Laws.Values.{both}
 use Rattle.pauli.specs.Pauli.{Pauli, X-at, Z-at}
 use Rattle.job.specs.Checks.{allBelow, distinct, isPermutation}
+use Rattle.job.specs.Laws.Lists.{below-at}
 use Rattle.frames.specs.Forward.{placesOf, transformed}
 use Rattle.frames.specs.Conjugation.{ExtendsPlaces}
-use Rattle.frames.specs.Laws.Same.{and-split}
-use Rattle.frames.specs.Laws.Places.{below-at, places-eqb, places-distinct, X-on, Z-on}
+use Rattle.frames.specs.Laws.Places.{places-eqb, places-distinct, X-on, Z-on}
 use Rattle.frames.specs.Laws.Images.{imagesBy, transformed-extends, extends-as}
 use Rattle.frames.specs.Laws.Commutation.{CommuteAsGenerators, ExtendsOnto, places-X-X, places-Z-Z, places-X-Z}
 
@@ -47,8 +48,8 @@ module _ (k : ℕ) (s : List ℕ) where
   pub test-permutes : isPermutation k s ≡ true → Permutes k s
   unfolding isPermutation
   test-permutes e =
-      let p = and-split (eqb (length s) k && allBelow k s) (distinct s) e in
-      let q = and-split (eqb (length s) k) (allBelow k s) (p .0) in
+      let p = both (eqb (length s) k && allBelow k s) (distinct s) e in
+      let q = both (eqb (length s) k) (allBelow k s) (p .0) in
       record { as-many = eqb-true (length s) k (q .0); below = q .1; once = p .1 }
 
   pub permutes-test : Permutes k s → isPermutation k s ≡ true

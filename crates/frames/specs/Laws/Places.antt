@@ -7,33 +7,26 @@ use Prim.Native.Nat.{ℕ, zero, suc, _<_}
 use native.Mathlib.Nat.{not-suc-le-zero}
 use native.Mathlib.Decide.{ℕ-discrete}
 use native.Mathlib.Omega.{arith}
-use lib.Dec.{eqb, ltb}
+use lib.Dec.{eqb}
 use lib.ListN.{length, getD}
-use borrow.Author.Tests.{eq-eqb, ne-eqb, eqb-true, ltb-true}
+use borrow.Author.Tests.{not-true, not-false, eq-eqb, ne-eqb}
+use Rattle.text.specs.Laws.Values.{both}
 use Rattle.pauli.specs.Bits.{Bits, _⊕_, _∩_, _△_, none, only, given, outside, members, parity}
 use Rattle.pauli.specs.Pauli.{Pauli, X-at, Z-at, anticommutes}
 use Rattle.pauli.specs.Laws.F2.{f2, ⊕-left-comm}
 use Rattle.pauli.specs.Laws.Parity.{△-at, given-at, only-here, only-off, parity-△, parity-given, parity-none, parity-only, parity-△-right, parity-given-right, parity-only-right}
 use Rattle.pauli.specs.Laws.Gates.{pauli-path}
 use Rattle.job.specs.Checks.{allBelow, distinct}
+use Rattle.job.specs.Laws.Lists.{below-first, below-at, member-at, at-member, distinct-first, distinct-at}
 use Rattle.frames.specs.Forward.{placed}
-use Rattle.frames.specs.Laws.Same.{and-split}
 
 -- ---- numbers on a list
-
-pub outside-here : (r : ℕ) (rs : List ℕ) → outside (r ∷ rs) r ≡ false
-unfolding outside
-outside-here r rs = rw (eq-eqb r r refl)
 
 pub outside-cons : (r : ℕ) (rs : List ℕ) (q : ℕ) → outside (r ∷ rs) q ≡ true → (q ≡ r → ⊥) × (outside rs q ≡ true)
 unfolding outside
 outside-cons r rs q e =
-    let s : (not (eqb q r) ≡ true) × (outside rs q ≡ true) = and-split (not (eqb q r)) (outside rs q) e in
+    let s : (not (eqb q r) ≡ true) × (outside rs q ≡ true) = both (not (eqb q r)) (outside rs q) e in
     (λ p. true≢false (sym (s .0) ∙ ap not (eq-eqb q r p)), s .1)
-
-outside-tail : (r : ℕ) (rs : List ℕ) (q : ℕ) → outside rs q ≡ false → outside (r ∷ rs) q ≡ false
-unfolding outside
-outside-tail r rs q e = rw e (simp f2)
 
 -- a number that is on the list is at a place
 pub record PlaceOf (qs : List ℕ) (q : ℕ) : Type 0 where
@@ -42,15 +35,8 @@ pub record PlaceOf (qs : List ℕ) (q : ℕ) : Type 0 where
   pub there : getD qs place 0 ≡ q
 
 pub place-of : (qs : List ℕ) (q : ℕ) → outside qs q ≡ false → PlaceOf qs q
-unfolding outside
-place-of [] q e = absurd (true≢false e)
-place-of (r ∷ rs) q e = go (eqb q r) refl (place-of rs q)
-  where
-    go : (b : Bool) → eqb q r ≡ b → (outside rs q ≡ false → PlaceOf rs q) → PlaceOf (r ∷ rs) q
-    go true p ih = record { place = 0; inside = omega arith; there = sym (eqb-true q r p) }
-    go false p ih =
-        let rest = ih (sym (ap (λ b. not b && outside rs q) p) ∙ e) in
-        record { place = suc (rest .place); inside = omega (arith, rest .inside); there = rest .there }
+unfolding members
+place-of qs q e = let p = at-member qs q (ap not e) in record { place = p .0; inside = p .1; there = p .2 }
 
 -- every number is outside the list or at a place
 pub where-is : {A : Type 0} (qs : List ℕ) (q : ℕ) → (outside qs q ≡ true → A) → (PlaceOf qs q → A) → A
@@ -61,9 +47,8 @@ where-is {A} qs q off on = go (outside qs q) refl
     go false e = on (place-of qs q e)
 
 pub at-place : (qs : List ℕ) (i : ℕ) → i < length qs → outside qs (getD qs i 0) ≡ false
-at-place [] i h = absurd (not-suc-le-zero h)
-at-place (q ∷ qs) zero h = outside-here q qs
-at-place (q ∷ qs) (suc i) h = outside-tail q qs (getD qs i 0) (at-place qs i (omega arith))
+unfolding members
+at-place qs i h = not-true _ (member-at qs i h)
 
 -- ---- distinct lists
 
@@ -72,32 +57,16 @@ pub record Distinct (q : ℕ) (qs : List ℕ) : Type 0 where
   pub rest : distinct qs ≡ true
 
 pub distinct-cons : (q : ℕ) (qs : List ℕ) → distinct (q ∷ qs) ≡ true → Distinct q qs
-unfolding distinct members
-distinct-cons q qs e =
-    let s = and-split (not (not (outside qs q))) (distinct qs) e in
-    record { first = twice-not (outside qs q) (s .0); rest = s .1 }
-  where
-    twice-not : (b : Bool) → not (not b) ≡ true → b ≡ true
-    twice-not true e = refl
-    twice-not false e = e
+unfolding members
+distinct-cons q qs e = let d = distinct-first q qs e in record { first = not-false _ (d .0); rest = d .1 }
 
-pub distinct-places : (qs : List ℕ) → distinct qs ≡ true → (i j : ℕ) → i < length qs → j < length qs → getD qs i 0 ≡ getD qs j 0 → i ≡ j
-distinct-places [] d i j hi hj e = absurd (not-suc-le-zero hi)
-distinct-places (q ∷ qs) d zero zero hi hj e = refl
-distinct-places (q ∷ qs) d zero (suc j) hi hj e =
-    absurd (true≢false (sym (distinct-cons q qs d .first) ∙ ap (outside qs) e ∙ at-place qs j (omega arith)))
-distinct-places (q ∷ qs) d (suc i) zero hi hj e =
-    absurd (true≢false (sym (distinct-cons q qs d .first) ∙ ap (outside qs) (sym e) ∙ at-place qs i (omega arith)))
-distinct-places (q ∷ qs) d (suc i) (suc j) hi hj e =
-    ap suc (distinct-places qs (distinct-cons q qs d .rest) i j (omega arith) (omega arith) e)
-
--- so their equality can be seen from the places
+-- the equality of operands can be seen from their places
 pub places-eqb : (qs : List ℕ) → distinct qs ≡ true → (i j : ℕ) → i < length qs → j < length qs → eqb (getD qs i 0) (getD qs j 0) ≡ eqb i j
 places-eqb qs d i j hi hj = go (ℕ-discrete i j)
   where
     go : Dec (i ≡ j) → eqb (getD qs i 0) (getD qs j 0) ≡ eqb i j
     go (yes e) = eq-eqb (getD qs i 0) (getD qs j 0) (ap (λ k. getD qs k 0) e) ∙ sym (eq-eqb i j e)
-    go (no ne) = ne-eqb (getD qs i 0) (getD qs j 0) (λ e. ne (distinct-places qs d i j hi hj e)) ∙ sym (ne-eqb i j ne)
+    go (no ne) = ne-eqb (getD qs i 0) (getD qs j 0) (λ e. ne (distinct-at qs d i j hi hj e)) ∙ sym (ne-eqb i j ne)
 
 -- and a list whose places differ is distinct
 pub places-distinct : (qs : List ℕ) → ((i j : ℕ) → i < length qs → j < length qs → getD qs i 0 ≡ getD qs j 0 → i ≡ j) → distinct qs ≡ true
@@ -112,16 +81,6 @@ places-distinct (q ∷ qs) h = ap₂ _&&_ (ap (λ b. not (not b)) first) (places
 
     rest : (i j : ℕ) → i < length qs → j < length qs → getD qs i 0 ≡ getD qs j 0 → i ≡ j
     rest i j hi hj e = let s : suc i ≡ suc j = h (suc i) (suc j) (omega (arith, hi)) (omega (arith, hj)) e in omega (arith, s)
-
-pub below-at : (n : ℕ) (qs : List ℕ) → allBelow n qs ≡ true → (i : ℕ) → i < length qs → getD qs i 0 < n
-unfolding allBelow
-below-at n [] e i h = absurd (not-suc-le-zero h)
-below-at n (q ∷ qs) e zero h = ltb-true q n (and-split (ltb q n) (allBelow n qs) e .0)
-below-at n (q ∷ qs) e (suc i) h = below-at n qs (and-split (ltb q n) (allBelow n qs) e .1) i (omega arith)
-
-below-tail : (n q : ℕ) (qs : List ℕ) → allBelow n (q ∷ qs) ≡ true → allBelow n qs ≡ true
-unfolding allBelow
-below-tail n q qs e = and-split (ltb q n) (allBelow n qs) e .1
 
 -- ---- what lies on the places, put on the operands
 
@@ -168,7 +127,7 @@ parity-placed n [] b d s t = parity-none n none ∙ unfold parity in refl
 parity-placed n (q ∷ qs) b d s t =
     placed-step n q (s 0) (t 0) (placed (λ j. s (suc j)) qs) (placed (λ j. t (suc j)) qs) (below-at n (q ∷ qs) b 0 (omega arith))
     (placed-off _ qs q (distinct-cons q qs d .first)) (placed-off _ qs q (distinct-cons q qs d .first))
-    ∙ ap (λ r. (s 0 && t 0) ⊕ r) (parity-placed n qs (below-tail n q qs b) (distinct-cons q qs d .rest) (λ j. s (suc j)) (λ j. t (suc j)))
+    ∙ ap (λ r. (s 0 && t 0) ⊕ r) (parity-placed n qs (below-first n q qs b .1) (distinct-cons q qs d .rest) (λ j. s (suc j)) (λ j. t (suc j)))
     ∙ sym (parity-shift (length qs) (s ∩ t))
 
 -- a Pauli on the places, put on the operands

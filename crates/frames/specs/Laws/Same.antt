@@ -2,15 +2,12 @@
 use mathlib.Core.Path.{_≡_, refl, sym, ap, ap₂, _∙_}
 use mathlib.Core.Bool.{Bool, true, false, not, _&&_, true≢false}
 use Prim.Native.Nat.{ℕ, zero, suc, _+_}
+use Rattle.text.specs.Laws.Values.{both}
 use Rattle.pauli.specs.Bits.{Bits, _⊕_, _∩_, _△_, parity}
 use Rattle.pauli.specs.Pauli.{Pauli, _∗_, anticommutes}
 use Rattle.pauli.specs.Laws.F2.{f2, ⊕-self, ⊕-comm}
 use Rattle.pauli.specs.Laws.Group.{∗-comm}
 use Rattle.frames.specs.Conjugation.{phaseOne, phase, same}
-
-pub and-split : (a b : Bool) → a && b ≡ true → (a ≡ true) × (b ≡ true)
-and-split true b e = (refl, e)
-and-split false b e = absurd (true≢false (sym e))
 
 pub equal-bits : (a b : Bool) → not (a ⊕ b) ≡ true → a ≡ b
 unfolding _⊕_
@@ -53,8 +50,8 @@ record LastBit (n : ℕ) (P R : Pauli) : Type 0 where
 same-bits : (n : ℕ) (P R : Pauli) → same (suc n) P R ≡ true → LastBit n P R
 unfolding same
 same-bits n P R e =
-    let s = and-split (not (P .x n ⊕ R .x n) && not (P .z n ⊕ R .z n)) (same n P R) e in
-    let t = and-split (not (P .x n ⊕ R .x n)) (not (P .z n ⊕ R .z n)) (s .0) in
+    let s = both (not (P .x n ⊕ R .x n) && not (P .z n ⊕ R .z n)) (same n P R) e in
+    let t = both (not (P .x n ⊕ R .x n)) (not (P .z n ⊕ R .z n)) (s .0) in
     record { of-x = equal-bits _ _ (t .0); of-z = equal-bits _ _ (t .1); rest = s .1 }
 
 pub phase-same : (n : ℕ) (P Q Q′ : Pauli) → same n Q Q′ ≡ true → phase n P Q ≡ phase n P Q′
