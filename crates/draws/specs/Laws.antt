@@ -1,4 +1,5 @@
--- Laws, for the proofs that cite them: execution and settling, which words are read, faults, u. Nothing here has to be believed.
+-- Laws, for the proofs that cite them: execution and settling; which words are read, which suffice and where they are spent; faults, u and the
+-- elements; the lines that stand for noise. Nothing here has to be believed.
 pub mod Tests
 pub mod Settling
 pub mod Words

@@ -18,7 +18,7 @@ use Rattle.text.specs.Template.{valueText, firstText, lineText}
 use Rattle.pauli.specs.Bits.{_⊕_, members, sumOver, bit}
 use Rattle.pauli.specs.Pauli.{Pauli, identity}
 use Rattle.job.specs.Line.{SparsePauli, pauliOf, Line, WeightedPauli, Distribution, sizeOf, Noise, Instruction, Placed}
-use Rattle.job.specs.Float.{float, one}
+use Rattle.job.specs.Float.{float, nought, one}
 use Rattle.job.specs.Checks.{allBelow, distinct}
 use Rattle.frames.specs.Forward.{Setting, State, run}
 use Rattle.draws.specs.Draws.{unitOf, falls, elementAt, selected, inserted, rising, depolarizingElement, noPauli, Choice, limitOf, bounded, totalFrom, runningFrom, runningSums, belowUnit, byWeight, chooseFrom, isSatisfied, faultOf, drawShot, Lent, Fault, Draws, alsoFault, thenShots, drawShots, drawLine, partOf, mainAfter}
@@ -113,7 +113,7 @@ module _ (lent : Lent) (n : Noise) (ws : List ℕ) (fs : List Fault) (left : Lis
   pub fault-elements : 0 < sizeOf (n .distribution) → allBelow (sizeOf (n .distribution)) (faults.elementsOf fs) ≡ true
   fault-elements h = faults.elements-below lent n ws fs left h e
 
--- A distribution over at least one qubit, or with at least one element, has some.
+-- d=2 over at least one qubit has elements; d=1 has one, d=3 and d=4 have as many as their lists.
 pub depolarizing-size : (qs : List ℕ) → 0 < length qs → 0 < sizeOf (Distribution.depolarizing qs)
 depolarizing-size qs h = faults.depolarizing-size qs h
 
@@ -134,7 +134,7 @@ unit-exact w h = unit.unit-exact w h
 pub falls-exact : (w : ℕ) (p : Float) (a c : ℕ) → w < 2 ^ 64 → 0 < c → HasValue p false a c → falls w p ≡ ltb (w / 2048 * c) (a * 2 ^ 53)
 falls-exact w p a c h C v = unit.falls-exact w p a c h C v
 
--- The choice of an element is fair: as many words below the limit give one element as another.
+-- The limit is a multiple of c, so the choice is fair: as many words below it give one element as another.
 pub limit-whole : (c : ℕ) → 0 < c → limitOf c % c ≡ 0
 limit-whole c h = faults.limit-whole c h
 
@@ -180,7 +180,7 @@ pub noise-injects : (lent : Lent) (main text : List ℕ) (n : Noise) (ls : List 
     → stepOf lent main text (Instruction.noise n) ≡ Step.lines ls left → within.Injections lent n ls
 noise-injects lent main text n ls left e = within.noise-injects lent main text n ls left e
 
--- Where a job's own injections and flips are in its shots, as test 10 wants it, those of the settled list are. So past the last shot nothing is done.
+-- Where a job's own injections and flips are in its shots, as test 10 wants it, so are those of the settled list: a shot past the last has none.
 pub settle-within : (lent : Lent) (main : List ℕ) (is : List Placed) (ls : List SettledLine) → within.allOwnBelow (lent .shots) is ≡ true
     → settle lent main is ≡ Settled.settled ls → within.allActBelow (lent .shots) (settledList ls) ≡ true
 settle-within lent main is ls b e = within.settle-within lent main is ls b e
@@ -231,9 +231,9 @@ pub one-element : (P : SparsePauli) (ws : List ℕ) → chooseFrom (Distribution
 unfolding chooseFrom bounded
 one-element P ws = refl
 
--- with seven, words from 2^64 - 2 up are rejected
-pub seven : map limitOf (1 ∷ 3 ∷ 7 ∷ []) ≡ (2 ^ 64 - 1) ∷ (2 ^ 64 - 1) ∷ (2 ^ 64 - 2) ∷ []
-seven = refl
+-- The limits for 1, 3 and 7 elements: with seven, words from 2^64 - 2 up are rejected.
+pub limits : map limitOf (1 ∷ 3 ∷ 7 ∷ []) ≡ (2 ^ 64 - 1) ∷ (2 ^ 64 - 1) ∷ (2 ^ 64 - 2) ∷ []
+limits = refl
 
 abbrev pub half : ℕ
 half = 0x3fe0_0000_0000_0000
@@ -253,11 +253,13 @@ at-p = (refl, refl, refl, refl, refl)
 -- ---- weights
 
 -- 0.1 and 0.2: their sum is 0.30000000000000004, and 0.1 over it is a third
-pub tenths : runningSums (float 0x3fb9_9999_9999_999a ∷ float 0x3fc9_9999_9999_999a ∷ []) ≡ float 0x3fd5_5555_5555_5555 ∷ one ∷ []
+pub tenths : (totalFrom nought (float 0x3fb9_9999_9999_999a ∷ float 0x3fc9_9999_9999_999a ∷ []) ≡ float 0x3fd3_3333_3333_3334)
+    × (runningSums (float 0x3fb9_9999_9999_999a ∷ float 0x3fc9_9999_9999_999a ∷ []) ≡ float 0x3fd5_5555_5555_5555 ∷ one ∷ [])
 unfolding totalFrom runningFrom add div ofBits
-tenths = refl
+tenths = (refl, refl)
 
--- 3, 1, 1, 2: each place adds its own quotient, each sum is rounded (5/7 is ..b7), and the last is set to 1.0 (it came to ..ff)
+-- 3, 1, 1, 2: each place adds its own quotient, and each sum is rounded, so the third is not 5/7, which ends in b7; the last, which came to the
+-- number before 1.0, is set to 1.0
 pub sevenths : runningSums (float 0x4008_0000_0000_0000 ∷ float whole ∷ float whole ∷ float 0x4000_0000_0000_0000 ∷ [])
     ≡ float 0x3fdb_6db6_db6d_b6db ∷ float 0x3fe2_4924_9249_2492 ∷ float 0x3fe6_db6d_b6db_6db6 ∷ one ∷ []
 unfolding totalFrom runningFrom add div ofBits
@@ -267,7 +269,7 @@ sevenths = refl
 abbrev pub equal : ℕ → Distribution
 equal k = Distribution.weighted (replicate k record { weight = whole; pauli = record { x = []; z = [] } })
 
--- Halves: u = 1/2 still takes the first place; the next u does not. Thirds: the two u about 1/3 take different places.
+-- Halves: u = 1/2 still takes the first place, the next u does not. Thirds: the two u about 1/3 take different places.
 pub halves : (chooseFrom (equal 2) ((2 ^ 63) ∷ []) ≡ Choice.chosen 0 [])
     × (chooseFrom (equal 2) ((2 ^ 63 + 2048) ∷ []) ≡ Choice.chosen 1 [])
     × (chooseFrom (equal 3) ((3002399751580330 * 2048) ∷ []) ≡ Choice.chosen 0 [])
@@ -275,6 +277,14 @@ pub halves : (chooseFrom (equal 2) ((2 ^ 63) ∷ []) ≡ Choice.chosen 0 [])
     × (chooseFrom (equal 3) ((2 ^ 64 - 1) ∷ []) ≡ Choice.chosen 2 [])
 unfolding chooseFrom byWeight totalFrom runningFrom belowUnit unitOf add div ofInt lt le ofBits
 halves = (refl, refl, refl, refl, refl)
+
+-- u = 0 takes the first place though its weight is 0, and the next u does not
+pub weightless : (P Q : SparsePauli)
+    → map (λ (w : ℕ). chooseFrom (Distribution.weighted (record { weight = 0; pauli = P } ∷ record { weight = whole; pauli = Q } ∷ [])) (w ∷ []))
+    (2047 ∷ 2048 ∷ [])
+    ≡ Choice.chosen 0 [] ∷ Choice.chosen 1 [] ∷ []
+unfolding chooseFrom byWeight totalFrom runningFrom belowUnit unitOf add div ofInt lt le ofBits
+weightless P Q = refl
 
 -- ---- lines and jobs
 
