@@ -19,3 +19,5 @@ pub mod Gather
 pub mod Recorded
 -- Accepted lines instruction by instruction.
 pub mod Instructions
+-- Sound lines pass: the other way round.
+pub mod Passes

@@ -163,6 +163,11 @@ unfoldable pub InstructionsSound : Header → ℕ → List Placed → Type 0
 InstructionsSound h r [] = Unit {0}
 InstructionsSound h r (i ∷ is) = InstructionSound h r (i .instruction) × InstructionsSound h (r + recordedBy (i .instruction)) is
 
+-- the same of lines alone, for jobs without noise
+unfoldable pub LinesSound : Header → ℕ → List Line → Type 0
+LinesSound h r [] = Unit {0}
+LinesSound h r (l ∷ ls) = LineSound h r l × LinesSound h (r + recordedBy (Instruction.line l)) ls
+
 -- the ids that lines record, in their order
 unfoldable pub idsOf : Instruction → List ℕ
 idsOf (Instruction.line (Line.unitary g qs)) = []

@@ -176,7 +176,8 @@ first-sound : (h : Header) (r k : ℕ) (ls : List (List ℕ)) (i : Placed) (is :
 unfolding between InstructionsSound
 first-sound h r k ls i is a e = subst (InstructionsSound h r) e (gathered-sound k (between h r) ls a .instructions) .0
 
-next-between : (i : Line) (h : Header) (r : ℕ) → next (between h r) (Written.line i) ≡ between h (r + recordedBy (Instruction.line i))
+-- behind a line that is no noise
+pub next-between : (i : Line) (h : Header) (r : ℕ) → next (between h r) (Written.line i) ≡ between h (r + recordedBy (Instruction.line i))
 unfolding next between recordedBy
 next-between i h r = ap (λ (m : ℕ). record { begun = true; header = h; recorded = m; due = 0; total = none }) (recorded-more (records i) r)
 
