@@ -21,3 +21,5 @@ pub mod Recorded
 pub mod Instructions
 -- Sound lines pass: the other way round.
 pub mod Passes
+-- Sound lines are in range, as theorems about lists of lines ask.
+pub mod Range

@@ -14,9 +14,9 @@ use Rattle.job.specs.declared.Header.{Header}
 use Rattle.job.specs.Line.{SparsePauli, Line, WeightedPauli, Distribution, Noise, Instruction, Placed}
 use Rattle.job.specs.Float.{float, nought, isProbability, isWeight, isTotal}
 use Rattle.job.specs.Clifford.{isClifford}
-use Rattle.job.specs.Grammar.{Written, readLine}
+use Rattle.job.specs.Grammar.{NoiseLine, Written, readLine}
 use Rattle.job.specs.Checks.{allBelow, distinct, isPermutation}
-use Rattle.job.specs.Job.{wellEnded, gathered, Job, recordedBy, recordedIn}
+use Rattle.job.specs.Job.{wellEnded, noiseOf, gathered, Job, recordedBy, recordedIn}
 
 -- ---- lists
 
@@ -163,7 +163,12 @@ unfoldable pub InstructionsSound : Header → ℕ → List Placed → Type 0
 InstructionsSound h r [] = Unit {0}
 InstructionsSound h r (i ∷ is) = InstructionSound h r (i .instruction) × InstructionsSound h (r + recordedBy (i .instruction)) is
 
--- the same of lines alone, for jobs without noise
+-- the bytes of an instruction's line say it; a noise instruction's elements stand on other lines
+unfoldable pub SaidBy : List ℕ → Instruction → Type 0
+SaidBy text (Instruction.line l) = readLine text ≡ some (Written.line l)
+SaidBy text (Instruction.noise i) = (n : NoiseLine) × (es : List WeightedPauli) × (readLine text ≡ some (Written.noise n)) × (i ≡ noiseOf n es)
+
+-- lines in order, for jobs without noise
 unfoldable pub LinesSound : Header → ℕ → List Line → Type 0
 LinesSound h r [] = Unit {0}
 LinesSound h r (l ∷ ls) = LineSound h r l × LinesSound h (r + recordedBy (Instruction.line l)) ls
@@ -211,6 +216,7 @@ pub record JobSound (job : List ℕ) (j : Job) : Type 0 where
   pub gathers : j .instructions ≡ gathered 2 rest .instructions
   pub header : HeaderSound (j .header)
   pub instructions : InstructionsSound (j .header) 0 (j .instructions)
+  pub texts : Every (λ (p : Placed). SaidBy (p .text) (p .instruction)) (j .instructions)
   -- the ids recorded are 0, 1, 2 and so on, each below outcomes
   pub ids : idsIn (j .instructions) ≡ countUp 0 (recordedIn (j .instructions))
   pub recorded : recordedIn (j .instructions) ≤ j .header .outcomes

@@ -9,7 +9,7 @@ use Rattle.job.specs.Sound.{InstructionsSound, JobSound}
 use Rattle.job.specs.Laws.Lines.{header-sound}
 use Rattle.job.specs.Laws.Accepted.{between}
 use Rattle.job.specs.Laws.Begun.{ended-parts, job-passes, Begun, job-begun}
-use Rattle.job.specs.Laws.Gather.{gathered-sound}
+use Rattle.job.specs.Laws.Gather.{gathered-sound, gathered-said}
 use Rattle.job.specs.Laws.Recorded.{recorded-within, ids-count}
 
 -- what stands behind the header is sound
@@ -35,6 +35,7 @@ checked-sound job e =
       gathers = refl;
       header = header-sound (b .header) (b .range);
       instructions = sound;
+      texts = gathered-said 2 (b .rest);
       ids = ids-count (b .header) 0 _ sound;
       recorded = rw zero-add at (recorded-within (b .header) 0 _ sound (omega arith));
     }

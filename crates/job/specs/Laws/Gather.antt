@@ -3,7 +3,7 @@ use Prim.Native.Nat.{ℕ, suc, _+_, _-_, _^_, _≤_, _<_}
 use native.Mathlib.Nat.{add-zero}
 use native.Mathlib.Numerals.{add-one}
 use native.Mathlib.Omega.{arith}
-use mathlib.Core.Path.{_≡_, sym, _∙_}
+use mathlib.Core.Path.{_≡_, refl, sym, _∙_}
 use mathlib.Core.Bool.{Bool, true, false, cond, not, _&&_, _||_, true≢false}
 use mathlib.Core.List.{List, [], _∷_, map}
 use mathlib.Core.Option.{Option, none, some}
@@ -14,10 +14,10 @@ use lib.ListN.{length, length-map}
 use Rattle.text.specs.Laws.Values.{both}
 use Rattle.job.specs.Line.{SparsePauli, WeightedPauli, Instruction, Placed}
 use Rattle.job.specs.Float.{float, isWeight, isTotal}
-use Rattle.job.specs.Grammar.{Kind, NoiseLine, Written}
+use Rattle.job.specs.Grammar.{Kind, NoiseLine, Written, readLine}
 use Rattle.job.specs.Checks.{Context, elementsOf, firstTotal, nextTotal, records, next, noiseTests, kindQubits, kindDistinct, elementsFit, eachBelow, eachShort, sameWeight, expected, headerFits, weightFits, totalFits, ownTests}
 use Rattle.job.specs.Job.{distributionOf, noiseOf, weightOf, Gathered, placedAt, gather, gathered, recordedBy}
-use Rattle.job.specs.Sound.{Every, PauliSound, SmallOption, WeightedSound, totalFrom, weightsOf, DistributionSound, NoiseSound, InstructionSound, InstructionsSound}
+use Rattle.job.specs.Sound.{Every, PauliSound, SmallOption, WeightedSound, totalFrom, weightsOf, DistributionSound, NoiseSound, InstructionSound, InstructionsSound, SaidBy}
 use Rattle.job.specs.Laws.Tests.{AllPass}
 use Rattle.job.specs.Laws.Forms.{KindFits, NoiseFits, WrittenFits}
 use Rattle.job.specs.Laws.Lines.{pauli-sound, operands-sound, first-short, line-sound}
@@ -158,3 +158,17 @@ gathered-sound k c [] a =
 gathered-sound k c (l ∷ ls) a =
     let f = accepted-first a in
     rw (f .reads) (gather-sound k c l ls (f .says) (gathered (suc k) ls) (a .begun) (f .fits) (f .passing) (gathered-sound (suc k) (next c (f .says)) ls (f .rest)))
+
+-- the bytes of each instruction's line say it
+pub gathered-said : (k : ℕ) (ls : List (List ℕ)) → Every (λ (p : Placed). SaidBy (p .text) (p .instruction)) (gathered k ls .instructions)
+unfolding gathered SaidBy
+gathered-said k [] = tt
+gathered-said k (l ∷ ls) = go (readLine l) refl (gathered-said (suc k) ls)
+  where
+    go : (o : Option Written) → readLine l ≡ o → Every (λ (p : Placed). SaidBy (p .text) (p .instruction)) (gathered (suc k) ls .instructions)
+        → Every (λ (p : Placed). SaidBy (p .text) (p .instruction)) (gather k l o (gathered (suc k) ls) .instructions)
+    go none e ih = unfold gather in ih
+    go (some (Written.header h)) e ih = unfold gather in ih
+    go (some (Written.line i)) e ih = unfold gather in (e, ih)
+    go (some (Written.noise n)) e ih = unfold gather in ((n, gathered (suc k) ls .elements, e, refl), ih)
+    go (some (Written.element w P)) e ih = unfold gather in ih

@@ -44,6 +44,10 @@ records-within : {outcomes r k : ℕ} {ids : List ℕ} → Records outcomes r k 
 records-within nothing b = omega arith
 records-within (another h) b = omega arith
 
+-- an instruction records no more outcomes than there are
+pub instruction-within : (h : Header) (r : ℕ) (i : Instruction) → InstructionSound h r i → r ≤ h .outcomes → r + recordedBy i ≤ h .outcomes
+instruction-within h r i s b = records-within (instruction-records h r i s) b
+
 -- so many more, counted on
 records-count : {outcomes r k : ℕ} {ids : List ℕ} → Records outcomes r k ids → (n : ℕ) → ids ++ countUp (r + k) n ≡ countUp r (k + n)
 unfolding countUp
@@ -55,8 +59,7 @@ pub recorded-within : (h : Header) (r : ℕ) (is : List Placed) → Instructions
 unfolding InstructionsSound recordedIn
 recorded-within h r [] s b = omega arith
 recorded-within h r (i ∷ is) s b =
-    let first = records-within (instruction-records h r (i .instruction) (s .0)) b in
-    omega (arith, recorded-within h (r + recordedBy (i .instruction)) is (s .1) first)
+    omega (arith, recorded-within h (r + recordedBy (i .instruction)) is (s .1) (instruction-within h r (i .instruction) (s .0) b))
 
 -- the ids recorded count up from the first
 pub ids-count : (h : Header) (r : ℕ) (is : List Placed) → InstructionsSound h r is → idsIn is ≡ countUp r (recordedIn is)
