@@ -1,20 +1,20 @@
 -- Sound lines pass, so that the tests refuse nothing that is sound, and a text of copied and new lines is accepted. Laws. Assumes nothing.
-use Prim.Native.Nat.{ℕ, zero, suc, _+_, _≤_, _<_}
+use Prim.Native.Nat.{ℕ, suc, _+_, _≤_}
 use native.Mathlib.Omega.{arith}
-use mathlib.Core.Path.{_≡_, refl, sym, ap, subst, _∙_}
-use mathlib.Core.Bool.{Bool, true, false, cond, not, _&&_, and-false}
-use mathlib.Core.List.{List, [], _∷_, _++_, map}
-use mathlib.Core.Option.{Option, none, some}
-use borrow.Author.Tests.{lt-ltb, le-leb, eq-eqb, eqb-true}
-use lib.Dec.{eqb, ltb, leb}
+use mathlib.Core.Path.{_≡_, refl, ap, _∙_}
+use mathlib.Core.Bool.{Bool, true, false, not, _&&_, and-false}
+use mathlib.Core.List.{List, [], _∷_, _++_}
+use mathlib.Core.Option.{Option, some}
+use borrow.Author.Tests.{lt-ltb, le-leb, eq-eqb}
+use lib.Dec.{eqb, ltb}
 use lib.ListN.{length}
-use Rattle.text.specs.Laws.Values.{both}
 use Rattle.job.specs.declared.Header.{Header}
 use Rattle.job.specs.Line.{SparsePauli, Line, Instruction}
 use Rattle.job.specs.Grammar.{Written, readLine}
-use Rattle.job.specs.Checks.{Context, allBelow, eachBelow, eachShort, distinct, isPermutation, Test, test, listsOf, lineTests, tests, lowest, refusalOf, noContext, inRange, next, expected, headerFits, ownTests}
+use Rattle.job.specs.Checks.{Context, allBelow, eachBelow, eachShort, Test, listsOf, lineTests, tests, lowest, refusalOf, noContext, inRange, next, expected, headerFits, ownTests}
 use Rattle.job.specs.Job.{accepted, isLast, nextOf, checkLines, recordedBy}
-use Rattle.job.specs.Sound.{RisingBelow, Operands, PauliSound, NextOutcome, LineSound, LinesSound, HeaderSound}
+use Rattle.job.specs.Sound.{PauliSound, NextOutcome, LineSound, LinesSound, HeaderSound}
+use Rattle.job.specs.Laws.Permutation.{permutation-parts}
 use Rattle.job.specs.Laws.Tests.{AllPass}
 use Rattle.job.specs.Laws.Accepted.{checks-good, between, Accepted}
 use Rattle.job.specs.Laws.Instructions.{next-between}
@@ -70,10 +70,6 @@ short-one l h = short-also l [] h (unfold eachShort in refl)
 id-passes : {m r id : ℕ} → NextOutcome m r id → (eqb id r && ltb id m) ≡ true
 id-passes s = and-both (eq-eqb _ _ (s .next)) (lt-ltb _ _ (s .below))
 
-permutation-length : (k : ℕ) (s : List ℕ) → isPermutation k s ≡ true → length s ≡ k
-unfolding isPermutation
-permutation-length k s e = eqb-true _ _ (both (eqb (length s) k) (allBelow k s) (both _ (distinct s) e .0) .0)
-
 -- ---- lines
 
 -- a sound line passes its tests
@@ -92,7 +88,7 @@ line-passes h r (Line.controlled C T) s =
     (passed (pauli-short _ C (listsOf T) (s .control) (one-short _ T (s .target))) tt)
 line-passes h r (Line.permute p qs) s =
     let o = s .operands in
-    let long : length p ≤ 31 = omega (arith, permutation-length (length qs) p (s .places), o .few) in
+    let long : length p ≤ 31 = omega (arith, permutation-parts (length qs) p (s .places) .long, o .few) in
     passed (below-one _ qs (o .below)) (passed (and-both (o .apart) (short-also p (qs ∷ []) long (short-one qs (o .few)))) (passed (s .places) tt))
 line-passes h r (Line.measure P id) s = pauli-passes _ P (s .observable) (passed (id-passes (s .outcome)) tt)
 line-passes h r (Line.allocate id angle) s = passed (id-passes s) tt

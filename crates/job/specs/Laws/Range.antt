@@ -1,5 +1,5 @@
 -- Sound lines are in range, as theorems about lists of lines ask. Laws. Assumes nothing.
-use Prim.Native.Nat.{ℕ, _+_, _≤_, _<_}
+use Prim.Native.Nat.{ℕ, _+_, _≤_}
 use native.Mathlib.Omega.{arith}
 use mathlib.Core.List.{List, [], _∷_}
 use Rattle.job.specs.declared.Header.{Header}
