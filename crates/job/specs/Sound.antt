@@ -15,7 +15,7 @@ use Rattle.job.specs.Line.{SparsePauli, Line, WeightedPauli, Distributio
 use Rattle.job.specs.Float.{float, nought, isProbability, isWeight, isTotal}
 use Rattle.job.specs.Clifford.{isClifford}
 use Rattle.job.specs.Grammar.{NoiseLine, Written, readLine}
-use Rattle.job.specs.Checks.{allBelow, distinct, isPermutation}
+use Rattle.job.specs.Checks.{elementsOf, allBelow, distinct, isPermutation}
 use Rattle.job.specs.Job.{wellEnded, noiseOf, gathered, Job, recordedBy, recordedIn}
 
 -- ---- lists
@@ -163,10 +163,17 @@ unfoldable pub InstructionsSound : Header → ℕ → List Placed → Type 0
 InstructionsSound h r [] = Unit {0}
 InstructionsSound h r (i ∷ is) = InstructionSound h r (i .instruction) × InstructionsSound h (r + recordedBy (i .instruction)) is
 
--- the bytes of an instruction's line say it; a noise instruction's elements stand on other lines
+-- a noise instruction is what the bytes of its line say, with as many elements as the line says
+pub record NoiseSaid (text : List ℕ) (i : Noise) : Type 0 where
+  pub line : NoiseLine
+  pub elements : List WeightedPauli
+  pub reads : readLine text ≡ some (Written.noise line)
+  pub count : length elements ≡ elementsOf (line .kind)
+  pub is : i ≡ noiseOf line elements
+
 unfoldable pub SaidBy : List ℕ → Instruction → Type 0
 SaidBy text (Instruction.line l) = readLine text ≡ some (Written.line l)
-SaidBy text (Instruction.noise i) = (n : NoiseLine) × (es : List WeightedPauli) × (readLine text ≡ some (Written.noise n)) × (i ≡ noiseOf n es)
+SaidBy text (Instruction.noise i) = NoiseSaid text i
 
 -- lines in order, for jobs without noise
 unfoldable pub LinesSound : Header → ℕ → List Line → Type 0

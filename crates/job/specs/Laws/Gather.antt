@@ -160,15 +160,20 @@ gathered-sound k c (l ∷ ls) a =
     rw (f .reads) (gather-sound k c l ls (f .says) (gathered (suc k) ls) (a .begun) (f .fits) (f .passing) (gathered-sound (suc k) (next c (f .says)) ls (f .rest)))
 
 -- the bytes of each instruction's line say it
-pub gathered-said : (k : ℕ) (ls : List (List ℕ)) → Every (λ (p : Placed). SaidBy (p .text) (p .instruction)) (gathered k ls .instructions)
-unfolding gathered SaidBy
-gathered-said k [] = tt
-gathered-said k (l ∷ ls) = go (readLine l) refl (gathered-said (suc k) ls)
-  where
-    go : (o : Option Written) → readLine l ≡ o → Every (λ (p : Placed). SaidBy (p .text) (p .instruction)) (gathered (suc k) ls .instructions)
-        → Every (λ (p : Placed). SaidBy (p .text) (p .instruction)) (gather k l o (gathered (suc k) ls) .instructions)
-    go none e ih = unfold gather in ih
-    go (some (Written.header h)) e ih = unfold gather in ih
-    go (some (Written.line i)) e ih = unfold gather in (e, ih)
-    go (some (Written.noise n)) e ih = unfold gather in ((n, gathered (suc k) ls .elements, e, refl), ih)
-    go (some (Written.element w P)) e ih = unfold gather in ih
+abbrev pub AllSaid : List Placed → Type 0
+AllSaid = Every (λ (p : Placed). SaidBy (p .text) (p .instruction))
+
+said-more : (k : ℕ) (c : Context) (l : List ℕ) (w : Written) (g : Gathered) → readLine l ≡ some w → PartSound (next c w) g → AllSaid (g .instructions)
+    → AllSaid (gather k l (some w) g .instructions)
+unfolding gather next SaidBy
+said-more k c l (Written.header h) g e p s = s
+said-more k c l (Written.line i) g e p s = (e, s)
+said-more k c l (Written.noise n) g e p s = (record { line = n; elements = g .elements; reads = e; count = p .count; is = refl }, s)
+said-more k c l (Written.element w P) g e p s = s
+
+pub gathered-said : (k : ℕ) (c : Context) (ls : List (List ℕ)) → Accepted k c ls → AllSaid (gathered k ls .instructions)
+unfolding gathered
+gathered-said k c [] a = tt
+gathered-said k c (l ∷ ls) a =
+    let f = accepted-first a in
+    rw (f .reads) (said-more k c l (f .says) _ (f .reads) (gathered-sound (suc k) (next c (f .says)) ls (f .rest)) (gathered-said (suc k) (next c (f .says)) ls (f .rest)))
