@@ -7,7 +7,7 @@ pub mod Permutation
 pub mod Tests
 -- What a line says, by the letters of its form.
 pub mod Forms
--- The one form that a line can have, by its first bytes.
+-- The one form that a line can have, by its mark.
 pub mod Dispatch
 -- A line that passes is sound.
 pub mod Lines

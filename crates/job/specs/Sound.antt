@@ -1,5 +1,5 @@
 -- What an accepted job is known for: definitions of the hypotheses that theorems and contracts use. The limits are document 01's, written out, so that
--- they do not hang on the tests'. `checked-sound` (Theorems) proves all of it of a job that passes tests 1 to 12. Assumes nothing.
+-- they do not depend on the tests' own. `checked-sound` (Theorems) proves all of it of a job that passes tests 1 to 12. Assumes nothing.
 use Prim.Native.Nat.{ℕ, zero, suc, _+_, _^_, _≤_, _<_}
 use mathlib.Core.Path.{_≡_}
 use mathlib.Core.Bool.{true, false}
@@ -111,7 +111,7 @@ SmallOption none = Unit {0}
 SmallOption (some c) = c < 2 ^ 64
 
 -- an element with its weight: not below zero, and finite
-pub record WeightedSound (n : ℕ) (e : WeightedPauli) : Type 0 where
+pub record ElementSound (n : ℕ) (e : WeightedPauli) : Type 0 where
   pub pauli : PauliSound n (e .pauli)
   pub weight : isWeight (float (e .weight)) ≡ true
   pub small : e .weight < 2 ^ 64
@@ -129,10 +129,10 @@ pub record UniformSound (n : ℕ) (Ps : List SparsePauli) : Type 0 where
   pub few : length Ps ≤ 64
   pub each : Every (PauliSound n) Ps
 
-pub record AllWeighted (n : ℕ) (es : List WeightedPauli) : Type 0 where
+pub record WeightedSound (n : ℕ) (es : List WeightedPauli) : Type 0 where
   pub filled : 1 ≤ length es
   pub few : length es ≤ 64
-  pub each : Every (WeightedSound n) es
+  pub each : Every (ElementSound n) es
   -- the total is above zero, and finite
   pub total : isTotal (totalFrom nought (weightsOf es)) ≡ true
 
@@ -140,7 +140,7 @@ unfoldable pub DistributionSound : ℕ → Distribution → Type 0
 DistributionSound n (Distribution.single P) = PauliSound n P
 DistributionSound n (Distribution.depolarizing qs) = Operands n qs
 DistributionSound n (Distribution.uniform Ps) = UniformSound n Ps
-DistributionSound n (Distribution.weighted es) = AllWeighted n es
+DistributionSound n (Distribution.weighted es) = WeightedSound n es
 
 -- A noise instruction of a job on n qubits, where so many outcomes are recorded before it.
 pub record NoiseSound (n recorded : ℕ) (i : Noise) : Type 0 where

@@ -19,7 +19,7 @@ use Rattle.job.specs.Laws.Begun.{ended-parts, job-passes, Begun, job-beg
 use Rattle.job.specs.Laws.Gather.{gathered-sound, gathered-said}
 use Rattle.job.specs.Laws.Recorded.{recorded-within, ids-count, contextAfter, after-first, recorded-after}
 use Rattle.job.specs.Laws.Tests.{tests-rise, lowest-least}
-use Rattle.job.specs.Laws.Passes.{ReadAs, plain-accepted}
+use Rattle.job.specs.Laws.Passes.{ReadAs, lines-accepted, header-accepted}
 use Rattle.job.specs.Laws.Dispatch.{markOf, readAs, formOf, read-by-mark}
 
 -- what stands behind the header is sound
@@ -55,7 +55,8 @@ checked-sound job e =
 pub sound-checked : (job text : List ℕ) (texts : List (List ℕ)) (h : Header) (ls : List Line) → wellEnded job ≡ true → lines job ≡ text ∷ texts
     → readLine text ≡ some (Written.header h) → HeaderSound h → ReadAs texts ls → LinesSound h 0 ls → checkJob job ≡ accepted
 unfolding checkJob
-sound-checked job text texts h ls ended split reads range said sound = rw (ended, split) (plain-accepted h text texts ls reads range said sound)
+sound-checked job text texts h ls ended split reads range said sound =
+    rw (ended, split) (header-accepted h text texts reads range (lines-accepted h 0 2 texts ls said sound))
 
 -- The number that refuses a line is the lowest: no bad test of the line has a lower one.
 pub refusal-lowest : (c : Context) (last : Bool) (w : Written) → Every (λ (t : Test). t .bad ≡ true → refusalOf c last (some w) ≤ t .number) (tests c last w)

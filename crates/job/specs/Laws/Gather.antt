@@ -17,7 +17,7 @@ use Rattle.job.specs.Float.{float, isWeight, isTotal}
 use Rattle.job.specs.Grammar.{Kind, NoiseLine, Written, readLine}
 use Rattle.job.specs.Checks.{Context, elementsOf, firstTotal, nextTotal, records, next, noiseTests, kindQubits, kindDistinct, elementsFit, eachBelow, eachShort, sameWeight, expected, headerFits, weightFits, totalFits, ownTests}
 use Rattle.job.specs.Job.{distributionOf, noiseOf, weightOf, Gathered, placedAt, gather, gathered, recordedBy}
-use Rattle.job.specs.Sound.{Every, PauliSound, SmallOption, WeightedSound, totalFrom, weightsOf, DistributionSound, NoiseSound, InstructionSound, InstructionsSound, SaidBy}
+use Rattle.job.specs.Sound.{Every, PauliSound, SmallOption, ElementSound, totalFrom, weightsOf, DistributionSound, NoiseSound, InstructionSound, InstructionsSound, SaidBy}
 use Rattle.job.specs.Laws.Tests.{AllPass}
 use Rattle.job.specs.Laws.Forms.{KindFits, NoiseFits, WrittenFits}
 use Rattle.job.specs.Laws.Lines.{pauli-sound, operands-sound, first-short, line-sound}
@@ -49,7 +49,7 @@ every-pauli n [] h = tt
 every-pauli n (e ∷ es) h = (h .0, every-pauli n es (h .1))
 
 every-weighted : (n : ℕ) (es : List WeightedPauli) → Every (λ (e : WeightedPauli). PauliSound n (e .pauli)) es → Every WeightSound es
-    → Every (WeightedSound n) es
+    → Every (ElementSound n) es
 every-weighted n [] h w = tt
 every-weighted n (e ∷ es) h w = (record { pauli = h .0; weight = w .0 .weight; small = w .0 .small }, every-weighted n es (h .1) (w .1))
 

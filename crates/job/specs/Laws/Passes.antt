@@ -1,29 +1,23 @@
 -- Sound lines pass, so that the tests refuse nothing that is sound, and a text of copied and new lines is accepted. Laws. Assumes nothing.
 use Prim.Native.Nat.{ℕ, suc, _+_, _≤_}
 use native.Mathlib.Omega.{arith}
-use mathlib.Core.Path.{_≡_, refl, ap, _∙_}
+use mathlib.Core.Path.{_≡_, refl, sym, ap, subst, _∙_}
 use mathlib.Core.Bool.{Bool, true, false, not, _&&_, and-false}
 use mathlib.Core.List.{List, [], _∷_, _++_}
 use mathlib.Core.Option.{Option, some}
 use borrow.Author.Tests.{lt-ltb, le-leb, eq-eqb}
 use lib.Dec.{eqb, ltb}
-use lib.ListN.{length}
+use lib.ListN.{length, length-map}
 use Rattle.job.specs.declared.Header.{Header}
-use Rattle.job.specs.Line.{SparsePauli, Line, Instruction}
-use Rattle.job.specs.Grammar.{Written, readLine}
-use Rattle.job.specs.Checks.{Context, allBelow, eachBelow, eachShort, Test, listsOf, lineTests, tests, lowest, refusalOf, noContext, inRange, next, expected, headerFits, ownTests}
-use Rattle.job.specs.Job.{accepted, isLast, nextOf, checkLines, recordedBy}
-use Rattle.job.specs.Sound.{PauliSound, NextOutcome, LineSound, LinesSound, HeaderSound}
+use Rattle.job.specs.Line.{SparsePauli, Line, WeightedPauli, Instruction}
+use Rattle.job.specs.Grammar.{Kind, NoiseLine, Written, readLine}
+use Rattle.job.specs.Checks.{Context, noContext, elementsOf, next, allBelow, eachBelow, eachShort, expected, inRange, headerFits, listsOf, lineTests, kindQubits, kindDistinct, elementsFit, noiseTests, ownTests, refusalOf}
+use Rattle.job.specs.Job.{accepted, isLast, nextOf, checkLines, distributionOf, noiseOf, recordedBy}
+use Rattle.job.specs.Sound.{PauliSound, NextOutcome, LineSound, DistributionSound, NoiseSound, LinesSound, HeaderSound}
 use Rattle.job.specs.Laws.Permutation.{permutation-parts}
 use Rattle.job.specs.Laws.Tests.{AllPass}
-use Rattle.job.specs.Laws.Accepted.{checks-good, between, Accepted}
-use Rattle.job.specs.Laws.Instructions.{next-between}
-
--- where each test passes, the number is 0
-pub passes-lowest : (ts : List Test) → AllPass ts → lowest ts ≡ 0
-unfolding lowest
-passes-lowest [] p = refl
-passes-lowest (t ∷ ts) p = rw (p .0) (passes-lowest ts (p .1))
+use Rattle.job.specs.Laws.Accepted.{checks-good, Passing, passing-good, between, Accepted, accepted-more}
+use Rattle.job.specs.Laws.Instructions.{between-accepted, next-between}
 
 -- a test that passes, and those after it
 passed : {b : Bool} {A : Type 0} → b ≡ true → A → (not b ≡ false) × A
@@ -100,11 +94,56 @@ line-passes h r (Line.reset qs) s =
 line-passes h r (Line.inject shot P) s = pauli-passes _ P (s .pauli) (passed (lt-ltb _ _ (s .within)) tt)
 line-passes h r (Line.flip shot id) s = unfold allBelow in passed (and-both (lt-ltb _ _ (s .known)) refl) (passed (lt-ltb _ _ (s .within)) tt)
 
--- between instructions a sound line has the number 0
-pub line-good : (h : Header) (r : ℕ) (last : Bool) (l : Line) → LineSound h r l → refusalOf (between h r) last (some (Written.line l)) ≡ 0
-unfolding refusalOf expected next headerFits ownTests between
-line-good h r last l s =
-    passes-lowest (tests (between h r) last (Written.line l)) (passed (ap not (and-false last)) (passed refl (line-passes h r l s)))
+-- ---- noise
+
+-- what the tests of a noise line ask of its kind
+record KindPasses (n : ℕ) (k : Kind) : Type 0 where
+  below : eachBelow n (kindQubits k) ≡ true
+  apart : kindDistinct k ≡ true
+  short : eachShort (kindQubits k) ≡ true
+  fits : elementsFit k ≡ true
+
+kind-passes : (n : ℕ) (k : Kind) (es : List WeightedPauli) → length es ≡ elementsOf k → DistributionSound n (distributionOf k es) → KindPasses n k
+unfolding kindQubits kindDistinct elementsFit elementsOf distributionOf DistributionSound eachBelow eachShort
+kind-passes n (Kind.single P) es count s = record { below = one-below n P s; apart = refl; short = one-short n P s; fits = refl }
+kind-passes n (Kind.depolarizing qs) es count s =
+    record { below = below-one n qs (s .below); apart = s .apart; short = short-one qs (s .few); fits = refl }
+kind-passes n (Kind.uniform m) es count s =
+    let long = length-map es (λ (e : WeightedPauli). e .pauli) in
+    record { below = refl; apart = refl; short = refl; fits = and-both (le-leb 1 m (omega (arith, s .filled))) (le-leb m 64 (omega (arith, s .few))) }
+kind-passes n (Kind.weighted m) es count s =
+    record { below = refl; apart = refl; short = refl; fits = and-both (le-leb 1 m (omega (arith, s .filled))) (le-leb m 64 (omega (arith, s .few))) }
+
+-- a sound noise line passes its tests
+pub noise-passes : (h : Header) (r : ℕ) (n : NoiseLine) (es : List WeightedPauli) → length es ≡ elementsOf (n .kind)
+    → NoiseSound (h .qubits) r (noiseOf n es) → AllPass (noiseTests (between h r) n)
+unfolding noiseTests noiseOf between
+noise-passes h r n es count s =
+    let k = kind-passes (h .qubits) (n .kind) es count (s .distribution) in
+    passed (k .below)
+    (passed (and-both (k .apart) (short-also (n .outcomes) (kindQubits (n .kind)) (s .outcomes .few) (k .short)))
+    (passed (s .outcomes .below) (passed (s .probability) (passed (k .fits) tt))))
+
+-- ---- in front of accepted lines
+
+-- a sound line
+pub line-more : (h : Header) (r k : ℕ) (t : List ℕ) (ts : List (List ℕ)) (l : Line) → readLine t ≡ some (Written.line l) → LineSound h r l
+    → Accepted (suc k) (between h (r + recordedBy (Instruction.line l))) ts → Accepted k (between h r) (t ∷ ts)
+line-more h r k t ts l reads s a =
+    accepted-more k (between h r) t ts (Written.line l) (unfold between in refl) reads
+    (unfold expected next headerFits ownTests between in
+    record { due = refl; ends = and-false (isLast ts); header = refl; own = line-passes h r l s })
+    (subst (λ (c : Context). Accepted (suc k) c ts) (sym (next-between l h r)) a)
+
+-- a sound noise line that has no element lines
+pub noise-more : (h : Header) (r k : ℕ) (t : List ℕ) (ts : List (List ℕ)) (n : NoiseLine) → readLine t ≡ some (Written.noise n)
+    → elementsOf (n .kind) ≡ 0 → NoiseSound (h .qubits) r (noiseOf n []) → Accepted (suc k) (between h r) ts → Accepted k (between h r) (t ∷ ts)
+unfolding next between
+noise-more h r k t ts n reads none-due s a =
+    accepted-more k (between h r) t ts (Written.noise n) refl reads
+    (unfold expected headerFits ownTests in
+    record { due = refl; ends = rw none-due (and-false (isLast ts)); header = refl; own = noise-passes h r n [] (sym none-due) s })
+    (between-accepted (suc k) (next (between h r) (Written.noise n)) ts refl none-due a)
 
 -- ---- a job without noise
 
@@ -115,15 +154,6 @@ ReadAs [] (l ∷ ls) = ⊥
 ReadAs (t ∷ ts) [] = ⊥
 ReadAs (t ∷ ts) (l ∷ ls) = (readLine t ≡ some (Written.line l)) × ReadAs ts ls
 
-first-passes : (h : Header) (r k : ℕ) (t : List ℕ) (ts : List (List ℕ)) (l : Line) → readLine t ≡ some (Written.line l) → LineSound h r l
-    → checkLines (suc k) (between h (r + recordedBy (Instruction.line l))) ts ≡ accepted → checkLines k (between h r) (t ∷ ts) ≡ accepted
-unfolding nextOf
-first-passes h r k t ts l reads s p =
-    checks-good k (between h r) t ts (rw reads (line-good h r (isLast ts) l s))
-    ∙ ap (λ (o : Option Written). checkLines (suc k) (nextOf (between h r) o) ts) reads
-    ∙ ap (λ (c : Context). checkLines (suc k) c ts) (next-between l h r)
-    ∙ p
-
 -- texts of sound lines are accepted
 pub lines-accepted : (h : Header) (r k : ℕ) (ts : List (List ℕ)) (ls : List Line) → ReadAs ts ls → LinesSound h r ls → Accepted k (between h r) ts
 unfolding ReadAs LinesSound
@@ -131,27 +161,25 @@ lines-accepted h r k [] [] e s = record { begun = unfold between in refl; ends =
 lines-accepted h r k [] (l ∷ ls) e s = absurd e
 lines-accepted h r k (t ∷ ts) [] e s = absurd e
 lines-accepted h r k (t ∷ ts) (l ∷ ls) e s =
-    let rest = lines-accepted h (r + recordedBy (Instruction.line l)) (suc k) ts ls (e .1) (s .1) in
-    record {
-      begun = unfold between in refl;
-      ends = unfold between in refl;
-      passes = first-passes h r k t ts l (e .0) (s .0) (rest .passes);
-    }
+    line-more h r k t ts l (e .0) (s .0) (lines-accepted h (r + recordedBy (Instruction.line l)) (suc k) ts ls (e .1) (s .1))
 
--- a header in range has the number 0 on the first line
-pub header-good : (last : Bool) (h : Header) → HeaderSound h → refusalOf noContext last (some (Written.header h)) ≡ 0
-unfolding refusalOf expected next headerFits ownTests noContext
-header-good last h s =
-    passes-lowest (tests noContext last (Written.header h)) (passed (ap not (and-false last)) (passed range tt))
+-- ---- the header
+
+-- a header in range passes on the first line
+header-passes : (ts : List (List ℕ)) (h : Header) → HeaderSound h → Passing noContext ts (Written.header h)
+unfolding expected next headerFits ownTests noContext
+header-passes ts h s = record { due = refl; ends = and-false (isLast ts); header = range; own = tt }
   where
     range : inRange h ≡ true
     range =
         and-both (and-both (and-both (and-both (le-leb _ _ (s .some-qubits)) (le-leb _ _ (s .few-qubits))) (le-leb _ _ (s .few-outcomes))) (le-leb _ _ (s .some-shots)))
         (le-leb _ _ (s .few-shots))
 
--- a header in range and texts of sound lines are accepted
-pub plain-accepted : (h : Header) (t : List ℕ) (ts : List (List ℕ)) (ls : List Line) → readLine t ≡ some (Written.header h) → HeaderSound h → ReadAs ts ls
-    → LinesSound h 0 ls → checkLines 1 noContext (t ∷ ts) ≡ accepted
-plain-accepted h t ts ls reads s e sound =
-    checks-good 1 noContext t ts (rw reads (header-good (isLast ts) h s))
-    ∙ rw reads (unfold nextOf next between in lines-accepted h 0 2 ts ls e sound .passes)
+-- a header in range and accepted lines behind it
+pub header-accepted : (h : Header) (t : List ℕ) (ts : List (List ℕ)) → readLine t ≡ some (Written.header h) → HeaderSound h → Accepted 2 (between h 0) ts
+    → checkLines 1 noContext (t ∷ ts) ≡ accepted
+unfolding nextOf next between
+header-accepted h t ts reads s a =
+    checks-good 1 noContext t ts (ap (refusalOf noContext (isLast ts)) reads ∙ passing-good noContext ts (Written.header h) (header-passes ts h s))
+    ∙ ap (λ (o : Option Written). checkLines 2 (nextOf noContext o) ts) reads
+    ∙ a .passes
