@@ -1,11 +1,13 @@
 -- Laws, for the proofs that cite them. Nothing here has to be believed.
 -- Lists by their places.
 pub mod Lists
+-- Permutations of the places (test 6).
+pub mod Permutation
 -- The tests of a line that passes.
 pub mod Tests
 -- What a line says, by the letters of its form.
 pub mod Forms
--- The one form that a line can have, by its first bytes.
+-- The one form that a line can have, by its mark.
 pub mod Dispatch
 -- A line that passes is sound.
 pub mod Lines
@@ -19,3 +21,7 @@ pub mod Gather
 pub mod Recorded
 -- Accepted lines instruction by instruction.
 pub mod Instructions
+-- Sound lines pass: the other way round.
+pub mod Passes
+-- Sound lines are in range, as theorems about lists of lines ask.
+pub mod Range

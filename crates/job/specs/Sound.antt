@@ -1,5 +1,5 @@
 -- What an accepted job is known for: definitions of the hypotheses that theorems and contracts use. The limits are document 01's, written out, so that
--- they do not hang on the tests'. `checked-sound` (Theorems) proves all of it of a job that passes tests 1 to 12. Assumes nothing.
+-- they do not depend on the tests' own. `checked-sound` (Theorems) proves all of it of a job that passes tests 1 to 12. Assumes nothing.
 use Prim.Native.Nat.{ℕ, zero, suc, _+_, _^_, _≤_, _<_}
 use mathlib.Core.Path.{_≡_}
 use mathlib.Core.Bool.{true, false}
@@ -14,9 +14,9 @@ use Rattle.job.specs.declared.Header.{Header}
 use Rattle.job.specs.Line.{SparsePauli, Line, WeightedPauli, Distribution, Noise, Instruction, Placed}
 use Rattle.job.specs.Float.{float, nought, isProbability, isWeight, isTotal}
 use Rattle.job.specs.Clifford.{isClifford}
-use Rattle.job.specs.Grammar.{Written, readLine}
-use Rattle.job.specs.Checks.{allBelow, distinct, isPermutation}
-use Rattle.job.specs.Job.{wellEnded, gathered, Job, recordedBy, recordedIn}
+use Rattle.job.specs.Grammar.{NoiseLine, Written, readLine}
+use Rattle.job.specs.Checks.{elementsOf, allBelow, distinct, isPermutation}
+use Rattle.job.specs.Job.{wellEnded, noiseOf, gathered, Job, recordedBy, recordedIn}
 
 -- ---- lists
 
@@ -111,7 +111,7 @@ SmallOption none = Unit {0}
 SmallOption (some c) = c < 2 ^ 64
 
 -- an element with its weight: not below zero, and finite
-pub record WeightedSound (n : ℕ) (e : WeightedPauli) : Type 0 where
+pub record ElementSound (n : ℕ) (e : WeightedPauli) : Type 0 where
   pub pauli : PauliSound n (e .pauli)
   pub weight : isWeight (float (e .weight)) ≡ true
   pub small : e .weight < 2 ^ 64
@@ -129,10 +129,10 @@ pub record UniformSound (n : ℕ) (Ps : List SparsePauli) : Type 0 where
   pub few : length Ps ≤ 64
   pub each : Every (PauliSound n) Ps
 
-pub record AllWeighted (n : ℕ) (es : List WeightedPauli) : Type 0 where
+pub record WeightedSound (n : ℕ) (es : List WeightedPauli) : Type 0 where
   pub filled : 1 ≤ length es
   pub few : length es ≤ 64
-  pub each : Every (WeightedSound n) es
+  pub each : Every (ElementSound n) es
   -- the total is above zero, and finite
   pub total : isTotal (totalFrom nought (weightsOf es)) ≡ true
 
@@ -140,7 +140,7 @@ unfoldable pub DistributionSound : ℕ → Distribution → Type 0
 DistributionSound n (Distribution.single P) = PauliSound n P
 DistributionSound n (Distribution.depolarizing qs) = Operands n qs
 DistributionSound n (Distribution.uniform Ps) = UniformSound n Ps
-DistributionSound n (Distribution.weighted es) = AllWeighted n es
+DistributionSound n (Distribution.weighted es) = WeightedSound n es
 
 -- A noise instruction of a job on n qubits, where so many outcomes are recorded before it.
 pub record NoiseSound (n recorded : ℕ) (i : Noise) : Type 0 where
@@ -162,6 +162,23 @@ InstructionSound h r (Instruction.noise i) = NoiseSound (h .qubits) r i
 unfoldable pub InstructionsSound : Header → ℕ → List Placed → Type 0
 InstructionsSound h r [] = Unit {0}
 InstructionsSound h r (i ∷ is) = InstructionSound h r (i .instruction) × InstructionsSound h (r + recordedBy (i .instruction)) is
+
+-- a noise instruction is what the bytes of its line say, with as many elements as the line says
+pub record NoiseSaid (text : List ℕ) (i : Noise) : Type 0 where
+  pub line : NoiseLine
+  pub elements : List WeightedPauli
+  pub reads : readLine text ≡ some (Written.noise line)
+  pub count : length elements ≡ elementsOf (line .kind)
+  pub is : i ≡ noiseOf line elements
+
+unfoldable pub SaidBy : List ℕ → Instruction → Type 0
+SaidBy text (Instruction.line l) = readLine text ≡ some (Written.line l)
+SaidBy text (Instruction.noise i) = NoiseSaid text i
+
+-- lines in order, for jobs without noise
+unfoldable pub LinesSound : Header → ℕ → List Line → Type 0
+LinesSound h r [] = Unit {0}
+LinesSound h r (l ∷ ls) = LineSound h r l × LinesSound h (r + recordedBy (Instruction.line l)) ls
 
 -- the ids that lines record, in their order
 unfoldable pub idsOf : Instruction → List ℕ
@@ -206,6 +223,7 @@ pub record JobSound (job : List ℕ) (j : Job) : Type 0 where
   pub gathers : j .instructions ≡ gathered 2 rest .instructions
   pub header : HeaderSound (j .header)
   pub instructions : InstructionsSound (j .header) 0 (j .instructions)
+  pub texts : Every (λ (p : Placed). SaidBy (p .text) (p .instruction)) (j .instructions)
   -- the ids recorded are 0, 1, 2 and so on, each below outcomes
   pub ids : idsIn (j .instructions) ≡ countUp 0 (recordedIn (j .instructions))
   pub recorded : recordedIn (j .instructions) ≤ j .header .outcomes

@@ -1,16 +1,26 @@
 -- Theorems about the tests of a job. Assumes nothing.
-use Prim.Native.Nat.{ℕ}
+use Prim.Native.Nat.{ℕ, _≤_}
 use native.Mathlib.Nat.{zero-add}
 use native.Mathlib.Omega.{arith}
-use mathlib.Core.Path.{_≡_, refl, subst, sym}
-use mathlib.Core.List.{List}
-use Rattle.job.specs.Job.{checkJob, gathered, jobOf}
-use Rattle.job.specs.Sound.{InstructionsSound, JobSound}
+use mathlib.Core.Path.{_≡_, refl, sym, ap, subst, _∙_}
+use mathlib.Core.Bool.{Bool, true}
+use mathlib.Core.List.{List, _∷_}
+use mathlib.Core.Option.{some}
+use Rattle.text.specs.Bytes.{lines}
+use Rattle.job.specs.declared.Header.{Header}
+use Rattle.job.specs.Line.{Line}
+use Rattle.job.specs.Grammar.{Written, readLine}
+use Rattle.job.specs.Checks.{Context, noContext, next, Test, tests, refusalOf}
+use Rattle.job.specs.Job.{accepted, wellEnded, checkJob, gathered, Job, jobOf, recordedIn}
+use Rattle.job.specs.Sound.{Every, InstructionsSound, LinesSound, HeaderSound, JobSound}
 use Rattle.job.specs.Laws.Lines.{header-sound}
 use Rattle.job.specs.Laws.Accepted.{between}
 use Rattle.job.specs.Laws.Begun.{ended-parts, job-passes, Begun, job-begun}
-use Rattle.job.specs.Laws.Gather.{gathered-sound}
-use Rattle.job.specs.Laws.Recorded.{recorded-within, ids-count}
+use Rattle.job.specs.Laws.Gather.{gathered-sound, gathered-said}
+use Rattle.job.specs.Laws.Recorded.{recorded-within, ids-count, contextAfter, after-first, recorded-after}
+use Rattle.job.specs.Laws.Tests.{tests-rise, lowest-least}
+use Rattle.job.specs.Laws.Passes.{ReadAs, lines-accepted, header-accepted}
+use Rattle.job.specs.Laws.Dispatch.{markOf, readAs, formOf, read-by-mark}
 
 -- what stands behind the header is sound
 behind-header : {job : List ℕ} (b : Begun job) → InstructionsSound (b .header) 0 (gathered 2 (b .rest) .instructions)
@@ -35,6 +45,35 @@ checked-sound job e =
       gathers = refl;
       header = header-sound (b .header) (b .range);
       instructions = sound;
+      texts = gathered-said 2 (between (b .header) 0) (b .rest) (b .passes);
       ids = ids-count (b .header) 0 _ sound;
       recorded = rw zero-add at (recorded-within (b .header) 0 _ sound (omega arith));
     }
+
+-- The tests refuse no job of sound lines: a header in range and, behind it, texts of lines that are sound in their order pass tests 1 to 12 where the
+-- bytes pass test 1.
+pub sound-checked : (job text : List ℕ) (texts : List (List ℕ)) (h : Header) (ls : List Line) → wellEnded job ≡ true → lines job ≡ text ∷ texts
+    → readLine text ≡ some (Written.header h) → HeaderSound h → ReadAs texts ls → LinesSound h 0 ls → checkJob job ≡ accepted
+unfolding checkJob
+sound-checked job text texts h ls ended split reads range said sound =
+    rw (ended, split) (header-accepted h text texts reads range (lines-accepted h 0 2 texts ls said sound))
+
+-- The number that refuses a line is the lowest: no bad test of the line has a lower one.
+pub refusal-lowest : (c : Context) (last : Bool) (w : Written) → Every (λ (t : Test). t .bad ≡ true → refusalOf c last (some w) ≤ t .number) (tests c last w)
+unfolding refusalOf
+refusal-lowest c last w = lowest-least 0 (tests c last w) (tests-rise c last w)
+
+-- Behind the last line of an accepted job the tests have counted the outcomes that its instructions record.
+pub recorded-counted : (job : List ℕ) → checkJob job .number ≡ 0 → contextAfter noContext (lines job) .recorded ≡ recordedIn (jobOf job .instructions)
+unfolding next between noContext
+recorded-counted job e =
+    let b = job-begun job e in
+    ap (λ (ls : List (List ℕ)). contextAfter noContext ls .recorded) (b .split)
+    ∙ ap (λ (c : Context). c .recorded) (after-first noContext (b .text) (b .rest) (Written.header (b .header)) (b .reads))
+    ∙ recorded-after 2 (between (b .header) 0) (b .rest) (b .passes)
+    ∙ zero-add (recordedIn (gathered 2 (b .rest) .instructions))
+    ∙ ap (λ (j : Job). recordedIn (j .instructions)) (sym (b .is))
+
+-- A line has one form at most, which its mark names: it says what it says by that form.
+pub one-form : (l : List ℕ) → readLine l ≡ readAs (formOf (markOf l)) l
+one-form = read-by-mark

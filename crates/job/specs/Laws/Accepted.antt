@@ -1,7 +1,7 @@
 -- An accepted job line by line: laws of the fold of the checks. Assumes nothing.
 use Prim.Native.Nat.{ℕ, suc}
 use mathlib.Core.Path.{_≡_, refl, ap, _∙_}
-use mathlib.Core.Bool.{Bool, true, false, cond, _&&_}
+use mathlib.Core.Bool.{Bool, true, false, cond, not, _&&_}
 use mathlib.Core.List.{List, [], _∷_}
 use mathlib.Core.Option.{Option, none, some}
 use native.Mathlib.Omega.{arith}
@@ -11,9 +11,9 @@ use Rattle.text.specs.Laws.Values.{both}
 use Rattle.job.specs.declared.Header.{Header}
 use Rattle.job.specs.declared.Answer.{Answer}
 use Rattle.job.specs.Grammar.{Written, readLine}
-use Rattle.job.specs.Checks.{Context, next, expected, headerFits, ownTests, refusalOf}
+use Rattle.job.specs.Checks.{Context, next, expected, headerFits, ownTests, tests, refusalOf}
 use Rattle.job.specs.Job.{answer, accepted, isLast, nextOf, checkLines}
-use Rattle.job.specs.Laws.Tests.{AllPass, refusal-passes}
+use Rattle.job.specs.Laws.Tests.{AllPass, refusal-passes, passes-lowest}
 use Rattle.job.specs.Laws.Forms.{WrittenFits, SaidFits, line-fits}
 
 -- the number of a line among others
@@ -77,6 +77,13 @@ passing c ls w e =
     let form = both (expected c w) _ (not-false _ (t .0)) in
     record { due = form .0; ends = not-true _ (form .1); header = not-false _ (t .1 .0); own = t .1 .1 }
 
+-- and the other way round
+pub passing-good : (c : Context) (ls : List (List ℕ)) (w : Written) → Passing c ls w → refusalOf c (isLast ls) (some w) ≡ 0
+unfolding refusalOf
+passing-good c ls w t =
+    passes-lowest (tests c (isLast ls) w)
+    (rw (t .due, t .ends), (ap not (t .header), t .own))
+
 -- a good line has a form, and is good for its letters
 pub good-says : (c : Context) (last : Bool) (o : Option Written) → SaidFits o → refusalOf c last o ≡ 0 → (w : Written) × (o ≡ some w) × WrittenFits w
 unfolding refusalOf SaidFits
@@ -122,4 +129,18 @@ accepted-first {k} {c} {l} {ls} a =
       fits = good .2;
       passing = own;
       rest = record { begun = begun-next c (good .0) (a .begun); ends = own .ends; passes = rw (good .1) at (parts .1) };
+    }
+
+-- A line that passes, in front of lines that are accepted behind it. So the lines of an accepted job can be copied, and others put between them.
+pub accepted-more : (k : ℕ) (c : Context) (l : List ℕ) (ls : List (List ℕ)) (w : Written) → c .begun ≡ true → readLine l ≡ some w → Passing c ls w
+    → Accepted (suc k) (next c w) ls → Accepted k c (l ∷ ls)
+unfolding nextOf
+accepted-more k c l ls w begun reads t a =
+    record {
+      begun = begun;
+      ends = refl;
+      passes =
+          checks-good k c l ls (ap (refusalOf c (isLast ls)) reads ∙ passing-good c ls w t)
+          ∙ ap (λ (o : Option Written). checkLines (suc k) (nextOf c o) ls) reads
+          ∙ a .passes;
     }

@@ -3,7 +3,7 @@ use Prim.Native.Nat.{ℕ, suc, _+_, _-_, _^_, _≤_, _<_}
 use native.Mathlib.Nat.{add-zero}
 use native.Mathlib.Numerals.{add-one}
 use native.Mathlib.Omega.{arith}
-use mathlib.Core.Path.{_≡_, sym, _∙_}
+use mathlib.Core.Path.{_≡_, refl, sym, _∙_}
 use mathlib.Core.Bool.{Bool, true, false, cond, not, _&&_, _||_, true≢false}
 use mathlib.Core.List.{List, [], _∷_, map}
 use mathlib.Core.Option.{Option, none, some}
@@ -14,10 +14,10 @@ use lib.ListN.{length, length-map}
 use Rattle.text.specs.Laws.Values.{both}
 use Rattle.job.specs.Line.{SparsePauli, WeightedPauli, Instruction, Placed}
 use Rattle.job.specs.Float.{float, isWeight, isTotal}
-use Rattle.job.specs.Grammar.{Kind, NoiseLine, Written}
+use Rattle.job.specs.Grammar.{Kind, NoiseLine, Written, readLine}
 use Rattle.job.specs.Checks.{Context, elementsOf, firstTotal, nextTotal, records, next, noiseTests, kindQubits, kindDistinct, elementsFit, eachBelow, eachShort, sameWeight, expected, headerFits, weightFits, totalFits, ownTests}
 use Rattle.job.specs.Job.{distributionOf, noiseOf, weightOf, Gathered, placedAt, gather, gathered, recordedBy}
-use Rattle.job.specs.Sound.{Every, PauliSound, SmallOption, WeightedSound, totalFrom, weightsOf, DistributionSound, NoiseSound, InstructionSound, InstructionsSound}
+use Rattle.job.specs.Sound.{Every, PauliSound, SmallOption, ElementSound, totalFrom, weightsOf, DistributionSound, NoiseSound, InstructionSound, InstructionsSound, SaidBy}
 use Rattle.job.specs.Laws.Tests.{AllPass}
 use Rattle.job.specs.Laws.Forms.{KindFits, NoiseFits, WrittenFits}
 use Rattle.job.specs.Laws.Lines.{pauli-sound, operands-sound, first-short, line-sound}
@@ -49,7 +49,7 @@ every-pauli n [] h = tt
 every-pauli n (e ∷ es) h = (h .0, every-pauli n es (h .1))
 
 every-weighted : (n : ℕ) (es : List WeightedPauli) → Every (λ (e : WeightedPauli). PauliSound n (e .pauli)) es → Every WeightSound es
-    → Every (WeightedSound n) es
+    → Every (ElementSound n) es
 every-weighted n [] h w = tt
 every-weighted n (e ∷ es) h w = (record { pauli = h .0; weight = w .0 .weight; small = w .0 .small }, every-weighted n es (h .1) (w .1))
 
@@ -158,3 +158,22 @@ gathered-sound k c [] a =
 gathered-sound k c (l ∷ ls) a =
     let f = accepted-first a in
     rw (f .reads) (gather-sound k c l ls (f .says) (gathered (suc k) ls) (a .begun) (f .fits) (f .passing) (gathered-sound (suc k) (next c (f .says)) ls (f .rest)))
+
+-- the bytes of each instruction's line say it
+abbrev pub AllSaid : List Placed → Type 0
+AllSaid = Every (λ (p : Placed). SaidBy (p .text) (p .instruction))
+
+said-more : (k : ℕ) (c : Context) (l : List ℕ) (w : Written) (g : Gathered) → readLine l ≡ some w → PartSound (next c w) g → AllSaid (g .instructions)
+    → AllSaid (gather k l (some w) g .instructions)
+unfolding gather next SaidBy
+said-more k c l (Written.header h) g e p s = s
+said-more k c l (Written.line i) g e p s = (e, s)
+said-more k c l (Written.noise n) g e p s = (record { line = n; elements = g .elements; reads = e; count = p .count; is = refl }, s)
+said-more k c l (Written.element w P) g e p s = s
+
+pub gathered-said : (k : ℕ) (c : Context) (ls : List (List ℕ)) → Accepted k c ls → AllSaid (gathered k ls .instructions)
+unfolding gathered
+gathered-said k c [] a = tt
+gathered-said k c (l ∷ ls) a =
+    let f = accepted-first a in
+    rw (f .reads) (said-more k c l (f .says) _ (f .reads) (gathered-sound (suc k) (next c (f .says)) ls (f .rest)) (gathered-said (suc k) (next c (f .says)) ls (f .rest)))

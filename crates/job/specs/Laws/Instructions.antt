@@ -4,22 +4,21 @@ use Prim.Native.Nat.{ℕ, zero, suc, _+_, _≤_, _<_}
 use native.Mathlib.Nat.{add-zero}
 use native.Mathlib.Omega.{arith}
 use mathlib.Core.Path.{_≡_, refl, sym, ap, subst, _∙_}
-use mathlib.Core.Bool.{Bool, true, and-false, true≢false}
+use mathlib.Core.Bool.{Bool, true, false, and-false, true≢false}
 use mathlib.Core.List.{List, [], _∷_}
 use mathlib.Core.Option.{Option, none, some}
-use borrow.Author.Tests.{ltb-false, eqb-true}
-use lib.Dec.{ltb}
+use borrow.Author.Tests.{ltb-false, eqb-true, eqb-false}
+use lib.Dec.{eqb, ltb}
 use lib.Ieee.{Float}
 use lib.ListN.{length, take, drop}
 use Rattle.text.specs.Laws.Values.{both}
 use Rattle.job.specs.declared.Header.{Header}
 use Rattle.job.specs.Line.{SparsePauli, Line, WeightedPauli, Noise, Instruction, Placed}
 use Rattle.job.specs.Grammar.{NoiseLine, Written, readLine}
-use Rattle.job.specs.Checks.{Context, elementsOf, records, next, lineTests, noiseTests, sameWeight, expected, headerFits, ownTests, refusalOf}
-use Rattle.job.specs.Job.{accepted, isLast, nextOf, checkLines, noiseOf, weightOf, placedAt, gather, gathered, recordedBy}
+use Rattle.job.specs.Checks.{Context, elementsOf, records, next, lineTests, noiseTests, sameWeight, expected, headerFits, ownTests, lowest, refusalOf}
+use Rattle.job.specs.Job.{answer, isLast, nextOf, checkLines, noiseOf, weightOf, placedAt, gather, gathered, recordedBy}
 use Rattle.job.specs.Sound.{LineSound, NoiseSound, InstructionSound, InstructionsSound}
-use Rattle.job.specs.Laws.Tests.{refusal-passes}
-use Rattle.job.specs.Laws.Accepted.{passes-first, checks-good, Passing, passing, between, Accepted, accepted-first}
+use Rattle.job.specs.Laws.Accepted.{numberAfter, checks-bad, checks-good, Passing, passing, between, Accepted, accepted-first}
 use Rattle.job.specs.Laws.Gather.{recorded-more, gathered-sound}
 
 -- ---- between instructions the sum of weights is of no account
@@ -44,27 +43,49 @@ module _ (h : Header) (r : ℕ) (t : Option Float) (last : Bool) where
   tests-same (Line.inject shot P) = refl
   tests-same (Line.flip shot id) = refl
 
-  -- a good line is good in both, and leads to the same context
-  good-same : (o : Option Written) → refusalOf (summed h r t) last o ≡ 0
-      → (refusalOf (between h r) last o ≡ 0) × (nextOf (summed h r t) o ≡ nextOf (between h r) o)
-  unfolding refusalOf nextOf next expected headerFits ownTests noiseTests summed between
-  good-same none e = absurd (omega arith)
-  good-same (some (Written.header g)) e = (e, refl)
-  good-same (some (Written.line l)) e = (rw (tests-same l) at e, refl)
-  good-same (some (Written.noise n)) e = (e, refl)
-  good-same (some (Written.element w P)) e = absurd (true≢false (refusal-passes (summed h r t) last (Written.element w P) e .0))
+  refusal-same : (o : Option Written) → refusalOf (summed h r t) last o ≡ refusalOf (between h r) last o
+  unfolding refusalOf next expected headerFits ownTests noiseTests lowest summed between
+  refusal-same none = refl
+  refusal-same (some (Written.header g)) = refl
+  refusal-same (some (Written.line l)) = rw (tests-same l)
+  refusal-same (some (Written.noise n)) = refl
+  refusal-same (some (Written.element w P)) = refl
 
-summed-passes : (k : ℕ) (h : Header) (r : ℕ) (t : Option Float) (ls : List (List ℕ)) → checkLines k (summed h r t) ls ≡ accepted
-    → checkLines k (between h r) ls ≡ accepted
-summed-passes k h r t [] p = unfold checkLines in refl
-summed-passes k h r t (l ∷ ls) p =
-    let parts = passes-first k (summed h r t) l ls p in
-    let same = good-same h r t (isLast ls) (readLine l) (parts .0) in
-    checks-good k (between h r) l ls (same .0) ∙ rw (same .1) at (parts .1)
+  -- a good line leads to the same context
+  next-same : (o : Option Written) → refusalOf (between h r) last o ≡ 0 → nextOf (summed h r t) o ≡ nextOf (between h r) o
+  unfolding refusalOf nextOf next expected lowest summed between
+  next-same none e = absurd (omega arith)
+  next-same (some (Written.header g)) e = refl
+  next-same (some (Written.line l)) e = refl
+  next-same (some (Written.noise n)) e = refl
+  next-same (some (Written.element w P)) e = absurd (omega arith)
+
+checks-same : (k : ℕ) (h : Header) (r : ℕ) (t : Option Float) (ls : List (List ℕ)) → checkLines k (summed h r t) ls ≡ checkLines k (between h r) ls
+checks-same k h r t [] = unfold checkLines in refl
+checks-same k h r t (l ∷ ls) = go (eqb (numberAfter (between h r) l ls) 0) refl
+  where
+    same : numberAfter (summed h r t) l ls ≡ numberAfter (between h r) l ls
+    same = refusal-same h r t (isLast ls) (readLine l)
+
+    go : (b : Bool) → eqb (numberAfter (between h r) l ls) 0 ≡ b → checkLines k (summed h r t) (l ∷ ls) ≡ checkLines k (between h r) (l ∷ ls)
+    go true e =
+        let good = eqb-true (numberAfter (between h r) l ls) 0 e in
+        checks-good k (summed h r t) l ls (same ∙ good)
+        ∙ ap (λ (c : Context). checkLines (suc k) c ls) (next-same h r t (isLast ls) (readLine l) good)
+        ∙ sym (checks-good k (between h r) l ls good)
+    go false e =
+        let bad = eqb-false (numberAfter (between h r) l ls) 0 e in
+        checks-bad k (summed h r t) l ls (λ z. bad (sym same ∙ z))
+        ∙ ap (λ (n : ℕ). answer n k) same
+        ∙ sym (checks-bad k (between h r) l ls bad)
 
 context-summed : (c : Context) → c .begun ≡ true → c .due ≡ 0 → c ≡ summed (c .header) (c .recorded) (c .total)
 unfolding summed
 context-summed c b d = λ i. record { begun = b i; header = c .header; recorded = c .recorded; due = d i; total = c .total }
+
+checks-between : (k : ℕ) (c : Context) (ls : List (List ℕ)) → c .begun ≡ true → c .due ≡ 0 → checkLines k c ls ≡ checkLines k (between (c .header) (c .recorded)) ls
+checks-between k c ls b d =
+    ap (λ (x : Context). checkLines k x ls) (context-summed c b d) ∙ checks-same k (c .header) (c .recorded) (c .total) ls
 
 -- lines that are accepted where no elements are due
 pub accepted-between : (k : ℕ) (c : Context) (ls : List (List ℕ)) → Accepted k c ls → c .due ≡ 0 → Accepted k (between (c .header) (c .recorded)) ls
@@ -72,8 +93,14 @@ accepted-between k c ls a d =
     record {
       begun = unfold between in refl;
       ends = unfold between in and-false (isLast ls);
-      passes = summed-passes k (c .header) (c .recorded) (c .total) ls (subst (λ (x : Context). checkLines k x ls ≡ accepted) (context-summed c (a .begun) d) (a .passes));
+      passes = sym (checks-between k c ls (a .begun) d) ∙ a .passes;
     }
+
+-- and the other way round
+pub between-accepted : (k : ℕ) (c : Context) (ls : List (List ℕ)) → c .begun ≡ true → c .due ≡ 0 → Accepted k (between (c .header) (c .recorded)) ls
+    → Accepted k c ls
+between-accepted k c ls b d a =
+    record { begun = b; ends = rw d (and-false (isLast ls)); passes = checks-between k c ls b d ∙ a .passes }
 
 -- ---- elements
 
@@ -176,7 +203,8 @@ first-sound : (h : Header) (r k : ℕ) (ls : List (List ℕ)) (i : Placed) (is :
 unfolding between InstructionsSound
 first-sound h r k ls i is a e = subst (InstructionsSound h r) e (gathered-sound k (between h r) ls a .instructions) .0
 
-next-between : (i : Line) (h : Header) (r : ℕ) → next (between h r) (Written.line i) ≡ between h (r + recordedBy (Instruction.line i))
+-- behind a line that is no noise
+pub next-between : (i : Line) (h : Header) (r : ℕ) → next (between h r) (Written.line i) ≡ between h (r + recordedBy (Instruction.line i))
 unfolding next between recordedBy
 next-between i h r = ap (λ (m : ℕ). record { begun = true; header = h; recorded = m; due = 0; total = none }) (recorded-more (records i) r)
 

@@ -1,5 +1,5 @@
 -- The outcomes that sound instructions record: laws. Assumes nothing.
-use Prim.Native.Nat.{ℕ, suc, _+_, _≤_, _<_}
+use Prim.Native.Nat.{ℕ, zero, suc, _+_, _≤_, _<_}
 use native.Mathlib.Nat.{add-zero, zero-add}
 use native.Mathlib.Numerals.{add-one, one-add}
 use native.Mathlib.Omega.{arith}
@@ -7,6 +7,7 @@ use mathlib.Core.Path.{_≡_, refl, sym, ap, _∙_}
 use mathlib.Core.Bool.{true, true≢false}
 use mathlib.Core.List.{List, [], _∷_, _++_}
 use mathlib.Core.Option.{Option, some}
+use lib.ListN.{length, getD, take}
 use Rattle.job.specs.declared.Header.{Header}
 use Rattle.job.specs.Line.{Line, Instruction, Placed}
 use Rattle.job.specs.Grammar.{Written, readLine}
@@ -44,6 +45,10 @@ records-within : {outcomes r k : ℕ} {ids : List ℕ} → Records outcomes r k 
 records-within nothing b = omega arith
 records-within (another h) b = omega arith
 
+-- an instruction records no more outcomes than there are
+pub instruction-within : (h : Header) (r : ℕ) (i : Instruction) → InstructionSound h r i → r ≤ h .outcomes → r + recordedBy i ≤ h .outcomes
+instruction-within h r i s b = records-within (instruction-records h r i s) b
+
 -- so many more, counted on
 records-count : {outcomes r k : ℕ} {ids : List ℕ} → Records outcomes r k ids → (n : ℕ) → ids ++ countUp (r + k) n ≡ countUp r (k + n)
 unfolding countUp
@@ -55,8 +60,17 @@ pub recorded-within : (h : Header) (r : ℕ) (is : List Placed) → Instructions
 unfolding InstructionsSound recordedIn
 recorded-within h r [] s b = omega arith
 recorded-within h r (i ∷ is) s b =
-    let first = records-within (instruction-records h r (i .instruction) (s .0)) b in
-    omega (arith, recorded-within h (r + recordedBy (i .instruction)) is (s .1) first)
+    omega (arith, recorded-within h (r + recordedBy (i .instruction)) is (s .1) (instruction-within h r (i .instruction) (s .0) b))
+
+-- each instruction by its place, with the outcomes that those before it record
+pub sound-at : (h : Header) (r : ℕ) (is : List Placed) (d : Placed) → InstructionsSound h r is → (i : ℕ) → i < length is
+    → InstructionSound h (r + recordedIn (take i is)) (getD is i d .instruction)
+unfolding InstructionsSound recordedIn
+sound-at h r [] d s i b = absurd (omega arith)
+sound-at h r (p ∷ is) d s zero b = rw add-zero (s .0)
+sound-at h r (p ∷ is) d s (suc i) b =
+    let n : r + (recordedBy (p .instruction) + recordedIn (take i is)) ≡ r + recordedBy (p .instruction) + recordedIn (take i is) = omega arith in
+    rw n (sound-at h (r + recordedBy (p .instruction)) is d (s .1) i (omega arith))
 
 -- the ids recorded count up from the first
 pub ids-count : (h : Header) (r : ℕ) (is : List Placed) → InstructionsSound h r is → idsIn is ≡ countUp r (recordedIn is)
@@ -82,7 +96,7 @@ counts-more k c l ls (Written.line i) g b t = omega (arith, recorded-more (recor
 counts-more k c l ls (Written.noise n) g b t = omega arith
 counts-more k c l ls (Written.element w P) g b t = refl
 
-after-first : (c : Context) (l : List ℕ) (ls : List (List ℕ)) (w : Written) → readLine l ≡ some w → contextAfter c (l ∷ ls) ≡ contextAfter (next c w) ls
+pub after-first : (c : Context) (l : List ℕ) (ls : List (List ℕ)) (w : Written) → readLine l ≡ some w → contextAfter c (l ∷ ls) ≡ contextAfter (next c w) ls
 unfolding contextAfter nextOf
 after-first c l ls w e = ap (λ (o : Option Written). contextAfter (nextOf c o) ls) e
 

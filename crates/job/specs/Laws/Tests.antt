@@ -58,10 +58,16 @@ lowest-passes a (t ∷ ts) r e =
     go true q h ih e = absurd (omega arith)
     go false q h ih e = (q, ih e)
 
--- a line of number 0 has a form, and passes each of its tests
+-- what a line of number 0 says passes each of its tests
 pub refusal-passes : (c : Context) (last : Bool) (w : Written) → refusalOf c last (some w) ≡ 0 → AllPass (tests c last w)
 unfolding refusalOf
 refusal-passes c last w e = lowest-passes 0 (tests c last w) (tests-rise c last w) e
+
+-- where each test passes, the number is 0
+pub passes-lowest : (ts : List Test) → AllPass ts → lowest ts ≡ 0
+unfolding lowest
+passes-lowest [] p = refl
+passes-lowest (t ∷ ts) p = rw (p .0) (passes-lowest ts (p .1))
 
 -- ---- the lowest number
 

@@ -24,6 +24,11 @@ unfoldable pub literals : List ℕ → ℕ
 literals [] = 0
 literals (t ∷ ts) = cond (isLetter t) 0 (suc (literals ts))
 
+pub behind-none : (n : ℕ) → behind n [] ≡ []
+unfolding behind
+behind-none zero = refl
+behind-none (suc n) = refl
+
 -- behind one space more: past the first, then behind n
 pub behind-next : (n : ℕ) (l : List ℕ) → behind (suc n) l ≡ behind n (drop (until space l + 1) l)
 unfolding behind until
