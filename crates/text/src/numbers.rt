@@ -1,4 +1,9 @@
 // Numbers as text.
+ghost use mathlib.Core.Path.{_≡_};
+ghost use Prim.Native.Nat.{_+_, _*_, _^_, _≤_};
+ghost use lib.Dec.{ltb};
+ghost use Rattle.text.specs.Number.{proper as Number·proper, numberOf, hexDigit, hexOf, bitOf};
+ghost use Rattle.text.specs.Fields.{read};
 
 // What some bytes are, or that they are no such value.
 pub enum Value {
@@ -7,7 +12,9 @@ pub enum Value {
 }
 
 // Whether there are bytes, and no 0 in front of others.
-fn proper(s: &[u8]) -> bool {
+fn proper(s: &[u8]) -> bool
+    ensures { λ r. ⌜ r ≡ Number·proper (now (s .entry)) ⌝ }
+{
     if s.len() == 0 {
         return false;
     }
@@ -17,8 +24,11 @@ fn proper(s: &[u8]) -> bool {
     s[0] != 48
 }
 
-// Whether v * 10 + d is below 2^64.
-fn fits(v: u64, d: u64) -> bool {
+// Whether v * 10 + d is below 2^64, for a digit d.
+fn fits(v: u64, d: u64) -> bool
+    requires { ⌜ d ≤ 9 ⌝ }
+    ensures { λ r. ⌜ r ≡ ltb (v * 10 + d) (2 ^ 64) ⌝ }
+{
     if v < 1844674407370955161 {
         return true;
     }
@@ -29,7 +39,9 @@ fn fits(v: u64, d: u64) -> bool {
 }
 
 // A number in decimal, below 2^64, without leading zeros, that takes all of the bytes.
-pub fn number(s: &[u8]) -> Value {
+pub fn number(s: &[u8]) -> Value
+    ensures { λ r. ⌜ read r ≡ numberOf (now (s .entry)) ⌝ }
+{
     if !proper(s) {
         return Value::Bad;
     }
@@ -54,7 +66,9 @@ pub fn number(s: &[u8]) -> Value {
 }
 
 // The value of a lower-case hexadecimal digit, and 16 for any other byte.
-fn hex_digit(b: u8) -> u64 {
+fn hex_digit(b: u8) -> u64
+    ensures { λ r. ⌜ r ≡ hexDigit b ⌝ }
+{
     if b < 48 {
         return 16;
     }
@@ -71,7 +85,9 @@ fn hex_digit(b: u8) -> u64 {
 }
 
 // H: 16 lower-case hexadecimal digits, and no other bytes.
-pub fn hex16(s: &[u8]) -> Value {
+pub fn hex16(s: &[u8]) -> Value
+    ensures { λ r. ⌜ read r ≡ hexOf (now (s .entry)) ⌝ }
+{
     if s.len() != 16 {
         return Value::Bad;
     }
@@ -89,7 +105,9 @@ pub fn hex16(s: &[u8]) -> Value {
 }
 
 // B: 0 or 1.
-pub fn bit(s: &[u8]) -> Value {
+pub fn bit(s: &[u8]) -> Value
+    ensures { λ r. ⌜ read r ≡ bitOf (now (s .entry)) ⌝ }
+{
     if s.len() != 1 {
         return Value::Bad;
     }
