@@ -8,6 +8,7 @@ use lib.Dec.{eqb, leb}
 use lib.ListN.{length, getD, drop}
 use Rattle.text.specs.declared.numbers.Value.{Value}
 use Rattle.text.specs.declared.numbers.Value.the-variants.{Of, Bad}
+use Rattle.text.specs.declared.lists.Listed.{Listed}
 use Rattle.text.specs.List.{isRising}
 use Rattle.text.specs.Template.{Value as FieldValue, valuesOf, numbersIn, listsIn, numberAt, listAt}
 
@@ -17,3 +18,33 @@ use Rattle.text.specs.Template.{Value as FieldValue, valuesOf, numbersIn
 unfoldable pub read : Value → Option ℕ
 read (Of n) = some n
 read Bad = none
+
+-- ---- a list
+
+-- the largest member, 0 of none
+unfoldable pub largestOf : List ℕ → ℕ
+largestOf [] = 0
+largestOf (n ∷ l) = max n (largestOf l)
+
+-- a list as the struct that tells of it
+unfoldable pub listedAs : Option (List ℕ) → Listed
+listedAs none = record { ok = false; count = 0; largest = 0; rising = true }
+listedAs (some l) = record { ok = true; count = length l; largest = largestOf l; rising = isRising l }
+
+-- lent words with the members of a list in them, as many as there is room for; the words after them stay
+unfoldable pub stored : List ℕ → List ℕ → List ℕ
+stored out [] = out
+stored [] (n ∷ l) = []
+stored (w ∷ out) (n ∷ l) = n ∷ stored out l
+
+-- what a reader of lists says of the lent words and by its result, where its bytes are the list `o`
+pub record ListRead (o : Option (List ℕ)) (r : Listed) (before after : List ℕ) : Type 0 where
+  pub result : r ≡ listedAs o
+  pub members : (l : List ℕ) → o ≡ some l → after ≡ stored before l
+
+-- ---- what is read in parts
+
+-- what was read before, in front of what is read after it
+unfoldable pub inFront : {A : Type 0} → List A → Option (List A) → Option (List A)
+inFront d none = none
+inFront d (some l) = some (d ++ l)

@@ -1,4 +1,13 @@
 // Lists of numbers with commas. The members go into lent words, as many as there is room for; a list is read to its end, however long it is.
+ghost use mathlib.Core.Path.{_≡_};
+ghost use mathlib.Core.Bool.{_&&_, _||_};
+ghost use mathlib.Core.List.{List, [], _∷_, _++_};
+ghost use mathlib.Core.Option.{none, some};
+ghost use Prim.Native.Nat.{ℕ, _+_, _^_, _<_, max};
+ghost use lib.Dec.{eqb, ltb};
+ghost use lib.ListN.{set};
+ghost use Rattle.text.specs.List.{listQ, listL, listC, isDash};
+ghost use Rattle.text.specs.Fields.{listedAs, ListRead};
 use crate::numbers::Value;
 use crate::numbers::number;
 use crate::pieces::find;
@@ -11,11 +20,15 @@ pub struct Listed {
     pub rising: bool,
 }
 
-fn larger(a: u64, b: u64) -> u64 {
+fn larger(a: u64, b: u64) -> u64
+    ensures { λ r. ⌜ r ≡ max a b ⌝ }
+{
     if a < b { b } else { a }
 }
 
-fn rises(l: Listed, n: u64) -> bool {
+fn rises(l: Listed, n: u64) -> bool
+    ensures { λ r. ⌜ r ≡ (l .rising && (eqb (l .count) 0 || ltb (l .largest) n)) ⌝ }
+{
     if !l.rising {
         return false;
     }
@@ -26,7 +39,10 @@ fn rises(l: Listed, n: u64) -> bool {
 }
 
 // The list with one more member at its end.
-fn push(l: Listed, n: u64) -> Listed {
+fn push(l: Listed, n: u64) -> Listed
+    requires { ⌜ l .count + 1 < 2 ^ 64 ⌝ }
+    ensures { λ r. ⌜ ((d : List ℕ) → l ≡ listedAs (some d) → r ≡ listedAs (some (d ++ n ∷ []))) ⌝ }
+{
     Listed {
         ok: l.ok,
         count: l.count + 1,
@@ -35,13 +51,17 @@ fn push(l: Listed, n: u64) -> Listed {
     }
 }
 
-fn store(out: &mut [u64], at: usize, n: u64) {
+fn store(out: &mut [u64], at: usize, n: u64)
+    ensures { λ _. ⌜ now (out .exit) ≡ set (now (out .entry)) at n ⌝ }
+{
     if at < out.len() {
         out[at] = n;
     }
 }
 
-pub fn no_list() -> Listed {
+pub fn no_list() -> Listed
+    ensures { λ r. ⌜ r ≡ listedAs none ⌝ }
+{
     Listed {
         ok: false,
         count: 0,
@@ -50,7 +70,9 @@ pub fn no_list() -> Listed {
     }
 }
 
-pub fn empty() -> Listed {
+pub fn empty() -> Listed
+    ensures { λ r. ⌜ r ≡ listedAs (some []) ⌝ }
+{
     Listed {
         ok: true,
         count: 0,
@@ -60,7 +82,9 @@ pub fn empty() -> Listed {
 }
 
 // Q: a list in any order, never empty.
-pub fn list_q(s: &[u8], out: &mut [u64]) -> Listed {
+pub fn list_q(s: &[u8], out: &mut [u64]) -> Listed
+    ensures { λ r. ⌜ ListRead (listQ (now (s .entry))) r (now (out .entry)) (now (out .exit)) ⌝ }
+{
     let mut l = empty();
     let mut at = 0;
     loop {
@@ -77,7 +101,9 @@ pub fn list_q(s: &[u8], out: &mut [u64]) -> Listed {
     }
 }
 
-fn is_dash(s: &[u8]) -> bool {
+fn is_dash(s: &[u8]) -> bool
+    ensures { λ r. ⌜ r ≡ isDash (now (s .entry)) ⌝ }
+{
     if s.len() != 1 {
         return false;
     }
@@ -85,7 +111,9 @@ fn is_dash(s: &[u8]) -> bool {
 }
 
 // L: a strictly rising list, `-` when empty.
-pub fn list_l(s: &[u8], out: &mut [u64]) -> Listed {
+pub fn list_l(s: &[u8], out: &mut [u64]) -> Listed
+    ensures { λ r. ⌜ ListRead (listL (now (s .entry))) r (now (out .entry)) (now (out .exit)) ⌝ }
+{
     if is_dash(s) {
         return empty();
     }
@@ -100,7 +128,9 @@ pub fn list_l(s: &[u8], out: &mut [u64]) -> Listed {
 }
 
 // C: a number, or `-` for none.
-pub fn list_c(s: &[u8], out: &mut [u64]) -> Listed {
+pub fn list_c(s: &[u8], out: &mut [u64]) -> Listed
+    ensures { λ r. ⌜ ListRead (listC (now (s .entry))) r (now (out .entry)) (now (out .exit)) ⌝ }
+{
     if is_dash(s) {
         return empty();
     }
