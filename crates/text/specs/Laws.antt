@@ -2,3 +2,5 @@
 pub mod Pieces
 pub mod Numbers
 pub mod Lists
+pub mod Fields
+pub mod Reading

@@ -1,4 +1,10 @@
 // A line by its template: `op=i shot=N x=L z=L`. What is read goes into lent words, the fields of the line.
+ghost use mathlib.Core.Path.{_≡_};
+ghost use mathlib.Core.Bool.{false};
+ghost use Prim.Native.Nat.{_≤_};
+ghost use lib.ListN.{length};
+ghost use Rattle.text.specs.Template.{aNumber, aList, valueOf, isLetter};
+ghost use Rattle.text.specs.Fields.{read, listBy, ListRead, numberLetter, listLetter, PutAs, ReadOn, ReadAs};
 use crate::lists::Listed;
 use crate::lists::list_c;
 use crate::lists::list_l;
@@ -31,7 +37,9 @@ pub struct Progress {
     pub lists: usize,
 }
 
-fn refused() -> Progress {
+fn refused() -> Progress
+    ensures { λ r. ⌜ r .ok ≡ false ⌝ }
+{
     Progress {
         ok: false,
         at: 0,
@@ -47,7 +55,9 @@ struct Put {
     lists: usize,
 }
 
-fn not_put() -> Put {
+fn not_put() -> Put
+    ensures { λ r. ⌜ r .ok ≡ false ⌝ }
+{
     Put {
         ok: false,
         numbers: 0,
@@ -55,7 +65,10 @@ fn not_put() -> Put {
     }
 }
 
-fn put_number(v: Value, n: usize, l: usize, fields: &mut [u64]) -> Put {
+fn put_number(v: Value, n: usize, l: usize, fields: &mut [u64]) -> Put
+    requires { ⌜ 136 ≤ length (now fields) ⌝ }
+    ensures { λ r. ⌜ PutAs 1 0 (aNumber (read v)) n l r (now (fields .entry)) (now (fields .exit)) ⌝ }
+{
     let Value::Of(x) = v else {
         return not_put();
     };
@@ -71,7 +84,9 @@ fn put_number(v: Value, n: usize, l: usize, fields: &mut [u64]) -> Put {
 }
 
 // A list by its letter: L, Q or C.
-fn list(t: u8, s: &[u8], out: &mut [u64]) -> Listed {
+fn list(t: u8, s: &[u8], out: &mut [u64]) -> Listed
+    ensures { λ r. ⌜ ListRead (listBy t (now (s .entry))) r (now (out .entry)) (now (out .exit)) ⌝ }
+{
     match t {
         76 => list_l(s, out),
         81 => list_q(s, out),
@@ -79,7 +94,10 @@ fn list(t: u8, s: &[u8], out: &mut [u64]) -> Listed {
     }
 }
 
-fn put_list(t: u8, s: &[u8], n: usize, l: usize, fields: &mut [u64]) -> Put {
+fn put_list(t: u8, s: &[u8], n: usize, l: usize, fields: &mut [u64]) -> Put
+    requires { ⌜ 136 ≤ length (now fields) ⌝ }
+    ensures { λ r. ⌜ PutAs 0 1 (aList (listBy t (now (s .entry)))) n l r (now (fields .entry)) (now (fields .exit)) ⌝ }
+{
     if 4 <= l {
         return not_put();
     }
@@ -99,7 +117,10 @@ fn put_list(t: u8, s: &[u8], n: usize, l: usize, fields: &mut [u64]) -> Put {
 }
 
 // One value more, which the bytes s are by the letter t of a template.
-fn put_value(t: u8, s: &[u8], n: usize, l: usize, fields: &mut [u64]) -> Put {
+fn put_value(t: u8, s: &[u8], n: usize, l: usize, fields: &mut [u64]) -> Put
+    requires { ⌜ 136 ≤ length (now fields) ⌝ }
+    ensures { λ r. ⌜ PutAs (numberLetter t) (listLetter t) (valueOf t (now (s .entry))) n l r (now (fields .entry)) (now (fields .exit)) ⌝ }
+{
     match t {
         78 => put_number(number(s), n, l, fields),
         72 => put_number(hex16(s), n, l, fields),
@@ -111,7 +132,9 @@ fn put_value(t: u8, s: &[u8], n: usize, l: usize, fields: &mut [u64]) -> Put {
     }
 }
 
-fn is_letter(t: u8) -> bool {
+fn is_letter(t: u8) -> bool
+    ensures { λ r. ⌜ r ≡ isLetter t ⌝ }
+{
     if t < 65 {
         return false;
     }
@@ -126,23 +149,18 @@ pub fn read_on(
     numbers: usize,
     lists: usize,
     fields: &mut [u64],
-) -> Progress {
+) -> Progress
+    requires { ⌜ (from ≤ length (now line)) × (136 ≤ length (now fields)) ⌝ }
+    ensures { λ r. ⌜ ReadOn (now (line .entry)) (now (template .entry)) from numbers lists r (now (fields .entry)) (now (fields .exit)) ⌝ }
+{
     let mut at = from;
     let mut n = numbers;
     let mut l = lists;
     let mut i = 0;
     while i < template.len() {
         let t = template[i];
-        if is_letter(t) {
-            let e = find(line, at, 32);
-            let p = put_value(t, &line[at..e], n, l, &mut *fields);
-            if !p.ok {
-                return refused();
-            }
-            n = p.numbers;
-            l = p.lists;
-            at = e;
-        } else {
+        i += 1;
+        if !is_letter(t) {
             if at == line.len() {
                 return refused();
             }
@@ -150,8 +168,16 @@ pub fn read_on(
                 return refused();
             }
             at += 1;
+            continue;
         }
-        i += 1;
+        let e = find(line, at, 32);
+        let p = put_value(t, &line[at..e], n, l, &mut *fields);
+        if !p.ok {
+            return refused();
+        }
+        n = p.numbers;
+        l = p.lists;
+        at = e;
     }
     Progress {
         ok: true,
@@ -162,7 +188,10 @@ pub fn read_on(
 }
 
 // A line read by a template to its end.
-pub fn read_all(line: &[u8], template: &[u8], fields: &mut [u64]) -> bool {
+pub fn read_all(line: &[u8], template: &[u8], fields: &mut [u64]) -> bool
+    requires { ⌜ 136 ≤ length (now fields) ⌝ }
+    ensures { λ r. ⌜ ReadAs (now (line .entry)) (now (template .entry)) r (now (fields .exit)) ⌝ }
+{
     let p = read_on(line, template, 0, 0, 0, fields);
     if !p.ok {
         return false;

@@ -51,6 +51,23 @@ module _ (l : List ℕ) (n : ℕ) where
         rising = (e₄ ∙ sym (rising-snoc l n)) i;
       }
 
+-- what the struct says of its list
+pub listed-ok : (l : List ℕ) {r : Listed} → r ≡ listedAs (some l) → r .ok ≡ true
+unfolding listedAs
+listed-ok l e = ap (λ (x : Listed). x .ok) e
+
+pub listed-count : (l : List ℕ) {r : Listed} → r ≡ listedAs (some l) → r .count ≡ length l
+unfolding listedAs
+listed-count l e = ap (λ (x : Listed). x .count) e
+
+pub listed-largest : (l : List ℕ) {r : Listed} → r ≡ listedAs (some l) → r .largest ≡ largestOf l
+unfolding listedAs
+listed-largest l e = ap (λ (x : Listed). x .largest) e
+
+pub listed-rising : (l : List ℕ) {r : Listed} → r ≡ listedAs (some l) → r .rising ≡ isRising l
+unfolding listedAs
+listed-rising l e = ap (λ (x : Listed). x .rising) e
+
 pub stored-snoc : (out l : List ℕ) (n : ℕ) → set (stored out l) (length l) n ≡ stored out (l ++ n ∷ [])
 unfolding stored
 stored-snoc [] [] n = refl
@@ -108,8 +125,7 @@ q-start s out r e =
 
 -- how many members there are, by the struct
 pub so-count : {s before : List ℕ} {r : Listed} {at : ℕ} {out : List ℕ} (f : SoFar s before r at out) → r .count ≡ length (f .done)
-unfolding listedAs
-so-count f = ap (λ (x : Listed). x .count) (f .result)
+so-count f = listed-count (f .done) (f .result)
 
 -- the piece from `at` to `e`
 module _ (s before : List ℕ) (r : Listed) (at : ℕ) (out : List ℕ) (e : ℕ) (f : SoFar s before r at out)
@@ -170,14 +186,14 @@ pub l-list : (v : List ℕ) → isDash v ≡ false → listL v ≡ onlyRising (l
 unfolding listL
 l-list v e = simp e
 
--- what the struct says of its list
-pub listed-ok : (l : List ℕ) {r : Listed} → r ≡ listedAs (some l) → r .ok ≡ true
-unfolding listedAs
-listed-ok l e = ap (λ (x : Listed). x .ok) e
+-- whether there is a list, by the struct
+pub listed-bad : (o : Option (List ℕ)) {r : Listed} → r ≡ listedAs o → r .ok ≡ false → o ≡ none
+listed-bad none e h = refl
+listed-bad (some l) e h = absurd (true≢false (sym (listed-ok l e) ∙ h))
 
-pub listed-rising : (l : List ℕ) {r : Listed} → r ≡ listedAs (some l) → r .rising ≡ isRising l
-unfolding listedAs
-listed-rising l e = ap (λ (x : Listed). x .rising) e
+pub listed-good : (o : Option (List ℕ)) {r : Listed} → r ≡ listedAs o → r .ok ≡ true → (l : List ℕ) × (o ≡ some l)
+listed-good none e h = absurd (true≢false (sym h ∙ unfold listedAs in ap (λ (x : Listed). x .ok) e))
+listed-good (some l) e h = (l, refl)
 
 module _ (r : Listed) (before after : List ℕ) where
   pub only-bad : (o : Option (List ℕ)) → ListRead o r before after → r .ok ≡ false → ListRead (onlyRising o) r before after
