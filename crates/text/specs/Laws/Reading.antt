@@ -3,13 +3,19 @@ use Prim.Native.Nat.{ℕ, _+_, _-_, _*_, _≤_, _<_}
 use native.Mathlib.Omega.{arith}
 use mathlib.Core.Bool.{Bool, true, false, true≢false}
 use mathlib.Core.Path.{_≡_, refl, sym, ap, _∙_}
-use mathlib.Core.List.{List, [], _∷_, _++_}
+use mathlib.Core.List.{List, [], _∷_, _++_, append-assoc, append-nil}
 use mathlib.Core.Option.{Option, none, some}
-use lib.ListN.{length, take, drop, set}
+use borrow.Author.Tests.{eq-eqb, ne-eqb}
+use lib.Dec.{eqb}
+use lib.ListN.{length, getD, take, drop, set, drop-of-length-le}
+use lib.Seq.{drop-drop}
 use Rattle.text.specs.declared.lists.Listed.{Listed}
 use Rattle.text.specs.declared.template.Put.{Put}
-use Rattle.text.specs.Template.{Value, number, list, aNumber, aList}
-use Rattle.text.specs.Fields.{listedAs, ListRead, Held, PutOne, PutAs}
+use Rattle.text.specs.declared.template.Progress.{Progress}
+use Rattle.text.specs.Bytes.{space, until}
+use Rattle.text.specs.Template.{Value, number, list, aNumber, aList, isLetter, valueOf, andThen, sameByte, atEnd, valuesOf}
+use Rattle.text.specs.Fields.{listedAs, ListRead, numberLetter, listLetter, numberLetters, listLetters, Held, Room, inFront, Begins, ReadOn, HasForm, ReadAs, PutOne, PutAs}
+use Rattle.text.specs.Laws.Pieces.{step}
 use Rattle.text.specs.Laws.Fields.{held-number, held-list, list-put}
 use Rattle.text.specs.Laws.Lists.{listed-count, listed-largest, listed-bad, listed-good}
 
@@ -86,3 +92,141 @@ module _ (o : Option (List ℕ)) (n l : ℕ) where
         lists-read = refl;
         holds = λ vs v. held-list fields _ n l vs v members h put;
       }
+
+-- ---- a line read on
+
+front-nil : {A : Type 0} (o : Option (List A)) → inFront [] o ≡ o
+unfolding inFront
+front-nil none = refl
+front-nil (some l) = refl
+
+front-none : (vs : List Value) (o : Option (List Value)) → inFront vs (andThen none o) ≡ none
+unfolding inFront andThen
+front-none vs o = refl
+
+front-one : (vs : List Value) (v : Value) (o : Option (List Value)) → inFront vs (andThen (some v) o) ≡ inFront (vs ++ v ∷ []) o
+unfolding inFront andThen
+front-one vs v none = refl
+front-one vs v (some ws) = ap some (sym (append-assoc vs (v ∷ []) ws))
+
+-- a byte that is no letter for a value
+module _ (t : ℕ) (plain : isLetter t ≡ false) where
+  other-letter : (k : ℕ) → isLetter k ≡ true → eqb t k ≡ false
+  other-letter k e = ne-eqb t k (λ h. true≢false (sym e ∙ sym (ap isLetter h) ∙ plain))
+
+  plain-number : numberLetter t ≡ 0
+  plain-number = simp (other-letter 78 refl, other-letter 72 refl, other-letter 66 refl)
+
+  plain-list : listLetter t ≡ 0
+  plain-list = simp (other-letter 76 refl, other-letter 81 refl, other-letter 67 refl)
+
+-- A line was read from `from` to `at` by the first i bytes of a template: what is left to do from here gives the values that are left.
+pub record Reading (line template : List ℕ) (from numbers lists : ℕ) (before : List ℕ) (i at n l : ℕ) (fields : List ℕ) : Type 0 where
+  pub values : List Value
+  pub reads : (rest : List ℕ) → valuesOf (template ++ rest) (drop from line) ≡ inFront values (valuesOf (drop i template ++ rest) (drop at line))
+  pub within : at ≤ length line
+  pub numbers-read : n + numberLetters (drop i template) ≡ numbers + numberLetters template
+  pub lists-read : l + listLetters (drop i template) ≡ lists + listLetters template
+  pub holds : (vs : List Value) → Held before numbers lists vs → Held fields n l (vs ++ values)
+
+module _ (line template : List ℕ) (from numbers lists : ℕ) (before : List ℕ) where
+  pub reading-starts : from ≤ length line → Reading line template from numbers lists before 0 from numbers lists before
+  reading-starts h =
+      record {
+        values = [];
+        reads = λ rest. sym (front-nil (valuesOf (template ++ rest) (drop from line)));
+        within = h;
+        numbers-read = refl;
+        lists-read = refl;
+        holds = λ vs g. rw (append-nil vs) g;
+      }
+
+  -- the line is refused
+  pub refused-on : (p : Progress) (after : List ℕ) → p .ok ≡ false
+      → (Room numbers lists template → (rest : List ℕ) → valuesOf (template ++ rest) (drop from line) ≡ none)
+      → ReadOn line template from numbers lists p before after
+  refused-on p after e f =
+      record {
+        refused = λ _. f;
+        read = λ h. absurd (true≢false (sym h ∙ e));
+      }
+
+  module _ (i at n l : ℕ) (fields : List ℕ) (r : Reading line template from numbers lists before i at n l fields) where
+    -- the end of the template
+    pub reading-ends : length template ≤ i
+        → ReadOn line template from numbers lists (record { ok = true; at = at; numbers = n; lists = l }) before fields
+    reading-ends h =
+        let e : drop i template ≡ [] = drop-of-length-le template h in
+        record {
+          refused = λ h. absurd (true≢false h);
+          read = λ _. record {
+            values = r .values;
+            reads = λ rest. r .reads rest ∙ rw e;
+            within = r .within;
+            numbers-read = omega (arith, r .numbers-read, ap numberLetters e);
+            lists-read = omega (arith, r .lists-read, ap listLetters e);
+            holds = r .holds;
+          };
+        }
+
+    module _ (h : i < length template) where
+      abbrev t : ℕ
+      t = getD template i 0
+
+      -- the template's next byte
+      reads-next : (rest : List ℕ)
+          → valuesOf (template ++ rest) (drop from line) ≡ inFront (r .values) (valuesOf (t ∷ (drop (i + 1) template ++ rest)) (drop at line))
+      reads-next rest = r .reads rest ∙ rw (step template i h)
+
+      module _ (plain : isLetter t ≡ false) where
+        pub plain-over : at ≡ length line → (rest : List ℕ) → valuesOf (template ++ rest) (drop from line) ≡ none
+        unfolding valuesOf sameByte inFront
+        plain-over e rest = reads-next rest ∙ simp (plain, drop-of-length-le line {i = at} (omega arith))
+
+        pub plain-other : at < length line → (getD line at 0 ≡ t → ⊥) → (rest : List ℕ) → valuesOf (template ++ rest) (drop from line) ≡ none
+        unfolding valuesOf sameByte inFront
+        plain-other g e rest = reads-next rest ∙ simp (plain, step line at g, ne-eqb _ _ e)
+
+        pub plain-same : at < length line → getD line at 0 ≡ t → Reading line template from numbers lists before (i + 1) (at + 1) n l fields
+        plain-same g e =
+            record {
+              values = r .values;
+              reads = λ rest. reads-next rest ∙ unfold valuesOf sameByte in simp (plain, step line at g, eq-eqb _ _ e);
+              within = omega arith;
+              numbers-read = omega (arith, r .numbers-read, ap numberLetters (step template i h), plain-number t plain);
+              lists-read = omega (arith, r .lists-read, ap listLetters (step template i h), plain-list t plain);
+              holds = r .holds;
+            }
+
+      -- a letter, whose value goes up to e
+      module _ (letter : isLetter t ≡ true) (e : ℕ) (found : e ≡ at + until space (drop at line)) (inside : e ≤ length line) where
+        abbrev value : Option Value
+        value = valueOf t (take (e - at) (drop at line))
+
+        reads-value : (rest : List ℕ)
+            → valuesOf (template ++ rest) (drop from line) ≡ inFront (r .values) (andThen value (valuesOf (drop (i + 1) template ++ rest) (drop e line)))
+        unfolding valuesOf
+        reads-value rest =
+            let u : e - at ≡ until space (drop at line) = omega arith in
+            let d : drop e line ≡ drop (until space (drop at line)) (drop at line) = rw (drop-drop, ← found) in
+            reads-next rest ∙ simp letter (rw (u, d))
+
+        module _ (p : Put) (after : List ℕ) (q : PutAs (numberLetter t) (listLetter t) value n l p fields after) where
+          pub letter-bad : p .ok ≡ false → Room numbers lists template → (rest : List ℕ) → valuesOf (template ++ rest) (drop from line) ≡ none
+          letter-bad b room rest =
+              let a = ap numberLetters (step template i h) in
+              let c = ap listLetters (step template i h) in
+              let none-there : value ≡ none = q .refused b (omega (arith, r .numbers-read, room .for-numbers)) (omega (arith, r .lists-read, room .for-lists)) in
+              reads-value rest ∙ rw none-there (front-none _ _)
+
+          pub letter-good : p .ok ≡ true → Reading line template from numbers lists before (i + 1) e (p .numbers) (p .lists) after
+          letter-good b =
+              let one = q .put b in
+              record {
+                values = r .values ++ one .value ∷ [];
+                reads = λ rest. reads-value rest ∙ rw (one .reads) (front-one (r .values) (one .value) _);
+                within = inside;
+                numbers-read = omega (arith, r .numbers-read, ap numberLetters (step template i h), one .numbers-read);
+                lists-read = omega (arith, r .lists-read, ap listLetters (step template i h), one .lists-read);
+                holds = λ vs g. rw (one .numbers-read, one .lists-read, ← append-assoc vs (r .values) (one .value ∷ [])) (one .holds (vs ++ r .values) (r .holds vs g));
+              }

@@ -1,121 +1,125 @@
+-- `text::template::read_on` meets its contract. Assumes nothing.
+use Prim.Native.Nat.{_-_, _≤_}
+use native.Mathlib.Omega.{arith}
+use mathlib.Core.Path.{_≡_, refl, sym, _∙_}
+use borrow.Author.Needs.{needs}
+use borrow.Author.Tests.{not-true, not-false}
+use lib.ListN.{length}
+use Rattle.text.specs.Laws.Reading.{Reading, reading-starts, refused-on, reading-ends, plain-over, plain-other, plain-same, letter-bad, letter-good}
 use Rattle.text.proofs.template.read_on.Statement.{statement}
 use Rattle.text.proofs.template.read_on.Tie as tie
-use Rattle.text.proofs.template.read_on.Reads as reads
-use Rattle.text.proofs.template.read_on.Lts as lts
-use Rattle.text.proofs.pieces.find.Reads as find-reads
-use Rattle.text.proofs.template.is_letter.Reads as is-letter-reads
-use Rattle.text.proofs.template.put_value.Reads as put-value-reads
-use Rattle.text.proofs.template.refused.Reads as refused-reads
 
 abbrev Inv-loop : tie.InvT-loop
-Inv-loop line template from numbers lists fields₀ at₀ n₀ l₀ i₀ fields at n l i = ?
+Inv-loop line template from numbers lists fields₀ at₀ n₀ l₀ i₀ fields at n l i =
+    (i ≤ length template) × (length fields ≡ length fields₀) × Reading line template from numbers lists fields₀ i at n l fields
 
 abbrev μ-loop : tie.MeasureT-loop
-μ-loop line template from numbers lists fields₀ at₀ n₀ l₀ i₀ fields at n l i = ?
+μ-loop line template from numbers lists fields₀ at₀ n₀ l₀ i₀ fields at n l i = length template - i
 
--- src/template.rt:160:5
 loop-holds : tie.Need-loop-holds Inv-loop μ-loop
-loop-holds c = ?
+loop-holds c = (omega arith, refl, reading-starts _ _ _ _ _ _ (omega arith))
 
--- src/template.rt:161:17
 shared-slice-read-t : tie.Need-shared-slice-read-t Inv-loop μ-loop
-shared-slice-read-t c = ?
+shared-slice-read-t c = omega arith
 
--- src/template.rt:162:9
 add-i : tie.Need-add-i Inv-loop μ-loop
-add-i c = ?
+add-i c = omega arith
 
--- src/template.rt:163:13
 is-letter-requires : tie.Need-is-letter-requires Inv-loop μ-loop
-is-letter-requires c κs = ?
+is-letter-requires c κs = search needs
 
--- src/template.rt:165:17
 refused-requires : tie.Need-refused-requires Inv-loop μ-loop
-refused-requires c κs = ?
+refused-requires c κs = search needs
 
--- src/template.rt:165:17
 same-length : tie.Need-same-length Inv-loop μ-loop
-same-length c = ?
+same-length c = c .before .before .before .before .before .before .loop .inv .1
 
--- src/template.rt:165:17
 returns : tie.Need-returns Inv-loop μ-loop
-returns c = ?
+returns c =
+    let a = c .before .before .before .before .before .before .before .before .before .before .args in
+    let loop = c .before .before .before .before .before .before .loop in
+    let plain = sym (c .before .before .before .is-letter .ensures) ∙ not-true _ (c .before .before .if1 .taken) in
+    refused-on _ _ _ _ _ _ _ _ (c .refused .ensures)
+    (λ _. plain-over (a .line .now) (a .template .now) (a .from) (a .numbers) (a .lists) (a .fields .now) (loop .i) (loop .at) (loop .n) (loop .l) (loop .fields) (loop .inv .2) (omega arith) plain (c .before .if2 .taken))
 
--- src/template.rt:167:16
 shared-slice-read-if3 : tie.Need-shared-slice-read-if3 Inv-loop μ-loop
-shared-slice-read-if3 c = ?
+shared-slice-read-if3 c = let w = c .before .before .before .before .before .before .loop .inv .2 .within in omega arith
 
--- src/template.rt:168:17
 refused-requires-2 : tie.Need-refused-requires-2 Inv-loop μ-loop
-refused-requires-2 c κs = ?
+refused-requires-2 c κs = search needs
 
--- src/template.rt:168:17
 same-length-2 : tie.Need-same-length-2 Inv-loop μ-loop
-same-length-2 c = ?
+same-length-2 c = c .before .before .before .before .before .before .before .before .loop .inv .1
 
--- src/template.rt:168:17
 returns-2 : tie.Need-returns-2 Inv-loop μ-loop
-returns-2 c = ?
+returns-2 c =
+    let a = c .before .before .before .before .before .before .before .before .before .before .before .before .args in
+    let loop = c .before .before .before .before .before .before .before .before .loop in
+    let w = loop .inv .2 .within in
+    let plain = sym (c .before .before .before .before .before .is-letter .ensures) ∙ not-true _ (c .before .before .before .before .if1 .taken) in
+    refused-on _ _ _ _ _ _ _ _ (c .refused2 .ensures)
+    (λ _. plain-other (a .line .now) (a .template .now) (a .from) (a .numbers) (a .lists) (a .fields .now) (loop .i) (loop .at) (loop .n) (loop .l) (loop .fields) (loop .inv .2) (omega arith) plain (omega arith) (c .before .if3 .taken))
 
--- src/template.rt:170:13
 add-at : tie.Need-add-at Inv-loop μ-loop
-add-at c = ?
+add-at c = let w = c .before .before .before .before .before .before .before .loop .inv .2 .within in omega arith
 
--- src/template.rt:160:5
 loop-less : tie.Need-loop-less Inv-loop μ-loop
-loop-less c = ?
+loop-less c = omega arith
 
--- src/template.rt:160:5
 loop-again : tie.Need-loop-again Inv-loop μ-loop
-loop-again c = ?
+loop-again c =
+    let a = c .before .before .before .before .before .before .before .before .before .before .before .args in
+    let loop = c .before .before .before .before .before .before .before .loop in
+    let w = loop .inv .2 .within in
+    let plain = sym (c .before .before .before .before .is-letter .ensures) ∙ not-true _ (c .before .before .before .if1 .taken) in
+    (omega arith, loop .inv .1, plain-same (a .line .now) (a .template .now) (a .from) (a .numbers) (a .lists) (a .fields .now) (loop .i) (loop .at) (loop .n) (loop .l) (loop .fields) (loop .inv .2) (omega arith) plain (omega arith) (c .if3 .left))
 
--- src/template.rt:173:13
 find-requires : tie.Need-find-requires Inv-loop μ-loop
-find-requires c κs = ?
+find-requires c κs = c .before .before .before .before .loop .inv .2 .within
 
--- src/template.rt:174:30
 sub-put-value : tie.Need-sub-put-value Inv-loop μ-loop
-sub-put-value c = ?
+sub-put-value c = omega arith
 
--- src/template.rt:174:30
 part-put-value-start : tie.Need-part-put-value-start Inv-loop μ-loop
-part-put-value-start c = ?
+part-put-value-start c = omega arith
 
--- src/template.rt:174:30
 part-put-value-end : tie.Need-part-put-value-end Inv-loop μ-loop
-part-put-value-end c = ?
+part-put-value-end c = omega arith
 
--- src/template.rt:174:13
 put-value-requires : tie.Need-put-value-requires Inv-loop μ-loop
-put-value-requires c κs = ?
+put-value-requires c κs = omega arith
 
--- src/template.rt:176:13
 refused-requires-3 : tie.Need-refused-requires-3 Inv-loop μ-loop
-refused-requires-3 c κs = ?
+refused-requires-3 c κs = search needs
 
--- src/template.rt:176:13
 same-length-3 : tie.Need-same-length-3 Inv-loop μ-loop
-same-length-3 c = ?
+same-length-3 c = omega arith
 
--- src/template.rt:176:13
 returns-3 : tie.Need-returns-3 Inv-loop μ-loop
-returns-3 c = ?
+returns-3 c =
+    let a = c .before .before .before .before .before .before .before .before .before .before .before .before .before .before .before .before .before .args in
+    let loop = c .before .before .before .before .before .before .before .before .before .before .before .before .before .loop in
+    let found = c .before .before .before .before .before .before .before .before .find in
+    let letter = sym (c .before .before .before .before .before .before .before .before .before .before .is-letter .ensures) ∙ not-false _ (c .before .before .before .before .before .before .before .before .before .if1 .left) in
+    refused-on _ _ _ _ _ _ _ _ (c .refused3 .ensures)
+    (letter-bad (a .line .now) (a .template .now) (a .from) (a .numbers) (a .lists) (a .fields .now) (loop .i) (loop .at) (loop .n) (loop .l) (loop .fields) (loop .inv .2) (omega arith) letter (found .result) (found .ensures .0) (omega arith) _ _ (c .before .before .before .before .before .put-value .ensures) (not-true _ (c .before .if4 .taken)))
 
--- src/template.rt:160:5
 loop-less-2 : tie.Need-loop-less-2 Inv-loop μ-loop
-loop-less-2 c = ?
+loop-less-2 c = omega arith
 
--- src/template.rt:160:5
 loop-again-2 : tie.Need-loop-again-2 Inv-loop μ-loop
-loop-again-2 c = ?
+loop-again-2 c =
+    let a = c .before .before .before .before .before .before .before .before .before .before .before .before .before .before .before .before .args in
+    let loop = c .before .before .before .before .before .before .before .before .before .before .before .before .loop in
+    let found = c .before .before .before .before .before .before .before .find in
+    let letter = sym (c .before .before .before .before .before .before .before .before .before .is-letter .ensures) ∙ not-false _ (c .before .before .before .before .before .before .before .before .if1 .left) in
+    (omega arith, omega arith, letter-good (a .line .now) (a .template .now) (a .from) (a .numbers) (a .lists) (a .fields .now) (loop .i) (loop .at) (loop .n) (loop .l) (loop .fields) (loop .inv .2) (omega arith) letter (found .result) (found .ensures .0) (omega arith) _ _ (c .before .before .before .before .put-value .ensures) (not-false _ (c .if4 .left)))
 
--- src/template.rt:145:1
 same-length-4 : tie.Need-same-length-4 Inv-loop μ-loop
-same-length-4 c = ?
+same-length-4 c = c .before .loop .inv .1
 
--- src/template.rt:145:1
 returns-4 : tie.Need-returns-4 Inv-loop μ-loop
-returns-4 c = ?
+returns-4 c = reading-ends _ _ _ _ _ _ _ _ _ _ _ (c .before .loop .inv .2) (omega arith)
 
 pub read-on-spec : {M : Type 1} → statement M
 read-on-spec =
