@@ -3,13 +3,13 @@ use Prim.Native.Nat.{ℕ, _+_, _*_, _≤_, _<_}
 use native.Mathlib.Omega.{arith}
 use mathlib.Core.Bool.{Bool, true, false}
 use mathlib.Core.Logic.{_≢_}
-use mathlib.Core.Path.{_≡_, refl, sym, ap, _∙_}
+use mathlib.Core.Path.{_≡_, refl, ap, _∙_}
 use mathlib.Core.List.{List, [], _∷_, _++_, append-nil}
 use borrow.Author.Tests.{eqb-true, eqb-false}
 use lib.Dec.{eqb}
 use lib.ListN.{length, getD, take, drop, set, length-append, length-take, length-drop, length-set, List·getD-append}
-use lib.Seq.{length-take-le, getD-set-same, getD-set-other, getD-take, getD-append-add, getD-at}
-use Rattle.text.specs.Template.{Value, number, list, numbersIn, listsIn, numberAt, listAt}
+use lib.Seq.{length-take-le, getD-set-same, getD-set-other, getD-take, getD-drop, getD-append-add, getD-at, ext-getD}
+use Rattle.text.specs.Template.{Value, number, list, numbersIn, listsIn, listAt}
 use Rattle.text.specs.Fields.{largestOf, stored, Held}
 use Rattle.text.specs.Laws.Lists.{stored-length, stored-at}
 
@@ -182,3 +182,21 @@ module _ (f : List ℕ) (l k : ℕ) (members : List ℕ) (p : List ℕ) (room : 
             ∙ rw put (stored-at (take k (drop (12 + l * 31) f)) members j m (omega (arith, length-take k (drop (12 + l * 31) f), length-drop (12 + l * 31) f)));
         others = λ i u v b. others-stay count largest i u v ∙ part-before f p (12 + l * 31) k within i b;
       }
+
+-- ---- for readers of the words
+
+-- the members of a list that is kept whole, as the part of the words where they stand
+pub members-held : (fields : List ℕ) (n l : ℕ) (vs : List Value) → Held fields n l vs → 136 ≤ length fields → (i : ℕ) → i < l → length (listAt i vs) ≤ 31
+    → take (length (listAt i vs)) (drop (12 + i * 31) fields) ≡ listAt i vs
+members-held fields n l vs h wide i g few =
+    ext-getD 0 _ _ size
+    (λ j k.
+    let m : j < length (listAt i vs) = omega (arith, size) in
+    getD-take (length (listAt i vs)) (drop (12 + i * 31) fields) j 0 m ∙ getD-drop (12 + i * 31) fields j 0 ∙ h .member i j g (omega arith) m)
+  where
+    size : length (take (length (listAt i vs)) (drop (12 + i * 31) fields)) ≡ length (listAt i vs)
+    size =
+        let t = length-take (length (listAt i vs)) (drop (12 + i * 31) fields) in
+        let d = length-drop (12 + i * 31) fields in
+        let u = h .few-lists in
+        omega arith

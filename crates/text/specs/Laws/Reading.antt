@@ -1,11 +1,11 @@
 -- Lines read by a template, value by value. Laws. Assumes nothing.
-use Prim.Native.Nat.{ℕ, _+_, _-_, _*_, _≤_, _<_}
+use Prim.Native.Nat.{ℕ, zero, suc, _+_, _-_, _*_, _≤_, _<_}
 use native.Mathlib.Omega.{arith}
-use mathlib.Core.Bool.{Bool, true, false, true≢false}
+use mathlib.Core.Bool.{Bool, true, false, not, _&&_, true≢false}
 use mathlib.Core.Path.{_≡_, refl, sym, ap, _∙_}
 use mathlib.Core.List.{List, [], _∷_, _++_, append-assoc, append-nil}
 use mathlib.Core.Option.{Option, none, some}
-use borrow.Author.Tests.{eq-eqb, ne-eqb}
+use borrow.Author.Tests.{eqb-true, eqb-false, eq-eqb, ne-eqb}
 use lib.Dec.{eqb}
 use lib.ListN.{length, getD, take, drop, set, drop-of-length-le}
 use lib.Seq.{drop-drop}
@@ -16,7 +16,7 @@ use Rattle.text.specs.Bytes.{space, until}
 use Rattle.text.specs.Template.{Value, number, list, aNumber, aList, isLetter, valueOf, andThen, sameByte, atEnd, valuesOf}
 use Rattle.text.specs.Fields.{listedAs, ListRead, numberLetter, listLetter, numberLetters, listLetters, Held, Room, inFront, Begins, ReadOn, HasForm, ReadAs, PutOne, PutAs}
 use Rattle.text.specs.Laws.Pieces.{step}
-use Rattle.text.specs.Laws.Fields.{held-number, held-list, list-put}
+use Rattle.text.specs.Laws.Fields.{nothing-held, held-number, held-list, list-put}
 use Rattle.text.specs.Laws.Lists.{listed-count, listed-largest, listed-bad, listed-good}
 
 -- ---- one value more
@@ -100,6 +100,10 @@ unfolding inFront
 front-nil none = refl
 front-nil (some l) = refl
 
+front-some : (vs ws : List Value) → inFront vs (some ws) ≡ some (vs ++ ws)
+unfolding inFront
+front-some vs ws = refl
+
 front-none : (vs : List Value) (o : Option (List Value)) → inFront vs (andThen none o) ≡ none
 unfolding inFront andThen
 front-none vs o = refl
@@ -111,6 +115,19 @@ front-one vs v (some ws) = ap some (sym (append-assoc vs (v ∷ []) ws))
 
 -- a byte that is no letter for a value
 module _ (t : ℕ) (plain : isLetter t ≡ false) where
+  module _ (ts line : List ℕ) (at : ℕ) where
+    pub byte-over : length line ≤ at → valuesOf (t ∷ ts) (drop at line) ≡ none
+    unfolding valuesOf sameByte
+    byte-over h = simp (plain, drop-of-length-le line h)
+
+    pub byte-other : at < length line → (getD line at 0 ≡ t → ⊥) → valuesOf (t ∷ ts) (drop at line) ≡ none
+    unfolding valuesOf sameByte
+    byte-other h e = simp (plain, step line at h, ne-eqb _ _ e)
+
+    pub byte-same : at < length line → getD line at 0 ≡ t → valuesOf (t ∷ ts) (drop at line) ≡ valuesOf ts (drop (at + 1) line)
+    unfolding valuesOf sameByte
+    byte-same h e = simp (plain, step line at h, eq-eqb _ _ e)
+
   other-letter : (k : ℕ) → isLetter k ≡ true → eqb t k ≡ false
   other-letter k e = ne-eqb t k (λ h. true≢false (sym e ∙ sym (ap isLetter h) ∙ plain))
 
@@ -180,18 +197,18 @@ module _ (line template : List ℕ) (from numbers lists : ℕ) (before : List �
 
       module _ (plain : isLetter t ≡ false) where
         pub plain-over : at ≡ length line → (rest : List ℕ) → valuesOf (template ++ rest) (drop from line) ≡ none
-        unfolding valuesOf sameByte inFront
-        plain-over e rest = reads-next rest ∙ simp (plain, drop-of-length-le line {i = at} (omega arith))
+        unfolding inFront
+        plain-over e rest = reads-next rest ∙ rw (byte-over t plain (drop (i + 1) template ++ rest) line at (omega arith))
 
         pub plain-other : at < length line → (getD line at 0 ≡ t → ⊥) → (rest : List ℕ) → valuesOf (template ++ rest) (drop from line) ≡ none
-        unfolding valuesOf sameByte inFront
-        plain-other g e rest = reads-next rest ∙ simp (plain, step line at g, ne-eqb _ _ e)
+        unfolding inFront
+        plain-other g e rest = reads-next rest ∙ rw (byte-other t plain (drop (i + 1) template ++ rest) line at g e)
 
         pub plain-same : at < length line → getD line at 0 ≡ t → Reading line template from numbers lists before (i + 1) (at + 1) n l fields
         plain-same g e =
             record {
               values = r .values;
-              reads = λ rest. reads-next rest ∙ unfold valuesOf sameByte in simp (plain, step line at g, eq-eqb _ _ e);
+              reads = λ rest. reads-next rest ∙ rw (byte-same t plain (drop (i + 1) template ++ rest) line at g e);
               within = omega arith;
               numbers-read = omega (arith, r .numbers-read, ap numberLetters (step template i h), plain-number t plain);
               lists-read = omega (arith, r .lists-read, ap listLetters (step template i h), plain-list t plain);
@@ -230,3 +247,121 @@ module _ (line template : List ℕ) (from numbers lists : ℕ) (before : List �
                 lists-read = omega (arith, r .lists-read, ap listLetters (step template i h), one .lists-read);
                 holds = λ vs g. rw (one .numbers-read, one .lists-read, ← append-assoc vs (r .values) (one .value ∷ [])) (one .holds (vs ++ r .values) (r .holds vs g));
               }
+
+-- ---- to the end of the line
+
+pub letters-append : (s t : List ℕ) → (numberLetters (s ++ t) ≡ numberLetters s + numberLetters t) × (listLetters (s ++ t) ≡ listLetters s + listLetters t)
+letters-append [] t = (omega arith, omega arith)
+letters-append (b ∷ s) t = let ih = letters-append s t in (omega (arith, ih .0), omega (arith, ih .1))
+
+end-over : (line : List ℕ) (at : ℕ) → length line ≤ at → valuesOf [] (drop at line) ≡ some []
+unfolding valuesOf atEnd
+end-over line at h = rw (drop-of-length-le line h)
+
+end-early : (line : List ℕ) (at : ℕ) → at < length line → valuesOf [] (drop at line) ≡ none
+unfolding valuesOf atEnd
+end-early line at h = rw (step line at h)
+
+-- a template read on to the end of the line
+module _ (line template : List ℕ) (from numbers lists : ℕ) (p : Progress) (before after : List ℕ)
+    (r : ReadOn line template from numbers lists p before after) where
+  whole-template : (o : Option (List Value)) → valuesOf (template ++ []) (drop from line) ≡ o → valuesOf template (drop from line) ≡ o
+  whole-template o e = rw (append-nil template) at e
+
+  pub end-refused : p .ok ≡ false → Room numbers lists template → valuesOf template (drop from line) ≡ none
+  end-refused e room = whole-template none (r .refused e room [])
+
+  pub end-too-early : p .ok ≡ true → p .at < length line → valuesOf template (drop from line) ≡ none
+  unfolding inFront
+  end-too-early e h = whole-template none (r .read e .reads [] ∙ rw (end-early line (p .at) h))
+
+  pub end-reached : (e : p .ok ≡ true) → length line ≤ p .at → valuesOf template (drop from line) ≡ some (r .read e .values)
+  unfolding inFront
+  end-reached e h =
+      whole-template (some (r .read e .values)) (r .read e .reads [] ∙ rw (end-over line (p .at) h) (ap some (append-nil (r .read e .values))))
+
+-- what a line's last two parts say: read by the first part of a template, and by the rest of it to the end
+module _ (line first second : List ℕ) (p q : Progress) (before between after : List ℕ) (b : Begins line first 0 0 0 p before between)
+    (r : ReadOn line second (p .at) (p .numbers) (p .lists) q between after) where
+  parts-bad : valuesOf second (drop (p .at) line) ≡ none → valuesOf (first ++ second) line ≡ none
+  unfolding inFront
+  parts-bad e = b .reads second ∙ rw e
+
+  parts-refused : q .ok ≡ false → Room 0 0 (first ++ second) → valuesOf (first ++ second) line ≡ none
+  parts-refused e room =
+      let l = letters-append first second in
+      let left : Room (p .numbers) (p .lists) second = record {
+        for-numbers = omega (arith, l .0, b .numbers-read, room .for-numbers);
+        for-lists = omega (arith, l .1, b .lists-read, room .for-lists);
+      } in
+      parts-bad (end-refused line second (p .at) (p .numbers) (p .lists) q between after r e left)
+
+  parts-good : q .ok ≡ true → length line ≤ q .at → HasForm line (first ++ second) after
+  parts-good e h =
+      let c = r .read e in
+      let l = letters-append first second in
+      let n : numberLetters (first ++ second) ≡ q .numbers = omega (arith, l .0, b .numbers-read, c .numbers-read) in
+      let m : listLetters (first ++ second) ≡ q .lists = omega (arith, l .1, b .lists-read, c .lists-read) in
+      record {
+        values = b .values ++ c .values;
+        reads = b .reads second ∙ ap (inFront (b .values)) (end-reached line second (p .at) (p .numbers) (p .lists) q between after r e h) ∙ front-some (b .values) (c .values);
+        held = rw (n, m) (c .holds (b .values) (b .holds [] (nothing-held before)));
+      }
+
+  pub parts-read : ReadAs line (first ++ second) (q .ok && eqb (q .at) (length line)) after
+  parts-read = go (q .ok) (eqb (q .at) (length line)) refl refl
+    where
+      go : (s t : Bool) → q .ok ≡ s → eqb (q .at) (length line) ≡ t → ReadAs line (first ++ second) (s && t) after
+      go false t e h = record { refused = λ _. parts-refused e; read = λ k. absurd (true≢false (sym k)) }
+      go true false e h =
+          let other = eqb-false (q .at) (length line) h in
+          let early : q .at < length line = omega (arith, r .read e .within) in
+          record {
+            refused = λ _ _. parts-bad (end-too-early line second (p .at) (p .numbers) (p .lists) q between after r e early);
+            read = λ k. absurd (true≢false (sym k));
+          }
+      go true true e h =
+          let same = eqb-true (q .at) (length line) h in
+          record { refused = λ k. absurd (true≢false k); read = λ _. parts-good e (omega arith) }
+
+-- a line read by one template to its end
+pub whole-read : (line template : List ℕ) (p : Progress) (before after : List ℕ) → ReadOn line template 0 0 0 p before after
+    → ReadAs line template (p .ok && eqb (p .at) (length line)) after
+whole-read line template p before after r =
+    parts-read line [] template (record { ok = true; at = 0; numbers = 0; lists = 0 }) p before before after
+    record {
+      values = [];
+      reads = λ rest. sym (front-nil (valuesOf rest line));
+      within = omega arith;
+      numbers-read = refl;
+      lists-read = refl;
+      holds = λ vs h. rw (append-nil vs) h;
+    }
+    r
+
+-- ---- the bytes that a template begins with
+
+-- no letter for a value
+unfoldable pub plainBytes : List ℕ → Bool
+plainBytes [] = true
+plainBytes (t ∷ ts) = not (isLetter t) && plainBytes ts
+
+plain-first : (t : ℕ) (ts : List ℕ) → plainBytes (t ∷ ts) ≡ true → (isLetter t ≡ false) × (plainBytes ts ≡ true)
+unfolding plainBytes
+plain-first t ts e = go (isLetter t) refl e
+  where
+    go : (b : Bool) → isLetter t ≡ b → (not b && plainBytes ts) ≡ true → (isLetter t ≡ false) × (plainBytes ts ≡ true)
+    go true h e = absurd (true≢false (sym e))
+    go false h e = (h, e)
+
+-- a line that has not one of them is none of the template
+pub byte-differs : (first rest line : List ℕ) → plainBytes first ≡ true → (i : ℕ) → i < length first → (getD line i 0 ≡ getD first i 0 → ⊥)
+    → valuesOf (first ++ rest) line ≡ none
+byte-differs [] rest line p i h d = absurd (omega arith)
+byte-differs (t ∷ ts) rest [] p i h d = byte-over t (plain-first t ts p .0) (ts ++ rest) [] 0 (omega arith)
+byte-differs (t ∷ ts) rest (b ∷ l) p zero h d = byte-other t (plain-first t ts p .0) (ts ++ rest) (b ∷ l) 0 (omega arith) d
+byte-differs (t ∷ ts) rest (b ∷ l) p (suc i) h d = go (eqb b t) refl (byte-differs ts rest l (plain-first t ts p .1) i (omega arith) d)
+  where
+    go : (e : Bool) → eqb b t ≡ e → valuesOf (ts ++ rest) l ≡ none → valuesOf (t ∷ (ts ++ rest)) (b ∷ l) ≡ none
+    go true e ih = byte-same t (plain-first t ts p .0) (ts ++ rest) (b ∷ l) 0 (omega arith) (eqb-true b t e) ∙ ih
+    go false e ih = byte-other t (plain-first t ts p .0) (ts ++ rest) (b ∷ l) 0 (omega arith) (eqb-false b t e)

@@ -1,5 +1,5 @@
 -- `text::lists::list_l` meets its contract. Assumes nothing.
-use mathlib.Core.Path.{sym, ap, _∙_}
+use mathlib.Core.Path.{sym, _∙_}
 use borrow.Author.Tests.{not-true, not-false}
 use borrow.Author.Needs.{needs}
 use Rattle.text.specs.Laws.Lists.{none-read, empty-read, l-dash, l-list, only-bad, only-falling, only-rising}

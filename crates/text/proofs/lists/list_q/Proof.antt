@@ -8,8 +8,6 @@ use Rattle.text.specs.Laws.Numbers.{read-of, read-bad}
 use Rattle.text.specs.Laws.Lists.{SoFar, so-count, q-start, q-bad, q-more, q-last, none-read, stored-length}
 use Rattle.text.proofs.lists.list_q.Statement.{statement}
 use Rattle.text.proofs.lists.list_q.Tie as tie
-use Rattle.text.proofs.lists.list_q.Reads as reads
-use Rattle.text.proofs.lists.list_q.Lts as lts
 
 abbrev Inv-loop : tie.InvT-loop
 Inv-loop s out₀ l₀ at₀ out l at = (at ≤ length s) × SoFar s out₀ l at out

@@ -7,91 +7,69 @@ use Rattle.text.specs.Laws.Reading.{not-list, full-list, one-list}
 use Rattle.text.proofs.template.put_list.Statement.{statement}
 use Rattle.text.proofs.template.put_list.Tie as tie
 
--- src/template.rt:102:9
 not-put-requires : tie.Need-not-put-requires
 not-put-requires c κs = search needs
 
--- src/template.rt:102:9
 returns : tie.Need-returns
 returns c = full-list _ _ _ _ _ _ (c .not-put .ensures) (c .before .if1 .taken)
 
--- src/template.rt:104:23
 mul-a : tie.Need-mul-a
 mul-a c = search needs
 
--- src/template.rt:104:13
 add-a : tie.Need-add-a
 add-a c = search needs
 
--- src/template.rt:105:13
 add-b : tie.Need-add-b
 add-b c = search needs
 
--- src/template.rt:106:24
 mul-list : tie.Need-mul-list
 mul-list c = search needs
 
--- src/template.rt:106:24
 sub-list : tie.Need-sub-list
 sub-list c = search needs
 
--- src/template.rt:106:24
 part-list-start : tie.Need-part-list-start
 part-list-start c = search needs
 
--- src/template.rt:106:24
 part-list-end : tie.Need-part-list-end
 part-list-end c = search needs
 
--- src/template.rt:106:9
 list-requires : tie.Need-list-requires
 list-requires c κs = search needs
 
--- src/template.rt:108:9
 not-put-requires-2 : tie.Need-not-put-requires-2
 not-put-requires-2 c κs = search needs
 
--- src/template.rt:108:9
 same-length : tie.Need-same-length
 same-length c = search needs
 
--- src/template.rt:108:9
 returns-2 : tie.Need-returns-2
 returns-2 c = not-list _ _ _ _ _ _ _ (c .not-put2 .ensures) (c .before .before .before .before .before .list .ensures .result) (not-true _ (c .before .if2 .taken))
 
--- src/template.rt:110:12
 add-fields : tie.Need-add-fields
 add-fields c = search needs
 
--- src/template.rt:110:5
 mul-fields : tie.Need-mul-fields
 mul-fields c = search needs
 
--- src/template.rt:110:5
 slice-write-fields : tie.Need-slice-write-fields
 slice-write-fields c = search needs
 
--- src/template.rt:111:12
 add-fields-2 : tie.Need-add-fields-2
 add-fields-2 c = search needs
 
--- src/template.rt:111:5
 mul-fields-2 : tie.Need-mul-fields-2
 mul-fields-2 c = search needs
 
--- src/template.rt:111:5
 slice-write-fields-2 : tie.Need-slice-write-fields-2
 slice-write-fields-2 c = simp length-set (omega arith)
 
--- src/template.rt:115:16
 add-t12 : tie.Need-add-t12
 add-t12 c = search needs
 
--- src/template.rt:97:1
 same-length-2 : tie.Need-same-length-2
 same-length-2 c = search needs
 
--- src/template.rt:97:1
 returns-3 : tie.Need-returns-3
 returns-3 c = one-list _ _ _ _ _ _ (c .before .before .before .before .before .before .before .before .before .pre) (c .before .before .before .before .before .before .if1 .left) (c .before .before .before .before .list .ensures) (not-false _ (c .if2 .left))
 

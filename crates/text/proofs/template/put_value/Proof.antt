@@ -7,101 +7,78 @@ use Rattle.text.specs.Laws.Reading.{no-value}
 use Rattle.text.proofs.template.put_value.Statement.{statement}
 use Rattle.text.proofs.template.put_value.Tie as tie
 
--- src/template.rt:125:26
 number-requires : tie.Need-number-requires
 number-requires c κs = search needs
 
--- src/template.rt:125:15
 put-number-requires : tie.Need-put-number-requires
 put-number-requires c κs = search needs
 
--- src/template.rt:126:26
 hex16-requires : tie.Need-hex16-requires
 hex16-requires c κs = search needs
 
--- src/template.rt:126:15
 put-number-requires-2 : tie.Need-put-number-requires-2
 put-number-requires-2 c κs = search needs
 
--- src/template.rt:127:26
 bit-requires : tie.Need-bit-requires
 bit-requires c κs = search needs
 
--- src/template.rt:127:15
 put-number-requires-3 : tie.Need-put-number-requires-3
 put-number-requires-3 c κs = search needs
 
--- src/template.rt:128:15
 put-list-requires : tie.Need-put-list-requires
 put-list-requires c κs = search needs
 
--- src/template.rt:129:15
 put-list-requires-2 : tie.Need-put-list-requires-2
 put-list-requires-2 c κs = search needs
 
--- src/template.rt:130:15
 put-list-requires-3 : tie.Need-put-list-requires-3
 put-list-requires-3 c κs = search needs
 
--- src/template.rt:131:14
 not-put-requires : tie.Need-not-put-requires
 not-put-requires c κs = search needs
 
--- src/template.rt:120:1
 same-length : tie.Need-same-length
 same-length c = search needs
 
--- src/template.rt:120:1
 returns : tie.Need-returns
 unfolding valueOf
 returns c = simp (c .before .before .before .before .before .match .keys1, ← c .before .before .before .before .number .ensures) (c .before .before .put-number .ensures)
 
--- src/template.rt:120:1
 same-length-2 : tie.Need-same-length-2
 same-length-2 c = search needs
 
--- src/template.rt:120:1
 returns-2 : tie.Need-returns-2
 unfolding valueOf
 returns-2 c = simp (c .before .before .before .before .before .match .keys2, ← c .before .before .before .before .hex16 .ensures) (c .before .before .put-number2 .ensures)
 
--- src/template.rt:120:1
 same-length-3 : tie.Need-same-length-3
 same-length-3 c = search needs
 
--- src/template.rt:120:1
 returns-3 : tie.Need-returns-3
 unfolding valueOf
 returns-3 c = simp (c .before .before .before .before .before .match .keys3, ← c .before .before .before .before .bit .ensures) (c .before .before .put-number3 .ensures)
 
--- src/template.rt:120:1
 same-length-4 : tie.Need-same-length-4
 same-length-4 c = search needs
 
--- src/template.rt:120:1
 returns-4 : tie.Need-returns-4
 unfolding valueOf listBy
 returns-4 c = let key = c .before .before .before .before .match .keys4 in simp key (simp key at (c .before .before .put-list .ensures))
 
--- src/template.rt:120:1
 same-length-5 : tie.Need-same-length-5
 same-length-5 c = search needs
 
--- src/template.rt:120:1
 returns-5 : tie.Need-returns-5
 unfolding valueOf listBy
 returns-5 c = let key = c .before .before .before .before .match .keys5 in simp key (simp key at (c .before .before .put-list2 .ensures))
 
--- src/template.rt:120:1
 same-length-6 : tie.Need-same-length-6
 same-length-6 c = search needs
 
--- src/template.rt:120:1
 returns-6 : tie.Need-returns-6
 unfolding valueOf listBy
 returns-6 c = let key = c .before .before .before .before .match .keys6 in simp key (simp key at (c .before .before .put-list3 .ensures))
 
--- src/template.rt:120:1
 returns-7 : tie.Need-returns-7
 unfolding valueOf
 returns-7 c =
