@@ -56,7 +56,7 @@ getD-snoc P l a d i n e h before last = go (eqb i n) refl
         rw (List·getD-append l (a ∷ []) d i (omega arith)) (before less)
 
 -- a number more
-module _ (fields : List ℕ) (n l : ℕ) (vs : List Value) (h : Held fields n l vs) (x : ℕ) (room : n < 4) (inside : n < length fields) where
+module _ {fields : List ℕ} {n l : ℕ} {vs : List Value} (h : Held fields n l vs) (x : ℕ) (room : n < 4) (inside : n < length fields) where
   numbers-now : numbersIn (vs ++ number x ∷ []) ≡ numbersIn vs ++ x ∷ []
   unfolding numbersIn
   numbers-now = numbers-append vs (number x ∷ [])
@@ -92,7 +92,7 @@ pub record ListPut (before after : List ℕ) (l : ℕ) (members : List ℕ) : Ty
   pub others : (k : ℕ) → k ≢ 4 + l → k ≢ 8 + l → k < 12 + l * 31 → getD after k 0 ≡ getD before k 0
 
 -- a list more
-module _ (before after : List ℕ) (n l : ℕ) (vs : List Value) (h : Held before n l vs) (members : List ℕ) (room : l < 4)
+module _ {before after : List ℕ} {n l : ℕ} {vs : List Value} (h : Held before n l vs) {members : List ℕ} (room : l < 4)
     (p : ListPut before after l members) where
   numbers-then : numbersIn (vs ++ list members ∷ []) ≡ numbersIn vs
   unfolding numbersIn
@@ -186,9 +186,9 @@ module _ (f : List ℕ) (l k : ℕ) (members : List ℕ) (p : List ℕ) (room : 
 -- ---- for readers of the words
 
 -- the members of a list that is kept whole, as the part of the words where they stand
-pub members-held : (fields : List ℕ) (n l : ℕ) (vs : List Value) → Held fields n l vs → 136 ≤ length fields → (i : ℕ) → i < l → length (listAt i vs) ≤ 31
+pub members-held : {fields : List ℕ} {n l : ℕ} {vs : List Value} → Held fields n l vs → 136 ≤ length fields → (i : ℕ) → i < l → length (listAt i vs) ≤ 31
     → take (length (listAt i vs)) (drop (12 + i * 31) fields) ≡ listAt i vs
-members-held fields n l vs h wide i g few =
+members-held {fields} {n} {l} {vs} h wide i g few =
     ext-getD 0 _ _ size
     (λ j k.
     let m : j < length (listAt i vs) = omega (arith, size) in

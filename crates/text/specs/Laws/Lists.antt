@@ -109,8 +109,8 @@ pub record SoFar (s before : List ℕ) (r : Listed) (at : ℕ) (out : List ℕ) 
   pub result : r ≡ listedAs (some done)
   pub members : out ≡ stored before done
 
-pub q-start : (s out : List ℕ) (r : Listed) → r ≡ listedAs (some []) → SoFar s out r 0 out
-q-start s out r e =
+pub q-start : {s out : List ℕ} {r : Listed} → r ≡ listedAs (some []) → SoFar s out r 0 out
+q-start {s} e =
     record {
       done = [];
       few = omega arith;
@@ -128,7 +128,7 @@ pub so-count : {s before : List ℕ} {r : Listed} {at : ℕ} {out : List ℕ} (f
 so-count f = listed-count (f .done) (f .result)
 
 -- the piece from `at` to `e`
-module _ (s before : List ℕ) (r : Listed) (at : ℕ) (out : List ℕ) (e : ℕ) (f : SoFar s before r at out)
+module _ {s before : List ℕ} {r : Listed} {at : ℕ} {out : List ℕ} (f : SoFar s before r at out) (e : ℕ)
     (here : at ≤ length s) (found : e ≡ at + until comma (drop at s)) (within : e ≤ length s) where
   pub q-bad : numberOf (take (e - at) (drop at s)) ≡ none → listQ s ≡ none
   unfolding numbersOf
@@ -138,8 +138,8 @@ module _ (s before : List ℕ) (r : Listed) (at : ℕ) (out : List ℕ) (e : ℕ
       go true h = rw (piece-more comma s at e here found ([] ∷ []) (ltb-true _ _ h), v) (front-none _ _)
       go false h = rw (piece-last comma s at e here found (omega (arith, ltb-false e (length s) h)), v) (front-none _ _)
 
-  module _ (n : ℕ) (v : numberOf (take (e - at) (drop at s)) ≡ some n) (q : Listed) (pushed : q ≡ listedAs (some (f .done ++ n ∷ [])))
-      (out′ : List ℕ) (put : out′ ≡ set out (r .count) n) where
+  module _ {n : ℕ} (v : numberOf (take (e - at) (drop at s)) ≡ some n) {q : Listed} (pushed : q ≡ listedAs (some (f .done ++ n ∷ [])))
+      {out′ : List ℕ} (put : out′ ≡ set out (r .count) n) where
     members-more : out′ ≡ stored before (f .done ++ n ∷ [])
     members-more = put ∙ rw (so-count f, f .members) (stored-snoc before (f .done) n)
 
@@ -161,16 +161,16 @@ module _ (s before : List ℕ) (r : Listed) (at : ℕ) (out : List ℕ) (e : ℕ
           members = λ l e. let same : f .done ++ n ∷ [] ≡ l = cc in members-more ∙ rw same;
         }
 
-pub none-read : (o : Option (List ℕ)) (r : Listed) (before after : List ℕ) → o ≡ none → r ≡ listedAs none → ListRead o r before after
-none-read o r before after e h =
+pub none-read : {o : Option (List ℕ)} {r : Listed} {before after : List ℕ} → o ≡ none → r ≡ listedAs none → ListRead o r before after
+none-read e h =
     record {
       result = h ∙ rw e;
       members = λ l k. let z : _≡_ {A = ℕ} 0 1 = cc in absurd (omega arith);
     }
 
 -- no member leaves the lent words as they were
-pub empty-read : (o : Option (List ℕ)) (r : Listed) (out : List ℕ) → o ≡ some [] → r ≡ listedAs (some []) → ListRead o r out out
-empty-read o r out e h =
+pub empty-read : {o : Option (List ℕ)} {r : Listed} {out : List ℕ} → o ≡ some [] → r ≡ listedAs (some []) → ListRead o r out out
+empty-read e h =
     record {
       result = h ∙ rw e;
       members = λ l k. let same : _≡_ {A = List ℕ} [] l = cc in rw (← same) (unfold stored in refl);
@@ -195,7 +195,7 @@ pub listed-good : (o : Option (List ℕ)) {r : Listed} → r ≡ listedAs o → 
 listed-good none e h = absurd (true≢false (sym h ∙ unfold listedAs in ap (λ (x : Listed). x .ok) e))
 listed-good (some l) e h = (l, refl)
 
-module _ (r : Listed) (before after : List ℕ) where
+module _ {r : Listed} {before after : List ℕ} where
   pub only-bad : (o : Option (List ℕ)) → ListRead o r before after → r .ok ≡ false → ListRead (onlyRising o) r before after
   unfolding onlyRising
   only-bad none f e = f
@@ -221,10 +221,10 @@ pub c-number : (v : List ℕ) (o : Option ℕ) → isDash v ≡ false → number
 unfolding listC
 c-number v o e h = simp (e, h)
 
-pub one-read : (v : List ℕ) (n : ℕ) (r : Listed) (before after : List ℕ) → isDash v ≡ false → numberOf v ≡ some n
+pub one-read : (v : List ℕ) {n : ℕ} {r : Listed} {before after : List ℕ} → isDash v ≡ false → numberOf v ≡ some n
     → r ≡ listedAs (some (n ∷ [])) → after ≡ set before 0 n → ListRead (listC v) r before after
 unfolding oneMember
-one-read v n r before after e h k p =
+one-read v {n} {r} {before} e h k p =
     let one : listC v ≡ some (n ∷ []) = c-number v (some n) e h in
     record {
       result = k ∙ rw one;

@@ -59,7 +59,7 @@ module _ (o : Option ℕ) (n l : ℕ) where
         reads = unfold aNumber in ap aNumber e;
         numbers-read = refl;
         lists-read = omega arith;
-        holds = λ vs k. held-number fields n l vs k x h g;
+        holds = λ vs k. held-number k x h g;
       }
 
 module _ (o : Option (List ℕ)) (n l : ℕ) where
@@ -90,7 +90,7 @@ module _ (o : Option (List ℕ)) (n l : ℕ) where
         reads = unfold aList in ap aList (found .1);
         numbers-read = omega arith;
         lists-read = refl;
-        holds = λ vs v. held-list fields _ n l vs v members h put;
+        holds = λ vs v. held-list v h put;
       }
 
 -- ---- a line read on
@@ -146,7 +146,7 @@ pub record Reading (line template : List ℕ) (from numbers lists : ℕ) (before
   pub lists-read : l + listLetters (drop i template) ≡ lists + listLetters template
   pub holds : (vs : List Value) → Held before numbers lists vs → Held fields n l (vs ++ values)
 
-module _ (line template : List ℕ) (from numbers lists : ℕ) (before : List ℕ) where
+module _ {line template : List ℕ} {from numbers lists : ℕ} {before : List ℕ} where
   pub reading-starts : from ≤ length line → Reading line template from numbers lists before 0 from numbers lists before
   reading-starts h =
       record {
@@ -159,16 +159,16 @@ module _ (line template : List ℕ) (from numbers lists : ℕ) (before : List �
       }
 
   -- the line is refused
-  pub refused-on : (p : Progress) (after : List ℕ) → p .ok ≡ false
+  pub refused-on : {p : Progress} {after : List ℕ} → p .ok ≡ false
       → (Room numbers lists template → (rest : List ℕ) → valuesOf (template ++ rest) (drop from line) ≡ none)
       → ReadOn line template from numbers lists p before after
-  refused-on p after e f =
+  refused-on e f =
       record {
         refused = λ _. f;
         read = λ h. absurd (true≢false (sym h ∙ e));
       }
 
-  module _ (i at n l : ℕ) (fields : List ℕ) (r : Reading line template from numbers lists before i at n l fields) where
+  module _ {i at n l : ℕ} {fields : List ℕ} (r : Reading line template from numbers lists before i at n l fields) where
     -- the end of the template
     pub reading-ends : length template ≤ i
         → ReadOn line template from numbers lists (record { ok = true; at = at; numbers = n; lists = l }) before fields
@@ -228,7 +228,7 @@ module _ (line template : List ℕ) (from numbers lists : ℕ) (before : List �
             let d : drop e line ≡ drop (until space (drop at line)) (drop at line) = rw (drop-drop, ← found) in
             reads-next rest ∙ simp letter (rw (u, d))
 
-        module _ (p : Put) (after : List ℕ) (q : PutAs (numberLetter t) (listLetter t) value n l p fields after) where
+        module _ {p : Put} {after : List ℕ} (q : PutAs (numberLetter t) (listLetter t) value n l p fields after) where
           pub letter-bad : p .ok ≡ false → Room numbers lists template → (rest : List ℕ) → valuesOf (template ++ rest) (drop from line) ≡ none
           letter-bad b room rest =
               let a = ap numberLetters (step template i h) in
@@ -263,7 +263,7 @@ unfolding valuesOf atEnd
 end-early line at h = rw (step line at h)
 
 -- a template read on to the end of the line
-module _ (line template : List ℕ) (from numbers lists : ℕ) (p : Progress) (before after : List ℕ)
+module _ {line template : List ℕ} {from numbers lists : ℕ} {p : Progress} {before after : List ℕ}
     (r : ReadOn line template from numbers lists p before after) where
   whole-template : (o : Option (List Value)) → valuesOf (template ++ []) (drop from line) ≡ o → valuesOf template (drop from line) ≡ o
   whole-template o e = rw (append-nil template) at e
@@ -281,7 +281,7 @@ module _ (line template : List ℕ) (from numbers lists : ℕ) (p : Progress) (b
       whole-template (some (r .read e .values)) (r .read e .reads [] ∙ rw (end-over line (p .at) h) (ap some (append-nil (r .read e .values))))
 
 -- what a line's last two parts say: read by the first part of a template, and by the rest of it to the end
-module _ (line first second : List ℕ) (p q : Progress) (before between after : List ℕ) (b : Begins line first 0 0 0 p before between)
+module _ {line first second : List ℕ} {p q : Progress} {before between after : List ℕ} (b : Begins line first 0 0 0 p before between)
     (r : ReadOn line second (p .at) (p .numbers) (p .lists) q between after) where
   parts-bad : valuesOf second (drop (p .at) line) ≡ none → valuesOf (first ++ second) line ≡ none
   unfolding inFront
@@ -294,7 +294,7 @@ module _ (line first second : List ℕ) (p q : Progress) (before between after :
         for-numbers = omega (arith, l .0, b .numbers-read, room .for-numbers);
         for-lists = omega (arith, l .1, b .lists-read, room .for-lists);
       } in
-      parts-bad (end-refused line second (p .at) (p .numbers) (p .lists) q between after r e left)
+      parts-bad (end-refused r e left)
 
   parts-good : q .ok ≡ true → length line ≤ q .at → HasForm line (first ++ second) after
   parts-good e h =
@@ -304,7 +304,7 @@ module _ (line first second : List ℕ) (p q : Progress) (before between after :
       let m : listLetters (first ++ second) ≡ q .lists = omega (arith, l .1, b .lists-read, c .lists-read) in
       record {
         values = b .values ++ c .values;
-        reads = b .reads second ∙ ap (inFront (b .values)) (end-reached line second (p .at) (p .numbers) (p .lists) q between after r e h) ∙ front-some (b .values) (c .values);
+        reads = b .reads second ∙ ap (inFront (b .values)) (end-reached r e h) ∙ front-some (b .values) (c .values);
         held = rw (n, m) (c .holds (b .values) (b .holds [] (nothing-held before)));
       }
 
@@ -317,7 +317,7 @@ module _ (line first second : List ℕ) (p q : Progress) (before between after :
           let other = eqb-false (q .at) (length line) h in
           let early : q .at < length line = omega (arith, r .read e .within) in
           record {
-            refused = λ _ _. parts-bad (end-too-early line second (p .at) (p .numbers) (p .lists) q between after r e early);
+            refused = λ _ _. parts-bad (end-too-early r e early);
             read = λ k. absurd (true≢false (sym k));
           }
       go true true e h =
@@ -325,10 +325,10 @@ module _ (line first second : List ℕ) (p q : Progress) (before between after :
           record { refused = λ k. absurd (true≢false k); read = λ _. parts-good e (omega arith) }
 
 -- a line read by one template to its end
-pub whole-read : (line template : List ℕ) (p : Progress) (before after : List ℕ) → ReadOn line template 0 0 0 p before after
+pub whole-read : {line template : List ℕ} {p : Progress} {before after : List ℕ} → ReadOn line template 0 0 0 p before after
     → ReadAs line template (p .ok && eqb (p .at) (length line)) after
-whole-read line template p before after r =
-    parts-read line [] template (record { ok = true; at = 0; numbers = 0; lists = 0 }) p before before after
+whole-read {line} {template} {p} {before} {after} r =
+    parts-read {first = []} {p = record { ok = true; at = 0; numbers = 0; lists = 0 }} {before = before}
     record {
       values = [];
       reads = λ rest. sym (front-nil (valuesOf rest line));

@@ -19,7 +19,7 @@ empty-requires : tie.Need-empty-requires
 empty-requires c κs = search needs
 
 returns : tie.Need-returns
-returns c = empty-read _ _ _ (c-dash _ (sym (c .before .before .is-dash .ensures) ∙ c .before .if1 .taken)) (c .empty .ensures)
+returns c = empty-read (c-dash _ (sym (c .before .before .is-dash .ensures) ∙ c .before .if1 .taken)) (c .empty .ensures)
 
 number-requires : tie.Need-number-requires
 number-requires c κs = search needs
@@ -37,7 +37,7 @@ returns-2 : tie.Need-returns-2
 unfolding oneMember
 returns-2 c =
     let bad = sym (c .before .before .before .number .ensures) ∙ read-bad (c .before .enum-told .given .1) in
-    none-read _ _ _ _ (c-number _ none (sym (c .before .before .before .before .before .is-dash .ensures) ∙ c .before .before .before .before .if1 .left) bad) (c .no-list .ensures)
+    none-read (c-number _ none (sym (c .before .before .before .before .before .is-dash .ensures) ∙ c .before .before .before .before .if1 .left) bad) (c .no-list .ensures)
 
 store-requires : tie.Need-store-requires
 store-requires c κs = search needs
@@ -55,7 +55,7 @@ same-length c = search needs
 returns-3 : tie.Need-returns-3
 returns-3 c =
     let good = sym (c .before .before .before .before .before .before .before .before .before .number .ensures) ∙ read-of (c .before .before .before .before .before .before .before .n .given .1) in
-    one-read _ _ _ _ _ (sym (c .before .before .before .before .before .before .before .before .before .before .before .is-dash .ensures) ∙ c .before .before .before .before .before .before .before .before .before .before .if1 .left) good (c .push .ensures [] (c .before .empty2 .ensures)) (c .before .before .before .before .store .ensures)
+    one-read _ (sym (c .before .before .before .before .before .before .before .before .before .before .before .is-dash .ensures) ∙ c .before .before .before .before .before .before .before .before .before .before .if1 .left) good (c .push .ensures [] (c .before .empty2 .ensures)) (c .before .before .before .before .store .ensures)
 
 pub list-c-spec : {M : Type 1} → statement M
 list-c-spec =

@@ -13,7 +13,7 @@ empty-requires : tie.Need-empty-requires
 empty-requires c κs = search needs
 
 returns : tie.Need-returns
-returns c = empty-read _ _ _ (l-dash _ (sym (c .before .before .is-dash .ensures) ∙ c .before .if1 .taken)) (c .empty .ensures)
+returns c = empty-read (l-dash _ (sym (c .before .before .is-dash .ensures) ∙ c .before .if1 .taken)) (c .empty .ensures)
 
 list-q-requires : tie.Need-list-q-requires
 list-q-requires c κs = search needs
@@ -24,7 +24,7 @@ same-length c = search needs
 returns-2 : tie.Need-returns-2
 returns-2 c =
     let plain = l-list (c .before .before .before .before .before .before .before .before .before .before .args .s .now) (sym (c .before .before .before .before .before .before .before .is-dash .ensures) ∙ c .before .before .before .before .before .before .if1 .left) in
-    rw plain (only-bad _ _ _ _ (c .before .before .before .before .list-q .ensures) (not-true _ (c .if2 .taken)))
+    rw plain (only-bad _ (c .before .before .before .before .list-q .ensures) (not-true _ (c .if2 .taken)))
 
 no-list-requires : tie.Need-no-list-requires
 no-list-requires c κs = search needs
@@ -35,7 +35,7 @@ same-length-2 c = search needs
 returns-3 : tie.Need-returns-3
 returns-3 c =
     let plain = l-list (c .before .before .before .before .before .before .before .before .before .before .before .before .before .args .s .now) (sym (c .before .before .before .before .before .before .before .before .before .before .is-dash .ensures) ∙ c .before .before .before .before .before .before .before .before .before .if1 .left) in
-    none-read _ _ _ _ (plain ∙ only-falling _ _ _ _ (c .before .before .before .before .before .before .before .list-q .ensures) (not-true _ (c .before .if3 .taken))) (c .no-list .ensures)
+    none-read (plain ∙ only-falling _ (c .before .before .before .before .before .before .before .list-q .ensures) (not-true _ (c .before .if3 .taken))) (c .no-list .ensures)
 
 same-length-3 : tie.Need-same-length-3
 same-length-3 c = search needs
@@ -43,7 +43,7 @@ same-length-3 c = search needs
 returns-4 : tie.Need-returns-4
 returns-4 c =
     let plain = l-list (c .before .before .before .before .before .before .before .before .before .before .before .before .args .s .now) (sym (c .before .before .before .before .before .before .before .before .before .is-dash .ensures) ∙ c .before .before .before .before .before .before .before .before .if1 .left) in
-    rw plain (only-rising _ _ _ _ (c .before .before .before .before .before .before .list-q .ensures) (not-false _ (c .if3 .left)))
+    rw plain (only-rising _ (c .before .before .before .before .before .before .list-q .ensures) (not-false _ (c .if3 .left)))
 
 pub list-l-spec : {M : Type 1} → statement M
 list-l-spec =

@@ -19,7 +19,7 @@ empty-requires : tie.Need-empty-requires Inv-loop μ-loop
 empty-requires c κs = search needs
 
 loop-holds : tie.Need-loop-holds Inv-loop μ-loop
-loop-holds c = (omega arith, q-start _ _ _ (c .empty .ensures))
+loop-holds c = (omega arith, q-start (c .empty .ensures))
 
 find-requires : tie.Need-find-requires Inv-loop μ-loop
 find-requires c κs = omega arith
@@ -50,11 +50,10 @@ same-length c = let f = c .before .before .before .before .before .before .loop 
 
 returns : tie.Need-returns Inv-loop μ-loop
 returns c =
-    let s = c .before .before .before .before .before .before .before .before .before .before .args .s .now in
     let loop = c .before .before .before .before .before .before .loop in
     let found = c .before .before .before .before .before .find in
     let bad = sym (c .before .before .before .number .ensures) ∙ read-bad (c .before .enum-told .given .1) in
-    none-read _ _ _ _ (q-bad s _ (loop .l) (loop .at) _ (found .result) (loop .inv .1) (omega arith) (found .ensures .0) (omega arith) bad) (c .no-list .ensures)
+    none-read (q-bad (loop .inv .1) (found .result) (omega arith) (found .ensures .0) (omega arith) bad) (c .no-list .ensures)
 
 store-requires : tie.Need-store-requires Inv-loop μ-loop
 store-requires c κs = search needs
@@ -67,11 +66,10 @@ same-length-2 c = let f = c .before .before .before .before .before .before .bef
 
 returns-2 : tie.Need-returns-2 Inv-loop μ-loop
 returns-2 c =
-    let s = c .before .before .before .before .before .before .before .before .before .before .before .before .before .before .before .before .args .s .now in
     let loop = c .before .before .before .before .before .before .before .before .before .before .before .before .loop in
     let found = c .before .before .before .before .before .before .before .before .before .before .before .find in
     let good = sym (c .before .before .before .before .before .before .before .before .before .number .ensures) ∙ read-of (c .before .before .before .before .before .before .before .n .given .1) in
-    q-last s _ (loop .l) (loop .at) _ (found .result) (loop .inv .1) (omega arith) (found .ensures .0) (omega arith) _ good _ (c .before .push .ensures _ (loop .inv .1 .result)) _ (c .before .before .before .before .store .ensures) (c .if1 .taken)
+    q-last (loop .inv .1) (found .result) (omega arith) (found .ensures .0) (omega arith) good (c .before .push .ensures _ (loop .inv .1 .result)) (c .before .before .before .before .store .ensures) (c .if1 .taken)
 
 add-at : tie.Need-add-at Inv-loop μ-loop
 add-at c = omega arith
@@ -81,11 +79,10 @@ loop-less c = omega arith
 
 loop-again : tie.Need-loop-again Inv-loop μ-loop
 loop-again c =
-    let s = c .before .before .before .before .before .before .before .before .before .before .before .before .before .before .before .before .args .s .now in
     let loop = c .before .before .before .before .before .before .before .before .before .before .before .before .loop in
     let found = c .before .before .before .before .before .before .before .before .before .before .before .find in
     let good = sym (c .before .before .before .before .before .before .before .before .before .number .ensures) ∙ read-of (c .before .before .before .before .before .before .before .n .given .1) in
-    (omega arith, q-more s _ (loop .l) (loop .at) _ (found .result) (loop .inv .1) (omega arith) (found .ensures .0) (omega arith) _ good _ (c .before .push .ensures _ (loop .inv .1 .result)) _ (c .before .before .before .before .store .ensures) (omega arith))
+    (omega arith, q-more (loop .inv .1) (found .result) (omega arith) (found .ensures .0) (omega arith) good (c .before .push .ensures _ (loop .inv .1 .result)) (c .before .before .before .before .store .ensures) (omega arith))
 
 pub list-q-spec : {M : Type 1} → statement M
 list-q-spec =

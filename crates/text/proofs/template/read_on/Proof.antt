@@ -17,7 +17,7 @@ abbrev μ-loop : tie.MeasureT-loop
 μ-loop line template from numbers lists fields₀ at₀ n₀ l₀ i₀ fields at n l i = length template - i
 
 loop-holds : tie.Need-loop-holds Inv-loop μ-loop
-loop-holds c = (omega arith, refl, reading-starts _ _ _ _ _ _ (omega arith))
+loop-holds c = (omega arith, refl, reading-starts (omega arith))
 
 shared-slice-read-t : tie.Need-shared-slice-read-t Inv-loop μ-loop
 shared-slice-read-t c = omega arith
@@ -36,11 +36,10 @@ same-length c = c .before .before .before .before .before .before .loop .inv .1
 
 returns : tie.Need-returns Inv-loop μ-loop
 returns c =
-    let a = c .before .before .before .before .before .before .before .before .before .before .args in
     let loop = c .before .before .before .before .before .before .loop in
     let plain = sym (c .before .before .before .is-letter .ensures) ∙ not-true _ (c .before .before .if1 .taken) in
-    refused-on _ _ _ _ _ _ _ _ (c .refused .ensures)
-    (λ _. plain-over (a .line .now) (a .template .now) (a .from) (a .numbers) (a .lists) (a .fields .now) (loop .i) (loop .at) (loop .n) (loop .l) (loop .fields) (loop .inv .2) (omega arith) plain (c .before .if2 .taken))
+    refused-on (c .refused .ensures)
+    (λ _. plain-over (loop .inv .2) (omega arith) plain (c .before .if2 .taken))
 
 shared-slice-read-if3 : tie.Need-shared-slice-read-if3 Inv-loop μ-loop
 shared-slice-read-if3 c = let w = c .before .before .before .before .before .before .loop .inv .2 .within in omega arith
@@ -53,12 +52,11 @@ same-length-2 c = c .before .before .before .before .before .before .before .bef
 
 returns-2 : tie.Need-returns-2 Inv-loop μ-loop
 returns-2 c =
-    let a = c .before .before .before .before .before .before .before .before .before .before .before .before .args in
     let loop = c .before .before .before .before .before .before .before .before .loop in
     let w = loop .inv .2 .within in
     let plain = sym (c .before .before .before .before .before .is-letter .ensures) ∙ not-true _ (c .before .before .before .before .if1 .taken) in
-    refused-on _ _ _ _ _ _ _ _ (c .refused2 .ensures)
-    (λ _. plain-other (a .line .now) (a .template .now) (a .from) (a .numbers) (a .lists) (a .fields .now) (loop .i) (loop .at) (loop .n) (loop .l) (loop .fields) (loop .inv .2) (omega arith) plain (omega arith) (c .before .if3 .taken))
+    refused-on (c .refused2 .ensures)
+    (λ _. plain-other (loop .inv .2) (omega arith) plain (omega arith) (c .before .if3 .taken))
 
 add-at : tie.Need-add-at Inv-loop μ-loop
 add-at c = let w = c .before .before .before .before .before .before .before .loop .inv .2 .within in omega arith
@@ -68,11 +66,10 @@ loop-less c = omega arith
 
 loop-again : tie.Need-loop-again Inv-loop μ-loop
 loop-again c =
-    let a = c .before .before .before .before .before .before .before .before .before .before .before .args in
     let loop = c .before .before .before .before .before .before .before .loop in
     let w = loop .inv .2 .within in
     let plain = sym (c .before .before .before .before .is-letter .ensures) ∙ not-true _ (c .before .before .before .if1 .taken) in
-    (omega arith, loop .inv .1, plain-same (a .line .now) (a .template .now) (a .from) (a .numbers) (a .lists) (a .fields .now) (loop .i) (loop .at) (loop .n) (loop .l) (loop .fields) (loop .inv .2) (omega arith) plain (omega arith) (c .if3 .left))
+    (omega arith, loop .inv .1, plain-same (loop .inv .2) (omega arith) plain (omega arith) (c .if3 .left))
 
 find-requires : tie.Need-find-requires Inv-loop μ-loop
 find-requires c κs = c .before .before .before .before .loop .inv .2 .within
@@ -97,29 +94,27 @@ same-length-3 c = omega arith
 
 returns-3 : tie.Need-returns-3 Inv-loop μ-loop
 returns-3 c =
-    let a = c .before .before .before .before .before .before .before .before .before .before .before .before .before .before .before .before .before .args in
     let loop = c .before .before .before .before .before .before .before .before .before .before .before .before .before .loop in
     let found = c .before .before .before .before .before .before .before .before .find in
     let letter = sym (c .before .before .before .before .before .before .before .before .before .before .is-letter .ensures) ∙ not-false _ (c .before .before .before .before .before .before .before .before .before .if1 .left) in
-    refused-on _ _ _ _ _ _ _ _ (c .refused3 .ensures)
-    (letter-bad (a .line .now) (a .template .now) (a .from) (a .numbers) (a .lists) (a .fields .now) (loop .i) (loop .at) (loop .n) (loop .l) (loop .fields) (loop .inv .2) (omega arith) letter (found .result) (found .ensures .0) (omega arith) _ _ (c .before .before .before .before .before .put-value .ensures) (not-true _ (c .before .if4 .taken)))
+    refused-on (c .refused3 .ensures)
+    (letter-bad (loop .inv .2) (omega arith) letter (found .result) (found .ensures .0) (omega arith) (c .before .before .before .before .before .put-value .ensures) (not-true _ (c .before .if4 .taken)))
 
 loop-less-2 : tie.Need-loop-less-2 Inv-loop μ-loop
 loop-less-2 c = omega arith
 
 loop-again-2 : tie.Need-loop-again-2 Inv-loop μ-loop
 loop-again-2 c =
-    let a = c .before .before .before .before .before .before .before .before .before .before .before .before .before .before .before .before .args in
     let loop = c .before .before .before .before .before .before .before .before .before .before .before .before .loop in
     let found = c .before .before .before .before .before .before .before .find in
     let letter = sym (c .before .before .before .before .before .before .before .before .before .is-letter .ensures) ∙ not-false _ (c .before .before .before .before .before .before .before .before .if1 .left) in
-    (omega arith, omega arith, letter-good (a .line .now) (a .template .now) (a .from) (a .numbers) (a .lists) (a .fields .now) (loop .i) (loop .at) (loop .n) (loop .l) (loop .fields) (loop .inv .2) (omega arith) letter (found .result) (found .ensures .0) (omega arith) _ _ (c .before .before .before .before .put-value .ensures) (not-false _ (c .if4 .left)))
+    (omega arith, omega arith, letter-good (loop .inv .2) (omega arith) letter (found .result) (found .ensures .0) (omega arith) (c .before .before .before .before .put-value .ensures) (not-false _ (c .if4 .left)))
 
 same-length-4 : tie.Need-same-length-4 Inv-loop μ-loop
 same-length-4 c = c .before .loop .inv .1
 
 returns-4 : tie.Need-returns-4 Inv-loop μ-loop
-returns-4 c = reading-ends _ _ _ _ _ _ _ _ _ _ _ (c .before .loop .inv .2) (omega arith)
+returns-4 c = reading-ends (c .before .loop .inv .2) (omega arith)
 
 pub read-on-spec : {M : Type 1} → statement M
 read-on-spec =
