@@ -1,8 +1,10 @@
 -- The text of a job, in the order of document 01: bytes and lines, numbers, lists, and lines by their template.
--- All four are definitions, to be believed.
+-- These are definitions, to be believed.
 pub mod Bytes
 pub mod Number
 pub mod List
 pub mod Template
+-- How the code's lent words hold the values of a line: definitions that the contracts cite.
+pub mod Fields
 -- Laws of these definitions.
 pub mod Laws

@@ -1,2 +1,5 @@
-// The text of a job: bytes, numbers, lists and lines by their template. So far this crate holds the definitions (specs/).
-pub fn nothing() {}
+// The text of a job: bytes cut at separators, numbers, lists, and lines by their template.
+pub mod lists;
+pub mod numbers;
+pub mod pieces;
+pub mod template;
