@@ -22,7 +22,7 @@ use Rattle.job.specs.Laws.Lists.{below-more}
 use Rattle.frames.specs.Forward.{imageSum, transformed, State, Setting, settingOf, run, start}
 use Rattle.draws.specs.Draws.{Lent}
 use Rattle.draws.specs.Settle.{SettledLine, Settled, settle, settledList}
-use Rattle.draws.specs.Execute.{Ended, execute}
+use Rattle.draws.specs.Execute.{States, starts, Ended, execute}
 use Rattle.draws.specs.Theorems.{executed-spent, executed-ended}
 use Rattle.backward.specs.Walk.{Walk, walkBack, walk}
 use Rattle.backward.specs.Shot.{restricted, within}
@@ -79,16 +79,16 @@ carried-any-shot c d q ls S = same-carried c d q ls _ _ refl
 
 -- ---- demand 3
 
--- Take any job that passes the checks, with lines of any kind, noise included, in any order. Run a shot of it to its end, from a cleared frame and
--- deltas, whatever draw words, base and noiseless bits are lent. Then the job settles, and for every set of its recorded outcomes the sum of the
--- set's deltas in that shot equals modulo 2 the count that the walk of the settled list makes for that set and shot.
-pub demand-3 : (job : List ℕ) → checkJob job .number ≡ 0 → (lent : Lent) (main : List ℕ) (shot : ℕ) (s : State)
-    → execute (settingOf (jobOf job .header) shot) lent (jobOf job .instructions) main start ≡ Ended.ended s
+-- Take any job that passes the checks, with lines of any kind, noise included, in any order. Run it to its end, from cleared frames and deltas,
+-- whatever draw words, base and noiseless bits are lent. Then the job settles, and for every set of its recorded outcomes and every one of its shots
+-- the sum of the set's deltas in that shot equals modulo 2 the count that the walk of the settled list makes for that set and shot.
+pub demand-3 : (job : List ℕ) → checkJob job .number ≡ 0 → (lent : Lent) (main : List ℕ) (states : States)
+    → execute (jobOf job .header) lent (jobOf job .instructions) main starts ≡ Ended.ended states
     → (ls : List SettledLine)
     × (settle lent main (jobOf job .instructions) ≡ Settled.settled ls)
-    × ((set : List ℕ) → isRising set ≡ true → allBelow (recordedIn (jobOf job .instructions)) set ≡ true
-    → sumOver set (s .deltas) ≡ odd (walk (settingOf (jobOf job .header) shot) (settledList ls) (members set) .count))
-demand-3 job accepted lent main shot s ended = settles (settle lent main (jobOf job .instructions)) refl
+    × ((set : List ℕ) → isRising set ≡ true → allBelow (recordedIn (jobOf job .instructions)) set ≡ true → (shot : ℕ)
+    → sumOver set (states shot .deltas) ≡ odd (walk (settingOf (jobOf job .header) shot) (settledList ls) (members set) .count))
+demand-3 job accepted lent main states ended = settles (settle lent main (jobOf job .instructions)) refl
   where
     h : Header
     h = jobOf job .header
@@ -99,17 +99,17 @@ demand-3 job accepted lent main shot s ended = settles (settle lent main (jobOf 
     settles : (o : Settled) → settle lent main (jobOf job .instructions) ≡ o
         → (ls : List SettledLine)
         × (settle lent main (jobOf job .instructions) ≡ Settled.settled ls)
-        × ((set : List ℕ) → isRising set ≡ true → allBelow (recordedIn (jobOf job .instructions)) set ≡ true
-        → sumOver set (s .deltas) ≡ odd (walk (settingOf h shot) (settledList ls) (members set) .count))
-    settles (Settled.spentAt k) e = absurd (ended-apart k s (sym (executed-spent (settingOf h shot) lent (jobOf job .instructions) main start k e) ∙ ended))
+        × ((set : List ℕ) → isRising set ≡ true → allBelow (recordedIn (jobOf job .instructions)) set ≡ true → (shot : ℕ)
+        → sumOver set (states shot .deltas) ≡ odd (walk (settingOf h shot) (settledList ls) (members set) .count))
+    settles (Settled.spentAt k) e = absurd (ended-apart k states (sym (executed-spent h lent (jobOf job .instructions) main starts k e) ∙ ended))
     settles (Settled.settled ls) e = (
       ls,
       e,
-      λ set rising recorded.
-          let final : s ≡ run (settingOf h shot) (settledList ls) start =
-          ended-same s _ (sym ended ∙ executed-ended (settingOf h shot) lent (jobOf job .instructions) main start ls e) in
+      λ set rising recorded shot.
+          let final : states ≡ (λ s. run (settingOf h s) (settledList ls) start) =
+          ended-same states _ (sym ended ∙ executed-ended h lent (jobOf job .instructions) main starts ls e) in
           let below : allBelow (h .outcomes) set ≡ true = below-more _ _ set (sound .recorded) recorded in
-          ap (λ (t : State). sumOver set (t .deltas)) final
+          ap (λ (t : States). sumOver set (t shot .deltas)) final
           ∙ listed-deltas-count (settingOf h shot) (settledList ls)
           (settled-in-range h 0 lent main (jobOf job .instructions) ls (omega arith) (sound .instructions) e)
           set rising below,

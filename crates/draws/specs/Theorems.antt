@@ -17,14 +17,15 @@ use Rattle.text.specs.List.{isRising, commas, listText}
 use Rattle.text.specs.Template.{valueText, firstText, lineText}
 use Rattle.pauli.specs.Bits.{_⊕_, members, sumOver, bit}
 use Rattle.pauli.specs.Pauli.{Pauli, identity}
+use Rattle.job.specs.declared.Header.{Header}
 use Rattle.job.specs.Line.{SparsePauli, pauliOf, Line, WeightedPauli, Distribution, sizeOf, Noise, Instruction, Placed}
 use Rattle.job.specs.Float.{float, nought, one}
 use Rattle.job.specs.Checks.{allBelow, distinct}
-use Rattle.frames.specs.Forward.{Setting, State, run}
+use Rattle.frames.specs.Forward.{settingOf, run}
 use Rattle.draws.specs.Draws.{unitOf, falls, elementAt, selected, inserted, rising, depolarizingElement, noPauli, Choice, limitOf, bounded, totalFrom, runningFrom, runningSums, belowUnit, byWeight, chooseFrom, isSatisfied, faultOf, drawShot, Lent, Fault, Draws, alsoFault, thenShots, drawShots, drawLine, partOf, mainAfter}
 use Rattle.draws.specs.Settle.{SettledLine, injectText, injection, Step, noiseStep, stepOf, Settled, prefixed, settleThen, settle, settledList}
-use Rattle.draws.specs.Execute.{Ended, execute}
-use Rattle.draws.specs.Laws.Settling.{onSettled, execute-settle}
+use Rattle.draws.specs.Execute.{States, Ended, execute}
+use Rattle.draws.specs.Laws.Settling.{runAll, onSettled, execute-settle}
 use Rattle.draws.specs.Laws.Words as words
 use Rattle.draws.specs.Laws.Enough as enough
 use Rattle.draws.specs.Laws.Spent as spent
@@ -36,23 +37,23 @@ use Rattle.draws.specs.Laws.Within as within
 
 -- ---- settling and execution
 
--- Execution with the noise in place is, in every shot and from every state, what the settled list does: where settling gives `spentAt k` it ends
--- with `spentAt k`, and where settling gives the lines ls it ends in the state to which ls run. So draws are spent in the same cases, at the same
--- line.
-pub executed-settled : (c : Setting) (lent : Lent) (is : List Placed) (main : List ℕ) (s : State)
-    → execute c lent is main s ≡ onSettled c s (settle lent main is)
-executed-settled c lent is main s = execute-settle c lent is main s
+-- Execution with the noise in place is, from all states and in every shot, what the settled list does: where settling gives `spentAt k` it ends with
+-- `spentAt k`, and where settling gives the lines ls it ends in the states to which ls run. So draws are spent in the same cases, at the same line.
+pub executed-settled : (h : Header) (lent : Lent) (is : List Placed) (main : List ℕ) (states : States)
+    → execute h lent is main states ≡ onSettled h states (settle lent main is)
+executed-settled h lent is main states = execute-settle h lent is main states
 
 -- the two cases
-pub executed-spent : (c : Setting) (lent : Lent) (is : List Placed) (main : List ℕ) (s : State) (k : ℕ)
-    → settle lent main is ≡ Settled.spentAt k → execute c lent is main s ≡ Ended.spentAt k
+pub executed-spent : (h : Header) (lent : Lent) (is : List Placed) (main : List ℕ) (states : States) (k : ℕ)
+    → settle lent main is ≡ Settled.spentAt k → execute h lent is main states ≡ Ended.spentAt k
 unfolding onSettled
-executed-spent c lent is main s k e = execute-settle c lent is main s ∙ ap (onSettled c s) e
+executed-spent h lent is main states k e = execute-settle h lent is main states ∙ ap (onSettled h states) e
 
-pub executed-ended : (c : Setting) (lent : Lent) (is : List Placed) (main : List ℕ) (s : State) (ls : List SettledLine)
-    → settle lent main is ≡ Settled.settled ls → execute c lent is main s ≡ Ended.ended (run c (settledList ls) s)
-unfolding onSettled
-executed-ended c lent is main s ls e = execute-settle c lent is main s ∙ ap (onSettled c s) e
+pub executed-ended : (h : Header) (lent : Lent) (is : List Placed) (main : List ℕ) (states : States) (ls : List SettledLine)
+    → settle lent main is ≡ Settled.settled ls
+    → execute h lent is main states ≡ Ended.ended (λ s. run (settingOf h s) (settledList ls) (states s))
+unfolding onSettled runAll
+executed-ended h lent is main states ls e = execute-settle h lent is main states ∙ ap (onSettled h states) e
 
 -- ---- a noise line's words
 

@@ -1,4 +1,4 @@
--- Laws: how a shot ends, and that the lines to which the instructions of an accepted job settle are in range. Assumes nothing.
+-- Laws: how execution ends, and that the lines to which the instructions of an accepted job settle are in range. Assumes nothing.
 use mathlib.Core.Path.{_≡_, refl, sym, ap, subst, _∙_}
 use mathlib.Core.Bool.{cond, true, false}
 use mathlib.Core.List.{List, [], _∷_, _++_, map}
@@ -12,10 +12,9 @@ use Rattle.job.specs.Job.{recordedBy, recordedIn}
 use Rattle.job.specs.InRange.{InRange, AllInRange}
 use Rattle.job.specs.Sound.{LineSound, InstructionSound, InstructionsSound}
 use Rattle.job.specs.Laws.Recorded.{recorded-within}
-use Rattle.frames.specs.Forward.{State}
 use Rattle.draws.specs.Draws.{Lent, Fault}
 use Rattle.draws.specs.Settle.{SettledLine, injection, Step, stepOf, Settled, prefixed, settleThen, settle, settledList}
-use Rattle.draws.specs.Execute.{Ended}
+use Rattle.draws.specs.Execute.{States, Ended}
 use Rattle.draws.specs.Laws.Settling.{settledList-append}
 use Rattle.draws.specs.Laws.Within.{injected, Injections, noise-injects}
 
@@ -43,12 +42,12 @@ unfolding injection
 injected-in-range n m d [] = tt
 injected-in-range n m d (f ∷ fs) = (tt, injected-in-range n m d fs)
 
--- ---- how a shot ends
+-- ---- how execution ends
 
-pub ended-apart : (k : ℕ) (s : State) → Ended.spentAt k ≡ Ended.ended s → ⊥
-ended-apart k s e = let z : _≡_ {A = ℕ} 0 1 = cc in omega arith
+pub ended-apart : (k : ℕ) (states : States) → Ended.spentAt k ≡ Ended.ended states → ⊥
+ended-apart k states e = let z : _≡_ {A = ℕ} 0 1 = cc in omega arith
 
-pub ended-same : (s t : State) → Ended.ended s ≡ Ended.ended t → s ≡ t
+pub ended-same : (s t : States) → Ended.ended s ≡ Ended.ended t → s ≡ t
 ended-same s t e = cc
 
 -- ---- an instruction, and a job
