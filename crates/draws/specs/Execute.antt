@@ -57,7 +57,7 @@ onMain corr main (Executed.went states left) = Executed.went states (mainAfter c
 unfoldable pub executeOne : Header → Lent → List ℕ → Instruction → States → Executed
 executeOne h lent main (Instruction.line l) states = Executed.went (forwardAll h l states) main
 executeOne h lent main (Instruction.noise n) states =
-    onMain (n .correlation) main (injectNoise h lent n (partOf lent main (n .correlation)) states)
+    onMain (n .correlation) main (injectNoise h lent n (partOf lent (n .correlation) main) states)
 
 -- the states at the end of the job, or the line of the noise whose draws were spent
 pub data Ended : Type 0 where
@@ -71,4 +71,4 @@ executeThen k (Executed.went states main) later = later main states
 -- the instructions, with what is left of the main list
 unfoldable pub execute : Header → Lent → List Placed → List ℕ → States → Ended
 execute h lent [] main states = Ended.ended states
-execute h lent (i ∷ is) main states = executeThen (i .number) (executeOne h lent main (i .instruction) states) (execute h lent is)
+execute h lent (i ∷ is) main states = executeThen (i .line) (executeOne h lent main (i .instruction) states) (execute h lent is)

@@ -12,16 +12,19 @@ use Rattle.draws.specs.Draws.{Lent}
 use Rattle.draws.specs.Execute.{States, starts, Ended, execute}
 use Rattle.rows.specs.Words.{wordsPerRow, bitIn, pack}
 
--- what a caller lends: the words of the frames' X and Z parts and of the deltas, as they are before the call; the noiseless bits; the two lists of
--- draws and the base of the second
-pub record Memory : Type 0 where
-  pub x : List ℕ
-  pub z : List ℕ
-  pub deltas : List ℕ
+-- what draws are taken from: the words of the noiseless bits, the two lists of draws and the base of the second
+pub record Source : Type 0 where
   pub noiseless : List ℕ
   pub main : List ℕ
   pub second : List ℕ
   pub base : ℕ
+
+-- what a caller lends: the words of the frames' X and Z parts and of the deltas, as they are before the call, and what draws are taken from
+pub record Memory : Type 0 where
+  pub x : List ℕ
+  pub z : List ℕ
+  pub deltas : List ℕ
+  pub source : Source
 
 -- the answer, and the words after the call
 pub record RunReply : Type 0 where
@@ -43,10 +46,11 @@ enoughWords h m =
     leb (frameWords h) (length (m .x))
     && leb (frameWords h) (length (m .z))
     && leb (outcomeWords h) (length (m .deltas))
-    && leb (outcomeWords h) (length (m .noiseless))
+    && leb (outcomeWords h) (length (m .source .noiseless))
 
-abbrev pub lentOf : Header → List ℕ → List ℕ → ℕ → Lent
-lentOf h noiseless second base = record { noiseless = bitIn (wordsPerRow (h .shots)) noiseless; second = second; base = base; shots = h .shots }
+-- the source with its noiseless bits by outcome and shot
+abbrev pub lentOf : Header → Source → Lent
+lentOf h s = record { noiseless = bitIn (wordsPerRow (h .shots)) (s .noiseless); second = s .second; base = s .base; shots = h .shots }
 
 -- a refusal other than 14 leaves all memory untouched
 abbrev pub untouched : Answer → Memory → RunReply
@@ -80,7 +84,6 @@ endedReply h m (Ended.ended states) = finishedReply h m states
 unfoldable pub runReply : List ℕ → Memory → RunReply
 runReply job m =
     let j = jobOf job in
-    let lent = lentOf (j .header) (m .noiseless) (m .second) (m .base) in
-    let run = endedReply (j .header) m (execute (j .header) lent (j .instructions) (m .main) starts) in
+    let run = endedReply (j .header) m (execute (j .header) (lentOf (j .header) (m .source)) (j .instructions) (m .source .main) starts) in
     let fitting = cond (enoughWords (j .header) m) run (untouched (answer 13 0) m) in
     cond (eqb (checkJob job .number) 0) fitting (untouched (checkJob job) m)

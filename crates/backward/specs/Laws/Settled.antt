@@ -76,7 +76,7 @@ module _ (h : Header) where
   SettledInRange (Settled.spentAt k) = Unit
   SettledInRange (Settled.settled ls) = AllInRange (h .qubits) (h .outcomes) (settledList ls)
 
-  settle-range : (r : ℕ) (lent : Lent) (main : List ℕ) (is : List Placed) → r ≤ h .outcomes → InstructionsSound h r is → SettledInRange (settle lent main is)
+  settle-range : (r : ℕ) (lent : Lent) (main : List ℕ) (is : List Placed) → r ≤ h .outcomes → InstructionsSound h r is → SettledInRange (settle lent is main)
   unfolding settle InstructionsSound
   settle-range r lent main [] k s = unfold SettledInRange in tt
   settle-range r lent main (i ∷ is) k (first, rest) =
@@ -92,14 +92,14 @@ module _ (h : Header) where
           unfold prefixed SettledInRange in
           (rw (settledList-append ls ms) (append-in-range (h .qubits) (h .outcomes) (settledList ls) (settledList ms) a b))
 
-      go : (o : Step) → stepOf lent main (i .text) (i .instruction) ≡ o → ((left : List ℕ) → SettledInRange (settle lent left is))
-          → SettledInRange (settleThen (i .number) o (λ left. settle lent left is))
+      go : (o : Step) → stepOf lent main (i .text) (i .instruction) ≡ o → ((left : List ℕ) → SettledInRange (settle lent is left))
+          → SettledInRange (settleThen (i .line) o (settle lent is))
       go Step.spent e ih = unfold settleThen SettledInRange in tt
       go (Step.lines ls left) e ih =
           unfold settleThen in
-          joined ls (step-in-range r lent main (i .text) (i .instruction) ls left k first e) (settle lent left is) (ih left)
+          joined ls (step-in-range r lent main (i .text) (i .instruction) ls left k first e) (settle lent is left) (ih left)
 
   pub settled-in-range : (r : ℕ) (lent : Lent) (main : List ℕ) (is : List Placed) (ls : List SettledLine) → r ≤ h .outcomes → InstructionsSound h r is
-      → settle lent main is ≡ Settled.settled ls → AllInRange (h .qubits) (h .outcomes) (settledList ls)
+      → settle lent is main ≡ Settled.settled ls → AllInRange (h .qubits) (h .outcomes) (settledList ls)
   unfolding SettledInRange
   settled-in-range r lent main is ls k s e = subst SettledInRange e (settle-range r lent main is k s)

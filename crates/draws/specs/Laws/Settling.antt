@@ -95,7 +95,7 @@ pub one-settled : (h : Header) (lent : Lent) (main text : List ℕ) (i : Instruc
 unfolding executeOne stepOf
 one-settled h lent main text (Instruction.line l) states = unfold onStep runAll run forwardAll in refl
 one-settled h lent main text (Instruction.noise n) states =
-    let part = partOf lent main (n .correlation) in
+    let part = partOf lent (n .correlation) main in
     ap (onMain (n .correlation) main) (line-settled h lent n part states) ∙ noise-settled h n main states (drawLine lent n part)
 
 -- ---- a job
@@ -108,15 +108,15 @@ on-prefixed h states ls (Settled.settled ms) = ap Ended.ended (rw (settledList-a
 
 -- Execution with the noise in place is execution of the settled list.
 pub execute-settle : (h : Header) (lent : Lent) (is : List Placed) (main : List ℕ) (states : States)
-    → execute h lent is main states ≡ onSettled h states (settle lent main is)
+    → execute h lent is main states ≡ onSettled h states (settle lent is main)
 unfolding execute settle
 execute-settle h lent [] main states = unfold onSettled runAll run in refl
 execute-settle h lent (i ∷ is) main states =
-    ap (λ (o : Executed). executeThen (i .number) o (execute h lent is)) (one-settled h lent main (i .text) (i .instruction) states)
+    ap (λ (o : Executed). executeThen (i .line) o (execute h lent is)) (one-settled h lent main (i .text) (i .instruction) states)
     ∙ go (stepOf lent main (i .text) (i .instruction)) (execute-settle h lent is)
   where
-    go : (o : Step) → ((left : List ℕ) (t : States) → execute h lent is left t ≡ onSettled h t (settle lent left is))
-        → executeThen (i .number) (onStep h states o) (execute h lent is) ≡ onSettled h states (settleThen (i .number) o (λ left. settle lent left is))
+    go : (o : Step) → ((left : List ℕ) (t : States) → execute h lent is left t ≡ onSettled h t (settle lent is left))
+        → executeThen (i .line) (onStep h states o) (execute h lent is) ≡ onSettled h states (settleThen (i .line) o (settle lent is))
     go Step.spent ih = unfold executeThen onStep onSettled settleThen in refl
     go (Step.lines ls left) ih =
-        unfold executeThen onStep settleThen in (ih left (runAll h (settledList ls) states) ∙ on-prefixed h states ls (settle lent left is))
+        unfold executeThen onStep settleThen in (ih left (runAll h (settledList ls) states) ∙ on-prefixed h states ls (settle lent is left))

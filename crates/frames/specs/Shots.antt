@@ -1,4 +1,4 @@
--- Definitions that the theorems about one shot use: the lines that concern a set of shots. Assumes nothing.
+-- Definitions that theorems about shots use: the lines that concern a set of shots. Assumes nothing.
 use mathlib.Core.Bool.{Bool, true, false, cond, _&&_}
 use mathlib.Core.List.{List, [], _∷_}
 use Prim.Native.Nat.{ℕ}
