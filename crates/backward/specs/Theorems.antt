@@ -18,7 +18,7 @@ use Rattle.job.specs.InRange.{AllInRange}
 use Rattle.job.specs.Sound.{JobSound}
 use Rattle.job.specs.Theorems.{checked-sound}
 use Rattle.job.specs.Laws.Lists.{below-more}
-use Rattle.frames.specs.Forward.{imageSum, transformed, State, Setting, settingOf, run, start}
+use Rattle.frames.specs.Forward.{imageSum, transformed, Setting, settingOf, run, start}
 use Rattle.frames.specs.Shots.{restricted, within}
 use Rattle.draws.specs.Draws.{Lent}
 use Rattle.draws.specs.Settle.{SettledLine, Settled, settle, settledList}

@@ -156,11 +156,11 @@ module _ (qs : List ℕ) (d : distinct qs ≡ true) (e : ℕ) where
       → (pauliOf (depolarizingElement qs e) .x q ≡ false) × (pauliOf (depolarizingElement qs e) .z q ≡ false)
   depolarizing-off q m = (elements.element-off-x qs e q m, elements.element-off-z qs e q m)
 
-  -- Its lists are as a line may hold them: strictly rising, below n where the qubits are, and not longer than the list of qubits.
-  pub depolarizing-written : (n : ℕ) → allBelow n qs ≡ true
-      → elements.Writable n (length qs) (depolarizingElement qs e .x) × elements.Writable n (length qs) (depolarizingElement qs e .z)
-  unfolding depolarizingElement
-  depolarizing-written n b = (elements.selected-writable n (e + 1) qs b, elements.selected-writable n ((e + 1) / 2) qs b)
+-- An element's lists are as a line may hold them: strictly rising, below n where the qubits are, and not longer than the list of qubits.
+pub depolarizing-written : (qs : List ℕ) (e n : ℕ) → allBelow n qs ≡ true
+    → elements.Writable n (length qs) (depolarizingElement qs e .x) × elements.Writable n (length qs) (depolarizingElement qs e .z)
+unfolding depolarizingElement
+depolarizing-written qs e n b = (elements.selected-writable n (e + 1) qs b, elements.selected-writable n ((e + 1) / 2) qs b)
 
 -- The elements are all Paulis on the qubits but the identity, each once.
 module _ (qs : List ℕ) where

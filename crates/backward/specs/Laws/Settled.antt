@@ -1,13 +1,11 @@
 -- Laws: how execution ends, and that the lines to which the instructions of an accepted job settle are in range. Assumes nothing.
-use mathlib.Core.Path.{_≡_, refl, sym, ap, subst, _∙_}
-use mathlib.Core.Bool.{cond, true, false}
-use mathlib.Core.List.{List, [], _∷_, _++_, map}
+use mathlib.Core.Path.{_≡_, refl, sym, subst}
+use mathlib.Core.List.{List, [], _∷_, _++_}
 use Prim.Native.Nat.{ℕ, _+_, _<_, _≤_}
 use native.Mathlib.Nat.{add-zero}
 use native.Mathlib.Omega.{arith}
 use Rattle.job.specs.declared.Header.{Header}
-use Rattle.job.specs.Line.{Line, Distribution, Noise, Instruction, Placed}
-use Rattle.job.specs.Checks.{records}
+use Rattle.job.specs.Line.{Line, Distribution, Instruction, Placed}
 use Rattle.job.specs.Job.{recordedBy, recordedIn}
 use Rattle.job.specs.InRange.{InRange, AllInRange}
 use Rattle.job.specs.Sound.{LineSound, InstructionSound, InstructionsSound}
