@@ -2,8 +2,6 @@
 pub mod Walk
 pub mod Settling
 pub mod Walking
--- Definitions that the theorems use.
-pub mod Shot
 -- What is proved of these definitions, for a reader.
 pub mod Theorems
 -- Laws of these definitions.

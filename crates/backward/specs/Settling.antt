@@ -7,7 +7,7 @@ use lib.ListN.{length}
 use Rattle.job.specs.Job.{answer, Job, jobOf, checkJob}
 use Rattle.job.specs.Reply.{TextReply, refusedText, textFits, writtenText}
 use Rattle.draws.specs.Settle.{Settled, settle, settledText}
-use Rattle.run.specs.Run.{outcomeWords, lentOf}
+use Rattle.run.specs.Run.{Source, outcomeWords, lentOf}
 
 -- 14, then 15: text longer than lent bytes or 1,048,576. The figure with 15 is the need.
 unfoldable pub settledAnswer : Job → Settled → List ℕ → TextReply
@@ -17,9 +17,9 @@ settledAnswer j (Settled.settled ls) out =
     cond (textFits text out) (writtenText text out) (record { answered = answer 15 0; figure = length text; out = out })
 
 -- Tests 1 to 12, then 13 (settling needs the noiseless bits only), 14 and 15.
-unfoldable pub settleReply : List ℕ → List ℕ → List ℕ → List ℕ → ℕ → List ℕ → TextReply
-settleReply job noiseless main second base out =
+unfoldable pub settleReply : List ℕ → Source → List ℕ → TextReply
+settleReply job s out =
     let j = jobOf job in
-    let settled = settledAnswer j (settle (lentOf (j .header) noiseless second base) main (j .instructions)) out in
-    let fitting = cond (leb (outcomeWords (j .header)) (length noiseless)) settled (refusedText (answer 13 0) out) in
+    let settled = settledAnswer j (settle (lentOf (j .header) s) (j .instructions) (s .main)) out in
+    let fitting = cond (leb (outcomeWords (j .header)) (length (s .noiseless))) settled (refusedText (answer 13 0) out) in
     cond (eqb (checkJob job .number) 0) fitting (refusedText (checkJob job) out)

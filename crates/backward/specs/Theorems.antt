@@ -1,11 +1,10 @@
--- Theorems about a shot's run and its walk, for whole lists of lines (document 01, demand 3). Assumes nothing.
+-- Theorems about a shot's run and its walk, for whole lists of lines (document 01, demand 3); those about the run alone stand in the frames crate.
+-- Assumes nothing.
 use mathlib.Core.Path.{_≡_, refl, sym, ap, _∙_}
 use mathlib.Core.Bool.{true, false, true≢false}
 use mathlib.Core.List.{List, [], _∷_}
-use Prim.Native.Nat.{ℕ, _≤_}
+use Prim.Native.Nat.{ℕ}
 use native.Mathlib.Omega.{arith}
-use lib.Dec.{ltb}
-use borrow.Author.Tests.{le-ltb}
 use Rattle.pauli.specs.Bits.{Bits, none, only, given, replaced, added, outside, _⊕_, _∩_, _△_, members, parity, sumOver, odd}
 use Rattle.pauli.specs.Pauli.{Pauli, identity, X-at, Y-at, Z-at, _∗_, when, anticommutes, cleared}
 use Rattle.pauli.specs.Gate.{prepareBell, controlledX, swapXZ}
@@ -19,18 +18,16 @@ use Rattle.job.specs.InRange.{AllInRange}
 use Rattle.job.specs.Sound.{JobSound}
 use Rattle.job.specs.Theorems.{checked-sound}
 use Rattle.job.specs.Laws.Lists.{below-more}
-use Rattle.frames.specs.Forward.{imageSum, transformed, State, Setting, settingOf, run, start}
+use Rattle.frames.specs.Forward.{imageSum, transformed, Setting, settingOf, run, start}
+use Rattle.frames.specs.Shots.{restricted, within}
 use Rattle.draws.specs.Draws.{Lent}
 use Rattle.draws.specs.Settle.{SettledLine, Settled, settle, settledList}
-use Rattle.draws.specs.Execute.{Ended, execute}
+use Rattle.draws.specs.Execute.{States, starts, Ended, execute}
 use Rattle.draws.specs.Theorems.{executed-spent, executed-ended}
 use Rattle.backward.specs.Walk.{Walk, walkBack, walk}
-use Rattle.backward.specs.Shot.{restricted, within}
 use Rattle.backward.specs.Laws.Duality.{run-walk, total-start, total-end}
 use Rattle.backward.specs.Laws.Sums.{sumOver-members}
 use Rattle.backward.specs.Laws.Settled.{ended-apart, ended-same, settled-in-range}
-use Rattle.backward.specs.Laws.Linear.{run-quiet}
-use Rattle.backward.specs.Laws.RunShots.{run-restricted}
 use Rattle.backward.specs.Laws.WalkShots.{walkBack-restricted, walkBack-quiet, same-carried}
 
 module _ (c : Setting) (ls : List Line) where
@@ -45,32 +42,21 @@ module _ (c : Setting) (ls : List Line) where
       → sumOver ids ((run c ls start) .deltas) ≡ odd ((walk c ls (members ids)) .count)
   listed-deltas-count h ids r k = sumOver-members (c .outcomes) _ ids r k ∙ deltas-count h (members ids)
 
-  -- A shot's run and walk, from any start, need no injection and no flip of other shots.
-  pub own-run : (s : State) → run c (restricted (only (c .shot)) ls) s ≡ run c ls s
-  own-run s = run-restricted c (only (c .shot)) (only-here (c .shot)) ls s
-
+  -- A shot's walk, from any observable, set and count, needs no injection and no flip of other shots.
   pub own-walk : (w : Walk) → walkBack c (restricted (only (c .shot)) ls) w ≡ walkBack c ls w
   own-walk w = walkBack-restricted c (only (c .shot)) (only-here (c .shot)) ls w
 
-  -- If every injection and flip is in a shot of some set, a shot outside the set keeps the identity frame and deltas of 0, and its walk counts nothing.
-  pub quiet-run : (shots : Bits) → shots (c .shot) ≡ false → within shots ls ≡ true → run c ls start ≡ start
-  quiet-run shots off h = run-quiet c shots off ls h
-
+  -- If every injection and flip is in a shot of some set, the walk of a shot outside the set counts nothing.
   pub quiet-walk : (shots : Bits) → shots (c .shot) ≡ false → within shots ls ≡ true → (S : Bits) → (walk c ls S) .count ≡ 0
   unfolding walk
   quiet-walk shots off h S = walkBack-quiet c shots off ls h _
 
-  -- The bits past the last shot are 0.
-  pub padding : (shots : ℕ) → within (λ shot. ltb shot shots) ls ≡ true → shots ≤ c .shot → run c ls start ≡ start
-  padding shots h past = quiet-run (λ shot. ltb shot shots) (le-ltb (c .shot) shots past) h
-
--- Two lists that differ only in injections and flips outside a set of shots do the same in each shot of the set, from any start.
-module _ (c : Setting) (shots : Bits) (on : shots (c .shot) ≡ true) (ks ls : List Line) (same : restricted shots ks ≡ restricted shots ls) where
-  pub shots-apart-run : (s : State) → run c ks s ≡ run c ls s
-  shots-apart-run s = sym (run-restricted c shots on ks s) ∙ ap (λ l. run c l s) same ∙ run-restricted c shots on ls s
-
-  pub shots-apart-walk : (w : Walk) → walkBack c ks w ≡ walkBack c ls w
-  shots-apart-walk w = sym (walkBack-restricted c shots on ks w) ∙ ap (λ l. walkBack c l w) same ∙ walkBack-restricted c shots on ls w
+-- Two lists that differ only in injections and flips outside a set of shots have the same walk in each shot of the set, from any observable, set and
+-- count.
+pub shots-apart-walk : (c : Setting) (shots : Bits) → shots (c .shot) ≡ true → (ks ls : List Line) → restricted shots ks ≡ restricted shots ls
+    → (w : Walk) → walkBack c ks w ≡ walkBack c ls w
+shots-apart-walk c shots on ks ls same w =
+    sym (walkBack-restricted c shots on ks w) ∙ ap (λ l. walkBack c l w) same ∙ walkBack-restricted c shots on ls w
 
 -- What is carried back is the same for every shot.
 pub carried-any-shot : (c d : Setting) → c .qubits ≡ d .qubits → (ls : List Line) (S : Bits) → (walk c ls S) .carried ≡ (walk d ls S) .carried
@@ -79,16 +65,16 @@ carried-any-shot c d q ls S = same-carried c d q ls _ _ refl
 
 -- ---- demand 3
 
--- Take any job that passes the checks, with lines of any kind, noise included, in any order. Run a shot of it to its end, from a cleared frame and
--- deltas, whatever draw words, base and noiseless bits are lent. Then the job settles, and for every set of its recorded outcomes the sum of the
--- set's deltas in that shot equals modulo 2 the count that the walk of the settled list makes for that set and shot.
-pub demand-3 : (job : List ℕ) → checkJob job .number ≡ 0 → (lent : Lent) (main : List ℕ) (shot : ℕ) (s : State)
-    → execute (settingOf (jobOf job .header) shot) lent (jobOf job .instructions) main start ≡ Ended.ended s
+-- Take any job that passes the checks, with lines of any kind, noise included, in any order. Run it to its end, from cleared frames and deltas,
+-- whatever draw words, base and noiseless bits are lent. Then the job settles, and for every set of its recorded outcomes and every one of its shots
+-- the sum of the set's deltas in that shot equals modulo 2 the count that the walk of the settled list makes for that set and shot.
+pub demand-3 : (job : List ℕ) → checkJob job .number ≡ 0 → (lent : Lent) (main : List ℕ) (states : States)
+    → execute (jobOf job .header) lent (jobOf job .instructions) main starts ≡ Ended.ended states
     → (ls : List SettledLine)
-    × (settle lent main (jobOf job .instructions) ≡ Settled.settled ls)
-    × ((set : List ℕ) → isRising set ≡ true → allBelow (recordedIn (jobOf job .instructions)) set ≡ true
-    → sumOver set (s .deltas) ≡ odd (walk (settingOf (jobOf job .header) shot) (settledList ls) (members set) .count))
-demand-3 job accepted lent main shot s ended = settles (settle lent main (jobOf job .instructions)) refl
+    × (settle lent (jobOf job .instructions) main ≡ Settled.settled ls)
+    × ((set : List ℕ) → isRising set ≡ true → allBelow (recordedIn (jobOf job .instructions)) set ≡ true → (shot : ℕ)
+    → sumOver set (states shot .deltas) ≡ odd (walk (settingOf (jobOf job .header) shot) (settledList ls) (members set) .count))
+demand-3 job accepted lent main states ended = settles (settle lent (jobOf job .instructions) main) refl
   where
     h : Header
     h = jobOf job .header
@@ -96,20 +82,20 @@ demand-3 job accepted lent main shot s ended = settles (settle lent main (jobOf 
     sound : JobSound job (jobOf job)
     sound = checked-sound job accepted
 
-    settles : (o : Settled) → settle lent main (jobOf job .instructions) ≡ o
+    settles : (o : Settled) → settle lent (jobOf job .instructions) main ≡ o
         → (ls : List SettledLine)
-        × (settle lent main (jobOf job .instructions) ≡ Settled.settled ls)
-        × ((set : List ℕ) → isRising set ≡ true → allBelow (recordedIn (jobOf job .instructions)) set ≡ true
-        → sumOver set (s .deltas) ≡ odd (walk (settingOf h shot) (settledList ls) (members set) .count))
-    settles (Settled.spentAt k) e = absurd (ended-apart k s (sym (executed-spent (settingOf h shot) lent (jobOf job .instructions) main start k e) ∙ ended))
+        × (settle lent (jobOf job .instructions) main ≡ Settled.settled ls)
+        × ((set : List ℕ) → isRising set ≡ true → allBelow (recordedIn (jobOf job .instructions)) set ≡ true → (shot : ℕ)
+        → sumOver set (states shot .deltas) ≡ odd (walk (settingOf h shot) (settledList ls) (members set) .count))
+    settles (Settled.spentAt k) e = absurd (ended-apart k states (sym (executed-spent h lent (jobOf job .instructions) main starts k e) ∙ ended))
     settles (Settled.settled ls) e = (
       ls,
       e,
-      λ set rising recorded.
-          let final : s ≡ run (settingOf h shot) (settledList ls) start =
-          ended-same s _ (sym ended ∙ executed-ended (settingOf h shot) lent (jobOf job .instructions) main start ls e) in
+      λ set rising recorded shot.
+          let final : states ≡ (λ s. run (settingOf h s) (settledList ls) start) =
+          ended-same states _ (sym ended ∙ executed-ended h lent (jobOf job .instructions) main starts ls e) in
           let below : allBelow (h .outcomes) set ≡ true = below-more _ _ set (sound .recorded) recorded in
-          ap (λ (t : State). sumOver set (t .deltas)) final
+          ap (λ (t : States). sumOver set (t shot .deltas)) final
           ∙ listed-deltas-count (settingOf h shot) (settledList ls)
           (settled-in-range h 0 lent main (jobOf job .instructions) ls (omega arith) (sound .instructions) e)
           set rising below,

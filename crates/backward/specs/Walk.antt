@@ -14,15 +14,15 @@ use Rattle.frames.specs.Forward.{exponentiate, controlledPauli, Image, imagesOf
 -- the observable B and the set S of outcomes
 pub record Carried : Type 0 where
   pub observable : Pauli
-  pub outcomes : Bits
+  pub set : Bits
 
 -- Clifford: the new X part at i says whether B anticommutes with Z's image, the new Z part with X's.
-unfoldable pub readings : ℕ → List Image → Pauli → Pauli
-readings n [] B = identity
-readings n (g ∷ gs) B = when (anticommutes n B (g .of-Z)) (X-at (g .qubit)) ∗ when (anticommutes n B (g .of-X)) (Z-at (g .qubit)) ∗ readings n gs B
+unfoldable pub imagesBack : ℕ → List Image → Pauli → Pauli
+imagesBack n [] B = identity
+imagesBack n (g ∷ gs) B = when (anticommutes n B (g .of-Z)) (X-at (g .qubit)) ∗ when (anticommutes n B (g .of-X)) (Z-at (g .qubit)) ∗ imagesBack n gs B
 
 unfoldable pub cliffordBack : ℕ → List ℕ → List Image → Pauli → Pauli
-cliffordBack n qs gs B = cleared qs B ∗ readings n gs B
+cliffordBack n qs gs B = cleared qs B ∗ imagesBack n gs B
 
 -- Permute: place i gets B from place s_i.
 unfoldable pub fetched : List ℕ → List ℕ → List ℕ → Pauli → Pauli
@@ -34,7 +34,7 @@ unfoldable pub permuteBack : List ℕ → List ℕ → Pauli → Pauli
 permuteBack s qs B = cleared qs B ∗ fetched qs s qs B
 
 abbrev pub onObservable : (Pauli → Pauli) → Carried → Carried
-onObservable f w = record { observable = f (w .observable); outcomes = w .outcomes }
+onObservable f w = record { observable = f (w .observable); set = w .set }
 
 -- one line back; n is the number of qubits
 unfoldable pub carry : ℕ → Line → Carried → Carried
@@ -45,11 +45,11 @@ carry n (Line.exponential P) w = onObservable (exponentiate n (pauliOf P)) w
 carry n (Line.controlled C T) w = onObservable (controlledPauli n (pauliOf C) (pauliOf T)) w
 carry n (Line.permute s qs) w = onObservable (permuteBack s qs) w
 -- Measure: if its id is in S, B is multiplied by the observable.
-carry n (Line.measure P id) w = onObservable (λ B. B ∗ when (w .outcomes id) (pauliOf P)) w
+carry n (Line.measure P id) w = onObservable (λ B. B ∗ when (w .set id) (pauliOf P)) w
 carry n (Line.allocate id angle) w = w
 -- Conditional: if B anticommutes with its Pauli, its list is added to S (symmetric difference).
 carry n (Line.conditional P ids par) w =
-    record { observable = w .observable; outcomes = w .outcomes △ given (anticommutes n (w .observable) (pauliOf P)) (members ids) }
+    record { observable = w .observable; set = w .set △ given (anticommutes n (w .observable) (pauliOf P)) (members ids) }
 -- Reset: B loses the qubit.
 carry n (Line.reset qs) w = onObservable (cleared qs) w
 carry n (Line.inject shot P) w = w
@@ -69,7 +69,7 @@ counts c (Line.conditional P ids par) w = Bool.false
 counts c (Line.reset qs) w = Bool.false
 -- Injection in the shot: counted if it anticommutes with B. Flip in the shot: counted if its id is in S.
 counts c (Line.inject shot P) w = eqb shot (c .shot) && anticommutes (c .qubits) (pauliOf P) (w .observable)
-counts c (Line.flip shot id) w = eqb shot (c .shot) && w .outcomes id
+counts c (Line.flip shot id) w = eqb shot (c .shot) && w .set id
 
 -- the observable, the set and the count
 pub record Walk : Type 0 where
@@ -90,4 +90,4 @@ walkBack c (l ∷ ls) w = backward c l (walkBack c ls w)
 
 -- B starts as identity, the count at 0.
 unfoldable pub walk : Setting → List Line → Bits → Walk
-walk c ls S = walkBack c ls (record { carried = record { observable = identity; outcomes = S }; count = 0 })
+walk c ls S = walkBack c ls (record { carried = record { observable = identity; set = S }; count = 0 })

@@ -6,7 +6,7 @@ use Prim.Native.Nat.{ℕ}
 use lib.Dec.{eqb, ltb}
 use Rattle.text.specs.List.{isRising}
 use Rattle.pauli.specs.Bits.{members}
-use Rattle.job.specs.Line.{Line, Noise, Instruction, Placed}
+use Rattle.job.specs.Line.{Line, Instruction, Placed}
 use Rattle.job.specs.Checks.{allBelow}
 use Rattle.job.specs.Job.{answer, accepted, Job, jobOf, recordedIn, checkJob}
 use Rattle.job.specs.Reply.{CountReply, refusedCount}
@@ -20,7 +20,7 @@ noiseFirst k (Instruction.noise n) later = some k
 
 unfoldable pub firstNoise : List Placed → Option ℕ
 firstNoise [] = none
-firstNoise (i ∷ is) = noiseFirst (i .number) (i .instruction) (firstNoise is)
+firstNoise (i ∷ is) = noiseFirst (i .line) (i .instruction) (firstNoise is)
 
 -- the lines of a job without noise
 unfoldable pub lineFirst : Instruction → List Line → List Line

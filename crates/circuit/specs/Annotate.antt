@@ -3,28 +3,20 @@ use mathlib.Core.Bool.{Bool, true, false, cond, _&&_}
 use mathlib.Core.List.{List, [], _∷_, _++_}
 use mathlib.Core.Option.{Option, none, some}
 use Prim.Native.Nat.{ℕ, suc, _+_, _*_}
-use lib.Dec.{eqb, ltb, leb}
+use lib.Dec.{leb}
 use lib.ListN.{length}
-use Rattle.text.specs.Bytes.{bytes, lines, unlines}
+use Rattle.text.specs.Bytes.{lines, unlines}
 use Rattle.text.specs.Template.{Value, lineText}
 use Rattle.job.specs.Line.{SparsePauli, Line}
-use Rattle.job.specs.Grammar.{Written, readLine}
+use Rattle.job.specs.Rising.{rising}
+use Rattle.job.specs.Grammar.{depolarizingTemplate, Written, readLine}
 use Rattle.job.specs.Checks.{maxMembers, distinct}
 
 -- ---- the qubits of a line's noise
 
--- a number put into a rising list that it is not in yet
-unfoldable pub including : ℕ → List ℕ → List ℕ
-including q [] = q ∷ []
-including q (r ∷ l) = let later = r ∷ including q l in cond (eqb q r) (r ∷ l) (cond (ltb q r) (q ∷ r ∷ l) later)
-
-unfoldable pub united : List ℕ → List ℕ → List ℕ
-united [] l = l
-united (q ∷ qs) l = including q (united qs l)
-
 -- the support of a Pauli, rising; a Y counts once
 abbrev pub supportOf : SparsePauli → List ℕ
-supportOf P = united (P .x) (P .z)
+supportOf P = rising (P .x ++ P .z)
 
 -- the operands, or the support rising (control's, then target's); none for the other lines
 unfoldable pub noiseQubits : Line → List ℕ
@@ -42,26 +34,26 @@ noiseQubits (Line.inject shot P) = []
 noiseQubits (Line.flip shot id) = []
 
 -- noise goes before a measurement, and after the others
-unfoldable pub isMeasurement : Line → Bool
-isMeasurement (Line.unitary g qs) = false
-isMeasurement (Line.clifford qs t) = false
-isMeasurement (Line.pauli P) = false
-isMeasurement (Line.exponential P) = false
-isMeasurement (Line.controlled C T) = false
-isMeasurement (Line.permute s qs) = false
-isMeasurement (Line.measure P id) = true
-isMeasurement (Line.allocate id angle) = false
-isMeasurement (Line.conditional P ids par) = false
-isMeasurement (Line.reset qs) = false
-isMeasurement (Line.inject shot P) = false
-isMeasurement (Line.flip shot id) = false
+unfoldable pub noiseBefore : Line → Bool
+noiseBefore (Line.unitary g qs) = false
+noiseBefore (Line.clifford qs t) = false
+noiseBefore (Line.pauli P) = false
+noiseBefore (Line.exponential P) = false
+noiseBefore (Line.controlled C T) = false
+noiseBefore (Line.permute s qs) = false
+noiseBefore (Line.measure P id) = true
+noiseBefore (Line.allocate id angle) = false
+noiseBefore (Line.conditional P ids par) = false
+noiseBefore (Line.reset qs) = false
+noiseBefore (Line.inject shot P) = false
+noiseBefore (Line.flip shot id) = false
 
 -- ---- the annotated text
 
 -- `op=n p=H corr=- cond=- parity=0 d=2 q=...`
 unfoldable pub noiseText : ℕ → List ℕ → List ℕ
 noiseText p qs =
-    lineText (bytes "op=n p=H corr=C cond=L parity=B d=2 q=Q") (Value.number p ∷ Value.list [] ∷ Value.list [] ∷ Value.number 0 ∷ Value.list qs ∷ [])
+    lineText depolarizingTemplate (Value.number p ∷ Value.list [] ∷ Value.list [] ∷ Value.number 0 ∷ Value.list qs ∷ [])
 
 -- none for an empty list of qubits
 unfoldable pub noiseLines : ℕ → List ℕ → List (List ℕ)
@@ -74,7 +66,7 @@ around p l none = l ∷ []
 around p l (some (Written.header h)) = l ∷ []
 around p l (some (Written.noise n)) = l ∷ []
 around p l (some (Written.element w P)) = l ∷ []
-around p l (some (Written.line i)) = cond (isMeasurement i) (noiseLines p (noiseQubits i) ++ l ∷ []) (l ∷ noiseLines p (noiseQubits i))
+around p l (some (Written.line i)) = cond (noiseBefore i) (noiseLines p (noiseQubits i) ++ l ∷ []) (l ∷ noiseLines p (noiseQubits i))
 
 unfoldable pub annotated : ℕ → List (List ℕ) → List (List ℕ)
 annotated p [] = []
@@ -101,7 +93,29 @@ firstUnfit k (l ∷ ls) =
     let later = firstUnfit (suc k) ls in
     cond (distinct (noiseOn (readLine l)) && leb (length (noiseOn (readLine l))) maxMembers) later (some k)
 
--- twice those qubits, summed over the job
+-- the locations of a line: twice those qubits
+unfoldable pub locationsOf : Line → ℕ
+locationsOf (Line.unitary g qs) = 2 * length qs
+locationsOf (Line.clifford qs t) = 2 * length qs
+locationsOf (Line.pauli P) = 2 * length (supportOf P)
+locationsOf (Line.exponential P) = 2 * length (supportOf P)
+locationsOf (Line.controlled C T) = 2 * (length (supportOf C) + length (supportOf T))
+locationsOf (Line.permute s qs) = 2 * length qs
+locationsOf (Line.measure P id) = 2 * length (supportOf P)
+locationsOf (Line.allocate id angle) = 0
+locationsOf (Line.conditional P ids par) = 0
+locationsOf (Line.reset qs) = 0
+locationsOf (Line.inject shot P) = 0
+locationsOf (Line.flip shot id) = 0
+
+unfoldable pub locationsAt : Option Written → ℕ
+locationsAt none = 0
+locationsAt (some (Written.header h)) = 0
+locationsAt (some (Written.line i)) = locationsOf i
+locationsAt (some (Written.noise n)) = 0
+locationsAt (some (Written.element w P)) = 0
+
+-- summed over the job
 unfoldable pub locations : List (List ℕ) → ℕ
 locations [] = 0
-locations (l ∷ ls) = 2 * length (noiseOn (readLine l)) + locations ls
+locations (l ∷ ls) = locationsAt (readLine l) + locations ls

@@ -4,7 +4,7 @@ use mathlib.Core.List.{List, [], _∷_, _++_}
 use mathlib.Core.Option.{Option, none, some}
 use Prim.Native.Nat.{ℕ}
 use lib.Dec.{eqb}
-use Rattle.job.specs.Line.{Line, sizeOf, Noise, Instruction, Placed}
+use Rattle.job.specs.Line.{sizeOf, Instruction, Placed}
 
 -- a correlation with the size of the first noise line that has it
 pub record Seen : Type 0 where
@@ -41,4 +41,4 @@ firstDiffering seen (i ∷ is) =
     let corr = correlationOf (i .instruction) in
     let size = elementCount (i .instruction) in
     let later = firstDiffering (seenAfter seen corr size) is in
-    cond (sizeFits seen corr size) later (some (i .number))
+    cond (sizeFits seen corr size) later (some (i .line))

@@ -4,11 +4,10 @@ use mathlib.Core.List.{List, []}
 use mathlib.Core.Option.{Option, none, some}
 use Prim.Native.Nat.{ℕ}
 use lib.Dec.{eqb}
-use lib.ListN.{length}
 use Rattle.text.specs.Bytes.{lines}
 use Rattle.job.specs.declared.Answer.{Answer}
 use Rattle.job.specs.Float.{float, isProbability}
-use Rattle.job.specs.Job.{answer, accepted, Job, jobOf, checkJob}
+use Rattle.job.specs.Job.{answer, accepted, jobOf, checkJob}
 use Rattle.job.specs.Reply.{TextReply, refusedText, textFits, writtenText, CountReply, refusedCount}
 use Rattle.circuit.specs.Annotate.{annotatedText, firstUnfit, locations}
 use Rattle.circuit.specs.Correlation.{firstDiffering}

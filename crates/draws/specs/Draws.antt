@@ -1,5 +1,5 @@
 -- What a noise line draws from the lent words, as in document 01, "Draws". A list of words is what is left of it to read. Assumes nothing.
-use mathlib.Core.Bool.{Bool, true, false, not, cond, _&&_, _||_}
+use mathlib.Core.Bool.{Bool, not, cond, _&&_, _||_}
 use mathlib.Core.List.{List, [], _∷_, map}
 use mathlib.Core.Option.{Option, none, some}
 use Prim.Native.Nat.{ℕ, zero, suc, _+_, _-_, _/_, _%_, _^_, min}
@@ -8,8 +8,9 @@ use lib.ListN.{length, getD, drop, set}
 use lib.IntN.{pos}
 use lib.Ieee.{Float, binary64, ofInt, add, div, lt, le}
 use Rattle.pauli.specs.Bits.{Bits, _⊕_, sumOver}
-use Rattle.job.specs.Line.{SparsePauli, Line, WeightedPauli, Distribution, Noise}
-use Rattle.job.specs.Float.{float, nought, one}
+use Rattle.job.specs.Line.{SparsePauli, WeightedPauli, Distribution, sizeOf, OutcomeCondition, Noise}
+use Rattle.job.specs.Rising.{rising}
+use Rattle.job.specs.Float.{float, nought, one, totalFrom}
 
 -- ---- a fault
 
@@ -27,15 +28,6 @@ falls w p = lt (unitOf w) p
 unfoldable pub selected : ℕ → List ℕ → List ℕ
 selected v [] = []
 selected v (q ∷ qs) = cond (eqb (v % 2) 1) (q ∷ selected (v / 4) qs) (selected (v / 4) qs)
-
--- a number put into a rising list, and a list made rising
-unfoldable pub inserted : ℕ → List ℕ → List ℕ
-inserted q [] = q ∷ []
-inserted q (r ∷ l) = cond (ltb q r) (q ∷ r ∷ l) (r ∷ inserted q l)
-
-unfoldable pub rising : List ℕ → List ℕ
-rising [] = []
-rising (q ∷ qs) = inserted q (rising qs)
 
 -- d=2 adds 1 to the element's number and gives each qubit two bits, X lowest
 unfoldable pub depolarizingElement : List ℕ → ℕ → SparsePauli
@@ -67,11 +59,6 @@ unfoldable pub bounded : ℕ → List ℕ → Choice
 bounded c [] = Choice.spent
 bounded c (w ∷ ws) = let later = bounded c ws in cond (ltb w (limitOf c)) (Choice.chosen (w % c) ws) later
 
--- Weights are summed from the left in binary64.
-unfoldable pub totalFrom : Float → List Float → Float
-totalFrom t [] = t
-totalFrom t (w ∷ ws) = totalFrom (add binary64 t w) ws
-
 -- the running sum adds w/total
 unfoldable pub runningFrom : Float → Float → List Float → List Float
 runningFrom total s [] = []
@@ -97,15 +84,15 @@ byWeight sums (w ∷ ws) = Choice.chosen (placeOf (unitOf w) sums) ws
 
 unfoldable pub chooseFrom : Distribution → List ℕ → Choice
 chooseFrom (Distribution.single P) ws = Choice.chosen 0 ws
-chooseFrom (Distribution.depolarizing qs) ws = bounded (4 ^ length qs - 1) ws
-chooseFrom (Distribution.uniform Ps) ws = bounded (length Ps) ws
+chooseFrom (Distribution.depolarizing qs) ws = bounded (sizeOf (Distribution.depolarizing qs)) ws
+chooseFrom (Distribution.uniform Ps) ws = bounded (sizeOf (Distribution.uniform Ps)) ws
 chooseFrom (Distribution.weighted es) ws = byWeight (runningSums (map (λ (e : WeightedPauli). float (e .weight)) es)) ws
 
 -- ---- a shot
 
 -- cond is none, or its noiseless bits in that shot sum to parity
-unfoldable pub isSatisfied : Noise → Bits → Bool
-isSatisfied n bits = eqb (length (n .outcomes)) 0 || not (sumOver (n .outcomes) bits ⊕ n .parity)
+unfoldable pub isSatisfied : OutcomeCondition → Bits → Bool
+isSatisfied c bits = eqb (length (c .outcomes)) 0 || not (sumOver (c .outcomes) bits ⊕ c .parity)
 
 -- the element that falls in the shot, if one does, and the words left; or a word was needed past the end
 pub data ShotDraw : Type 0 where
@@ -121,7 +108,7 @@ unfoldable pub drawShot : Noise → Bits → List ℕ → ShotDraw
 drawShot n bits [] = ShotDraw.spent
 drawShot n bits (w ∷ ws) =
     let element = faultOf (chooseFrom (n .distribution) ws) in
-    cond (falls w (float (n .probability)) && isSatisfied n bits) element (ShotDraw.drew none ws)
+    cond (falls w (float (n .probability)) && isSatisfied (n .condition) bits) element (ShotDraw.drew none ws)
 
 -- ---- a noise line
 
@@ -163,9 +150,9 @@ drawLine lent n ws = let all = drawShots lent n (lent .shots) 0 ws in cond (le (
 
 -- The part of one of the two lists that a noise line reads from: the main list, read on, or for corr c the second from place base + c, wrapping at
 -- 2^64, afresh at each line.
-unfoldable pub partOf : Lent → List ℕ → Option ℕ → List ℕ
-partOf lent main none = main
-partOf lent main (some c) = drop ((lent .base + c) % 2 ^ 64) (lent .second)
+unfoldable pub partOf : Lent → Option ℕ → List ℕ → List ℕ
+partOf lent none main = main
+partOf lent (some c) main = drop ((lent .base + c) % 2 ^ 64) (lent .second)
 
 -- what is left of the main list after a noise line that left these words of its part
 unfoldable pub mainAfter : Option ℕ → List ℕ → List ℕ → List ℕ

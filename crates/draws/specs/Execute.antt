@@ -1,55 +1,74 @@
--- Execution with the noise in place: in each shot an element that falls is injected before the next shot's words are read. Assumes nothing.
+-- Execution with the noise in place, over all shots at once: an element that falls in a shot is injected before the next shot's words are read.
+-- Assumes nothing.
 use mathlib.Core.Bool.{cond}
 use mathlib.Core.List.{List, [], _∷_}
 use mathlib.Core.Option.{Option, none, some}
 use Prim.Native.Nat.{ℕ, zero, suc}
 use lib.Ieee.{le}
+use Rattle.job.specs.declared.Header.{Header}
 use Rattle.job.specs.Line.{Line, Noise, Instruction, Placed}
 use Rattle.job.specs.Float.{float, nought}
-use Rattle.frames.specs.Forward.{Setting, State, forward}
+use Rattle.frames.specs.Forward.{State, settingOf, forward, start}
 use Rattle.draws.specs.Draws.{Lent, elementAt, ShotDraw, drawShot, partOf, mainAfter}
 
--- the state of the shot that is looked at, and the words left; or a word was needed past the end
+-- the state of each shot
+abbrev pub States : Type 0
+States = ℕ → State
+
+-- cleared frames and deltas of 0
+abbrev pub starts : States
+starts s = start
+
+-- a line in all shots
+unfoldable pub forwardAll : Header → Line → States → States
+forwardAll h l states s = forward (settingOf h s) l (states s)
+
+-- the states and the words left; or a word was needed past the end
 pub data Executed : Type 0 where
   spent : Executed
-  went : State → List ℕ → Executed
+  went : States → List ℕ → Executed
 
 -- ---- a noise line
 
 -- a shot's draw, and then those of the shots after it
-unfoldable pub thenInPlace : Setting → Noise → ℕ → ShotDraw → State → (List ℕ → State → Executed) → Executed
-thenInPlace c n shot ShotDraw.spent s later = Executed.spent
-thenInPlace c n shot (ShotDraw.drew none ws) s later = later ws s
-thenInPlace c n shot (ShotDraw.drew (some e) ws) s later = later ws (forward c (Line.inject shot (elementAt (n .distribution) e)) s)
+unfoldable pub thenInPlace : Header → Noise → ℕ → ShotDraw → States → (List ℕ → States → Executed) → Executed
+thenInPlace h n shot ShotDraw.spent states later = Executed.spent
+thenInPlace h n shot (ShotDraw.drew none ws) states later = later ws states
+thenInPlace h n shot (ShotDraw.drew (some e) ws) states later = later ws (forwardAll h (Line.inject shot (elementAt (n .distribution) e)) states)
 
-unfoldable pub injectShots : Setting → Lent → Noise → ℕ → ℕ → List ℕ → State → Executed
-injectShots c lent n zero shot ws s = Executed.went s ws
-injectShots c lent n (suc left) shot ws s = thenInPlace c n shot (drawShot n (λ id. lent .noiseless id shot) ws) s (injectShots c lent n left (suc shot))
+-- so many shots, from one on, in rising order
+unfoldable pub injectShots : Header → Lent → Noise → ℕ → ℕ → List ℕ → States → Executed
+injectShots h lent n zero shot ws states = Executed.went states ws
+injectShots h lent n (suc left) shot ws states =
+    thenInPlace h n shot (drawShot n (λ id. lent .noiseless id shot) ws) states (injectShots h lent n left (suc shot))
 
-unfoldable pub injectNoise : Setting → Lent → Noise → List ℕ → State → Executed
-injectNoise c lent n ws s =
-    let all = injectShots c lent n (lent .shots) 0 ws s in
-    cond (le (float (n .probability)) nought) (Executed.went s ws) all
+-- With p at or below zero no word is read.
+unfoldable pub injectNoise : Header → Lent → Noise → List ℕ → States → Executed
+injectNoise h lent n ws states =
+    let all = injectShots h lent n (lent .shots) 0 ws states in
+    cond (le (float (n .probability)) nought) (Executed.went states ws) all
 
 -- ---- a job
 
 unfoldable pub onMain : Option ℕ → List ℕ → Executed → Executed
 onMain corr main Executed.spent = Executed.spent
-onMain corr main (Executed.went s left) = Executed.went s (mainAfter corr main left)
+onMain corr main (Executed.went states left) = Executed.went states (mainAfter corr main left)
 
-unfoldable pub executeOne : Setting → Lent → List ℕ → Instruction → State → Executed
-executeOne c lent main (Instruction.line l) s = Executed.went (forward c l s) main
-executeOne c lent main (Instruction.noise n) s = onMain (n .correlation) main (injectNoise c lent n (partOf lent main (n .correlation)) s)
+unfoldable pub executeOne : Header → Lent → List ℕ → Instruction → States → Executed
+executeOne h lent main (Instruction.line l) states = Executed.went (forwardAll h l states) main
+executeOne h lent main (Instruction.noise n) states =
+    onMain (n .correlation) main (injectNoise h lent n (partOf lent (n .correlation) main) states)
 
--- the state at the end of the job, or the line of the noise whose draws were spent
+-- the states at the end of the job, or the line of the noise whose draws were spent
 pub data Ended : Type 0 where
   spentAt : ℕ → Ended
-  ended : State → Ended
+  ended : States → Ended
 
-unfoldable pub executeThen : ℕ → Executed → (List ℕ → State → Ended) → Ended
+unfoldable pub executeThen : ℕ → Executed → (List ℕ → States → Ended) → Ended
 executeThen k Executed.spent later = Ended.spentAt k
-executeThen k (Executed.went s main) later = later main s
+executeThen k (Executed.went states main) later = later main states
 
-unfoldable pub execute : Setting → Lent → List Placed → List ℕ → State → Ended
-execute c lent [] main s = Ended.ended s
-execute c lent (i ∷ is) main s = executeThen (i .number) (executeOne c lent main (i .instruction) s) (execute c lent is)
+-- the instructions, with what is left of the main list
+unfoldable pub execute : Header → Lent → List Placed → List ℕ → States → Ended
+execute h lent [] main states = Ended.ended states
+execute h lent (i ∷ is) main states = executeThen (i .line) (executeOne h lent main (i .instruction) states) (execute h lent is)

@@ -1,10 +1,10 @@
 -- Settling: each noise instruction is replaced by `op=i` lines, shots rising, identities included, and the rest is copied. Assumes nothing.
 use mathlib.Core.List.{List, [], _∷_, _++_, map}
-use mathlib.Core.Option.{Option}
 use Prim.Native.Nat.{ℕ}
-use Rattle.text.specs.Bytes.{bytes, unlines}
+use Rattle.text.specs.Bytes.{unlines}
 use Rattle.text.specs.Template.{Value, lineText}
 use Rattle.job.specs.Line.{SparsePauli, Line, Distribution, Noise, Instruction, Placed}
+use Rattle.job.specs.Grammar.{injectTemplate}
 use Rattle.draws.specs.Draws.{Lent, elementAt, Fault, Draws, drawLine, partOf, mainAfter}
 
 -- a line of the settled job, with its text
@@ -14,7 +14,7 @@ pub record SettledLine : Type 0 where
 
 -- the text of an injection
 unfoldable pub injectText : ℕ → SparsePauli → List ℕ
-injectText shot P = lineText (bytes "op=i shot=N x=L z=L") (Value.number shot ∷ Value.list (P .x) ∷ Value.list (P .z) ∷ [])
+injectText shot P = lineText injectTemplate (Value.number shot ∷ Value.list (P .x) ∷ Value.list (P .z) ∷ [])
 
 -- the injection of a fault
 unfoldable pub injection : Distribution → Fault → SettledLine
@@ -31,7 +31,7 @@ noiseStep n main (Draws.drawn fs left) = Step.lines (map (injection (n .distribu
 
 unfoldable pub stepOf : Lent → List ℕ → List ℕ → Instruction → Step
 stepOf lent main text (Instruction.line l) = Step.lines (record { line = l; text = text } ∷ []) main
-stepOf lent main text (Instruction.noise n) = noiseStep n main (drawLine lent n (partOf lent main (n .correlation)))
+stepOf lent main text (Instruction.noise n) = noiseStep n main (drawLine lent n (partOf lent (n .correlation) main))
 
 -- the settled lines, or the line of the noise whose draws were spent
 pub data Settled : Type 0 where
@@ -47,9 +47,9 @@ settleThen k Step.spent later = Settled.spentAt k
 settleThen k (Step.lines ls main) later = prefixed ls (later main)
 
 -- the instructions, with what is left of the main list
-unfoldable pub settle : Lent → List ℕ → List Placed → Settled
-settle lent main [] = Settled.settled []
-settle lent main (i ∷ is) = settleThen (i .number) (stepOf lent main (i .text) (i .instruction)) (λ left. settle lent left is)
+unfoldable pub settle : Lent → List Placed → List ℕ → Settled
+settle lent [] main = Settled.settled []
+settle lent (i ∷ is) main = settleThen (i .line) (stepOf lent main (i .text) (i .instruction)) (settle lent is)
 
 -- the settled list
 abbrev pub settledList : List SettledLine → List Line

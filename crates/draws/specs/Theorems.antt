@@ -17,14 +17,17 @@ use Rattle.text.specs.List.{isRising, commas, listText}
 use Rattle.text.specs.Template.{valueText, firstText, lineText}
 use Rattle.pauli.specs.Bits.{_⊕_, members, sumOver, bit}
 use Rattle.pauli.specs.Pauli.{Pauli, identity}
+use Rattle.job.specs.declared.Header.{Header}
 use Rattle.job.specs.Line.{SparsePauli, pauliOf, Line, WeightedPauli, Distribution, sizeOf, Noise, Instruction, Placed}
-use Rattle.job.specs.Float.{float, nought, one}
+use Rattle.job.specs.Float.{float, nought, one, totalFrom}
+use Rattle.job.specs.Rising.{including, rising}
 use Rattle.job.specs.Checks.{allBelow, distinct}
-use Rattle.frames.specs.Forward.{Setting, State, run}
-use Rattle.draws.specs.Draws.{unitOf, falls, elementAt, selected, inserted, rising, depolarizingElement, noPauli, Choice, limitOf, bounded, totalFrom, runningFrom, runningSums, belowUnit, byWeight, chooseFrom, isSatisfied, faultOf, drawShot, Lent, Fault, Draws, alsoFault, thenShots, drawShots, drawLine, partOf, mainAfter}
+use Rattle.frames.specs.Forward.{settingOf, run}
+use Rattle.frames.specs.Shots.{within}
+use Rattle.draws.specs.Draws.{unitOf, falls, elementAt, selected, depolarizingElement, noPauli, Choice, limitOf, bounded, runningFrom, runningSums, belowUnit, byWeight, chooseFrom, isSatisfied, faultOf, drawShot, Lent, Fault, Draws, alsoFault, thenShots, drawShots, drawLine, partOf, mainAfter}
 use Rattle.draws.specs.Settle.{SettledLine, injectText, injection, Step, noiseStep, stepOf, Settled, prefixed, settleThen, settle, settledList}
-use Rattle.draws.specs.Execute.{Ended, execute}
-use Rattle.draws.specs.Laws.Settling.{onSettled, execute-settle}
+use Rattle.draws.specs.Execute.{States, Ended, execute}
+use Rattle.draws.specs.Laws.Settling.{runAll, onSettled, execute-settle}
 use Rattle.draws.specs.Laws.Words as words
 use Rattle.draws.specs.Laws.Enough as enough
 use Rattle.draws.specs.Laws.Spent as spent
@@ -32,27 +35,27 @@ use Rattle.draws.specs.Laws.Faults as faults
 use Rattle.draws.specs.Laws.Unit as unit
 use Rattle.draws.specs.Laws.Elements as elements
 use Rattle.draws.specs.Laws.Depolarizing as depolarizing
-use Rattle.draws.specs.Laws.Within as within
+use Rattle.draws.specs.Laws.Within as settled
 
 -- ---- settling and execution
 
--- Execution with the noise in place is, in every shot and from every state, what the settled list does: where settling gives `spentAt k` it ends
--- with `spentAt k`, and where settling gives the lines ls it ends in the state to which ls run. So draws are spent in the same cases, at the same
--- line.
-pub executed-settled : (c : Setting) (lent : Lent) (is : List Placed) (main : List ℕ) (s : State)
-    → execute c lent is main s ≡ onSettled c s (settle lent main is)
-executed-settled c lent is main s = execute-settle c lent is main s
+-- Execution with the noise in place is, from all states and in every shot, what the settled list does: where settling gives `spentAt k` it ends with
+-- `spentAt k`, and where settling gives the lines ls it ends in the states to which ls run. So draws are spent in the same cases, at the same line.
+pub executed-settled : (h : Header) (lent : Lent) (is : List Placed) (main : List ℕ) (states : States)
+    → execute h lent is main states ≡ onSettled h states (settle lent is main)
+executed-settled h lent is main states = execute-settle h lent is main states
 
 -- the two cases
-pub executed-spent : (c : Setting) (lent : Lent) (is : List Placed) (main : List ℕ) (s : State) (k : ℕ)
-    → settle lent main is ≡ Settled.spentAt k → execute c lent is main s ≡ Ended.spentAt k
+pub executed-spent : (h : Header) (lent : Lent) (is : List Placed) (main : List ℕ) (states : States) (k : ℕ)
+    → settle lent is main ≡ Settled.spentAt k → execute h lent is main states ≡ Ended.spentAt k
 unfolding onSettled
-executed-spent c lent is main s k e = execute-settle c lent is main s ∙ ap (onSettled c s) e
+executed-spent h lent is main states k e = execute-settle h lent is main states ∙ ap (onSettled h states) e
 
-pub executed-ended : (c : Setting) (lent : Lent) (is : List Placed) (main : List ℕ) (s : State) (ls : List SettledLine)
-    → settle lent main is ≡ Settled.settled ls → execute c lent is main s ≡ Ended.ended (run c (settledList ls) s)
-unfolding onSettled
-executed-ended c lent is main s ls e = execute-settle c lent is main s ∙ ap (onSettled c s) e
+pub executed-ended : (h : Header) (lent : Lent) (is : List Placed) (main : List ℕ) (states : States) (ls : List SettledLine)
+    → settle lent is main ≡ Settled.settled ls
+    → execute h lent is main states ≡ Ended.ended (λ s. run (settingOf h s) (settledList ls) (states s))
+unfolding onSettled runAll
+executed-ended h lent is main states ls e = execute-settle h lent is main states ∙ ap (onSettled h states) e
 
 -- ---- a noise line's words
 
@@ -94,12 +97,12 @@ module _ (lent : Lent) (main text : List ℕ) (ls : List SettledLine) (left : Li
 
 -- A job's draws are spent at line k exactly where its instructions begin with some that settle, and then noise in line k is spent, in its part of
 -- the second list or of what those before it left of the main one.
-pub job-spent : (lent : Lent) (main : List ℕ) (is : List Placed) (k : ℕ) → settle lent main is ≡ Settled.spentAt k ↔ spent.SpentAt lent main is k
+pub job-spent : (lent : Lent) (main : List ℕ) (is : List Placed) (k : ℕ) → settle lent is main ≡ Settled.spentAt k ↔ spent.SpentAt lent main is k
 job-spent lent main is k = (spent.spent-at lent main is k, spent.at-spent)
 
 -- Where a job settles, more words in both lists change nothing.
 pub job-more : (lent : Lent) (us main vs : List ℕ) (is : List Placed) (ls : List SettledLine)
-    → settle lent main is ≡ Settled.settled ls → settle (spent.lengthened us lent) (main ++ vs) is ≡ Settled.settled ls
+    → settle lent is main ≡ Settled.settled ls → settle (spent.lengthened us lent) is (main ++ vs) ≡ Settled.settled ls
 job-more lent us main vs is ls e = spent.settled-more lent us main vs is e
 
 -- ---- faults
@@ -153,11 +156,11 @@ module _ (qs : List ℕ) (d : distinct qs ≡ true) (e : ℕ) where
       → (pauliOf (depolarizingElement qs e) .x q ≡ false) × (pauliOf (depolarizingElement qs e) .z q ≡ false)
   depolarizing-off q m = (elements.element-off-x qs e q m, elements.element-off-z qs e q m)
 
-  -- Its lists are as a line may hold them: strictly rising, below n where the qubits are, and not longer than the list of qubits.
-  pub depolarizing-written : (n : ℕ) → allBelow n qs ≡ true
-      → elements.Writable n (length qs) (depolarizingElement qs e .x) × elements.Writable n (length qs) (depolarizingElement qs e .z)
-  unfolding depolarizingElement
-  depolarizing-written n b = (elements.selected-writable n (e + 1) qs d b, elements.selected-writable n ((e + 1) / 2) qs d b)
+-- An element's lists are as a line may hold them: strictly rising, below n where the qubits are, and not longer than the list of qubits.
+pub depolarizing-written : (qs : List ℕ) (e n : ℕ) → allBelow n qs ≡ true
+    → elements.Writable n (length qs) (depolarizingElement qs e .x) × elements.Writable n (length qs) (depolarizingElement qs e .z)
+unfolding depolarizingElement
+depolarizing-written qs e n b = (elements.selected-writable n (e + 1) qs b, elements.selected-writable n ((e + 1) / 2) qs b)
 
 -- The elements are all Paulis on the qubits but the identity, each once.
 module _ (qs : List ℕ) where
@@ -177,18 +180,18 @@ module _ (qs : List ℕ) where
 
 -- Noise comes to injections in shots of the job.
 pub noise-injects : (lent : Lent) (main text : List ℕ) (n : Noise) (ls : List SettledLine) (left : List ℕ)
-    → stepOf lent main text (Instruction.noise n) ≡ Step.lines ls left → within.Injections lent n ls
-noise-injects lent main text n ls left e = within.noise-injects lent main text n ls left e
+    → stepOf lent main text (Instruction.noise n) ≡ Step.lines ls left → settled.Injections lent n ls
+noise-injects lent main text n ls left e = settled.noise-injects lent main text n ls left e
 
 -- Where a job's own injections and flips are in its shots, as test 10 wants it, so are those of the settled list: a shot past the last has none.
-pub settle-within : (lent : Lent) (main : List ℕ) (is : List Placed) (ls : List SettledLine) → within.allOwnBelow (lent .shots) is ≡ true
-    → settle lent main is ≡ Settled.settled ls → within.allActBelow (lent .shots) (settledList ls) ≡ true
-settle-within lent main is ls b e = within.settle-within lent main is ls b e
+pub settle-within : (lent : Lent) (main : List ℕ) (is : List Placed) (ls : List SettledLine) → settled.allOwnBelow (lent .shots) is ≡ true
+    → settle lent is main ≡ Settled.settled ls → within (λ shot. ltb shot (lent .shots)) (settledList ls) ≡ true
+settle-within lent main is ls b e = settled.settle-within lent main is ls b e
 
 -- A job without noise settles to itself, with its texts, whatever is lent.
-pub settle-copies : (lent : Lent) (main : List ℕ) (is : List Placed) → within.noiseFree is ≡ true
-    → settle lent main is ≡ Settled.settled (within.copies is)
-settle-copies lent main is f = within.settle-copies lent main is f
+pub settle-copies : (lent : Lent) (main : List ℕ) (is : List Placed) → settled.noiseFree is ≡ true
+    → settle lent is main ≡ Settled.settled (settled.copies is)
+settle-copies lent main is f = settled.settle-copies lent main is f
 
 -- ---- cases of document 01, computed
 
@@ -210,7 +213,7 @@ pub one-qubit : (q : ℕ)
     ∷ none
     ∷ some (record { x = q ∷ []; z = q ∷ [] })
     ∷ []
-unfolding taken chooseFrom bounded elementAt depolarizingElement selected rising inserted
+unfolding taken chooseFrom sizeOf bounded elementAt depolarizingElement selected rising including
 one-qubit q = refl
 
 -- Two qubits in falling order: the first of the list has the lower bits, and the lists are rising. 15 elements: the limit is 2^64 - 1 itself, so
@@ -223,12 +226,12 @@ pub two-qubits : map (givenBy (Distribution.depolarizing (7 ∷ 3 ∷ []))) (0 �
     ∷ some (record { x = 3 ∷ 7 ∷ []; z = 3 ∷ 7 ∷ [] })
     ∷ none
     ∷ []
-unfolding taken chooseFrom bounded elementAt depolarizingElement selected rising inserted
+unfolding taken chooseFrom sizeOf bounded elementAt depolarizingElement selected rising including
 two-qubits = refl
 
 -- d=3 with one element reads a word all the same; a rejected word is spent.
 pub one-element : (P : SparsePauli) (ws : List ℕ) → chooseFrom (Distribution.uniform (P ∷ [])) ((2 ^ 64 - 1) ∷ 5 ∷ ws) ≡ Choice.chosen 0 ws
-unfolding chooseFrom bounded
+unfolding chooseFrom sizeOf bounded
 one-element P ws = refl
 
 -- The limits for 1, 3 and 7 elements: with seven, words from 2^64 - 2 up are rejected.
@@ -291,7 +294,7 @@ weightless P Q = refl
 -- depolarizing noise on one qubit, with a probability, a corr and a condition
 abbrev pub noiseOn : ℕ → ℕ → Option ℕ → List ℕ → Bool → Noise
 noiseOn q p corr ids par =
-    record { probability = p; correlation = corr; outcomes = ids; parity = par; distribution = Distribution.depolarizing (q ∷ []) }
+    record { probability = p; correlation = corr; condition = record { outcomes = ids; parity = par }; distribution = Distribution.depolarizing (q ∷ []) }
 
 -- what is lent beside the main list, for so many shots: outcome 3 is 1 in shot 1 alone, and the others are 0
 abbrev pub lentFor : ℕ → Lent
@@ -309,7 +312,7 @@ no-word lent q corr ids par ws = refl
 
 -- opens what a noise line's draws compute with
 drawing : Unit {0}
-unfolding drawLine drawShots thenShots alsoFault drawShot faultOf isSatisfied sumOver _⊕_ chooseFrom bounded unitOf div ofInt lt le ofBits
+unfolding drawLine drawShots thenShots alsoFault drawShot faultOf isSatisfied sumOver _⊕_ chooseFrom sizeOf bounded unitOf div ofInt lt le ofBits
 drawing = tt
 
 -- p = 1/2, three shots: a fault with element 2, none, and a fault whose first word is rejected; in a fourth shot a word is missing
@@ -334,7 +337,7 @@ on-zero = refl
 
 -- an instruction in a line
 abbrev pub inLine : ℕ → Noise → Placed
-inLine k n = record { number = k; text = []; instruction = Instruction.noise n }
+inLine k n = record { line = k; text = []; instruction = Instruction.noise n }
 
 -- One shot, base 2^64 - 1: corr 3 begins at place 2 of the second list, at each of its lines anew, and the main list is read on.
 abbrev pub correlated : List Placed
@@ -349,12 +352,12 @@ correlated =
 abbrev pub on : ℕ → ℕ → SettledLine
 on q e = injection (Distribution.depolarizing (q ∷ [])) (fault 0 e)
 
-pub settles : settle (lentFor 1) (0 ∷ 0 ∷ 0 ∷ 2 ∷ []) correlated ≡ Settled.settled (on 0 0 ∷ on 0 1 ∷ on 5 1 ∷ on 0 2 ∷ [])
+pub settles : settle (lentFor 1) correlated (0 ∷ 0 ∷ 0 ∷ 2 ∷ []) ≡ Settled.settled (on 0 0 ∷ on 0 1 ∷ on 5 1 ∷ on 0 2 ∷ [])
 unfolding drawing settle settleThen prefixed stepOf noiseStep mainAfter partOf
 settles = refl
 
 -- a word fewer in the main list, and line 5 is where it is spent
-pub stops : settle (lentFor 1) (0 ∷ 0 ∷ 0 ∷ []) correlated ≡ Settled.spentAt 5
+pub stops : settle (lentFor 1) correlated (0 ∷ 0 ∷ 0 ∷ []) ≡ Settled.spentAt 5
 unfolding drawing settle settleThen prefixed stepOf noiseStep mainAfter partOf
 stops = refl
 

@@ -21,3 +21,6 @@ pub mod Clifford
 pub mod Permutation
 -- What the tests of a line say of its operands.
 pub mod Lines
+-- Linearity of the lines without a fault, and the faults of other shots.
+pub mod Linear
+pub mod RunShots

@@ -1,6 +1,6 @@
 -- Tests 2 to 12, line by line: each is a Bool on what the whole line says and on what the lines before it said. The first that fails, in
 -- document 01's order, is the number that refuses the line. Assumes nothing.
-use Prim.Native.Nat.{ℕ, suc, _+_, _-_}
+use Prim.Native.Nat.{ℕ, suc, _-_}
 use mathlib.Core.Bool.{Bool, true, false, cond, not, _&&_, _||_}
 use mathlib.Core.List.{List, [], _∷_, _++_}
 use mathlib.Core.Option.{Option, none, some}
@@ -8,7 +8,7 @@ use lib.Dec.{eqb, ltb, leb}
 use lib.ListN.{length}
 use lib.Ieee.{Float, binary64, add}
 use Rattle.pauli.specs.Bits.{members}
-use Rattle.pauli.specs.Gate.{Gate, operandsOf}
+use Rattle.pauli.specs.Gate.{operandsOf}
 use Rattle.job.specs.declared.Header.{Header}
 use Rattle.job.specs.Line.{SparsePauli, Line}
 use Rattle.job.specs.Float.{float, nought, isProbability, isWeight, isTotal}
@@ -48,15 +48,19 @@ pub record Context : Type 0 where
   pub due : ℕ
   pub total : Option Float
 
+-- the numbers of no header
+abbrev pub noHeader : Header
+noHeader = record { qubits = 0; outcomes = 0; shots = 0 }
+
 unfoldable pub noContext : Context
-noContext = record { begun = false; header = record { qubits = 0; outcomes = 0; shots = 0 }; recorded = 0; due = 0; total = none }
+noContext = record { begun = false; header = noHeader; recorded = 0; due = 0; total = none }
 
 -- how many element lines follow
-unfoldable pub elementsOf : Kind → ℕ
-elementsOf (Kind.single P) = 0
-elementsOf (Kind.depolarizing qs) = 0
-elementsOf (Kind.uniform n) = n
-elementsOf (Kind.weighted n) = n
+unfoldable pub elementLines : Kind → ℕ
+elementLines (Kind.single P) = 0
+elementLines (Kind.depolarizing qs) = 0
+elementLines (Kind.uniform n) = n
+elementLines (Kind.weighted n) = n
 
 unfoldable pub firstTotal : Kind → Option Float
 firstTotal (Kind.single P) = none
@@ -90,7 +94,7 @@ unfoldable pub next : Context → Written → Context
 next c (Written.header h) = record { begun = true; header = h; recorded = 0; due = 0; total = none }
 next c (Written.line l) = record { begun = c .begun; header = c .header; recorded = cond (records l) (suc (c .recorded)) (c .recorded); due = 0; total = none }
 next c (Written.noise n) =
-    record { begun = c .begun; header = c .header; recorded = c .recorded; due = elementsOf (n .kind); total = firstTotal (n .kind) }
+    record { begun = c .begun; header = c .header; recorded = c .recorded; due = elementLines (n .kind); total = firstTotal (n .kind) }
 next c (Written.element w P) =
     record { begun = c .begun; header = c .header; recorded = c .recorded; due = c .due - 1; total = nextTotal (c .total) w }
 
@@ -128,13 +132,14 @@ pub record Test : Type 0 where
 abbrev pub test : ℕ → Bool → Test
 test number passes = record { number = number; bad = not passes }
 
--- 2: whether an element line is due, with or without a weight
+-- whether the element has a weight exactly where weights are due
 unfoldable pub sameWeight : Option ℕ → Option Float → Bool
 sameWeight none none = true
 sameWeight none (some t) = false
 sameWeight (some w) none = false
 sameWeight (some w) (some t) = true
 
+-- 2: whether an element line is due, with or without a weight
 unfoldable pub expected : Context → Written → Bool
 expected c (Written.header h) = eqb (c .due) 0
 expected c (Written.line l) = eqb (c .due) 0
@@ -222,8 +227,8 @@ elementsFit (Kind.weighted n) = leb 1 n && leb n maxElements
 unfoldable pub noiseTests : Context → NoiseLine → List Test
 noiseTests c n =
     qubitTest c (kindQubits (n .kind))
-    ∷ operandTest (kindDistinct (n .kind)) (n .outcomes ∷ kindQubits (n .kind))
-    ∷ outcomeTest c (n .outcomes)
+    ∷ operandTest (kindDistinct (n .kind)) (n .condition .outcomes ∷ kindQubits (n .kind))
+    ∷ outcomeTest c (n .condition .outcomes)
     -- 11: p NaN or above 1
     ∷ test 11 (isProbability (float (n .probability)))
     ∷ test 12 (elementsFit (n .kind))

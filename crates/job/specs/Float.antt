@@ -1,7 +1,8 @@
--- p and w are binary64 bits: what the tests ask of them. Assumes nothing.
+-- p and w are binary64 bits: what the tests ask of them, and sums of weights. Assumes nothing.
 use Prim.Native.Nat.{ℕ}
 use mathlib.Core.Bool.{Bool, true, false, not, _&&_}
-use lib.Ieee.{Float, nan, inf, fin, binary64, ofBits, isNan, lt}
+use mathlib.Core.List.{List, [], _∷_}
+use lib.Ieee.{Float, nan, inf, fin, binary64, ofBits, isNan, add, lt}
 
 -- what a bit pattern stands for
 abbrev pub float : ℕ → Float
@@ -18,6 +19,11 @@ abbrev pub isFinite : Float → Bool
 isFinite nan = false
 isFinite (inf s) = false
 isFinite (fin s m e) = true
+
+-- weights are summed from the left in binary64
+unfoldable pub totalFrom : Float → List Float → Float
+totalFrom t [] = t
+totalFrom t (w ∷ ws) = totalFrom (add binary64 t w) ws
 
 -- a probability: no NaN, and not above 1
 unfoldable pub isProbability : Float → Bool

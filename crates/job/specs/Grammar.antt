@@ -5,12 +5,12 @@ use mathlib.Core.Bool.{Bool, cond, _&&_}
 use mathlib.Core.List.{List, [], _∷_}
 use mathlib.Core.Option.{Option, none, some}
 use lib.Dec.{eqb}
-use lib.ListN.{length, getD}
+use lib.ListN.{length}
 use Rattle.pauli.specs.Gate.{Gate, gateOf}
 use Rattle.text.specs.Bytes.{bytes}
 use Rattle.text.specs.Template.{Value, valuesOf, numberAt, listAt}
 use Rattle.job.specs.declared.Header.{Header}
-use Rattle.job.specs.Line.{SparsePauli, Line}
+use Rattle.job.specs.Line.{SparsePauli, Line, OutcomeCondition}
 
 -- the kind of a noise line's distribution; the n elements of the last two stand on lines of their own
 pub data Kind : Type 0 where
@@ -22,8 +22,7 @@ pub data Kind : Type 0 where
 pub record NoiseLine : Type 0 where
   pub probability : ℕ
   pub correlation : Option ℕ
-  pub outcomes : List ℕ
-  pub parity : Bool
+  pub condition : OutcomeCondition
   pub kind : Kind
 
 -- what one line says
@@ -63,8 +62,7 @@ noiseLine kind v =
     (some (Written.noise record {
       probability = numberAt 0 v;
       correlation = optional (listAt 0 v);
-      outcomes = listAt 1 v;
-      parity = isOne (numberAt 1 v);
+      condition = record { outcomes = listAt 1 v; parity = isOne (numberAt 1 v) };
       kind = kind;
     }))
 
@@ -75,8 +73,18 @@ pub record Form : Type 0 where
   pub template : List ℕ
   pub says : List Value → Option Written
 
+abbrev pub formOf : List ℕ → (List Value → Option Written) → Form
+formOf template says = record { template = template; says = says }
+
 abbrev pub form : String → (List Value → Option Written) → Form
-form template says = record { template = bytes template; says = says }
+form template = formOf (bytes template)
+
+-- the templates that are written too, by settling and by annotation
+abbrev pub injectTemplate : List ℕ
+injectTemplate = bytes "op=i shot=N x=L z=L"
+
+abbrev pub depolarizingTemplate : List ℕ
+depolarizingTemplate = bytes "op=n p=H corr=C cond=L parity=B d=2 q=Q"
 
 unfoldable pub forms : List Form
 unfolding bytes
@@ -92,10 +100,10 @@ forms =
     ∷ form "op=r id=N angle=B" (λ v. plain (Line.allocate (numberAt 0 v) (isOne (numberAt 1 v))))
     ∷ form "op=f x=L z=L id=L parity=B" (λ v. plain (Line.conditional (pauliAt 0 1 v) (listAt 2 v) (isOne (numberAt 0 v))))
     ∷ form "op=z q=N" (λ v. plain (Line.reset (numberAt 0 v ∷ [])))
-    ∷ form "op=i shot=N x=L z=L" (λ v. plain (Line.inject (numberAt 0 v) (pauliAt 0 1 v)))
+    ∷ formOf injectTemplate (λ v. plain (Line.inject (numberAt 0 v) (pauliAt 0 1 v)))
     ∷ form "op=t shot=N id=N" (λ v. plain (Line.flip (numberAt 0 v) (numberAt 1 v)))
     ∷ form "op=n p=H corr=C cond=L parity=B d=1 x=L z=L" (λ v. noiseLine (Kind.single (pauliAt 2 3 v)) v)
-    ∷ form "op=n p=H corr=C cond=L parity=B d=2 q=Q" (λ v. noiseLine (Kind.depolarizing (listAt 2 v)) v)
+    ∷ formOf depolarizingTemplate (λ v. noiseLine (Kind.depolarizing (listAt 2 v)) v)
     ∷ form "op=n p=H corr=C cond=L parity=B d=3 n=N" (λ v. noiseLine (Kind.uniform (numberAt 2 v)) v)
     ∷ form "op=n p=H corr=C cond=L parity=B d=4 n=N" (λ v. noiseLine (Kind.weighted (numberAt 2 v)) v)
     ∷ form "x=L z=L" (λ v. some (Written.element none (pauliAt 0 1 v)))

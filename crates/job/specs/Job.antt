@@ -8,9 +8,9 @@ use lib.ListN.{length, getD}
 use Rattle.text.specs.Bytes.{LF, lines}
 use Rattle.job.specs.declared.Header.{Header}
 use Rattle.job.specs.declared.Answer.{Answer}
-use Rattle.job.specs.Line.{SparsePauli, Line, WeightedPauli, Distribution, Noise, Instruction, Placed}
+use Rattle.job.specs.Line.{WeightedPauli, Distribution, Noise, Instruction, Placed}
 use Rattle.job.specs.Grammar.{Kind, NoiseLine, Written, readLine}
-use Rattle.job.specs.Checks.{Context, noContext, records, next, refusalOf}
+use Rattle.job.specs.Checks.{Context, noHeader, noContext, records, next, refusalOf}
 
 -- ---- the refusal
 
@@ -63,8 +63,7 @@ noiseOf n es =
     record {
       probability = n .probability;
       correlation = n .correlation;
-      outcomes = n .outcomes;
-      parity = n .parity;
+      condition = n .condition;
       distribution = distributionOf (n .kind) es;
     }
 
@@ -78,7 +77,7 @@ pub record Gathered : Type 0 where
   pub instructions : List Placed
 
 abbrev pub placedAt : ℕ → List ℕ → Instruction → Placed
-placedAt k l i = record { number = k; text = l; instruction = i }
+placedAt k l i = record { line = k; text = l; instruction = i }
 
 unfoldable pub gather : ℕ → List ℕ → Option Written → Gathered → Gathered
 gather k l none g = g
@@ -95,11 +94,11 @@ gathered k [] = record { elements = []; instructions = [] }
 gathered k (l ∷ ls) = gather k l (readLine l) (gathered (suc k) ls)
 
 unfoldable pub headerOf : Option Written → Header
-headerOf none = record { qubits = 0; outcomes = 0; shots = 0 }
+headerOf none = noHeader
 headerOf (some (Written.header h)) = h
-headerOf (some (Written.line l)) = record { qubits = 0; outcomes = 0; shots = 0 }
-headerOf (some (Written.noise n)) = record { qubits = 0; outcomes = 0; shots = 0 }
-headerOf (some (Written.element w P)) = record { qubits = 0; outcomes = 0; shots = 0 }
+headerOf (some (Written.line l)) = noHeader
+headerOf (some (Written.noise n)) = noHeader
+headerOf (some (Written.element w P)) = noHeader
 
 -- a job that passed the tests
 pub record Job : Type 0 where

@@ -1,6 +1,7 @@
--- Definitions, to be believed, in document 01's order: lines and instructions, binary64, the Clifford table, the forms of lines, tests 2 to 12, and
+-- Definitions, to be believed, in document 01's order: lines and instructions, rising lists, binary64, the Clifford table, the forms of lines, tests 2 to 12, and
 -- the whole job with test 1; and what calls reply.
 pub mod Line
+pub mod Rising
 pub mod Float
 pub mod Clifford
 pub mod Grammar

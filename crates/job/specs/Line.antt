@@ -61,12 +61,16 @@ sizeOf (Distribution.depolarizing qs) = 4 ^ length qs - 1
 sizeOf (Distribution.uniform Ps) = length Ps
 sizeOf (Distribution.weighted es) = length es
 
--- A noise line's probability (by its bits), correlation, condition (its outcomes, none where the list is empty, and their parity) and distribution.
+-- A noise line's condition: its outcomes, none where the list is empty, and the parity of their noiseless bits.
+pub record OutcomeCondition : Type 0 where
+  pub outcomes : List ℕ
+  pub parity : Bool
+
+-- A noise line's probability (by its bits), correlation, condition and distribution.
 pub record Noise : Type 0 where
   pub probability : ℕ
   pub correlation : Option ℕ
-  pub outcomes : List ℕ
-  pub parity : Bool
+  pub condition : OutcomeCondition
   pub distribution : Distribution
 
 -- Noise and its element lines make one instruction.
@@ -76,6 +80,6 @@ pub data Instruction : Type 0 where
 
 -- an instruction with the number of its line, which for noise is the noise line, and that line's bytes
 pub record Placed : Type 0 where
-  pub number : ℕ
+  pub line : ℕ
   pub text : List ℕ
   pub instruction : Instruction

@@ -7,7 +7,7 @@ use lib.ListN.{length, drop}
 use Rattle.job.specs.declared.Answer.{Answer}
 use Rattle.job.specs.Job.{maxBytes, accepted}
 
--- words or bytes put in front of what stands beyond them
+-- a lent list after its first words or bytes were written over
 abbrev pub over : List ℕ → List ℕ → List ℕ
 over front old = front ++ drop (length front) old
 

@@ -5,17 +5,17 @@ use mathlib.Core.Path.{_≡_}
 use mathlib.Core.Bool.{true, false}
 use mathlib.Core.List.{List, [], _∷_, _++_, map}
 use mathlib.Core.Option.{Option, none, some}
-use lib.Ieee.{Float, binary64, add}
+use lib.Ieee.{Float}
 use lib.ListN.{length}
 use Rattle.text.specs.Bytes.{lines}
 use Rattle.text.specs.List.{isRising}
 use Rattle.pauli.specs.Gate.{Gate, operandsOf}
 use Rattle.job.specs.declared.Header.{Header}
 use Rattle.job.specs.Line.{SparsePauli, Line, WeightedPauli, Distribution, Noise, Instruction, Placed}
-use Rattle.job.specs.Float.{float, nought, isProbability, isWeight, isTotal}
+use Rattle.job.specs.Float.{float, nought, totalFrom, isProbability, isWeight, isTotal}
 use Rattle.job.specs.Clifford.{isClifford}
 use Rattle.job.specs.Grammar.{NoiseLine, Written, readLine}
-use Rattle.job.specs.Checks.{elementsOf, allBelow, distinct, isPermutation}
+use Rattle.job.specs.Checks.{elementLines, allBelow, distinct, isPermutation}
 use Rattle.job.specs.Job.{wellEnded, noiseOf, gathered, Job, recordedBy, recordedIn}
 
 -- ---- lists
@@ -116,11 +116,6 @@ pub record ElementSound (n : ℕ) (e : WeightedPauli) : Type 0 where
   pub weight : isWeight (float (e .weight)) ≡ true
   pub small : e .weight < 2 ^ 64
 
--- weights are summed from the left in binary64
-unfoldable pub totalFrom : Float → List Float → Float
-totalFrom t [] = t
-totalFrom t (w ∷ ws) = totalFrom (add binary64 t w) ws
-
 abbrev pub weightsOf : List WeightedPauli → List Float
 weightsOf = map (λ (e : WeightedPauli). float (e .weight))
 
@@ -147,9 +142,9 @@ pub record NoiseSound (n recorded : ℕ) (i : Noise) : Type 0 where
   pub probability : isProbability (float (i .probability)) ≡ true
   pub small : i .probability < 2 ^ 64
   pub correlation : SmallOption (i .correlation)
-  pub outcomes : RisingBelow recorded (i .outcomes)
+  pub outcomes : RisingBelow recorded (i .condition .outcomes)
   -- where the condition is none, the parity is 0
-  pub parity : length (i .outcomes) ≡ 0 → i .parity ≡ false
+  pub parity : length (i .condition .outcomes) ≡ 0 → i .condition .parity ≡ false
   pub distribution : DistributionSound n (i .distribution)
 
 -- ---- the job
@@ -168,7 +163,7 @@ pub record NoiseSaid (text : List ℕ) (i : Noise) : Type 0 where
   pub line : NoiseLine
   pub elements : List WeightedPauli
   pub reads : readLine text ≡ some (Written.noise line)
-  pub count : length elements ≡ elementsOf (line .kind)
+  pub count : length elements ≡ elementLines (line .kind)
   pub is : i ≡ noiseOf line elements
 
 unfoldable pub SaidBy : List ℕ → Instruction → Type 0

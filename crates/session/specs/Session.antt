@@ -13,11 +13,20 @@ use Rattle.rows.specs.Words.{wordsPerRow, bitIn}
 use Rattle.run.specs.Run.{Memory, RunReply, frameWords, outcomeWords, runReply}
 
 -- 65,536 bytes, 64 qubits, 256 outcomes, 64 shots at most
-abbrev pub maxInput : ℕ
-maxInput = 65536
+abbrev pub mostBytes : ℕ
+mostBytes = 65536
+
+abbrev pub mostQubits : ℕ
+mostQubits = 64
+
+abbrev pub mostOutcomes : ℕ
+mostOutcomes = 256
+
+abbrev pub mostShots : ℕ
+mostShots = 64
 
 abbrev pub smallEnough : Header → Bool
-smallEnough h = leb (h .qubits) 64 && leb (h .outcomes) 256 && leb (h .shots) 64
+smallEnough h = leb (h .qubits) mostQubits && leb (h .outcomes) mostOutcomes && leb (h .shots) mostShots
 
 -- empty draws and zero noiseless bits, and as many words as the header needs
 unfoldable pub lentMemory : Header → Memory
@@ -26,10 +35,7 @@ lentMemory h =
       x = replicate (frameWords h) 0;
       z = replicate (frameWords h) 0;
       deltas = replicate (outcomeWords h) 0;
-      noiseless = replicate (outcomeWords h) 0;
-      main = [];
-      second = [];
-      base = 0;
+      source = record { noiseless = replicate (outcomeWords h) 0; main = []; second = []; base = 0 };
     }
 
 -- a refusal
@@ -65,4 +71,4 @@ printed job =
     let ran = replyLines j (runReply job (lentMemory (j .header))) in
     let sized = cond (smallEnough (j .header)) ran (refusalLines (answer 13 0)) in
     let checked = cond (eqb (checkJob job .number) 0) sized (refusalLines (checkJob job)) in
-    unlines (cond (leb (length job) maxInput) checked (refusalLines (answer 13 0)))
+    unlines (cond (leb (length job) mostBytes) checked (refusalLines (answer 13 0)))

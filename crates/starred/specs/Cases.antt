@@ -37,7 +37,7 @@ sameAnswer a number line = eqb (a .number) number && eqb (a .line) line
 
 -- the reply of settling with no noiseless bits, no second list and 256 lent bytes
 unfoldable pub settledBy : String → List ℕ → TextReply
-settledBy job main = settleReply (bytes job) [] main [] 0 (replicate 256 0)
+settledBy job main = settleReply (bytes job) (record { noiseless = []; main = main; second = []; base = 0 }) (replicate 256 0)
 
 unfoldable pub wrote : TextReply → String → Bool
 wrote r text = sameAnswer (r .answered) 0 0 && sameBytes (take (r .figure) (r .out)) (bytes text)

@@ -1,6 +1,6 @@
 -- Texts as lists of bytes, and bytes cut at a separator. Assumes nothing.
 use Prim.Native.Nat.{ℕ, zero, suc}
-use Prim.Native.Char.{Char, code}
+use Prim.Native.Char.{code}
 use Prim.Native.String.{String, [] as empty, _∷_ as _then_}
 use mathlib.Core.Bool.{cond}
 use mathlib.Core.List.{List, [], _∷_, _++_}
@@ -31,7 +31,7 @@ unfoldable pub extend : ℕ → List (List ℕ) → List (List ℕ)
 extend b [] = (b ∷ []) ∷ []
 extend b (p ∷ ps) = (b ∷ p) ∷ ps
 
--- the bytes before each separator, with `last` for what no separator ends
+-- the pieces; an empty rest gives `last`, and a rest that no separator ends is a piece too (test 1 lets none pass)
 unfoldable pub pieces : List (List ℕ) → ℕ → List ℕ → List (List ℕ)
 pieces last sep [] = last
 pieces last sep (b ∷ l) = cond (eqb b sep) ([] ∷ pieces last sep l) (extend b (pieces last sep l))

@@ -16,7 +16,7 @@ use Rattle.backward.specs.Laws.Transpose.{Transpose, unitary-transpose, 
 
 -- Whether the frame and the observable anticommute, plus the deltas' sum over the set.
 unfoldable pub paired : Setting → State → Carried → Bool
-paired c s w = anticommutes (c .qubits) (s .frame) (w .observable) ⊕ parity (c .outcomes) (s .deltas ∩ w .outcomes)
+paired c s w = anticommutes (c .qubits) (s .frame) (w .observable) ⊕ parity (c .outcomes) (s .deltas ∩ w .set)
 
 -- with the count: what each step of the walk keeps
 unfoldable pub total : Setting → State → Walk → Bool
@@ -56,7 +56,7 @@ module _ (c : Setting) where
   on-frame : (f g : Pauli → Pauli) → Transpose (c .qubits) f g → (s : State) (w : Carried)
       → paired c (onFrame f s) w ≡ paired c s (onObservable g w) ⊕ false
   unfolding paired
-  on-frame f g t s w = ap (λ (b : Bool). b ⊕ parity (c .outcomes) (s .deltas ∩ w .outcomes)) (t (s .frame) (w .observable)) ∙ plus-false _
+  on-frame f g t s w = ap (λ (b : Bool). b ⊕ parity (c .outcomes) (s .deltas ∩ w .set)) (t (s .frame) (w .observable)) ∙ plus-false _
 
   -- one line: what the line does forwards and what is carried back over it differ by what is counted
   pub forward-carry : (l : Line) → InRange (c .qubits) (c .outcomes) l → (s : State) (w : Carried)
@@ -96,6 +96,6 @@ module _ (c : Setting) where
 
   -- with the identity as observable, and nothing counted
   pub total-end : (s : State) (S : Bits)
-      → parity (c .outcomes) (s .deltas ∩ S) ≡ total c s (record { carried = record { observable = identity; outcomes = S }; count = 0 })
+      → parity (c .outcomes) (s .deltas ∩ S) ≡ total c s (record { carried = record { observable = identity; set = S }; count = 0 })
   unfolding total paired odd
   total-end s S = simp pairing

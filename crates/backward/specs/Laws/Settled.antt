@@ -1,21 +1,18 @@
--- Laws: how a shot ends, and that the lines to which the instructions of an accepted job settle are in range. Assumes nothing.
-use mathlib.Core.Path.{_≡_, refl, sym, ap, subst, _∙_}
-use mathlib.Core.Bool.{cond, true, false}
-use mathlib.Core.List.{List, [], _∷_, _++_, map}
+-- Laws: how execution ends, and that the lines to which the instructions of an accepted job settle are in range. Assumes nothing.
+use mathlib.Core.Path.{_≡_, refl, sym, subst}
+use mathlib.Core.List.{List, [], _∷_, _++_}
 use Prim.Native.Nat.{ℕ, _+_, _<_, _≤_}
 use native.Mathlib.Nat.{add-zero}
 use native.Mathlib.Omega.{arith}
 use Rattle.job.specs.declared.Header.{Header}
-use Rattle.job.specs.Line.{Line, Distribution, Noise, Instruction, Placed}
-use Rattle.job.specs.Checks.{records}
+use Rattle.job.specs.Line.{Line, Distribution, Instruction, Placed}
 use Rattle.job.specs.Job.{recordedBy, recordedIn}
 use Rattle.job.specs.InRange.{InRange, AllInRange}
 use Rattle.job.specs.Sound.{LineSound, InstructionSound, InstructionsSound}
 use Rattle.job.specs.Laws.Recorded.{recorded-within}
-use Rattle.frames.specs.Forward.{State}
 use Rattle.draws.specs.Draws.{Lent, Fault}
 use Rattle.draws.specs.Settle.{SettledLine, injection, Step, stepOf, Settled, prefixed, settleThen, settle, settledList}
-use Rattle.draws.specs.Execute.{Ended}
+use Rattle.draws.specs.Execute.{States, Ended}
 use Rattle.draws.specs.Laws.Settling.{settledList-append}
 use Rattle.draws.specs.Laws.Within.{injected, Injections, noise-injects}
 
@@ -43,12 +40,12 @@ unfolding injection
 injected-in-range n m d [] = tt
 injected-in-range n m d (f ∷ fs) = (tt, injected-in-range n m d fs)
 
--- ---- how a shot ends
+-- ---- how execution ends
 
-pub ended-apart : (k : ℕ) (s : State) → Ended.spentAt k ≡ Ended.ended s → ⊥
-ended-apart k s e = let z : _≡_ {A = ℕ} 0 1 = cc in omega arith
+pub ended-apart : (k : ℕ) (states : States) → Ended.spentAt k ≡ Ended.ended states → ⊥
+ended-apart k states e = let z : _≡_ {A = ℕ} 0 1 = cc in omega arith
 
-pub ended-same : (s t : State) → Ended.ended s ≡ Ended.ended t → s ≡ t
+pub ended-same : (s t : States) → Ended.ended s ≡ Ended.ended t → s ≡ t
 ended-same s t e = cc
 
 -- ---- an instruction, and a job
@@ -77,7 +74,7 @@ module _ (h : Header) where
   SettledInRange (Settled.spentAt k) = Unit
   SettledInRange (Settled.settled ls) = AllInRange (h .qubits) (h .outcomes) (settledList ls)
 
-  settle-range : (r : ℕ) (lent : Lent) (main : List ℕ) (is : List Placed) → r ≤ h .outcomes → InstructionsSound h r is → SettledInRange (settle lent main is)
+  settle-range : (r : ℕ) (lent : Lent) (main : List ℕ) (is : List Placed) → r ≤ h .outcomes → InstructionsSound h r is → SettledInRange (settle lent is main)
   unfolding settle InstructionsSound
   settle-range r lent main [] k s = unfold SettledInRange in tt
   settle-range r lent main (i ∷ is) k (first, rest) =
@@ -93,14 +90,14 @@ module _ (h : Header) where
           unfold prefixed SettledInRange in
           (rw (settledList-append ls ms) (append-in-range (h .qubits) (h .outcomes) (settledList ls) (settledList ms) a b))
 
-      go : (o : Step) → stepOf lent main (i .text) (i .instruction) ≡ o → ((left : List ℕ) → SettledInRange (settle lent left is))
-          → SettledInRange (settleThen (i .number) o (λ left. settle lent left is))
+      go : (o : Step) → stepOf lent main (i .text) (i .instruction) ≡ o → ((left : List ℕ) → SettledInRange (settle lent is left))
+          → SettledInRange (settleThen (i .line) o (settle lent is))
       go Step.spent e ih = unfold settleThen SettledInRange in tt
       go (Step.lines ls left) e ih =
           unfold settleThen in
-          joined ls (step-in-range r lent main (i .text) (i .instruction) ls left k first e) (settle lent left is) (ih left)
+          joined ls (step-in-range r lent main (i .text) (i .instruction) ls left k first e) (settle lent is left) (ih left)
 
   pub settled-in-range : (r : ℕ) (lent : Lent) (main : List ℕ) (is : List Placed) (ls : List SettledLine) → r ≤ h .outcomes → InstructionsSound h r is
-      → settle lent main is ≡ Settled.settled ls → AllInRange (h .qubits) (h .outcomes) (settledList ls)
+      → settle lent is main ≡ Settled.settled ls → AllInRange (h .qubits) (h .outcomes) (settledList ls)
   unfolding SettledInRange
   settled-in-range r lent main is ls k s e = subst SettledInRange e (settle-range r lent main is k s)

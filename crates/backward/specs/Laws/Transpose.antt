@@ -14,7 +14,7 @@ use Rattle.pauli.specs.Laws.Pairing.{pairing, anti-comm, anti-cleared, anti-∗
 use Rattle.pauli.specs.Laws.Gates.{swapXZ-is, addXtoZ-is, addZtoX-is, controlledX-is, controlledZ-is, swapRows-is}
 use Rattle.job.specs.Checks.{allBelow}
 use Rattle.frames.specs.Forward.{exponentiate, controlledPauli, Image, imagesFrom, imagesOf, imageSum, transformed, placesOf}
-use Rattle.backward.specs.Walk.{readings, cliffordBack, fetched, permuteBack}
+use Rattle.backward.specs.Walk.{imagesBack, cliffordBack, fetched, permuteBack}
 
 -- g is the transpose of f under the commutation form over n qubits: f F and B anticommute exactly when F and g B do.
 abbrev pub Transpose : ℕ → (Pauli → Pauli) → (Pauli → Pauli) → Type 0
@@ -100,8 +100,8 @@ module _ (n : ℕ) where
       ≡ anticommutes n F (when (anticommutes n B RZ) (X-at q) ∗ when (anticommutes n B RX) (Z-at q) ∗ B′)
   image-step q RX RZ F′ B′ F B h e = simp (pairing, anti-comm n B RX, anti-comm n B RZ, e)
 
-  imageSum-transpose : (gs : List Image) → Below n (map qubitOf gs) → Transpose n (imageSum gs) (readings n gs)
-  unfolding imageSum readings
+  imageSum-transpose : (gs : List Image) → Below n (map qubitOf gs) → Transpose n (imageSum gs) (imagesBack n gs)
+  unfolding imageSum imagesBack
   imageSum-transpose [] h F B = simp pairing
   imageSum-transpose (g ∷ gs) (h, hs) F B = image-step (g .qubit) _ _ _ _ F B h (imageSum-transpose gs hs F B)
 
@@ -125,20 +125,20 @@ module _ (n : ℕ) where
   places-below places (j ∷ s) (q ∷ qs) (h, hs) = (h, places-below places s qs hs)
 
   -- to fetch B from place s_i is to see whether B anticommutes with the images there
-  readings-places : (places s qs : List ℕ) (B : Pauli) → 0 < n → Below n places → readings n (placesOf places s qs) B ≡ fetched places s qs B
-  unfolding placesOf readings fetched
-  readings-places places [] qs B z h = refl
-  readings-places places (j ∷ s) [] B z h = refl
-  readings-places places (j ∷ s) (q ∷ qs) B z h =
+  imagesBack-places : (places s qs : List ℕ) (B : Pauli) → 0 < n → Below n places → imagesBack n (placesOf places s qs) B ≡ fetched places s qs B
+  unfolding placesOf imagesBack fetched
+  imagesBack-places places [] qs B z h = refl
+  imagesBack-places places (j ∷ s) [] B z h = refl
+  imagesBack-places places (j ∷ s) (q ∷ qs) B z h =
       ap₂ _∗_
       (ap₂ (λ x y. when x (X-at q) ∗ when y (Z-at q)) (anti-Z-right n (getD places j 0) B (below-at n places j z h)) (anti-X-right n (getD places j 0) B (below-at n places j z h)))
-      (readings-places places s qs B z h)
+      (imagesBack-places places s qs B z h)
 
   permute-some : (s qs : List ℕ) → 0 < n → Below n qs → Transpose n (transformed qs (placesOf qs s qs)) (permuteBack s qs)
   unfolding cliffordBack permuteBack
   permute-some s qs z h F B =
       transformed-transpose qs (placesOf qs s qs) (places-below qs s qs h) F B
-      ∙ ap (λ R. anticommutes n F (cleared qs B ∗ R)) (readings-places qs s qs B z h)
+      ∙ ap (λ R. anticommutes n F (cleared qs B ∗ R)) (imagesBack-places qs s qs B z h)
 
 -- ---- operands as a line lists them
 

@@ -7,9 +7,9 @@ use Rattle.pauli.specs.Bits.{Bits}
 use Rattle.job.specs.Line.{Line}
 use Rattle.frames.specs.Forward.{Setting}
 use Rattle.backward.specs.Walk.{Carried, carry, counts, Walk, oneMore, backward, walkBack}
-use Rattle.backward.specs.Shot.{concerns, restricted, within}
-use Rattle.backward.specs.Laws.Linear.{apart}
-use Rattle.backward.specs.Laws.RunShots.{other, kept-or-not}
+use Rattle.frames.specs.Shots.{concerns, restricted, within}
+use Rattle.frames.specs.Laws.Linear.{apart}
+use Rattle.frames.specs.Laws.RunShots.{other, kept-or-not}
 
 -- ---- the faults of other shots
 

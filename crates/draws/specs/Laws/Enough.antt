@@ -76,7 +76,7 @@ module _ (lent : Lent) (n : Noise) (p : 0 < sizeOf (n .distribution)) (h : sizeO
   after-word : (bits : Bits) (w : ℕ) (vs : List ℕ) (m : ℕ) → ShotEnds m (drawShot n bits (w ∷ vs ++ replicate (suc m) 0))
   unfolding drawShot ShotEnds
   after-word bits w vs m =
-      go (falls w (float (n .probability)) && isSatisfied n bits) (chooseFrom (n .distribution) rest) (choice-enough (n .distribution) p h vs m)
+      go (falls w (float (n .probability)) && isSatisfied (n .condition) bits) (chooseFrom (n .distribution) rest) (choice-enough (n .distribution) p h vs m)
     where
       rest : List ℕ
       rest = vs ++ replicate (suc m) 0

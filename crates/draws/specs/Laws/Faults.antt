@@ -13,9 +13,9 @@ use borrow.Author.Tests.{lt-ltb}
 use Rattle.text.specs.List.{risesFrom, isRising}
 use Rattle.pauli.specs.Bits.{Bits}
 use Rattle.job.specs.Line.{SparsePauli, WeightedPauli, Distribution, sizeOf, Noise}
-use Rattle.job.specs.Float.{float, nought, one}
+use Rattle.job.specs.Float.{float, nought, one, totalFrom}
 use Rattle.job.specs.Checks.{allBelow}
-use Rattle.draws.specs.Draws.{falls, noPauli, elementAt, Choice, limitOf, bounded, totalFrom, runningFrom, runningSums, byWeight, chooseFrom, isSatisfied, ShotDraw, faultOf, drawShot, Lent, Fault, Draws, alsoFault, thenShots, drawShots, drawLine}
+use Rattle.draws.specs.Draws.{falls, noPauli, elementAt, Choice, limitOf, bounded, runningFrom, runningSums, byWeight, chooseFrom, isSatisfied, ShotDraw, faultOf, drawShot, Lent, Fault, Draws, alsoFault, thenShots, drawShots, drawLine}
 
 abbrev pub shotsOf : List Fault → List ℕ
 shotsOf = map (λ (f : Fault). f .shot)
@@ -154,7 +154,7 @@ shot-below : (n : Noise) (bits : Bits) (ws : List ℕ) → 0 < sizeOf (n .distri
 unfolding drawShot ShotBelow
 shot-below n bits [] h = tt
 shot-below n bits (w ∷ ws) h =
-    go (falls w (float (n .probability)) && isSatisfied n bits) (chooseFrom (n .distribution) ws) (choice-below (n .distribution) ws h)
+    go (falls w (float (n .probability)) && isSatisfied (n .condition) bits) (chooseFrom (n .distribution) ws) (choice-below (n .distribution) ws h)
   where
     go : (b : Bool) (o : Choice) → ChoiceBelow (sizeOf (n .distribution)) o
         → ShotBelow (sizeOf (n .distribution)) (cond b (faultOf o) (ShotDraw.drew none ws))

@@ -1,16 +1,17 @@
--- Laws: execution with the noise in place does what the settled list does, shot by shot and line by line. Assumes nothing.
-use mathlib.Core.Path.{_≡_, refl, sym, ap, _∙_}
+-- Laws: execution with the noise in place does in every shot what the settled list does, line by line. Assumes nothing.
+use mathlib.Core.Path.{_≡_, refl, sym, ap, _∙_, fun-ext}
 use mathlib.Core.Bool.{Bool, true, false, cond}
 use mathlib.Core.List.{List, [], _∷_, _++_, map}
 use mathlib.Core.Option.{none, some}
 use Prim.Native.Nat.{ℕ, zero, suc}
 use lib.Ieee.{le}
+use Rattle.job.specs.declared.Header.{Header}
 use Rattle.job.specs.Line.{Line, Distribution, Noise, Instruction, Placed}
 use Rattle.job.specs.Float.{float, nought}
-use Rattle.frames.specs.Forward.{Setting, State, forward, run}
+use Rattle.frames.specs.Forward.{Setting, State, settingOf, forward, run}
 use Rattle.draws.specs.Draws.{Lent, Fault, ShotDraw, Draws, drawShot, alsoFault, thenShots, drawShots, drawLine, partOf}
 use Rattle.draws.specs.Settle.{SettledLine, injection, Step, noiseStep, stepOf, Settled, prefixed, settleThen, settle, settledList}
-use Rattle.draws.specs.Execute.{Executed, thenInPlace, injectShots, injectNoise, onMain, executeOne, Ended, executeThen, execute}
+use Rattle.draws.specs.Execute.{States, forwardAll, Executed, thenInPlace, injectShots, injectNoise, onMain, executeOne, Ended, executeThen, execute}
 
 -- ---- one list of lines after another
 
@@ -25,89 +26,97 @@ settledList-append (l ∷ ls) ms = ap (λ (ks : List Line). l .line ∷ ks) (set
 
 -- ---- what faults, the lines of an instruction and a settled list do
 
-unfoldable onDraws : Setting → Distribution → State → Draws → Executed
-onDraws c d s Draws.spent = Executed.spent
-onDraws c d s (Draws.drawn fs left) = Executed.went (run c (settledList (map (injection d) fs)) s) left
+-- a list of lines in all shots
+unfoldable pub runAll : Header → List Line → States → States
+runAll h ls states s = run (settingOf h s) ls (states s)
 
-unfoldable pub onStep : Setting → State → Step → Executed
-onStep c s Step.spent = Executed.spent
-onStep c s (Step.lines ls left) = Executed.went (run c (settledList ls) s) left
+runAll-append : (h : Header) (ls ms : List Line) (states : States) → runAll h (ls ++ ms) states ≡ runAll h ms (runAll h ls states)
+unfolding runAll
+runAll-append h ls ms states = fun-ext (λ s. run-append (settingOf h s) ls ms (states s))
 
-unfoldable pub onSettled : Setting → State → Settled → Ended
-onSettled c s (Settled.spentAt k) = Ended.spentAt k
-onSettled c s (Settled.settled ls) = Ended.ended (run c (settledList ls) s)
+unfoldable onDraws : Header → Distribution → States → Draws → Executed
+onDraws h d states Draws.spent = Executed.spent
+onDraws h d states (Draws.drawn fs left) = Executed.went (runAll h (settledList (map (injection d) fs)) states) left
+
+unfoldable pub onStep : Header → States → Step → Executed
+onStep h states Step.spent = Executed.spent
+onStep h states (Step.lines ls left) = Executed.went (runAll h (settledList ls) states) left
+
+unfoldable pub onSettled : Header → States → Settled → Ended
+onSettled h states (Settled.spentAt k) = Ended.spentAt k
+onSettled h states (Settled.settled ls) = Ended.ended (runAll h (settledList ls) states)
 
 -- ---- a noise line
 
-on-also : (c : Setting) (d : Distribution) (s : State) (f : Fault) (o : Draws)
-    → onDraws c d (forward c (injection d f .line) s) o ≡ onDraws c d s (alsoFault f o)
-unfolding onDraws alsoFault injection run
-on-also c d s f Draws.spent = refl
-on-also c d s f (Draws.drawn fs left) = refl
+on-also : (h : Header) (d : Distribution) (states : States) (f : Fault) (o : Draws)
+    → onDraws h d (forwardAll h (injection d f .line) states) o ≡ onDraws h d states (alsoFault f o)
+unfolding onDraws alsoFault injection runAll run forwardAll
+on-also h d states f Draws.spent = refl
+on-also h d states f (Draws.drawn fs left) = refl
 
-shots-settled : (c : Setting) (lent : Lent) (n : Noise) (left shot : ℕ) (ws : List ℕ) (s : State)
-    → injectShots c lent n left shot ws s ≡ onDraws c (n .distribution) s (drawShots lent n left shot ws)
-unfolding injectShots drawShots onDraws run
-shots-settled c lent n zero shot ws s = refl
-shots-settled c lent n (suc left) shot ws s = go (drawShot n (λ id. lent .noiseless id shot) ws) (shots-settled c lent n left (suc shot))
+shots-settled : (h : Header) (lent : Lent) (n : Noise) (left shot : ℕ) (ws : List ℕ) (states : States)
+    → injectShots h lent n left shot ws states ≡ onDraws h (n .distribution) states (drawShots lent n left shot ws)
+unfolding injectShots drawShots onDraws runAll run forwardAll
+shots-settled h lent n zero shot ws states = refl
+shots-settled h lent n (suc left) shot ws states = go (drawShot n (λ id. lent .noiseless id shot) ws) (shots-settled h lent n left (suc shot))
   where
     later : List ℕ → Draws
     later = drawShots lent n left (suc shot)
 
-    go : (o : ShotDraw) → ((vs : List ℕ) (t : State) → injectShots c lent n left (suc shot) vs t ≡ onDraws c (n .distribution) t (later vs))
-        → thenInPlace c n shot o s (injectShots c lent n left (suc shot)) ≡ onDraws c (n .distribution) s (thenShots shot o later)
+    go : (o : ShotDraw) → ((vs : List ℕ) (t : States) → injectShots h lent n left (suc shot) vs t ≡ onDraws h (n .distribution) t (later vs))
+        → thenInPlace h n shot o states (injectShots h lent n left (suc shot)) ≡ onDraws h (n .distribution) states (thenShots shot o later)
     go ShotDraw.spent ih = unfold thenInPlace thenShots in refl
-    go (ShotDraw.drew none vs) ih = unfold thenInPlace thenShots in ih vs s
+    go (ShotDraw.drew none vs) ih = unfold thenInPlace thenShots in ih vs states
     go (ShotDraw.drew (some e) vs) ih =
         let f : Fault = record { shot = shot; element = e } in
-        unfold thenInPlace thenShots injection in (ih vs _ ∙ on-also c (n .distribution) s f (later vs))
+        unfold thenInPlace thenShots injection in (ih vs _ ∙ on-also h (n .distribution) states f (later vs))
 
-line-settled : (c : Setting) (lent : Lent) (n : Noise) (ws : List ℕ) (s : State)
-    → injectNoise c lent n ws s ≡ onDraws c (n .distribution) s (drawLine lent n ws)
-unfolding injectNoise drawLine onDraws run
-line-settled c lent n ws s = go (le (float (n .probability)) nought)
+line-settled : (h : Header) (lent : Lent) (n : Noise) (ws : List ℕ) (states : States)
+    → injectNoise h lent n ws states ≡ onDraws h (n .distribution) states (drawLine lent n ws)
+unfolding injectNoise drawLine onDraws runAll run forwardAll
+line-settled h lent n ws states = go (le (float (n .probability)) nought)
   where
     go : (b : Bool)
-        → cond b (Executed.went s ws) (injectShots c lent n (lent .shots) 0 ws s)
-        ≡ onDraws c (n .distribution) s (cond b (Draws.drawn [] ws) (drawShots lent n (lent .shots) 0 ws))
+        → cond b (Executed.went states ws) (injectShots h lent n (lent .shots) 0 ws states)
+        ≡ onDraws h (n .distribution) states (cond b (Draws.drawn [] ws) (drawShots lent n (lent .shots) 0 ws))
     go true = refl
-    go false = shots-settled c lent n (lent .shots) 0 ws s
+    go false = shots-settled h lent n (lent .shots) 0 ws states
 
 -- ---- an instruction
 
-noise-settled : (c : Setting) (n : Noise) (main : List ℕ) (s : State) (o : Draws)
-    → onMain (n .correlation) main (onDraws c (n .distribution) s o) ≡ onStep c s (noiseStep n main o)
+noise-settled : (h : Header) (n : Noise) (main : List ℕ) (states : States) (o : Draws)
+    → onMain (n .correlation) main (onDraws h (n .distribution) states o) ≡ onStep h states (noiseStep n main o)
 unfolding onMain onDraws onStep noiseStep
-noise-settled c n main s Draws.spent = refl
-noise-settled c n main s (Draws.drawn fs left) = refl
+noise-settled h n main states Draws.spent = refl
+noise-settled h n main states (Draws.drawn fs left) = refl
 
-pub one-settled : (c : Setting) (lent : Lent) (main text : List ℕ) (i : Instruction) (s : State)
-    → executeOne c lent main i s ≡ onStep c s (stepOf lent main text i)
+pub one-settled : (h : Header) (lent : Lent) (main text : List ℕ) (i : Instruction) (states : States)
+    → executeOne h lent main i states ≡ onStep h states (stepOf lent main text i)
 unfolding executeOne stepOf
-one-settled c lent main text (Instruction.line l) s = unfold onStep run in refl
-one-settled c lent main text (Instruction.noise n) s =
-    let part = partOf lent main (n .correlation) in
-    ap (onMain (n .correlation) main) (line-settled c lent n part s) ∙ noise-settled c n main s (drawLine lent n part)
+one-settled h lent main text (Instruction.line l) states = unfold onStep runAll run forwardAll in refl
+one-settled h lent main text (Instruction.noise n) states =
+    let part = partOf lent (n .correlation) main in
+    ap (onMain (n .correlation) main) (line-settled h lent n part states) ∙ noise-settled h n main states (drawLine lent n part)
 
 -- ---- a job
 
-on-prefixed : (c : Setting) (s : State) (ls : List SettledLine) (o : Settled)
-    → onSettled c (run c (settledList ls) s) o ≡ onSettled c s (prefixed ls o)
+on-prefixed : (h : Header) (states : States) (ls : List SettledLine) (o : Settled)
+    → onSettled h (runAll h (settledList ls) states) o ≡ onSettled h states (prefixed ls o)
 unfolding onSettled prefixed
-on-prefixed c s ls (Settled.spentAt k) = refl
-on-prefixed c s ls (Settled.settled ms) = ap Ended.ended (rw (settledList-append ls ms) (sym (run-append c (settledList ls) (settledList ms) s)))
+on-prefixed h states ls (Settled.spentAt k) = refl
+on-prefixed h states ls (Settled.settled ms) = ap Ended.ended (rw (settledList-append ls ms) (sym (runAll-append h (settledList ls) (settledList ms) states)))
 
 -- Execution with the noise in place is execution of the settled list.
-pub execute-settle : (c : Setting) (lent : Lent) (is : List Placed) (main : List ℕ) (s : State)
-    → execute c lent is main s ≡ onSettled c s (settle lent main is)
+pub execute-settle : (h : Header) (lent : Lent) (is : List Placed) (main : List ℕ) (states : States)
+    → execute h lent is main states ≡ onSettled h states (settle lent is main)
 unfolding execute settle
-execute-settle c lent [] main s = unfold onSettled run in refl
-execute-settle c lent (i ∷ is) main s =
-    ap (λ (o : Executed). executeThen (i .number) o (execute c lent is)) (one-settled c lent main (i .text) (i .instruction) s)
-    ∙ go (stepOf lent main (i .text) (i .instruction)) (execute-settle c lent is)
+execute-settle h lent [] main states = unfold onSettled runAll run in refl
+execute-settle h lent (i ∷ is) main states =
+    ap (λ (o : Executed). executeThen (i .line) o (execute h lent is)) (one-settled h lent main (i .text) (i .instruction) states)
+    ∙ go (stepOf lent main (i .text) (i .instruction)) (execute-settle h lent is)
   where
-    go : (o : Step) → ((left : List ℕ) (t : State) → execute c lent is left t ≡ onSettled c t (settle lent left is))
-        → executeThen (i .number) (onStep c s o) (execute c lent is) ≡ onSettled c s (settleThen (i .number) o (λ left. settle lent left is))
+    go : (o : Step) → ((left : List ℕ) (t : States) → execute h lent is left t ≡ onSettled h t (settle lent is left))
+        → executeThen (i .line) (onStep h states o) (execute h lent is) ≡ onSettled h states (settleThen (i .line) o (settle lent is))
     go Step.spent ih = unfold executeThen onStep onSettled settleThen in refl
     go (Step.lines ls left) ih =
-        unfold executeThen onStep settleThen in (ih left (run c (settledList ls) s) ∙ on-prefixed c s ls (settle lent left is))
+        unfold executeThen onStep settleThen in (ih left (runAll h (settledList ls) states) ∙ on-prefixed h states ls (settle lent is left))

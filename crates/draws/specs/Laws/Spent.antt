@@ -67,19 +67,19 @@ prefixed-none (Settled.spentAt k) = refl
 prefixed-none (Settled.settled ls) = refl
 
 pub settle-append : (lent : Lent) (main : List ℕ) (is js : List Placed)
-    → settle lent main (is ++ js) ≡ followed (settle lent main is) (settle lent (mainLeft lent main is) js)
+    → settle lent (is ++ js) main ≡ followed (settle lent is main) (settle lent js (mainLeft lent main is))
 unfolding settle mainLeft
-settle-append lent main [] js = unfold followed in sym (prefixed-none (settle lent main js))
+settle-append lent main [] js = unfold followed in sym (prefixed-none (settle lent js main))
 settle-append lent main (i ∷ is) js = go (stepOf lent main (i .text) (i .instruction)) (λ mid. settle-append lent mid is js)
   where
     go : (o : Step)
-        → ((mid : List ℕ) → settle lent mid (is ++ js) ≡ followed (settle lent mid is) (settle lent (mainLeft lent mid is) js))
-        → settleThen (i .number) o (λ mid. settle lent mid (is ++ js))
-        ≡ followed (settleThen (i .number) o (λ mid. settle lent mid is)) (settle lent (mainLeft lent (leftBy main o) is) js)
+        → ((mid : List ℕ) → settle lent (is ++ js) mid ≡ followed (settle lent is mid) (settle lent js (mainLeft lent mid is)))
+        → settleThen (i .line) o (settle lent (is ++ js))
+        ≡ followed (settleThen (i .line) o (settle lent is)) (settle lent js (mainLeft lent (leftBy main o) is))
     go Step.spent ih = unfold settleThen followed in refl
     go (Step.lines ls mid) ih =
         unfold settleThen leftBy in
-        (ap (prefixed ls) (ih mid) ∙ prefixed-followed ls (settle lent mid is) (settle lent (mainLeft lent mid is) js))
+        (ap (prefixed ls) (ih mid) ∙ prefixed-followed ls (settle lent is mid) (settle lent js (mainLeft lent mid is)))
 
 -- ---- the line at which draws are spent
 
@@ -91,20 +91,20 @@ pub record SpentAt (lent : Lent) (main : List ℕ) (is : List Placed) (k : ℕ) 
   pub noise : Noise
   pub lines : List SettledLine
   pub list : is ≡ before ++ (here ∷ after)
-  pub number : here .number ≡ k
+  pub line : here .line ≡ k
   pub is-noise : here .instruction ≡ Instruction.noise noise
-  pub settles : settle lent main before ≡ Settled.settled lines
-  pub spent : drawLine lent noise (partOf lent (mainLeft lent main before) (noise .correlation)) ≡ Draws.spent
+  pub settles : settle lent before main ≡ Settled.settled lines
+  pub spent : drawLine lent noise (partOf lent (noise .correlation) (mainLeft lent main before)) ≡ Draws.spent
 
 settle-stops : (lent : Lent) (main : List ℕ) (i : Placed) (is : List Placed) → stepOf lent main (i .text) (i .instruction) ≡ Step.spent
-    → settle lent main (i ∷ is) ≡ Settled.spentAt (i .number)
+    → settle lent (i ∷ is) main ≡ Settled.spentAt (i .line)
 unfolding settle settleThen
-settle-stops lent main i is e = ap (λ (o : Step). settleThen (i .number) o (λ left. settle lent left is)) e
+settle-stops lent main i is e = ap (λ (o : Step). settleThen (i .line) o (settle lent is)) e
 
 pub settle-goes : (lent : Lent) (main : List ℕ) (i : Placed) (is : List Placed) (ls : List SettledLine) (left : List ℕ)
-    → stepOf lent main (i .text) (i .instruction) ≡ Step.lines ls left → settle lent main (i ∷ is) ≡ prefixed ls (settle lent left is)
+    → stepOf lent main (i .text) (i .instruction) ≡ Step.lines ls left → settle lent (i ∷ is) main ≡ prefixed ls (settle lent is left)
 unfolding settle settleThen
-settle-goes lent main i is ls left e = ap (λ (o : Step). settleThen (i .number) o (λ left. settle lent left is)) e
+settle-goes lent main i is ls left e = ap (λ (o : Step). settleThen (i .line) o (settle lent is)) e
 
 pub left-goes : (lent : Lent) (main : List ℕ) (i : Placed) (is : List Placed) (ls : List SettledLine) (left : List ℕ)
     → stepOf lent main (i .text) (i .instruction) ≡ Step.lines ls left → mainLeft lent main (i ∷ is) ≡ mainLeft lent left is
@@ -116,39 +116,39 @@ unfolding prefixed
 prefixed-spent ls (Settled.spentAt j) k e = e
 prefixed-spent ls (Settled.settled ms) k e = cc
 
-pub at-spent : {lent : Lent} {main : List ℕ} {is : List Placed} {k : ℕ} → SpentAt lent main is k → settle lent main is ≡ Settled.spentAt k
+pub at-spent : {lent : Lent} {main : List ℕ} {is : List Placed} {k : ℕ} → SpentAt lent main is k → settle lent is main ≡ Settled.spentAt k
 at-spent {lent} {main} {is} {k} s =
     let left = mainLeft lent main (s .before) in
     let stops : stepOf lent left (s .here .text) (s .here .instruction) ≡ Step.spent =
     ap (stepOf lent left (s .here .text)) (s .is-noise) ∙ step-spent lent left (s .here .text) (s .noise) refl (s .spent) in
-    ap (settle lent main) (s .list)
+    ap (λ (js : List Placed). settle lent js main) (s .list)
     ∙ settle-append lent main (s .before) (s .here ∷ s .after)
-    ∙ ap (λ (o : Settled). followed o (settle lent left (s .here ∷ s .after))) (s .settles)
-    ∙ ap (followed (Settled.settled (s .lines))) (settle-stops lent left (s .here) (s .after) stops ∙ ap Settled.spentAt (s .number))
+    ∙ ap (λ (o : Settled). followed o (settle lent (s .here ∷ s .after) left)) (s .settles)
+    ∙ ap (followed (Settled.settled (s .lines))) (settle-stops lent left (s .here) (s .after) stops ∙ ap Settled.spentAt (s .line))
     ∙ (unfold followed prefixed in refl)
 
 -- an instruction whose draws are spent is noise
 pub record SpentNoise (lent : Lent) (main : List ℕ) (i : Instruction) : Type 0 where
   pub noise : Noise
   pub is-noise : i ≡ Instruction.noise noise
-  pub spent : drawLine lent noise (partOf lent main (noise .correlation)) ≡ Draws.spent
+  pub spent : drawLine lent noise (partOf lent (noise .correlation) main) ≡ Draws.spent
 
 pub spent-noise : (lent : Lent) (main text : List ℕ) (i : Instruction) → stepOf lent main text i ≡ Step.spent → SpentNoise lent main i
 unfolding stepOf
 spent-noise lent main text (Instruction.line l) e = let no : _≡_ {A = ℕ} 0 1 = cc in absurd (omega arith)
-spent-noise lent main text (Instruction.noise n) e = go (drawLine lent n (partOf lent main (n .correlation))) refl
+spent-noise lent main text (Instruction.noise n) e = go (drawLine lent n (partOf lent (n .correlation) main)) refl
   where
-    go : (o : Draws) → drawLine lent n (partOf lent main (n .correlation)) ≡ o → SpentNoise lent main (Instruction.noise n)
+    go : (o : Draws) → drawLine lent n (partOf lent (n .correlation) main) ≡ o → SpentNoise lent main (Instruction.noise n)
     go Draws.spent d = record { noise = n; is-noise = refl; spent = d }
     go (Draws.drawn fs left) d = let no : _≡_ {A = ℕ} 0 1 = cc (step-drawn lent main text n refl fs left d) in absurd (omega arith)
 
-pub spent-at : (lent : Lent) (main : List ℕ) (is : List Placed) (k : ℕ) → settle lent main is ≡ Settled.spentAt k → SpentAt lent main is k
+pub spent-at : (lent : Lent) (main : List ℕ) (is : List Placed) (k : ℕ) → settle lent is main ≡ Settled.spentAt k → SpentAt lent main is k
 unfolding settle
 spent-at lent main [] k e = let no : _≡_ {A = ℕ} 0 1 = cc in absurd (omega arith)
 spent-at lent main (i ∷ is) k e = go (stepOf lent main (i .text) (i .instruction)) refl (λ left. spent-at lent left is k)
   where
     go : (o : Step) → stepOf lent main (i .text) (i .instruction) ≡ o
-        → ((left : List ℕ) → settle lent left is ≡ Settled.spentAt k → SpentAt lent left is k) → SpentAt lent main (i ∷ is) k
+        → ((left : List ℕ) → settle lent is left ≡ Settled.spentAt k → SpentAt lent left is k) → SpentAt lent main (i ∷ is) k
     go Step.spent d ih =
         let s : SpentNoise lent main (i .instruction) = spent-noise lent main (i .text) (i .instruction) d in
         record {
@@ -158,13 +158,13 @@ spent-at lent main (i ∷ is) k e = go (stepOf lent main (i .text) (i .instructi
           noise = s .noise;
           lines = [];
           list = refl;
-          number = cc (settle-stops lent main i is d);
+          line = cc (settle-stops lent main i is d);
           is-noise = s .is-noise;
           settles = refl;
           spent = unfold mainLeft in s .spent;
         }
     go (Step.lines ls left) d ih =
-        let s : SpentAt lent left is k = ih left (prefixed-spent ls (settle lent left is) k (sym (settle-goes lent main i is ls left d) ∙ e)) in
+        let s : SpentAt lent left is k = ih left (prefixed-spent ls (settle lent is left) k (sym (settle-goes lent main i is ls left d) ∙ e)) in
         record {
           before = i ∷ s .before;
           here = s .here;
@@ -172,11 +172,11 @@ spent-at lent main (i ∷ is) k e = go (stepOf lent main (i .text) (i .instructi
           noise = s .noise;
           lines = ls ++ s .lines;
           list = ap (λ (l : List Placed). i ∷ l) (s .list);
-          number = s .number;
+          line = s .line;
           is-noise = s .is-noise;
           settles = settle-goes lent main i (s .before) ls left d ∙ ap (prefixed ls) (s .settles) ∙ (unfold prefixed in refl);
           spent =
-              ap (λ (l : List ℕ). drawLine lent (s .noise) (partOf lent l (s .noise .correlation))) (left-goes lent main i (s .before) ls left d)
+              ap (λ (l : List ℕ). drawLine lent (s .noise) (partOf lent (s .noise .correlation) l)) (left-goes lent main i (s .before) ls left d)
               ∙ s .spent;
         }
 
@@ -196,7 +196,7 @@ extra : Lent → List ℕ → List ℕ → Option ℕ → List ℕ
 extra lent us vs none = vs
 extra lent us vs (some c) = drop ((lent .base + c) % 2 ^ 64 - length (lent .second)) us
 
-part-more : (lent : Lent) (us main vs : List ℕ) (c : Option ℕ) → partOf (lengthened us lent) (main ++ vs) c ≡ partOf lent main c ++ extra lent us vs c
+part-more : (lent : Lent) (us main vs : List ℕ) (c : Option ℕ) → partOf (lengthened us lent) c (main ++ vs) ≡ partOf lent c main ++ extra lent us vs c
 unfolding partOf extra
 part-more lent us main vs none = refl
 part-more lent us main vs (some c) = drop-append ((lent .base + c) % 2 ^ 64) (lent .second) us
@@ -231,39 +231,39 @@ step-more : (lent : Lent) (us main vs text : List ℕ) (i : Instruction) {ls : L
 unfolding leaving
 step-more lent us main vs text (Instruction.line l) e = unfold stepOf in ap (leaving vs) e
 step-more lent us main vs text (Instruction.noise n) {ls} {left} e =
-    go (drawLine lent n (partOf lent main (n .correlation))) refl (line-took lent n (partOf lent main (n .correlation)))
+    go (drawLine lent n (partOf lent (n .correlation) main)) refl (line-took lent n (partOf lent (n .correlation) main))
   where
-    go : (o : Draws) → drawLine lent n (partOf lent main (n .correlation)) ≡ o → DrawsTook (drawLine lent n) (partOf lent main (n .correlation)) o
+    go : (o : Draws) → drawLine lent n (partOf lent (n .correlation) main) ≡ o → DrawsTook (drawLine lent n) (partOf lent (n .correlation) main) o
         → stepOf (lengthened us lent) (main ++ vs) text (Instruction.noise n) ≡ Step.lines ls (left ++ vs)
     go Draws.spent d t = cc (step-spent lent main text n refl d)
     go (Draws.drawn fs rest) d t =
         let more = extra lent us vs (n .correlation) in
-        let longer : drawLine (lengthened us lent) n (partOf (lengthened us lent) (main ++ vs) (n .correlation)) ≡ Draws.drawn fs (rest ++ more) =
+        let longer : drawLine (lengthened us lent) n (partOf (lengthened us lent) (n .correlation) (main ++ vs)) ≡ Draws.drawn fs (rest ++ more) =
         line-same lent us n _ ∙ ap (drawLine lent n) (part-more lent us main vs (n .correlation)) ∙ (unfold DrawsTook in took-more t more) in
         step-drawn (lengthened us lent) (main ++ vs) text n refl fs (rest ++ more) longer
         ∙ ap (Step.lines (map (injection (n .distribution)) fs)) (left-more (n .correlation) lent us main vs rest)
         ∙ ap (leaving vs) (sym (step-drawn lent main text n refl fs rest d) ∙ e)
 
 pub settled-more : (lent : Lent) (us main vs : List ℕ) (is : List Placed) {ls : List SettledLine}
-    → settle lent main is ≡ Settled.settled ls → settle (lengthened us lent) (main ++ vs) is ≡ Settled.settled ls
+    → settle lent is main ≡ Settled.settled ls → settle (lengthened us lent) is (main ++ vs) ≡ Settled.settled ls
 unfolding settle
 settled-more lent us main vs [] e = e
 settled-more lent us main vs (i ∷ is) {ls} e =
     go (stepOf lent main (i .text) (i .instruction)) refl (λ mid ms h. settled-more lent us mid vs is h)
   where
     later : List ℕ → Settled
-    later mid = settle (lengthened us lent) (mid ++ vs) is
+    later mid = settle (lengthened us lent) is (mid ++ vs)
 
-    end : (ms : List SettledLine) (mid : List ℕ) (o : Settled) → settle lent mid is ≡ o → prefixed ms o ≡ Settled.settled ls
-        → ((ns : List SettledLine) → settle lent mid is ≡ Settled.settled ns → later mid ≡ Settled.settled ns)
+    end : (ms : List SettledLine) (mid : List ℕ) (o : Settled) → settle lent is mid ≡ o → prefixed ms o ≡ Settled.settled ls
+        → ((ns : List SettledLine) → settle lent is mid ≡ Settled.settled ns → later mid ≡ Settled.settled ns)
         → prefixed ms (later mid) ≡ Settled.settled ls
     end ms mid (Settled.spentAt k) d h ih = unfold prefixed in cc
     end ms mid (Settled.settled ns) d h ih = ap (prefixed ms) (ih ns d) ∙ h
 
     go : (o : Step) → stepOf lent main (i .text) (i .instruction) ≡ o
-        → ((mid : List ℕ) (ns : List SettledLine) → settle lent mid is ≡ Settled.settled ns → later mid ≡ Settled.settled ns)
-        → settle (lengthened us lent) (main ++ vs) (i ∷ is) ≡ Settled.settled ls
+        → ((mid : List ℕ) (ns : List SettledLine) → settle lent is mid ≡ Settled.settled ns → later mid ≡ Settled.settled ns)
+        → settle (lengthened us lent) (i ∷ is) (main ++ vs) ≡ Settled.settled ls
     go Step.spent d ih = cc (settle-stops lent main i is d)
     go (Step.lines ms mid) d ih =
         settle-goes (lengthened us lent) (main ++ vs) i is ms (mid ++ vs) (step-more lent us main vs (i .text) (i .instruction) d)
-        ∙ end ms mid (settle lent mid is) refl (sym (settle-goes lent main i is ms mid d) ∙ e) (ih mid)
+        ∙ end ms mid (settle lent is mid) refl (sym (settle-goes lent main i is ms mid d) ∙ e) (ih mid)

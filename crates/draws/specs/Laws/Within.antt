@@ -10,6 +10,7 @@ use Rattle.pauli.specs.Laws.Group.{when-false, ∗-identity}
 use Rattle.job.specs.Line.{SparsePauli, pauliOf, Line, Distribution, Noise, Instruction, Placed}
 use Rattle.job.specs.Checks.{allBelow}
 use Rattle.frames.specs.Forward.{Setting, State, forward, run}
+use Rattle.frames.specs.Shots.{concerns, within}
 use Rattle.draws.specs.Draws.{Lent, elementAt, Fault, Draws, drawLine, partOf}
 use Rattle.draws.specs.Settle.{SettledLine, injection, Step, stepOf, Settled, prefixed, settleThen, settle, settledList}
 use Rattle.draws.specs.Laws.Tests.{&&-first, &&-second}
@@ -18,25 +19,6 @@ use Rattle.draws.specs.Laws.Settling.{settledList-append}
 use Rattle.draws.specs.Laws.Faults.{shotsOf, shots-below}
 
 -- ---- lines of one shot
-
--- whether a line acts in a shot below so many, or in all shots
-unfoldable pub actsBelow : ℕ → Line → Bool
-actsBelow shots (Line.unitary g qs) = true
-actsBelow shots (Line.clifford qs t) = true
-actsBelow shots (Line.pauli P) = true
-actsBelow shots (Line.exponential P) = true
-actsBelow shots (Line.controlled C T) = true
-actsBelow shots (Line.permute s qs) = true
-actsBelow shots (Line.measure P id) = true
-actsBelow shots (Line.allocate id angle) = true
-actsBelow shots (Line.conditional P ids par) = true
-actsBelow shots (Line.reset qs) = true
-actsBelow shots (Line.inject shot P) = ltb shot shots
-actsBelow shots (Line.flip shot id) = ltb shot shots
-
-unfoldable pub allActBelow : ℕ → List Line → Bool
-allActBelow shots [] = true
-allActBelow shots (l ∷ ls) = actsBelow shots l && allActBelow shots ls
 
 -- an injection in another shot
 pub inject-elsewhere : (c : Setting) (shot : ℕ) (P : SparsePauli) (s : State) → (shot ≡ c .shot → ⊥) → forward c (Line.inject shot P) s ≡ s
@@ -49,8 +31,8 @@ inject-elsewhere c shot P s ne = rw (ne-eqb shot (c .shot) ne, when-false (pauli
 abbrev pub injected : Distribution → List Fault → List Line
 injected d fs = settledList (map (injection d) fs)
 
-pub injected-below : (shots : ℕ) (d : Distribution) (fs : List Fault) → allActBelow shots (injected d fs) ≡ allBelow shots (shotsOf fs)
-unfolding allActBelow allBelow injection actsBelow
+pub injected-below : (shots : ℕ) (d : Distribution) (fs : List Fault) → within (λ shot. ltb shot shots) (injected d fs) ≡ allBelow shots (shotsOf fs)
+unfolding within allBelow injection concerns
 injected-below shots d [] = refl
 injected-below shots d (f ∷ fs) = ap (λ (b : Bool). ltb (f .shot) shots && b) (injected-below shots d fs)
 
@@ -72,29 +54,29 @@ pub record Injections (lent : Lent) (n : Noise) (ls : List SettledLine) : Type 0
 
 pub noise-injects : (lent : Lent) (main text : List ℕ) (n : Noise) (ls : List SettledLine) (left : List ℕ)
     → stepOf lent main text (Instruction.noise n) ≡ Step.lines ls left → Injections lent n ls
-noise-injects lent main text n ls left e = go (drawLine lent n (partOf lent main (n .correlation))) refl
+noise-injects lent main text n ls left e = go (drawLine lent n (partOf lent (n .correlation) main)) refl
   where
-    go : (o : Draws) → drawLine lent n (partOf lent main (n .correlation)) ≡ o → Injections lent n ls
+    go : (o : Draws) → drawLine lent n (partOf lent (n .correlation) main) ≡ o → Injections lent n ls
     go Draws.spent d = let no : _≡_ {A = ℕ} 0 1 = cc (step-spent lent main text n refl d) in absurd (omega arith)
     go (Draws.drawn fs rest) d =
         record {
           faults = fs;
           are = cc (step-drawn lent main text n refl fs rest d);
-          below = shots-below lent n (partOf lent main (n .correlation)) fs rest d;
+          below = shots-below lent n (partOf lent (n .correlation) main) fs rest d;
         }
 
 -- ---- a job's lines
 
-below-append : (shots : ℕ) (ls ms : List Line) → allActBelow shots (ls ++ ms) ≡ allActBelow shots ls && allActBelow shots ms
-unfolding allActBelow
+below-append : (shots : ℕ) (ls ms : List Line) → within (λ shot. ltb shot shots) (ls ++ ms) ≡ within (λ shot. ltb shot shots) ls && within (λ shot. ltb shot shots) ms
+unfolding within
 below-append shots [] ms = refl
 below-append shots (l ∷ ls) ms =
-    ap (λ (b : Bool). actsBelow shots l && b) (below-append shots ls ms)
-    ∙ sym (and-assoc (actsBelow shots l) (allActBelow shots ls) (allActBelow shots ms))
+    ap (λ (b : Bool). concerns (λ shot. ltb shot shots) l && b) (below-append shots ls ms)
+    ∙ sym (and-assoc (concerns (λ shot. ltb shot shots) l) (within (λ shot. ltb shot shots) ls) (within (λ shot. ltb shot shots) ms))
 
 -- whether a job's own lines act in shots below so many, as test 10 wants it
 unfoldable pub ownBelow : ℕ → Instruction → Bool
-ownBelow shots (Instruction.line l) = actsBelow shots l
+ownBelow shots (Instruction.line l) = concerns (λ shot. ltb shot shots) l
 ownBelow shots (Instruction.noise n) = true
 
 unfoldable pub allOwnBelow : ℕ → List Placed → Bool
@@ -102,26 +84,26 @@ allOwnBelow shots [] = true
 allOwnBelow shots (i ∷ is) = ownBelow shots (i .instruction) && allOwnBelow shots is
 
 step-within : (lent : Lent) (main text : List ℕ) (i : Instruction) (ls : List SettledLine) (left : List ℕ) → ownBelow (lent .shots) i ≡ true
-    → stepOf lent main text i ≡ Step.lines ls left → allActBelow (lent .shots) (settledList ls) ≡ true
+    → stepOf lent main text i ≡ Step.lines ls left → within (λ shot. ltb shot (lent .shots)) (settledList ls) ≡ true
 unfolding ownBelow
 step-within lent main text (Instruction.line l) ls left b e =
     let own : record { line = l; text = text } ∷ [] ≡ ls = unfold stepOf in cc in
-    rw (← own) (unfold allActBelow in rw b)
+    rw (← own) (unfold within in rw b)
 step-within lent main text (Instruction.noise n) ls left b e =
     let s : Injections lent n ls = noise-injects lent main text n ls left e in
-    ap (λ (l : List SettledLine). allActBelow (lent .shots) (settledList l)) (s .are)
+    ap (λ (l : List SettledLine). within (λ shot. ltb shot (lent .shots)) (settledList l)) (s .are)
     ∙ injected-below (lent .shots) (n .distribution) (s .faults)
     ∙ s .below
 
 unfoldable SettledBelow : ℕ → Settled → Type 0
 SettledBelow shots (Settled.spentAt k) = Unit
-SettledBelow shots (Settled.settled ls) = allActBelow shots (settledList ls) ≡ true
+SettledBelow shots (Settled.settled ls) = within (λ shot. ltb shot shots) (settledList ls) ≡ true
 
 -- the settled list acts in shots of the job
 settle-below : (lent : Lent) (main : List ℕ) (is : List Placed) → allOwnBelow (lent .shots) is ≡ true
-    → SettledBelow (lent .shots) (settle lent main is)
+    → SettledBelow (lent .shots) (settle lent is main)
 unfolding settle allOwnBelow
-settle-below lent main [] b = unfold SettledBelow allActBelow in refl
+settle-below lent main [] b = unfold SettledBelow within in refl
 settle-below lent main (i ∷ is) b =
     go (stepOf lent main (i .text) (i .instruction)) refl (&&-first own rest b) (λ left. settle-below lent left is (&&-second own rest b))
   where
@@ -131,22 +113,22 @@ settle-below lent main (i ∷ is) b =
     rest : Bool
     rest = allOwnBelow (lent .shots) is
 
-    joined : (ls : List SettledLine) → allActBelow (lent .shots) (settledList ls) ≡ true → (o : Settled) → SettledBelow (lent .shots) o
+    joined : (ls : List SettledLine) → within (λ shot. ltb shot (lent .shots)) (settledList ls) ≡ true → (o : Settled) → SettledBelow (lent .shots) o
         → SettledBelow (lent .shots) (prefixed ls o)
     joined ls h (Settled.spentAt k) r = unfold prefixed SettledBelow in tt
     joined ls h (Settled.settled ms) r =
         unfold prefixed SettledBelow in
-        (ap (allActBelow (lent .shots)) (settledList-append ls ms) ∙ below-append (lent .shots) (settledList ls) (settledList ms) ∙ rw (h, r))
+        (ap (within (λ shot. ltb shot (lent .shots))) (settledList-append ls ms) ∙ below-append (lent .shots) (settledList ls) (settledList ms) ∙ rw (h, r))
 
-    go : (o : Step) → stepOf lent main (i .text) (i .instruction) ≡ o → own ≡ true → ((left : List ℕ) → SettledBelow (lent .shots) (settle lent left is))
-        → SettledBelow (lent .shots) (settleThen (i .number) o (λ left. settle lent left is))
+    go : (o : Step) → stepOf lent main (i .text) (i .instruction) ≡ o → own ≡ true → ((left : List ℕ) → SettledBelow (lent .shots) (settle lent is left))
+        → SettledBelow (lent .shots) (settleThen (i .line) o (settle lent is))
     go Step.spent d f ih = unfold settleThen SettledBelow in tt
     go (Step.lines ls left) d f ih =
         unfold settleThen in
-        joined ls (step-within lent main (i .text) (i .instruction) ls left f d) (settle lent left is) (ih left)
+        joined ls (step-within lent main (i .text) (i .instruction) ls left f d) (settle lent is left) (ih left)
 
 pub settle-within : (lent : Lent) (main : List ℕ) (is : List Placed) (ls : List SettledLine) → allOwnBelow (lent .shots) is ≡ true
-    → settle lent main is ≡ Settled.settled ls → allActBelow (lent .shots) (settledList ls) ≡ true
+    → settle lent is main ≡ Settled.settled ls → within (λ shot. ltb shot (lent .shots)) (settledList ls) ≡ true
 unfolding SettledBelow
 settle-within lent main is ls b e = subst (SettledBelow (lent .shots)) e (settle-below lent main is b)
 
@@ -170,15 +152,15 @@ copies [] = []
 copies (i ∷ is) = copyOf (i .text) (i .instruction) (copies is)
 
 -- it settles to itself, whatever is lent
-pub settle-copies : (lent : Lent) (main : List ℕ) (is : List Placed) → noiseFree is ≡ true → settle lent main is ≡ Settled.settled (copies is)
+pub settle-copies : (lent : Lent) (main : List ℕ) (is : List Placed) → noiseFree is ≡ true → settle lent is main ≡ Settled.settled (copies is)
 unfolding settle noiseFree copies
 settle-copies lent main [] f = refl
 settle-copies lent main (i ∷ is) f =
     go (i .instruction) (&&-first (isLine (i .instruction)) (noiseFree is) f)
     (settle-copies lent main is (&&-second (isLine (i .instruction)) (noiseFree is) f))
   where
-    go : (j : Instruction) → isLine j ≡ true → settle lent main is ≡ Settled.settled (copies is)
-        → settleThen (i .number) (stepOf lent main (i .text) j) (λ left. settle lent left is) ≡ Settled.settled (copyOf (i .text) j (copies is))
+    go : (j : Instruction) → isLine j ≡ true → settle lent is main ≡ Settled.settled (copies is)
+        → settleThen (i .line) (stepOf lent main (i .text) j) (settle lent is) ≡ Settled.settled (copyOf (i .text) j (copies is))
     go (Instruction.line l) f ih =
         unfold settleThen stepOf copyOf in (ap (prefixed (record { line = l; text = i .text } ∷ [])) ih ∙ (unfold prefixed in refl))
     go (Instruction.noise n) f ih = unfold isLine in cc

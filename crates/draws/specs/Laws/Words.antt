@@ -4,7 +4,7 @@ use mathlib.Core.Path.{_≡_, refl, sym, ap, _∙_, subst}
 use mathlib.Core.Bool.{Bool, true, false, cond, _&&_}
 use mathlib.Core.List.{List, [], _∷_, _++_, map, append-assoc, append-nil}
 use mathlib.Core.Option.{Option, none, some}
-use Prim.Native.Nat.{ℕ, zero, suc, _+_, _-_, _^_, _%_, _<_, _≤_}
+use Prim.Native.Nat.{ℕ, zero, suc, _+_, _%_, _<_, _≤_}
 use native.Mathlib.Nat.{not-suc-le-zero}
 use native.Mathlib.Decide.{decLt}
 use native.Mathlib.Omega.{arith}
@@ -13,7 +13,7 @@ use lib.ListN.{length, take, drop, length-append, take-append-drop}
 use lib.Seq.{drop-append-seam, take-append-seam, take-append-le}
 use lib.Ieee.{Float, le}
 use Rattle.pauli.specs.Bits.{Bits}
-use Rattle.job.specs.Line.{Line, Distribution, Noise, Instruction, Placed}
+use Rattle.job.specs.Line.{Line, Distribution, sizeOf, Noise, Instruction, Placed}
 use Rattle.job.specs.Float.{float, nought}
 use Rattle.draws.specs.Draws.{falls, Choice, limitOf, bounded, byWeight, chooseFrom, isSatisfied, ShotDraw, faultOf, drawShot, Lent, Fault, Draws, alsoFault, thenShots, drawShots, drawLine, partOf, mainAfter}
 use Rattle.draws.specs.Settle.{SettledLine, injection, Step, noiseStep, stepOf, Settled, prefixed, settleThen, settle}
@@ -113,8 +113,8 @@ weight-took sums (w ∷ ws) = record { used = w ∷ []; whole = refl; alone = λ
 pub choice-took : (d : Distribution) (ws : List ℕ) → ChoiceTook (chooseFrom d) ws (chooseFrom d ws)
 unfolding chooseFrom ChoiceTook
 choice-took (Distribution.single P) ws = took-none ws (λ vs. refl)
-choice-took (Distribution.depolarizing qs) ws = bounded-took (4 ^ length qs - 1) ws
-choice-took (Distribution.uniform Ps) ws = bounded-took (length Ps) ws
+choice-took (Distribution.depolarizing qs) ws = bounded-took (sizeOf (Distribution.depolarizing qs)) ws
+choice-took (Distribution.uniform Ps) ws = bounded-took (sizeOf (Distribution.uniform Ps)) ws
 choice-took (Distribution.weighted es) ws = weight-took _ ws
 
 -- ---- a shot
@@ -127,9 +127,9 @@ pub shot-took : (n : Noise) (bits : Bits) (ws : List ℕ) → ShotTook (drawShot
 unfolding drawShot ShotTook
 shot-took n bits [] = tt
 shot-took n bits (w ∷ ws) =
-    go (falls w (float (n .probability)) && isSatisfied n bits) refl (chooseFrom (n .distribution) ws) (choice-took (n .distribution) ws)
+    go (falls w (float (n .probability)) && isSatisfied (n .condition) bits) refl (chooseFrom (n .distribution) ws) (choice-took (n .distribution) ws)
   where
-    go : (b : Bool) → (falls w (float (n .probability)) && isSatisfied n bits) ≡ b
+    go : (b : Bool) → (falls w (float (n .probability)) && isSatisfied (n .condition) bits) ≡ b
         → (o : Choice) → ChoiceTook (chooseFrom (n .distribution)) ws o
         → ShotTook (drawShot n bits) (w ∷ ws) (cond b (faultOf o) (ShotDraw.drew none ws))
     go false e o t = record { used = w ∷ []; whole = refl; alone = λ vs. rw e }
@@ -221,15 +221,15 @@ module _ (lent : Lent) (n : Noise) (ws : List ℕ) where
 -- ---- an instruction
 
 module _ (lent : Lent) (main text : List ℕ) (n : Noise) {c : Option ℕ} (corr : n .correlation ≡ c) where
-  pub step-spent : drawLine lent n (partOf lent main c) ≡ Draws.spent → stepOf lent main text (Instruction.noise n) ≡ Step.spent
+  pub step-spent : drawLine lent n (partOf lent c main) ≡ Draws.spent → stepOf lent main text (Instruction.noise n) ≡ Step.spent
   unfolding stepOf noiseStep
-  step-spent e = ap (noiseStep n main) (ap (λ (k : Option ℕ). drawLine lent n (partOf lent main k)) corr ∙ e)
+  step-spent e = ap (noiseStep n main) (ap (λ (k : Option ℕ). drawLine lent n (partOf lent k main)) corr ∙ e)
 
-  pub step-drawn : (fs : List Fault) (left : List ℕ) → drawLine lent n (partOf lent main c) ≡ Draws.drawn fs left
+  pub step-drawn : (fs : List Fault) (left : List ℕ) → drawLine lent n (partOf lent c main) ≡ Draws.drawn fs left
       → stepOf lent main text (Instruction.noise n) ≡ Step.lines (map (injection (n .distribution)) fs) (mainAfter c main left)
   unfolding stepOf noiseStep
   step-drawn fs left e =
-      ap (noiseStep n main) (ap (λ (k : Option ℕ). drawLine lent n (partOf lent main k)) corr ∙ e)
+      ap (noiseStep n main) (ap (λ (k : Option ℕ). drawLine lent n (partOf lent k main)) corr ∙ e)
       ∙ ap (λ (k : Option ℕ). Step.lines (map (injection (n .distribution)) fs) (mainAfter k main left)) corr
 
 unfoldable pub StepTook : (List ℕ → Step) → List ℕ → Step → Type 0
@@ -250,14 +250,14 @@ noise-took lent main text n = which (n .correlation) refl
         rw (step-drawn lent main text n c fs left e)
         (record { used = t .used; whole = t .whole; alone = λ vs. step-drawn lent (t .used ++ vs) text n c fs vs (t .alone vs) })
 
-    from-second : (p : ℕ) → n .correlation ≡ some p → (o : Draws) → drawLine lent n (partOf lent main (some p)) ≡ o → StepTook step main (step main)
+    from-second : (p : ℕ) → n .correlation ≡ some p → (o : Draws) → drawLine lent n (partOf lent (some p) main) ≡ o → StepTook step main (step main)
     from-second p c Draws.spent e = rw (step-spent lent main text n c e) tt
     from-second p c (Draws.drawn fs left) e =
         rw (step-drawn lent main text n c fs left e) (took-none main (λ vs. step-drawn lent vs text n c fs left e))
 
     which : (c : Option ℕ) → n .correlation ≡ c → StepTook step main (step main)
     which none c = from-main c (drawLine lent n main) refl (line-took lent n main)
-    which (some p) c = from-second p c (drawLine lent n (partOf lent main (some p))) refl
+    which (some p) c = from-second p c (drawLine lent n (partOf lent (some p) main)) refl
 
 pub step-took : (lent : Lent) (main text : List ℕ) (i : Instruction) → StepTook (λ m. stepOf lent m text i) main (stepOf lent main text i)
 step-took lent main text (Instruction.line l) = unfold stepOf StepTook in took-none main (λ vs. refl)
@@ -280,9 +280,9 @@ main-read lent main text n ls left c e = go (drawLine lent n main) refl
 pub main-kept : (lent : Lent) (main text : List ℕ) (n : Noise) (ls : List SettledLine) (left : List ℕ) (p : ℕ) → n .correlation ≡ some p
     → stepOf lent main text (Instruction.noise n) ≡ Step.lines ls left → left ≡ main
 unfolding mainAfter
-main-kept lent main text n ls left p c e = go (drawLine lent n (partOf lent main (some p))) refl
+main-kept lent main text n ls left p c e = go (drawLine lent n (partOf lent (some p) main)) refl
   where
-    go : (o : Draws) → drawLine lent n (partOf lent main (some p)) ≡ o → left ≡ main
+    go : (o : Draws) → drawLine lent n (partOf lent (some p) main) ≡ o → left ≡ main
     go Draws.spent d = cc (step-spent lent main text n c d)
     go (Draws.drawn fs rest) d = cc (step-drawn lent main text n c fs rest d)
 
@@ -302,7 +302,7 @@ then-lines : (k : ℕ) (later : List ℕ → Settled) {o : Step} {ls : List Sett
 unfolding settleThen
 then-lines k later e = rw e
 
-pub settle-took : (lent : Lent) (main : List ℕ) (is : List Placed) → SettledTook (λ m. settle lent m is) main (settle lent main is)
+pub settle-took : (lent : Lent) (main : List ℕ) (is : List Placed) → SettledTook (settle lent is) main (settle lent is main)
 unfolding settle SettledTook
 settle-took lent main [] = (main, took-none main (λ vs. refl))
 settle-took lent main (i ∷ is) = go (step main) (step-took lent main (i .text) (i .instruction)) (λ left. settle-took lent left is)
@@ -311,15 +311,15 @@ settle-took lent main (i ∷ is) = go (step main) (step-took lent main (i .text)
     step m = stepOf lent m (i .text) (i .instruction)
 
     later : List ℕ → Settled
-    later left = settle lent left is
+    later left = settle lent is left
 
     more : (ls : List SettledLine) (mid : List ℕ) → Took step (Step.lines ls) main mid → (o : Settled) → SettledTook later mid o
-        → SettledTook (λ m. settleThen (i .number) (step m) later) main (prefixed ls o)
+        → SettledTook (λ m. settleThen (i .line) (step m) later) main (prefixed ls o)
     more ls mid t (Settled.spentAt k) u = unfold prefixed in tt
     more ls mid t (Settled.settled ms) u =
-        unfold prefixed SettledTook in (u .0, took-then (prefixed ls) (λ us rest e. then-lines (i .number) later e) t (u .1))
+        unfold prefixed SettledTook in (u .0, took-then (prefixed ls) (λ us rest e. then-lines (i .line) later e) t (u .1))
 
     go : (o : Step) → StepTook step main o → ((left : List ℕ) → SettledTook later left (later left))
-        → SettledTook (λ m. settleThen (i .number) (step m) later) main (settleThen (i .number) o later)
+        → SettledTook (λ m. settleThen (i .line) (step m) later) main (settleThen (i .line) o later)
     go Step.spent t ih = unfold settleThen in tt
     go (Step.lines ls mid) t ih = unfold settleThen StepTook in more ls mid t (later mid) (ih mid)

@@ -45,8 +45,8 @@ KindFits (Kind.weighted n) = n < 2 ^ 64
 pub record NoiseFits (n : NoiseLine) : Type 0 where
   pub probability : n .probability < 2 ^ 64
   pub correlation : SmallOption (n .correlation)
-  pub outcomes : FitL (n .outcomes)
-  pub parity : length (n .outcomes) ≡ 0 → n .parity ≡ false
+  pub outcomes : FitL (n .condition .outcomes)
+  pub parity : length (n .condition .outcomes) ≡ 0 → n .condition .parity ≡ false
   pub kind : KindFits (n .kind)
 
 unfoldable pub WrittenFits : Written → Type 0

@@ -13,11 +13,11 @@ use lib.Ieee.{Float, binary64, add}
 use lib.ListN.{length, length-map}
 use Rattle.text.specs.Laws.Values.{both}
 use Rattle.job.specs.Line.{SparsePauli, WeightedPauli, Instruction, Placed}
-use Rattle.job.specs.Float.{float, isWeight, isTotal}
+use Rattle.job.specs.Float.{float, totalFrom, isWeight, isTotal}
 use Rattle.job.specs.Grammar.{Kind, NoiseLine, Written, readLine}
-use Rattle.job.specs.Checks.{Context, elementsOf, firstTotal, nextTotal, records, next, noiseTests, kindQubits, kindDistinct, elementsFit, eachBelow, eachShort, sameWeight, expected, headerFits, weightFits, totalFits, ownTests}
+use Rattle.job.specs.Checks.{Context, elementLines, firstTotal, nextTotal, records, next, noiseTests, kindQubits, kindDistinct, elementsFit, eachBelow, eachShort, sameWeight, expected, headerFits, weightFits, totalFits, ownTests}
 use Rattle.job.specs.Job.{distributionOf, noiseOf, weightOf, Gathered, placedAt, gather, gathered, recordedBy}
-use Rattle.job.specs.Sound.{Every, PauliSound, SmallOption, ElementSound, totalFrom, weightsOf, DistributionSound, NoiseSound, InstructionSound, InstructionsSound, SaidBy}
+use Rattle.job.specs.Sound.{Every, PauliSound, SmallOption, ElementSound, weightsOf, DistributionSound, NoiseSound, InstructionSound, InstructionsSound, SaidBy}
 use Rattle.job.specs.Laws.Tests.{AllPass}
 use Rattle.job.specs.Laws.Forms.{KindFits, NoiseFits, WrittenFits}
 use Rattle.job.specs.Laws.Lines.{pauli-sound, operands-sound, first-short, line-sound}
@@ -54,10 +54,10 @@ every-weighted n [] h w = tt
 every-weighted n (e ∷ es) h w = (record { pauli = h .0; weight = w .0 .weight; small = w .0 .small }, every-weighted n es (h .1) (w .1))
 
 kind-sound : (c : Context) (k : Kind) (es : List WeightedPauli) → KindFits k → eachBelow (c .header .qubits) (kindQubits k) ≡ true
-    → kindDistinct k ≡ true → eachShort (kindQubits k) ≡ true → elementsFit k ≡ true → length es ≡ elementsOf k
+    → kindDistinct k ≡ true → eachShort (kindQubits k) ≡ true → elementsFit k ≡ true → length es ≡ elementLines k
     → Every (λ (e : WeightedPauli). PauliSound (c .header .qubits) (e .pauli)) es → WeightsSound (firstTotal k) es
     → DistributionSound (c .header .qubits) (distributionOf k es)
-unfolding KindFits kindQubits kindDistinct elementsFit elementsOf firstTotal WeightsSound DistributionSound distributionOf
+unfolding KindFits kindQubits kindDistinct elementsFit elementLines firstTotal WeightsSound DistributionSound distributionOf
 kind-sound c (Kind.single P) es f b d s n count ps ws = pauli-sound _ P f b s
 kind-sound c (Kind.depolarizing qs) es f b d s n count ps ws = operands-sound _ qs f b d s
 kind-sound c (Kind.uniform m) es f b d s n count ps ws =
@@ -83,7 +83,7 @@ noise-sound : (c : Context) (n : NoiseLine) (g : Gathered) → NoiseFits n → A
 unfolding noiseTests noiseOf next
 noise-sound c n g f t p =
     let lists = both (kindDistinct (n .kind)) _ (not-false _ (t .1 .0)) in
-    let rest = first-short (n .outcomes) (kindQubits (n .kind)) (lists .1) in
+    let rest = first-short (n .condition .outcomes) (kindQubits (n .kind)) (lists .1) in
     record {
       probability = not-false _ (t .1 .1 .1 .0);
       small = f .probability;

@@ -15,7 +15,7 @@ use Rattle.text.specs.Laws.Values.{both}
 use Rattle.job.specs.declared.Header.{Header}
 use Rattle.job.specs.Line.{SparsePauli, Line, WeightedPauli, Noise, Instruction, Placed}
 use Rattle.job.specs.Grammar.{NoiseLine, Written, readLine}
-use Rattle.job.specs.Checks.{Context, elementsOf, records, next, lineTests, noiseTests, sameWeight, expected, headerFits, ownTests, lowest, refusalOf}
+use Rattle.job.specs.Checks.{Context, elementLines, records, next, lineTests, noiseTests, sameWeight, expected, headerFits, ownTests, lowest, refusalOf}
 use Rattle.job.specs.Job.{answer, isLast, nextOf, checkLines, noiseOf, weightOf, placedAt, gather, gathered, recordedBy}
 use Rattle.job.specs.Sound.{LineSound, NoiseSound, InstructionSound, InstructionsSound}
 use Rattle.job.specs.Laws.Accepted.{numberAfter, checks-bad, checks-good, Passing, passing, between, Accepted, accepted-first}
@@ -177,14 +177,14 @@ pub record LineStep (h : Header) (r k : ℕ) (l : List ℕ) (ls : List (List ℕ
 
 -- a noise line with its elements, and what is behind them
 abbrev pub noiseWith : NoiseLine → List (List ℕ) → Noise
-noiseWith n ls = noiseOf n (elementsIn (take (elementsOf (n .kind)) ls))
+noiseWith n ls = noiseOf n (elementsIn (take (elementLines (n .kind)) ls))
 
 pub record NoiseStep (h : Header) (r k : ℕ) (l : List ℕ) (ls : List (List ℕ)) (n : NoiseLine) : Type 0 where
   pub sound : NoiseSound (h .qubits) r (noiseWith n ls)
-  pub enough : elementsOf (n .kind) ≤ length ls
-  pub rest : Accepted (suc k + elementsOf (n .kind)) (between h r) (drop (elementsOf (n .kind)) ls)
+  pub enough : elementLines (n .kind) ≤ length ls
+  pub rest : Accepted (suc k + elementLines (n .kind)) (between h r) (drop (elementLines (n .kind)) ls)
   pub gathers : gathered k (l ∷ ls) .instructions
-      ≡ placedAt k l (Instruction.noise (noiseWith n ls)) ∷ gathered (suc k + elementsOf (n .kind)) (drop (elementsOf (n .kind)) ls) .instructions
+      ≡ placedAt k l (Instruction.noise (noiseWith n ls)) ∷ gathered (suc k + elementLines (n .kind)) (drop (elementLines (n .kind)) ls) .instructions
 
 -- what is behind the first line, by what that line says
 behind-first : {k : ℕ} {c : Context} {l : List ℕ} {ls : List (List ℕ)} (w : Written) → Accepted k c (l ∷ ls) → readLine l ≡ some w
@@ -223,9 +223,9 @@ pub noise-step : (h : Header) (r k : ℕ) (l : List ℕ) (ls : List (List ℕ)) 
     → readLine l ≡ some (Written.noise n) → NoiseStep h r k l ls n
 unfolding gathered gather next between InstructionSound
 noise-step h r k l ls n a e =
-    let f = accepted-elements (elementsOf (n .kind)) (suc k) (next (between h r) (Written.noise n)) ls (behind-first (Written.noise n) a e) refl in
+    let f = accepted-elements (elementLines (n .kind)) (suc k) (next (between h r) (Written.noise n)) ls (behind-first (Written.noise n) a e) refl in
     let gathers : gathered k (l ∷ ls) .instructions
-    ≡ placedAt k l (Instruction.noise (noiseWith n ls)) ∷ gathered (suc k + elementsOf (n .kind)) (drop (elementsOf (n .kind)) ls) .instructions
+    ≡ placedAt k l (Instruction.noise (noiseWith n ls)) ∷ gathered (suc k + elementLines (n .kind)) (drop (elementLines (n .kind)) ls) .instructions
     = rw (e, f .elements, f .instructions) in
     record {
       sound = first-sound h r k (l ∷ ls) _ _ a gathers;

@@ -11,7 +11,7 @@ use lib.ListN.{length, length-map}
 use Rattle.job.specs.declared.Header.{Header}
 use Rattle.job.specs.Line.{SparsePauli, Line, WeightedPauli, Instruction}
 use Rattle.job.specs.Grammar.{Kind, NoiseLine, Written, readLine}
-use Rattle.job.specs.Checks.{Context, noContext, elementsOf, next, allBelow, eachBelow, eachShort, expected, inRange, headerFits, listsOf, lineTests, kindQubits, kindDistinct, elementsFit, noiseTests, ownTests, refusalOf}
+use Rattle.job.specs.Checks.{Context, noContext, elementLines, next, allBelow, eachBelow, eachShort, expected, inRange, headerFits, listsOf, lineTests, kindQubits, kindDistinct, elementsFit, noiseTests, ownTests, refusalOf}
 use Rattle.job.specs.Job.{accepted, isLast, nextOf, checkLines, distributionOf, noiseOf, recordedBy}
 use Rattle.job.specs.Sound.{PauliSound, NextOutcome, LineSound, DistributionSound, NoiseSound, LinesSound, HeaderSound}
 use Rattle.job.specs.Laws.Permutation.{permutation-parts}
@@ -103,8 +103,8 @@ record KindPasses (n : ℕ) (k : Kind) : Type 0 where
   short : eachShort (kindQubits k) ≡ true
   fits : elementsFit k ≡ true
 
-kind-passes : (n : ℕ) (k : Kind) (es : List WeightedPauli) → length es ≡ elementsOf k → DistributionSound n (distributionOf k es) → KindPasses n k
-unfolding kindQubits kindDistinct elementsFit elementsOf distributionOf DistributionSound eachBelow eachShort
+kind-passes : (n : ℕ) (k : Kind) (es : List WeightedPauli) → length es ≡ elementLines k → DistributionSound n (distributionOf k es) → KindPasses n k
+unfolding kindQubits kindDistinct elementsFit elementLines distributionOf DistributionSound eachBelow eachShort
 kind-passes n (Kind.single P) es count s = record { below = one-below n P s; apart = refl; short = one-short n P s; fits = refl }
 kind-passes n (Kind.depolarizing qs) es count s =
     record { below = below-one n qs (s .below); apart = s .apart; short = short-one qs (s .few); fits = refl }
@@ -115,13 +115,13 @@ kind-passes n (Kind.weighted m) es count s =
     record { below = refl; apart = refl; short = refl; fits = and-both (le-leb 1 m (omega (arith, s .filled))) (le-leb m 64 (omega (arith, s .few))) }
 
 -- a sound noise line passes its tests
-pub noise-passes : (h : Header) (r : ℕ) (n : NoiseLine) (es : List WeightedPauli) → length es ≡ elementsOf (n .kind)
+pub noise-passes : (h : Header) (r : ℕ) (n : NoiseLine) (es : List WeightedPauli) → length es ≡ elementLines (n .kind)
     → NoiseSound (h .qubits) r (noiseOf n es) → AllPass (noiseTests (between h r) n)
 unfolding noiseTests noiseOf between
 noise-passes h r n es count s =
     let k = kind-passes (h .qubits) (n .kind) es count (s .distribution) in
     passed (k .below)
-    (passed (and-both (k .apart) (short-also (n .outcomes) (kindQubits (n .kind)) (s .outcomes .few) (k .short)))
+    (passed (and-both (k .apart) (short-also (n .condition .outcomes) (kindQubits (n .kind)) (s .outcomes .few) (k .short)))
     (passed (s .outcomes .below) (passed (s .probability) (passed (k .fits) tt))))
 
 -- ---- in front of accepted lines
@@ -137,7 +137,7 @@ line-more h r k t ts l reads s a =
 
 -- a sound noise line that has no element lines
 pub noise-more : (h : Header) (r k : ℕ) (t : List ℕ) (ts : List (List ℕ)) (n : NoiseLine) → readLine t ≡ some (Written.noise n)
-    → elementsOf (n .kind) ≡ 0 → NoiseSound (h .qubits) r (noiseOf n []) → Accepted (suc k) (between h r) ts → Accepted k (between h r) (t ∷ ts)
+    → elementLines (n .kind) ≡ 0 → NoiseSound (h .qubits) r (noiseOf n []) → Accepted (suc k) (between h r) ts → Accepted k (between h r) (t ∷ ts)
 unfolding next between
 noise-more h r k t ts n reads none-due s a =
     accepted-more k (between h r) t ts (Written.noise n) refl reads

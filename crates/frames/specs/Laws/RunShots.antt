@@ -8,9 +8,9 @@ use Rattle.pauli.specs.Pauli.{Pauli, _∗_, when}
 use Rattle.pauli.specs.Laws.Parity.{bitwise, added-is}
 use Rattle.pauli.specs.Laws.Group.{group}
 use Rattle.job.specs.Line.{SparsePauli, pauliOf, Line}
 use Rattle.frames.specs.Forward.{State, Setting, forward, run}
-use Rattle.backward.specs.Shot.{concerns, restricted}
-use Rattle.backward.specs.Laws.Linear.{state-path, apart}
+use Rattle.frames.specs.Shots.{concerns, restricted}
+use Rattle.frames.specs.Laws.Linear.{state-path, apart}
 
 inject-off : (b : Bool) → b ≡ false → (F P : Pauli) → F ∗ when b P ≡ F
 inject-off b e F P = simp (e, group)

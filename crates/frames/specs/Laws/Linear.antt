@@ -13,8 +13,8 @@ use Rattle.pauli.specs.Laws.Pairing.{anti-∗}
 use Rattle.pauli.specs.Laws.Gates.{pauli-path}
 use Rattle.pauli.specs.Laws.Group.{group, ∗-self, when-⊕}
 use Rattle.job.specs.Line.{pauliOf, Line}
 use Rattle.frames.specs.Forward.{exponentiate, controlledPauli, Image, imageSum, imagesOf, placesOf, transformed, State, Setting, onFrame, forward, run, start}
-use Rattle.backward.specs.Shot.{concerns, within}
+use Rattle.frames.specs.Shots.{concerns, within}
 
 -- f keeps products
 abbrev Linear : (Pauli → Pauli) → Type 0

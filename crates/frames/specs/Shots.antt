@@ -1,7 +1,6 @@
--- Definitions that the theorems about one shot use: the lines that concern a set of shots. Assumes nothing.
-use mathlib.Core.Bool.{Bool, true, false, cond, _&&_}
+-- Definitions that theorems about shots use: the lines that concern a set of shots. Assumes nothing.
+use mathlib.Core.Bool.{Bool, true, cond, _&&_}
 use mathlib.Core.List.{List, [], _∷_}
-use Prim.Native.Nat.{ℕ}
 use Rattle.pauli.specs.Bits.{Bits}
 use Rattle.job.specs.Line.{Line}
 
