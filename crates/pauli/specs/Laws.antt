@@ -1,7 +1,8 @@
--- Laws, for the proofs that cite them: sums mod 2, sets, the commutation of Paulis, gates as products, the group of Paulis; then words: their bits,
+-- Laws, for the proofs that cite them: sums mod 2, sets, sums over lists, the commutation of Paulis, gates as products, the group of Paulis; then words: their bits,
 -- parities, sets and Paulis in words, gates by code. Nothing here has to be believed.
 pub mod F2
 pub mod Parity
+pub mod Sums
 pub mod Pairing
 pub mod Gates
 pub mod Group

@@ -1,2 +1,168 @@
-// So far this crate holds the definition (specs/) of bits in lent words.
-pub fn nothing() {}
+// Rows of 64-bit words: the loops that Pauli frames are made of.
+// A matrix of bits lies in a slice, w words a row, rows in order. Bit s of row r is bit s mod 64 of word r * w + s / 64.
+// Loops go word by word, so that they are vectorized; no row is copied that need not be.
+ghost use mathlib.Core.Path.{_≡_};
+ghost use Prim.Native.Nat.{_+_, _*_, _<_, _≤_};
+ghost use lib.ListN.{length};
+ghost use Rattle.rows.specs.Overwrite.{cleared, copied, xored, swapped, flipped};
+ghost use Rattle.rows.specs.Listed.{RowsIn, overList, collected};
+
+// ---- Runs of words
+
+// Sets n words from `at` on to 0.
+pub fn clear(words: &mut [u64], at: usize, n: usize)
+    requires { ⌜ at + n ≤ length (now words) ⌝ }
+    ensures { λ _. ⌜ now (words .exit) ≡ cleared at n (now (words .entry)) ⌝ }
+{
+    let mut j = 0;
+    while j < n {
+        words[at + j] = 0;
+        j += 1;
+    }
+}
+
+// Puts n words of src, from `from` on, for those of dst from `at` on.
+pub fn copy(dst: &mut [u64], at: usize, src: &[u64], from: usize, n: usize)
+    requires { ⌜ (at + n ≤ length (now dst)) × (from + n ≤ length (now src)) ⌝ }
+    ensures { λ _. ⌜ now (dst .exit) ≡ copied at from n (now (src .entry)) (now (dst .entry)) ⌝ }
+{
+    let mut j = 0;
+    while j < n {
+        dst[at + j] = src[from + j];
+        j += 1;
+    }
+}
+
+// Adds n words of src, from `from` on, to those of dst from `at` on.
+pub fn xor_words(dst: &mut [u64], at: usize, src: &[u64], from: usize, n: usize)
+    requires { ⌜ (at + n ≤ length (now dst)) × (from + n ≤ length (now src)) ⌝ }
+    ensures { λ _. ⌜ now (dst .exit) ≡ xored at from n (now (src .entry)) (now (dst .entry)) ⌝ }
+{
+    let mut j = 0;
+    while j < n {
+        dst[at + j] ^= src[from + j];
+        j += 1;
+    }
+}
+
+// Exchanges n words of x from `at` on with n words of z from `at` on.
+pub fn swap_words(x: &mut [u64], z: &mut [u64], at: usize, n: usize)
+    requires { ⌜ (at + n ≤ length (now x)) × (at + n ≤ length (now z)) ⌝ }
+    ensures { λ _. ⌜ (now (x .exit) ≡ copied at at n (now (z .entry)) (now (x .entry))) × (now (z .exit) ≡ copied at at n (now (x .entry)) (now (z .entry))) ⌝ }
+{
+    let mut j = 0;
+    while j < n {
+        let word = x[at + j];
+        x[at + j] = z[at + j];
+        z[at + j] = word;
+        j += 1;
+    }
+}
+
+// ---- Rows of one matrix
+
+// Adds row src to row dst.
+pub fn add_row(rows: &mut [u64], w: usize, dst: usize, src: usize)
+    requires { ⌜ (dst * w + w ≤ length (now rows)) × (src * w + w ≤ length (now rows)) × (dst ≡ src → ⊥) ⌝ }
+    ensures { λ _. ⌜ now (rows .exit) ≡ xored (dst * w) (src * w) w (now (rows .entry)) (now (rows .entry)) ⌝ }
+{
+    let at = dst * w;
+    let from = src * w;
+    let mut j = 0;
+    while j < w {
+        rows[at + j] ^= rows[from + j];
+        j += 1;
+    }
+}
+
+// Exchanges rows a and b.
+pub fn swap_rows(rows: &mut [u64], w: usize, a: usize, b: usize)
+    requires { ⌜ (a * w + w ≤ length (now rows)) × (b * w + w ≤ length (now rows)) × (a ≡ b → ⊥) ⌝ }
+    ensures { λ _. ⌜ now (rows .exit) ≡ swapped (a * w) (b * w) w (now (rows .entry)) ⌝ }
+{
+    let p = a * w;
+    let q = b * w;
+    let mut j = 0;
+    while j < w {
+        let word = rows[p + j];
+        rows[p + j] = rows[q + j];
+        rows[q + j] = word;
+        j += 1;
+    }
+}
+
+// Adds 1 to bit s of row r.
+pub fn flip_bit(rows: &mut [u64], w: usize, r: usize, s: usize)
+    requires { ⌜ (r * w + w ≤ length (now rows)) × (s < 64 * w) ⌝ }
+    ensures { λ _. ⌜ now (rows .exit) ≡ flipped w s r (now (rows .entry)) ⌝ }
+{
+    let k = r * w + s / 64;
+    rows[k] ^= 1u64 << (s % 64);
+}
+
+// ---- Rows that are listed
+
+// Adds the listed rows to a mask of w words.
+pub fn add_listed(mask: &mut [u64], rows: &[u64], w: usize, list: &[u64])
+    requires { ⌜ (w ≤ length (now mask)) × RowsIn w (now list) (now rows) ⌝ }
+    ensures { λ _. ⌜ now (mask .exit) ≡ overList (λ q. xored 0 (q * w) w (now (rows .entry))) (now (list .entry)) (now (mask .entry)) ⌝ }
+{
+    let mut i = 0;
+    while i < list.len() {
+        let q = list[i] as usize;
+        xor_words(mask, 0, rows, q * w, w);
+        i += 1;
+    }
+}
+
+// Adds a mask of w words to the listed rows.
+pub fn add_mask_listed(rows: &mut [u64], w: usize, list: &[u64], mask: &[u64])
+    requires { ⌜ (w ≤ length (now mask)) × RowsIn w (now list) (now rows) ⌝ }
+    ensures { λ _. ⌜ now (rows .exit) ≡ overList (λ q. xored (q * w) 0 w (now (mask .entry))) (now (list .entry)) (now (rows .entry)) ⌝ }
+{
+    let mut i = 0;
+    while i < list.len() {
+        let q = list[i] as usize;
+        xor_words(rows, q * w, mask, 0, w);
+        i += 1;
+    }
+}
+
+// Clears the listed rows.
+pub fn clear_listed(rows: &mut [u64], w: usize, list: &[u64])
+    requires { ⌜ RowsIn w (now list) (now rows) ⌝ }
+    ensures { λ _. ⌜ now (rows .exit) ≡ overList (λ q. cleared (q * w) w) (now (list .entry)) (now (rows .entry)) ⌝ }
+{
+    let mut i = 0;
+    while i < list.len() {
+        let q = list[i] as usize;
+        clear(rows, q * w, w);
+        i += 1;
+    }
+}
+
+// Adds 1 to bit s of the listed rows.
+pub fn flip_listed(rows: &mut [u64], w: usize, list: &[u64], s: usize)
+    requires { ⌜ (s < 64 * w) × RowsIn w (now list) (now rows) ⌝ }
+    ensures { λ _. ⌜ now (rows .exit) ≡ overList (flipped w s) (now (list .entry)) (now (rows .entry)) ⌝ }
+{
+    let mut i = 0;
+    while i < list.len() {
+        let q = list[i] as usize;
+        flip_bit(rows, w, q, s);
+        i += 1;
+    }
+}
+
+// Saves the listed rows: they become the first rows of `saved`, in the list's order.
+pub fn save_listed(saved: &mut [u64], rows: &[u64], w: usize, list: &[u64])
+    requires { ⌜ (length (now list) * w ≤ length (now saved)) × RowsIn w (now list) (now rows) ⌝ }
+    ensures { λ _. ⌜ now (saved .exit) ≡ collected w (now (rows .entry)) 0 (now (list .entry)) (now (saved .entry)) ⌝ }
+{
+    let mut i = 0;
+    while i < list.len() {
+        let q = list[i] as usize;
+        copy(saved, i * w, rows, q * w, w);
+        i += 1;
+    }
+}

@@ -1,0 +1,50 @@
+-- Loops over listed rows: a turn, and the end. The invariant is that what is left to do, from here, comes to the whole. Assumes nothing.
+use mathlib.Core.Path.{_≡_, refl, _∙_}
+use mathlib.Core.List.{List, [], _∷_}
+use Prim.Native.Nat.{ℕ, suc, _+_, _*_, _<_, _≤_}
+use native.Mathlib.Omega.{arith}
+use native.Mathlib.Numerals.{add-one}
+use lib.ListN.{length, getD, drop, drop-of-length-le}
+use lib.Seq.{drop-cons}
+use Rattle.rows.specs.Overwrite.{copied}
+use Rattle.rows.specs.Listed.{RowsIn, overList, collected}
+use Rattle.rows.specs.Laws.Overwrite.{length-copied}
+
+pub rows-tail : (w q : ℕ) (qs words : List ℕ) → RowsIn w (q ∷ qs) words → RowsIn w qs words
+rows-tail w q qs words r = record { fits = λ i h. r .fits (suc i) (omega arith) }
+
+-- the listed rows lie in any words of the same length
+pub rows-kept : (w : ℕ) (list words words′ : List ℕ) → length words′ ≡ length words → RowsIn w list words → RowsIn w list words′
+rows-kept w list words words′ e r = record { fits = λ i h. omega (arith, r .fits i h) }
+
+module _ (step : ℕ → List ℕ → List ℕ) (list : List ℕ) (i : ℕ) (l whole : List ℕ) where
+  pub over-turn : (l′ : List ℕ) → i < length list → l′ ≡ step (getD list i 0) l → overList step (drop i list) l ≡ whole
+      → overList step (drop (i + 1) list) l′ ≡ whole
+  unfolding overList
+  over-turn l′ h e inv = rw (add-one, e) (rw (drop-cons list i 0 h) at inv)
+
+  pub over-end : length list ≤ i → overList step (drop i list) l ≡ whole → l ≡ whole
+  unfolding overList
+  over-end h inv = rw (drop-of-length-le list h) at inv
+
+pub length-over : (step : ℕ → List ℕ → List ℕ) → ((q : ℕ) (l : List ℕ) → length (step q l) ≡ length l) → (list l : List ℕ)
+    → length (overList step list l) ≡ length l
+unfolding overList
+length-over step same [] l = refl
+length-over step same (q ∷ qs) l = length-over step same qs (step q l) ∙ same q l
+
+module _ (w : ℕ) (src list : List ℕ) (i : ℕ) (l whole : List ℕ) where
+  pub collected-turn : (l′ : List ℕ) → i < length list → l′ ≡ copied (i * w) (getD list i 0 * w) w src l
+      → collected w src i (drop i list) l ≡ whole → collected w src (i + 1) (drop (i + 1) list) l′ ≡ whole
+  unfolding collected
+  collected-turn l′ h e inv = rw (add-one, e) (rw (drop-cons list i 0 h) at inv)
+
+  pub collected-end : length list ≤ i → collected w src i (drop i list) l ≡ whole → l ≡ whole
+  unfolding collected
+  collected-end h inv = rw (drop-of-length-le list h) at inv
+
+pub length-collected : (w : ℕ) (src : List ℕ) (r : ℕ) (list l : List ℕ) → length (collected w src r list l) ≡ length l
+unfolding collected
+length-collected w src r [] l = refl
+length-collected w src r (q ∷ qs) l =
+    length-collected w src (suc r) qs (copied (r * w) (q * w) w src l) ∙ length-copied (r * w) (q * w) w src l
