@@ -1,0 +1,4 @@
+//! Times.
+
+/// Measure.
+pub fn run() {}
