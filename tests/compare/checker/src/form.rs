@@ -6,7 +6,7 @@ use crate::job::{Distribution, Header, Instruction, List, MAX_GATE, Noise, Pauli
 pub(crate) enum Written {
     Header(Header),
     Instruction(Instruction),
-    Noise(Noise, Option<u64>),
+    Noise(Box<Noise>, Option<u64>),
 }
 
 /// What a line says by its form, or nothing.
@@ -66,7 +66,7 @@ impl Fields<'_> {
             b"op=e" => Instruction::Exponential(self.pauli(b" x=", b" z=")?),
             b"op=k" => Instruction::Controlled {
                 control: self.pauli(b" x=", b" z=")?,
-                target: self.pauli(b" u=", b" v=")?,
+                target: Box::new(self.pauli(b" u=", b" v=")?),
             },
             b"op=m" => Instruction::Permute {
                 places: self.list(b" s=")?,
@@ -101,7 +101,7 @@ impl Fields<'_> {
         self.end(instruction)
     }
 
-    fn noise(mut self) -> Option<(Noise, Option<u64>)> {
+    fn noise(mut self) -> Option<(Box<Noise>, Option<u64>)> {
         let p = self.word(b" p=")?;
         let correlation = self.number_or_none(b" corr=")?;
         let condition = self.rising(b" cond=")?;
@@ -124,7 +124,7 @@ impl Fields<'_> {
             parity,
             distribution,
         };
-        self.end((noise, elements))
+        self.end((Box::new(noise), elements))
     }
 
     // ---- fields by the kind of their value

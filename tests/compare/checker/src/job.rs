@@ -4,6 +4,8 @@ use smallvec::SmallVec;
 
 /// The longest job, and the longest text that a call writes, in bytes.
 pub const MAX_BYTES: usize = 1_048_576;
+/// The longest input of the printing program, in bytes.
+pub const MAX_PRINTED_BYTES: usize = 65_536;
 /// Most qubits of a header.
 pub const MAX_QUBITS: u64 = 256;
 /// Most outcomes of a header.
@@ -106,7 +108,7 @@ impl Pauli {
     }
 }
 
-/// A line other than the header; a noise line with its element lines.
+/// A line other than the header; a noise line with its element lines. What is large is boxed, so that the rest moves quickly.
 #[derive(Debug, Clone, PartialEq)]
 #[allow(missing_docs)]
 pub enum Instruction {
@@ -114,7 +116,7 @@ pub enum Instruction {
     Clifford { qubits: List, table: u64 },
     Pauli(Pauli),
     Exponential(Pauli),
-    Controlled { control: Pauli, target: Pauli },
+    Controlled { control: Pauli, target: Box<Pauli> },
     Permute { places: List, qubits: List },
     Measure { observable: Pauli, id: u64 },
     Allocate { id: u64, angle: bool },
@@ -122,7 +124,7 @@ pub enum Instruction {
     Reset { qubit: u64 },
     Inject { shot: u64, pauli: Pauli },
     Flip { shot: u64, id: u64 },
-    Noise(Noise),
+    Noise(Box<Noise>),
 }
 
 /// A noise instruction.

@@ -7,13 +7,13 @@ mod settling;
 mod walk;
 
 use crate::calls::{Answer, Calls, Draws, Rows};
-use crate::job::{Job, MAX_BYTES, Refusal, usize_of};
+use crate::job::{Header, Job, MAX_BYTES, MAX_PRINTED_BYTES, Refusal, usize_of};
 use crate::read::{self, is_probability, read};
 use frame::Frame;
 use settling::Settled;
 
 pub use settling::settled;
-pub use walk::walk;
+pub use walk::{need_walkable, walk};
 
 /// The calls by document 01 alone.
 pub struct Plain;
@@ -110,7 +110,7 @@ pub fn deliver_settled(text: &[u8], out: &mut [u8]) -> Answer {
 /// Panics if the run refuses a job that passes the checks by anything but 14.
 pub fn print_with(calls: &impl Calls, input: &[u8]) -> Vec<u8> {
     let refused = |refusal: Refusal| format!("ok=0 refusal={} line={}\n", refusal.number, refusal.line).into_bytes();
-    if input.len() > 65_536 {
+    if input.len() > MAX_PRINTED_BYTES {
         return refused(Refusal::of_call(13));
     }
     let job = match read(input) {
@@ -158,7 +158,7 @@ fn printed(job: &Job<'_>, deltas: &[u64]) -> Vec<u8> {
 
 /// The bit of a row in a shot.
 #[must_use]
-pub fn bit(words: &[u64], header: &crate::job::Header, row: u64, shot: u64) -> bool {
+pub fn bit(words: &[u64], header: &Header, row: u64, shot: u64) -> bool {
     let word = words[usize_of(row) * header.row_words() + usize_of(shot) / 64];
     word >> (shot % 64) & 1 == 1
 }

@@ -142,7 +142,7 @@ impl<'a> Reader<'a> {
     }
 
     /// The element lines of a noise line.
-    fn take_elements(&mut self, mut noise: Noise, count: u64) -> Result<Noise, Refusal> {
+    fn take_elements(&mut self, mut noise: Box<Noise>, count: u64) -> Result<Box<Noise>, Refusal> {
         match &mut noise.distribution {
             Distribution::Single(_) | Distribution::Depolarizing(_) => {}
             Distribution::Uniform(paulis) => {

@@ -67,12 +67,18 @@ fn number(output: &Output) -> u64 {
 }
 
 fn report(under_test: &dyn Calls, call: Call, seed: u64, input: &Input) {
-    let differs = |input: &Input| {
+    // Only inputs that both sides answer by the same two numbers count, so that one difference isn't reduced to another.
+    let outputs = |input: &Input| {
         let expected = input.make(call, &Reference).expect("the reference makes every call");
         let actual = input.make(call, under_test).expect("it was made before");
-        !expected.allows(&actual)
+        (expected, actual)
     };
-    let least = minimised(input, differs);
+    let numbers = |(expected, actual): &(Output, Output)| (number(expected), number(actual));
+    let first = numbers(&outputs(input));
+    let least = minimised(input, |input| {
+        let both = outputs(input);
+        numbers(&both) == first && !both.0.allows(&both.1)
+    });
     println!("difference in {}, seed {seed}, at its smallest:", call.name());
     print!("{}", input_text(call, &least));
     for (name, calls) in [("expected", &Reference as &dyn Calls), ("got", under_test)] {
@@ -88,6 +94,72 @@ fn report(under_test: &dyn Calls, call: Call, seed: u64, input: &Input) {
         }
         if !output.bytes.is_empty() {
             println!("{name} bytes {:?}", String::from_utf8_lossy(&output.bytes));
+        }
+    }
+}
+
+#[cfg(test)]
+mod tests {
+    use super::{Refusals, passes};
+    use checker::calls::{Answer, Calls, Draws, Rows};
+    use checker::plain::Plain;
+    use reference::vectors::CALLS;
+
+    #[test]
+    fn the_plain_calls_agree_with_the_reference_and_every_refusal_comes() {
+        let mut refusals = Refusals::default();
+        for call in CALLS {
+            assert!(passes(&Plain, call, 300, 1, &mut refusals));
+        }
+        println!("refusals of all calls: {refusals}");
+        let missing: Vec<u64> = (0..=19).filter(|number| !refusals.0.contains_key(number)).collect();
+        assert_eq!(missing, []);
+    }
+
+    /// Refuses everything.
+    struct Refusing;
+
+    impl Calls for Refusing {
+        fn check(&self, _: &[u8]) -> Answer {
+            Answer {
+                number: 1,
+                ..Answer::default()
+            }
+        }
+
+        fn run(&self, job: &[u8], _: Draws<'_>, _: &[u64], _: Rows<'_>) -> Answer {
+            self.check(job)
+        }
+
+        fn settle(&self, job: &[u8], _: Draws<'_>, _: &[u64], _: &mut [u8]) -> Answer {
+            self.check(job)
+        }
+
+        fn walk(&self, job: &[u8], _: u64, _: &[u64]) -> Answer {
+            self.check(job)
+        }
+
+        fn annotate(&self, job: &[u8], _: u64, _: &mut [u8]) -> Answer {
+            self.check(job)
+        }
+
+        fn locations(&self, job: &[u8]) -> Answer {
+            self.check(job)
+        }
+
+        fn correlation(&self, job: &[u8]) -> Answer {
+            self.check(job)
+        }
+
+        fn print(&self, _: &[u8]) -> Option<Vec<u8>> {
+            Some(b"ok=0 refusal=1 line=0\n".to_vec())
+        }
+    }
+
+    #[test]
+    fn a_wrong_call_is_found() {
+        for call in CALLS {
+            assert!(!passes(&Refusing, call, 20, 1, &mut Refusals::default()));
         }
     }
 }

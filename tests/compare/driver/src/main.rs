@@ -8,6 +8,7 @@ mod differences;
 #[cfg(feature = "linked")]
 mod linked;
 mod minimise;
+mod settled;
 mod stored;
 
 use checker::calls::Calls;
@@ -18,9 +19,10 @@ use std::time::{SystemTime, UNIX_EPOCH};
 
 const USAGE: &str = "\
 usage: compare CALL N [SEED]      N random inputs of a call: check, run, settle, walk, annotate, locations, correlation, print
-       compare all N [SEED]       N of every call, then the two commands below
-       compare backward N [SEED]  on N small jobs: for all sets and shots, the sum of deltas is the walk's count modulo 2
+       compare settled N [SEED]   N jobs run with their draws, and as their settled text
+       compare backward N [SEED]  N jobs: for sets and shots, all of a small job's, the sum of deltas is the walk's count modulo 2
        compare vectors            the stored vectors
+       compare all N [SEED]       all of these
        compare bench              times beside the published Rust's
 A difference is seen again by `compare CALL 1 SEED` with the seed that it prints.";
 
@@ -58,11 +60,9 @@ fn counted(command: &str, count: &str, seed: Option<&str>) -> bool {
     let (Ok(count), Ok(seed)) = (count.parse(), seed.map_or(Ok(new_seed()), str::parse)) else {
         return usage();
     };
-    let calls: Vec<Call> = CALLS
-        .into_iter()
-        .filter(|call| command == "all" || call.name() == command)
-        .collect();
-    if calls.is_empty() && command != "backward" {
+    let asked = |name: &str| command == name || command == "all";
+    let calls: Vec<Call> = CALLS.into_iter().filter(|call| asked(call.name())).collect();
+    if calls.is_empty() && !asked("settled") && !asked("backward") {
         return usage();
     }
     println!("seed {seed}");
@@ -72,14 +72,16 @@ fn counted(command: &str, count: &str, seed: Option<&str>) -> bool {
     for call in calls {
         passed &= differences::passes(UNDER_TEST.1, call, count, seed, &mut refusals);
     }
-    if command == "all" {
-        println!("refusals of all calls: {refusals}");
+    if asked("settled") {
+        passed &= settled::passes(UNDER_TEST.1, count, seed);
     }
-    if command == "all" || command == "backward" {
+    if asked("backward") {
         passed &= brute::passes(UNDER_TEST.1, count, seed);
     }
     if command == "all" {
         passed &= stored::passes(UNDER_TEST.1);
+        println!("refusals of all calls: {refusals}");
+        println!("{}", if passed { "0 differences" } else { "differences" });
     }
     passed
 }

@@ -1,7 +1,7 @@
 //! Damaged copies of jobs: a byte, a line or a value changed.
 
 use crate::random::Random;
-use checker::job::{Header, MAX_BYTES};
+use checker::job::Header;
 use checker::read::read;
 
 /// A copy of a job with some damage, which the checks often refuse.
@@ -53,33 +53,14 @@ fn line_damaged(random: &mut Random, job: &[u8]) -> Vec<u8> {
     lines.concat()
 }
 
-/// The final LF dropped, everything dropped, or lines put in up to the limit or past it.
+/// The final LF dropped, or everything from some byte on.
 fn whole_damaged(random: &mut Random, mut job: Vec<u8>) -> Vec<u8> {
-    match random.below(30) {
-        0 => filled(random, job),
-        1..5 => Vec::new(),
-        5..12 => {
-            job.truncate(random.index(job.len() + 1));
-            job
-        }
-        _ => {
-            job.pop();
-            job
-        }
-    }
-}
-
-/// As long as a job may be, give or take a byte.
-fn filled(random: &mut Random, mut job: Vec<u8>) -> Vec<u8> {
-    let length = MAX_BYTES - 1 + random.index(3);
-    while job.len() < length {
-        job.extend_from_slice(
-            random
-                .pick(&["op=z q=0\n", "op=u g=0 q=0\n", "op=u g=10 q=0\n"])
-                .as_bytes(),
-        );
-    }
-    job.truncate(length);
+    let kept = match random.below(6) {
+        0 => 0,
+        1 | 2 => random.index(job.len() + 1),
+        _ => job.len().saturating_sub(1),
+    };
+    job.truncate(kept);
     job
 }
 

@@ -4,7 +4,9 @@ use crate::damage::damaged;
 use crate::jobs::{ANY, Made, Shape, job};
 use crate::random::Random;
 use checker::calls::{Calls, Draws};
-use checker::job::{Header, Instruction, Job, MAX_BYTES, Noise, usize_of};
+use checker::job::{
+    Distribution, Header, Instruction, Job, Line, List, MAX_BYTES, MAX_LIST, MAX_PRINTED_BYTES, Noise, Pauli, usize_of,
+};
 use checker::plain::{Plain, settled};
 use checker::read::read;
 use checker::write;
@@ -25,7 +27,9 @@ pub fn input(random: &mut Random, call: Call) -> Input {
     } else {
         random.one_in(5)
     };
-    if damage {
+    if random.one_in(300) {
+        input.job = at_limit(random, call);
+    } else if damage {
         input.job = damaged(random, &bytes);
     }
     input
@@ -57,37 +61,58 @@ fn shape(random: &mut Random, call: Call) -> Shape {
     }
 }
 
-/// A job whose settled or annotated text passes the longest that a call may write.
+/// A long job; settling and annotation may pass the longest text that they may write.
 fn large(random: &mut Random, call: Call) -> Made {
     let header = Header {
         qubits: 256,
         outcomes: 4,
         shots: 4096,
     };
-    let instruction = |text: &str| {
-        let job = write::header(&header) + text;
-        let mut lines = read(job.as_bytes()).expect("a line that passes").lines;
-        lines.remove(0).instruction
+    let pauli = Pauli {
+        x: random.subset(256, MAX_LIST).into_iter().collect(),
+        z: random.subset(256, MAX_LIST).into_iter().collect(),
     };
-    let qubits = random
-        .subset(256, 31)
-        .iter()
-        .map(u64::to_string)
-        .collect::<Vec<_>>()
-        .join(",");
-    let (line, most) = match call {
-        Call::Settle => (
-            format!("op=n p=3ff0000000000000 corr=0 cond=- parity=0 d=1 x={qubits} z={qubits}\n"),
-            8,
-        ),
-        Call::Annotate => (format!("op=p x={qubits} z={qubits}\n"), 5200),
-        _ => (format!("op=k x={qubits} z={qubits} u={qubits} v={qubits}\n"), 2200),
+    let (instruction, most) = match call {
+        Call::Settle => (always(pauli), 8),
+        Call::Annotate => (Instruction::Pauli(pauli), 10_000),
+        Call::Run | Call::Print => (Instruction::Exponential(pauli), 60),
+        _ => (Instruction::Exponential(pauli), 10_000),
     };
-    let count = random.between(1, most);
+    let room = (MAX_BYTES - write::header(&header).len()) / write::instruction(&instruction).len();
+    let count = 1 + random.index(room.min(most));
     Made {
         header,
-        instructions: vec![instruction(&line); usize_of(count)],
+        instructions: vec![instruction; count],
     }
+}
+
+/// A Pauli in every shot.
+fn always(pauli: Pauli) -> Instruction {
+    Instruction::Noise(Box::new(Noise {
+        p: 1.0_f64.to_bits(),
+        correlation: Some(0),
+        condition: List::new(),
+        parity: false,
+        distribution: Distribution::Single(pauli),
+    }))
+}
+
+/// A job as long as the call takes, or a byte less or more: lines of two lengths without a common divisor.
+fn at_limit(random: &mut Random, call: Call) -> Vec<u8> {
+    const LINES: [&str; 2] = ["op=z q=0\n", "op=u g=4 q=0\n"];
+    const HEADER: &str = "op=job qubits=1 outcomes=0 shots=1\n";
+    let limit = if call == Call::Print {
+        MAX_PRINTED_BYTES
+    } else {
+        MAX_BYTES
+    };
+    let left = limit - 1 + random.index(3) - HEADER.len();
+    let longer = (0..).find(|count| (left - count * LINES[1].len()).is_multiple_of(LINES[0].len()));
+    let longer = longer.expect("the lengths have no common divisor");
+    let shorter = (left - longer * LINES[1].len()) / LINES[0].len();
+    [HEADER, &LINES[1].repeat(longer), &LINES[0].repeat(shorter)]
+        .concat()
+        .into_bytes()
 }
 
 /// What the call of an accepted job is lent.
@@ -119,11 +144,7 @@ pub fn lent(random: &mut Random, call: Call, bytes: &[u8]) -> Input {
             input.out_len = length_near(random, usize_of(need));
         }
         Call::Walk => {
-            input.shot = if random.one_in(12) {
-                past(random, job.header.shots)
-            } else {
-                random.below(job.header.shots)
-            };
+            input.shot = walk_shot(random, &job);
             input.set = walk_set(random, job.recorded);
         }
         Call::Check | Call::Locations | Call::Correlation | Call::Print => {}
@@ -147,6 +168,20 @@ fn own_probability(random: &mut Random) -> u64 {
         _ => random.unit(),
     };
     p.to_bits()
+}
+
+/// A walk's shot, mostly one in which something is injected or flipped.
+fn walk_shot(random: &mut Random, job: &Job<'_>) -> u64 {
+    let fault = |line: &Line<'_>| match line.instruction {
+        Instruction::Inject { shot, .. } | Instruction::Flip { shot, .. } => Some(shot),
+        _ => None,
+    };
+    let shots: Vec<u64> = job.lines.iter().filter_map(fault).collect();
+    match random.below(12) {
+        0 => past(random, job.header.shots),
+        1..10 if !shots.is_empty() => random.pick(&shots),
+        _ => random.below(job.header.shots),
+    }
 }
 
 /// A set of recorded outcomes, now and then with an unrecorded one, a repeat or out of order.

@@ -65,17 +65,33 @@ impl Made {
 pub fn job(random: &mut Random, shape: &Shape) -> Made {
     let header = header(random, &shape.limits);
     let lines = line_count(random, shape.lines, header.shots);
+    job_of(random, header, lines, shape)
+}
+
+/// A random job with this header and number of instructions.
+pub fn job_of(random: &mut Random, header: Header, lines: u64, shape: &Shape) -> Made {
     let mut maker = Maker {
+        sizes_agree: !random.one_in(4),
+        busy_qubits: busy(random, header.qubits),
+        busy_shots: busy(random, header.shots),
         random,
         header,
         shape: *shape,
         recorded: 0,
         sizes: Vec::new(),
-        sizes_agree: false,
     };
-    maker.sizes_agree = maker.random.below(4) > 0;
     let instructions = (0..lines).map(|_| maker.instruction()).collect();
     Made { header, instructions }
+}
+
+/// A few numbers below `end`, often with the last one.
+fn busy(random: &mut Random, end: u64) -> Vec<u64> {
+    let count = 1 + random.index(6);
+    let mut chosen = random.distinct(end, count);
+    if random.one_in(2) && !chosen.contains(&(end - 1)) {
+        chosen[0] = end - 1;
+    }
+    chosen
 }
 
 fn header(random: &mut Random, limits: &Header) -> Header {
@@ -115,6 +131,9 @@ struct Maker<'a> {
     header: Header,
     shape: Shape,
     recorded: u64,
+    /// Most lines are on few qubits and shots, so that they act on each other however many there are.
+    busy_qubits: Vec<u64>,
+    busy_shots: Vec<u64>,
     /// The size of each correlation so far.
     sizes: Vec<(u64, u64)>,
     sizes_agree: bool,
@@ -138,7 +157,7 @@ impl Maker<'_> {
             6 => Instruction::Exponential(self.pauli()),
             7 => Instruction::Controlled {
                 control: self.pauli(),
-                target: self.pauli(),
+                target: Box::new(self.pauli()),
             },
             8 => self.permute(),
             9..11 => Instruction::Measure {
@@ -155,17 +174,17 @@ impl Maker<'_> {
                 parity: self.random.one_in(2),
             },
             13 => Instruction::Reset {
-                qubit: self.random.below(self.header.qubits),
+                qubit: self.qubits(1)[0],
             },
             14 => Instruction::Inject {
-                shot: self.random.below(self.header.shots),
+                shot: self.shot(),
                 pauli: self.pauli(),
             },
             15 if self.recorded > 0 => Instruction::Flip {
-                shot: self.random.below(self.header.shots),
+                shot: self.shot(),
                 id: self.random.below(self.recorded),
             },
-            16.. => Instruction::Noise(self.noise()),
+            16.. => Instruction::Noise(Box::new(self.noise())),
             _ => return None,
         })
     }
@@ -199,27 +218,53 @@ impl Maker<'_> {
         }
         let (x, z) = (self.count(), self.count());
         Pauli {
-            x: self.random.subset(self.header.qubits, x).into_iter().collect(),
-            z: self.random.subset(self.header.qubits, z).into_iter().collect(),
+            x: self.rising_qubits(x),
+            z: self.rising_qubits(z),
         }
     }
 
     /// At least one qubit, in any order.
     fn operands(&mut self, most: usize) -> List {
         let count = self.count().clamp(1, most);
-        self.random.distinct(self.header.qubits, count).into_iter().collect()
+        self.qubits(count)
+    }
+
+    /// So many different qubits in any order, where the header has as many.
+    fn qubits(&mut self, count: usize) -> List {
+        if count > self.busy_qubits.len() || self.random.one_in(4) {
+            return self.random.distinct(self.header.qubits, count).into_iter().collect();
+        }
+        let places = self.random.distinct(self.busy_qubits.len() as u64, count);
+        places
+            .into_iter()
+            .map(|place| self.busy_qubits[usize_of(place)])
+            .collect()
+    }
+
+    fn rising_qubits(&mut self, count: usize) -> List {
+        let mut qubits = self.qubits(count);
+        qubits.sort_unstable();
+        qubits
+    }
+
+    fn shot(&mut self) -> u64 {
+        if self.random.one_in(4) {
+            self.random.below(self.header.shots)
+        } else {
+            self.random.pick(&self.busy_shots)
+        }
     }
 
     fn unitary(&mut self) -> Option<Instruction> {
         let gate = self.random.below(15);
         let count = if gate <= 10 { 1 } else { 2 };
-        let qubits: List = self.random.distinct(self.header.qubits, count).into_iter().collect();
+        let qubits = self.qubits(count);
         (qubits.len() == count).then_some(Instruction::Unitary { gate, qubits })
     }
 
     fn clifford(&mut self) -> Instruction {
         let count = 1 + self.random.index(4);
-        let qubits: List = self.random.distinct(self.header.qubits, count).into_iter().collect();
+        let qubits = self.qubits(count);
         let table = clifford_table(self.random, qubits.len());
         Instruction::Clifford { qubits, table }
     }

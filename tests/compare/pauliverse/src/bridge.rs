@@ -171,13 +171,19 @@ fn until_spent<T>(run: impl FnOnce() -> T) -> Option<T> {
 }
 
 impl NoiselessOutcomes {
-    /// From lent words, a row for each outcome.
+    /// From lent words, a row for each outcome. Only the outcomes of some condition are looked at, so only they are turned.
     #[must_use]
-    pub fn new(header: &Header, words: &[u64]) -> Self {
-        let (outcomes, shots) = (usize_of(header.outcomes), usize_of(header.shots));
+    pub fn new(job: &Job<'_>, words: &[u64]) -> Self {
+        let (outcomes, shots) = (usize_of(job.header.outcomes), usize_of(job.header.shots));
+        let mut looked_at = vec![false; outcomes];
+        for line in &job.lines {
+            if let Instruction::Noise(noise) = &line.instruction {
+                noise.condition.iter().for_each(|&id| looked_at[usize_of(id)] = true);
+            }
+        }
         let mut bits = BitMatrix::with_shape(shots, outcomes);
-        let rows = words.chunks_exact(header.row_words()).take(outcomes);
-        for (outcome, row) in rows.enumerate() {
+        let rows = words.chunks_exact(job.header.row_words()).enumerate();
+        for (outcome, row) in rows.take(outcomes).filter(|(outcome, _)| looked_at[*outcome]) {
             for shot in (0..shots).filter(|shot| row[shot / 64] >> (shot % 64) & 1 == 1) {
                 bits.negate((shot, outcome));
             }
@@ -215,9 +221,9 @@ impl Executed {
 
 /// Lend what a run of the published code reads besides the main list, and give the noiseless bits in its form.
 #[must_use]
-pub fn lend(header: &Header, draws: &Draws<'_>, noiseless: &[u64]) -> NoiselessOutcomes {
+pub fn lend(job: &Job<'_>, draws: &Draws<'_>, noiseless: &[u64]) -> NoiselessOutcomes {
     rand::lend_second(draws.second);
-    NoiselessOutcomes::new(header, noiseless)
+    NoiselessOutcomes::new(job, noiseless)
 }
 
 fn annotation(instruction: &Published, p: f64) -> Option<Annotation> {

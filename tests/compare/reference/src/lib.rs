@@ -1,14 +1,14 @@
 //! Reference answers for every call.
 //!
-//! Frames, deltas, draws, annotation, locations and the correlation check come from the published Rust, compiled unchanged. What it hasn't, the text
-//! of jobs, their checks and the walk back, comes from `checker`.
+//! Frames, deltas, draws, annotation, locations and the correlation check come from the published Rust, compiled unchanged, and the walk's count from
+//! runs of it. What it hasn't, the text of jobs and their checks, comes from `checker`.
 
 pub mod vectors;
 
 use checker::calls::{Answer, Calls, Draws, Rows};
-use checker::job::{Instruction, Job, Refusal};
+use checker::job::{Header, Instruction, Job, Refusal, usize_of};
 use checker::plain::around::can_annotate;
-use checker::plain::{self, deliver, deliver_settled, need_probability, need_words, print_with};
+use checker::plain::{bit, deliver, deliver_settled, need_probability, need_walkable, need_words, print_with};
 use checker::read::{check, read};
 use checker::write;
 use pauliverse::bridge::{Executed, Program, lend};
@@ -30,7 +30,7 @@ impl Calls for Reference {
     }
 
     fn walk(&self, job: &[u8], shot: u64, set: &[u64]) -> Answer {
-        let count = read(job).and_then(|job| plain::walk(&job, shot, set));
+        let count = read(job).and_then(|job| walk(&job, shot, set));
         count.map_or_else(Answer::from, Answer::success)
     }
 
@@ -58,7 +58,7 @@ impl Calls for Reference {
 ///
 /// 14 at the noise line whose draws are spent.
 pub fn execute(job: &Job<'_>, draws: Draws<'_>, noiseless: &[u64]) -> Result<Executed, Refusal> {
-    let noiseless = lend(&job.header, &draws, noiseless);
+    let noiseless = lend(job, &draws, noiseless);
     Program::new(job).execute(draws.base, draws.main, &noiseless)
 }
 
@@ -78,19 +78,24 @@ fn run(bytes: &[u8], draws: Draws<'_>, noiseless: &[u64], rows: Rows<'_>) -> Res
     frames_z.fill(0);
     deltas.fill(0);
     let executed = execute(&job, draws, noiseless)?;
-    for (id, row) in deltas.chunks_exact_mut(job.header.row_words()).enumerate() {
-        row.copy_from_slice(&executed.deltas(id));
-    }
+    deltas.copy_from_slice(&all_deltas(&executed, &job.header));
     let (x_rows, z_rows) = executed.frames();
     frames_x.copy_from_slice(&x_rows);
     frames_z.copy_from_slice(&z_rows);
     Ok(())
 }
 
+/// The deltas of every outcome, row after row.
+fn all_deltas(executed: &Executed, header: &Header) -> Vec<u64> {
+    (0..usize_of(header.outcomes))
+        .flat_map(|id| executed.deltas(id))
+        .collect()
+}
+
 fn settled(bytes: &[u8], draws: Draws<'_>, noiseless: &[u64]) -> Result<Vec<u8>, Refusal> {
     let job = read(bytes)?;
     need_words(&[(noiseless, job.header.outcome_words())])?;
-    let outcomes = lend(&job.header, &draws, noiseless);
+    let outcomes = lend(&job, &draws, noiseless);
     let faults = Program::new(&job).faults(draws.base, draws.main, &outcomes)?;
     let mut text = job.header_text.to_vec();
     for (line, faults) in job.lines.iter().zip(faults) {
@@ -102,6 +107,38 @@ fn settled(bytes: &[u8], draws: Draws<'_>, noiseless: &[u64]) -> Result<Vec<u8>,
         }
     }
     Ok(text)
+}
+
+/// The walk's count, without walking: each injection and flip of the shot gets a shot of its own, and the published code runs them all at once.
+/// Those in whose shot the set's deltas sum to 1 are counted.
+fn walk(job: &Job<'_>, shot: u64, set: &[u64]) -> Result<u64, Refusal> {
+    need_walkable(job, shot, set)?;
+    let mut faults = 0;
+    let mut apart = job.clone();
+    apart.lines.retain_mut(|line| match &mut line.instruction {
+        Instruction::Inject { shot: own, .. } | Instruction::Flip { shot: own, .. } => {
+            let kept = *own == shot;
+            *own = faults;
+            faults += u64::from(kept);
+            kept
+        }
+        _ => true,
+    });
+    if faults == 0 {
+        return Ok(0);
+    }
+    apart.header.shots = faults;
+    let no_draws = Draws {
+        base: 0,
+        main: &[],
+        second: &[],
+    };
+    let deltas = all_deltas(&execute(&apart, no_draws, &[])?, &apart.header);
+    let sum = |fault: u64| {
+        set.iter()
+            .fold(false, |sum, &id| sum ^ bit(&deltas, &apart.header, id, fault))
+    };
+    Ok((0..faults).map(|fault| u64::from(sum(fault))).sum())
 }
 
 fn annotated(bytes: &[u8], p: u64) -> Result<Vec<u8>, Refusal> {

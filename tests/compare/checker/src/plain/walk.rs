@@ -3,21 +3,31 @@
 use crate::job::{Instruction, Job, Refusal, usize_of};
 use crate::plain::frame::Frame;
 
-/// How many injections and flips of a shot the set of outcomes notices.
+/// 17 for a bad shot or set, then 16 for noise.
 ///
 /// # Errors
 ///
-/// 17 for a bad shot or set, then 16 for noise.
-pub fn walk(job: &Job<'_>, shot: u64, set: &[u64]) -> Result<u64, Refusal> {
+/// The refusal.
+pub fn need_walkable(job: &Job<'_>, shot: u64, set: &[u64]) -> Result<(), Refusal> {
     let rising = set.is_sorted_by(|one, next| one < next);
     let recorded = set.iter().all(|&id| id < job.recorded);
     if shot >= job.header.shots || !rising || !recorded {
         return Err(Refusal::of_call(17));
     }
-    let noise = |line: &&crate::job::Line<'_>| matches!(line.instruction, Instruction::Noise(_));
-    if let Some(line) = job.lines.iter().find(noise) {
-        return Err(Refusal::at(16, line.number));
-    }
+    let noise = job
+        .lines
+        .iter()
+        .find(|line| matches!(line.instruction, Instruction::Noise(_)));
+    noise.map_or(Ok(()), |line| Err(Refusal::at(16, line.number)))
+}
+
+/// How many injections and flips of a shot the set of outcomes notices.
+///
+/// # Errors
+///
+/// 17 or 16.
+pub fn walk(job: &Job<'_>, shot: u64, set: &[u64]) -> Result<u64, Refusal> {
+    need_walkable(job, shot, set)?;
     let mut back = Carried {
         observable: Frame::default(),
         set: vec![false; usize_of(job.recorded)],
