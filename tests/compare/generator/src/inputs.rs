@@ -1,7 +1,7 @@
 //! What calls are handed: a job, and lists and buffers of lengths that suit it, or nearly.
 
 use crate::damage::damaged;
-use crate::jobs::{ANY, Made, Shape, job};
+use crate::jobs::{ANY, DENSE, Made, Shape, job};
 use crate::random::Random;
 use checker::calls::{Calls, Draws};
 use checker::job::{
@@ -42,9 +42,16 @@ fn shape(random: &mut Random, call: Call) -> Shape {
         outcomes: 256,
         shots: 64,
     };
+    let size = if random.one_in(2) { DENSE } else { ANY };
     match call {
+        Call::Run | Call::Settle => size,
         Call::Walk => Shape {
             noise: if random.one_in(6) { ANY.noise } else { 0 },
+            ..size
+        },
+        Call::Print => Shape {
+            limits: if random.one_in(6) { ANY.limits } else { printed },
+            draws: random.one_in(4),
             ..ANY
         },
         Call::Check => Shape {
@@ -52,12 +59,7 @@ fn shape(random: &mut Random, call: Call) -> Shape {
             ..ANY
         },
         Call::Correlation => Shape { noise: 60, ..ANY },
-        Call::Print => Shape {
-            limits: if random.one_in(6) { ANY.limits } else { printed },
-            draws: random.one_in(4),
-            ..ANY
-        },
-        _ => ANY,
+        Call::Annotate | Call::Locations => ANY,
     }
 }
 
@@ -186,7 +188,8 @@ fn walk_shot(random: &mut Random, job: &Job<'_>) -> u64 {
 
 /// A set of recorded outcomes, now and then with an unrecorded one, a repeat or out of order.
 fn walk_set(random: &mut Random, recorded: u64) -> Vec<u64> {
-    let count = random.index(6);
+    let most = if random.one_in(2) { recorded } else { recorded.min(3) };
+    let count = usize_of(random.between(0, most));
     let mut set = random.subset(recorded, count);
     match random.below(30) {
         0 => set.push(past(random, recorded)),
@@ -231,7 +234,7 @@ fn lend_draws(random: &mut Random, job: &Job<'_>, input: &mut Input) {
         .iter()
         .filter_map(|line| as_noise(&line.instruction))
         .collect();
-    let thresholds: Vec<u64> = noises.iter().map(|noise| threshold(noise.probability())).collect();
+    let thresholds: Vec<u64> = noises.iter().flat_map(|noise| thresholds(noise)).collect();
     let per_line = 3 * usize_of(job.header.shots) + 8;
     let uncorrelated = noises.iter().filter(|noise| noise.correlation.is_none()).count();
     let correlations: Vec<u64> = noises.iter().filter_map(|noise| noise.correlation).collect();
@@ -291,6 +294,20 @@ fn main_length(random: &mut Random, read: usize, all: usize) -> usize {
     }
 }
 
+/// The words at which a noise line's answer changes: that of its probability, and those of a weighted choice's running sums.
+fn thresholds(noise: &Noise) -> Vec<u64> {
+    let mut limits = vec![noise.probability()];
+    if let Distribution::Weighted(elements) = &noise.distribution {
+        let weights = || elements.iter().map(|(weight, _)| f64::from_bits(*weight));
+        let total: f64 = weights().sum();
+        limits.extend(weights().scan(0.0, |sum, weight| {
+            *sum += weight / total;
+            Some(*sum)
+        }));
+    }
+    limits.into_iter().map(threshold).collect()
+}
+
 /// The first word whose u isn't below p, for a p that some word's u is.
 #[allow(clippy::cast_possible_truncation, clippy::cast_sign_loss)]
 fn threshold(p: f64) -> u64 {
@@ -298,34 +315,34 @@ fn threshold(p: f64) -> u64 {
     scaled.saturating_mul(2048)
 }
 
-/// Words of which many lie where something changes: next to a probability, at either end, at the bound of a rejection.
+/// Words of which many lie where something changes: next to a probability or a running sum, at either end, at the bound of a rejection.
 fn draw_words(random: &mut Random, count: usize, thresholds: &[u64]) -> Vec<u64> {
-    let edges = [
+    const EDGES: [u64; 8] = [
         0,
-        1,
-        2,
-        3,
         2047,
         2048,
-        u64::MAX,
-        u64::MAX - 1,
-        u64::MAX - 2047,
-        u64::MAX - 2048,
-        1 << 63,
         1 << 62,
+        1 << 63,
+        u64::MAX - 2048,
+        u64::MAX - 2047,
+        u64::MAX,
     ];
-    let plain = random.one_in(2);
+    // Of 16 words so many are at a threshold, or otherwise out of the ordinary.
+    let (at_threshold, special) = random.pick(&[(0, 0), (2, 6), (8, 11)]);
     let mut word = || match random.below(16) {
-        _ if plain => random.word(),
-        0 => random.pick(&edges),
-        1 => u64::MAX - random.below(70),
-        2 => random.below(70),
-        3 if !thresholds.is_empty() => random.pick(thresholds),
-        4 if !thresholds.is_empty() => random.pick(thresholds).wrapping_sub(1),
-        5 => {
-            let zeros = random.below(64);
-            random.word() >> zeros
+        kind if kind < at_threshold && !thresholds.is_empty() => {
+            let below = random.below(2);
+            random.pick(thresholds).wrapping_sub(below)
         }
+        kind if kind < special => match random.below(4) {
+            0 => random.pick(&EDGES),
+            1 => u64::MAX - random.below(70),
+            2 => random.below(70),
+            _ => {
+                let zeros = random.below(64);
+                random.word() >> zeros
+            }
+        },
         _ => random.word(),
     };
     (0..count).map(|_| word()).collect()

@@ -11,7 +11,11 @@ pub struct Shape {
     pub limits: Header,
     /// Most instructions.
     pub lines: u64,
-    /// How often noise lines come, in sixteenths of how often all other lines do.
+    /// Most instructions of nine jobs out of ten.
+    pub usual_lines: u64,
+    /// Whether the header has as many outcomes as it may, so that none of its measurements is the last for long.
+    pub all_outcomes: bool,
+    /// How often noise lines come, in eighteenths of how often all other lines do.
     pub noise: u64,
     /// Whether noise lines need draws.
     pub draws: bool,
@@ -25,6 +29,8 @@ pub const ANY: Shape = Shape {
         shots: 4096,
     },
     lines: 1500,
+    usual_lines: 25,
+    all_outcomes: false,
     noise: 2,
     draws: true,
 };
@@ -36,7 +42,23 @@ pub const SMALL: Shape = Shape {
         outcomes: 5,
         shots: 5,
     },
-    lines: 25,
+    lines: 40,
+    usual_lines: 25,
+    all_outcomes: false,
+    noise: 2,
+    draws: true,
+};
+
+/// Jobs with little room and many lines, so that what a line does is noticed by others.
+pub const DENSE: Shape = Shape {
+    limits: Header {
+        qubits: 5,
+        outcomes: 40,
+        shots: 70,
+    },
+    lines: 150,
+    usual_lines: 80,
+    all_outcomes: true,
     noise: 2,
     draws: true,
 };
@@ -63,8 +85,8 @@ impl Made {
 
 /// A random job of a shape.
 pub fn job(random: &mut Random, shape: &Shape) -> Made {
-    let header = header(random, &shape.limits);
-    let lines = line_count(random, shape.lines, header.shots);
+    let header = header(random, shape);
+    let lines = line_count(random, shape, header.shots);
     job_of(random, header, lines, shape)
 }
 
@@ -94,13 +116,18 @@ fn busy(random: &mut Random, end: u64) -> Vec<u64> {
     chosen
 }
 
-fn header(random: &mut Random, limits: &Header) -> Header {
+fn header(random: &mut Random, shape: &Shape) -> Header {
+    let limits = &shape.limits;
     let qubits = [1, 2, 3, 4, 5, 8, 31, 32, 33, 64, 65, 255, 256];
     let outcomes = [0, 1, 2, 3, 8, 40, 64, 256, 1023, 1024];
     let shots = [1, 2, 3, 5, 63, 64, 65, 127, 128, 129, 1000, 4095, 4096];
     Header {
         qubits: limit(random, &qubits, 1, limits.qubits),
-        outcomes: limit(random, &outcomes, 0, limits.outcomes),
+        outcomes: if shape.all_outcomes {
+            limits.outcomes
+        } else {
+            limit(random, &outcomes, 0, limits.outcomes)
+        },
         shots: limit(random, &shots, 1, limits.shots),
     }
 }
@@ -116,11 +143,11 @@ fn limit(random: &mut Random, interesting: &[u64], least: u64, most: u64) -> u64
 }
 
 /// Few lines mostly, and fewer with many shots, so that a job is soon run.
-fn line_count(random: &mut Random, most: u64, shots: u64) -> u64 {
+fn line_count(random: &mut Random, shape: &Shape, shots: u64) -> u64 {
     let cap = match random.below(100) {
-        0 => most,
-        1..10 => most.min(150),
-        _ => most.min(25),
+        0 => shape.lines,
+        1..10 => shape.lines.min(150),
+        _ => shape.usual_lines,
     };
     let cap = if shots > 512 { cap.min(20) } else { cap };
     random.between(0, cap)
@@ -150,8 +177,8 @@ impl Maker<'_> {
 
     /// A line of a random kind, unless this header or place has none of it.
     fn instruction_if_possible(&mut self) -> Option<Instruction> {
-        Some(match self.random.below(16 + self.shape.noise) {
-            0..3 => self.unitary()?,
+        Some(match self.random.below(18 + self.shape.noise) {
+            0..3 | 16 | 17 => self.unitary()?,
             3..5 => self.clifford(),
             5 => Instruction::Pauli(self.pauli()),
             6 => Instruction::Exponential(self.pauli()),
@@ -184,7 +211,7 @@ impl Maker<'_> {
                 shot: self.shot(),
                 id: self.random.below(self.recorded),
             },
-            16.. => Instruction::Noise(Box::new(self.noise())),
+            18.. => Instruction::Noise(Box::new(self.noise())),
             _ => return None,
         })
     }
@@ -229,6 +256,15 @@ impl Maker<'_> {
         self.qubits(count)
     }
 
+    /// Qubits to permute: from three on, there and back can differ.
+    fn places(&mut self) -> List {
+        if self.random.one_in(3) {
+            return self.operands(MAX_LIST);
+        }
+        let count = self.random.pick(&[3, 3, 4, 5, 6]);
+        self.qubits(count)
+    }
+
     /// So many different qubits in any order, where the header has as many.
     fn qubits(&mut self, count: usize) -> List {
         if count > self.busy_qubits.len() || self.random.one_in(4) {
@@ -256,7 +292,11 @@ impl Maker<'_> {
     }
 
     fn unitary(&mut self) -> Option<Instruction> {
-        let gate = self.random.below(15);
+        let gate = if self.random.one_in(3) {
+            self.random.between(11, 14)
+        } else {
+            self.random.below(15)
+        };
         let count = if gate <= 10 { 1 } else { 2 };
         let qubits = self.qubits(count);
         (qubits.len() == count).then_some(Instruction::Unitary { gate, qubits })
@@ -270,7 +310,7 @@ impl Maker<'_> {
     }
 
     fn permute(&mut self) -> Instruction {
-        let qubits = self.operands(MAX_LIST);
+        let qubits = self.places();
         let places = self.random.distinct(qubits.len() as u64, qubits.len());
         Instruction::Permute {
             places: places.into_iter().collect(),

@@ -1,6 +1,6 @@
 //! Jobs for measuring: large, and alike in every run.
 
-use crate::jobs::{Made, Shape, job_of};
+use crate::jobs::{ANY, Made, Shape, job_of};
 use crate::random::Random;
 use checker::job::{Distribution, Header, Instruction, List, Noise};
 
@@ -63,9 +63,8 @@ pub fn noise(header: Header, lines: usize, p: f64) -> Made {
 pub fn mixed(header: Header, lines: u64, p: f64) -> Made {
     let shape = Shape {
         limits: header,
-        lines,
         noise: 4,
-        draws: true,
+        ..ANY
     };
     let mut made = job_of(&mut Random::new(4), header, lines, &shape);
     for instruction in &mut made.instructions {
