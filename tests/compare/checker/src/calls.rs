@@ -1,0 +1,88 @@
+//! The calls of the engine, so that two implementations of them can be compared.
+
+use crate::job::Refusal;
+
+/// The answer of a call: number and line are 0 for success.
+#[derive(Debug, Clone, Copy, Default, PartialEq, Eq)]
+pub struct Answer {
+    /// The refusal's number, or 0.
+    pub number: u64,
+    /// The refusal's line from 1, or 0 where none fits.
+    pub line: u64,
+    /// The walk's count, the locations, or the byte figure of settling and annotation; 0 for other calls.
+    pub figure: u64,
+}
+
+impl Answer {
+    /// Success with a count or byte figure.
+    #[must_use]
+    pub fn success(figure: u64) -> Self {
+        Self {
+            figure,
+            ..Self::default()
+        }
+    }
+
+    /// The answer of a call that gives nothing but success or a refusal.
+    #[must_use]
+    pub fn of(outcome: Result<(), Refusal>) -> Self {
+        outcome.map_or_else(Self::from, |()| Self::default())
+    }
+}
+
+impl From<Refusal> for Answer {
+    fn from(refusal: Refusal) -> Self {
+        Self {
+            number: refusal.number,
+            line: refusal.line,
+            figure: 0,
+        }
+    }
+}
+
+/// The lent words that stand in for random draws.
+#[derive(Debug, Clone, Copy)]
+pub struct Draws<'a> {
+    /// Added to a line's corr for its place in the second list, wrapping at 2^64.
+    pub base: u64,
+    /// Read on from line to line.
+    pub main: &'a [u64],
+    /// Read afresh by each line with a corr.
+    pub second: &'a [u64],
+}
+
+/// The lent words that a run writes.
+#[derive(Debug)]
+#[allow(missing_docs)]
+pub struct Rows<'a> {
+    pub frames_x: &'a mut [u64],
+    pub frames_z: &'a mut [u64],
+    pub deltas: &'a mut [u64],
+}
+
+/// Every call, on lists of any length.
+pub trait Calls {
+    /// Tests 1 to 12.
+    fn check(&self, job: &[u8]) -> Answer;
+
+    /// Run a job to its end; frames and deltas are in `rows`.
+    fn run(&self, job: &[u8], draws: Draws<'_>, noiseless: &[u64], rows: Rows<'_>) -> Answer;
+
+    /// Write the settled job at the front of `out`; the figure is its bytes.
+    fn settle(&self, job: &[u8], draws: Draws<'_>, noiseless: &[u64], out: &mut [u8]) -> Answer;
+
+    /// Walk a noise-free job back; the figure is the count.
+    fn walk(&self, job: &[u8], shot: u64, set: &[u64]) -> Answer;
+
+    /// Write the annotated job at the front of `out`; the figure is its bytes. `p` is a binary64's bits.
+    fn annotate(&self, job: &[u8], p: u64, out: &mut [u8]) -> Answer;
+
+    /// Count locations; the figure is their number.
+    fn locations(&self, job: &[u8]) -> Answer;
+
+    /// Check that the sizes of each correlation agree.
+    fn correlation(&self, job: &[u8]) -> Answer;
+
+    /// What the printing program writes for a standard input; none where the program isn't at hand.
+    fn print(&self, input: &[u8]) -> Option<Vec<u8>>;
+}

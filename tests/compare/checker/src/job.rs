@@ -1,0 +1,193 @@
+//! What a job says.
+
+use smallvec::SmallVec;
+
+/// The longest job, and the longest text that a call writes, in bytes.
+pub const MAX_BYTES: usize = 1_048_576;
+/// The longest input of the printing program, in bytes.
+pub const MAX_PRINTED_BYTES: usize = 65_536;
+/// Most qubits of a header.
+pub const MAX_QUBITS: u64 = 256;
+/// Most outcomes of a header.
+pub const MAX_OUTCOMES: u64 = 1_024;
+/// Most shots of a header.
+pub const MAX_SHOTS: u64 = 4_096;
+/// Most entries of a list on a line.
+pub const MAX_LIST: usize = 31;
+/// Most qubits of a Clifford line.
+pub const MAX_CLIFFORD_QUBITS: usize = 4;
+/// Most element lines of a noise line.
+pub const MAX_ELEMENTS: u64 = 64;
+/// The highest gate code, PrepareBell.
+pub const MAX_GATE: u64 = 14;
+/// The highest code of a gate on one qubit.
+pub const MAX_ONE_QUBIT_GATE: u64 = 10;
+
+/// A list of numbers as written.
+pub type List = SmallVec<[u64; 2]>;
+
+/// Why a call says no: the number of document 01's table, and the line from 1 (0 where none fits).
+#[derive(Debug, Clone, Copy, PartialEq, Eq)]
+pub struct Refusal {
+    /// 1 to 19.
+    pub number: u64,
+    /// From 1, or 0 where none fits.
+    pub line: u64,
+}
+
+impl Refusal {
+    /// A refusal at a line.
+    #[must_use]
+    pub fn at(number: u64, line: u64) -> Self {
+        Self { number, line }
+    }
+
+    /// A refusal that no line fits.
+    #[must_use]
+    pub fn of_call(number: u64) -> Self {
+        Self { number, line: 0 }
+    }
+}
+
+/// The numbers of `op=job`.
+#[derive(Debug, Clone, Copy, Default, PartialEq, Eq)]
+#[allow(missing_docs)]
+pub struct Header {
+    pub qubits: u64,
+    pub outcomes: u64,
+    pub shots: u64,
+}
+
+impl Header {
+    /// Words in a row of bits, one bit a shot.
+    #[must_use]
+    pub fn row_words(&self) -> usize {
+        usize_of(self.shots).div_ceil(64)
+    }
+
+    /// Words that the frames of one part need.
+    #[must_use]
+    pub fn frame_words(&self) -> usize {
+        usize_of(self.qubits) * self.row_words()
+    }
+
+    /// Words that the deltas, or the noiseless bits, need.
+    #[must_use]
+    pub fn outcome_words(&self) -> usize {
+        usize_of(self.outcomes) * self.row_words()
+    }
+}
+
+/// A number that the checks have bounded, as an index.
+///
+/// # Panics
+///
+/// Panics if the number is no index.
+#[must_use]
+pub fn usize_of(number: u64) -> usize {
+    usize::try_from(number).expect("a checked number")
+}
+
+/// A Pauli: two rising lists of qubits.
+#[derive(Debug, Clone, Default, PartialEq, Eq)]
+pub struct Pauli {
+    /// Qubits with an X part.
+    pub x: List,
+    /// Qubits with a Z part.
+    pub z: List,
+}
+
+impl Pauli {
+    /// The qubits with either part, rising; a Y counts once.
+    #[must_use]
+    pub fn support(&self) -> Vec<u64> {
+        let mut qubits: Vec<u64> = self.x.iter().chain(&self.z).copied().collect();
+        qubits.sort_unstable();
+        qubits.dedup();
+        qubits
+    }
+}
+
+/// A line other than the header; a noise line with its element lines. What is large is boxed, so that the rest moves quickly.
+#[derive(Debug, Clone, PartialEq)]
+#[allow(missing_docs)]
+pub enum Instruction {
+    Unitary { gate: u64, qubits: List },
+    Clifford { qubits: List, table: u64 },
+    Pauli(Pauli),
+    Exponential(Pauli),
+    Controlled { control: Pauli, target: Box<Pauli> },
+    Permute { places: List, qubits: List },
+    Measure { observable: Pauli, id: u64 },
+    Allocate { id: u64, angle: bool },
+    Conditional { pauli: Pauli, ids: List, parity: bool },
+    Reset { qubit: u64 },
+    Inject { shot: u64, pauli: Pauli },
+    Flip { shot: u64, id: u64 },
+    Noise(Box<Noise>),
+}
+
+/// A noise instruction.
+#[derive(Debug, Clone, PartialEq)]
+pub struct Noise {
+    /// The probability's binary64 bits.
+    pub p: u64,
+    /// The correlation, if any.
+    pub correlation: Option<u64>,
+    /// The outcomes of the condition; empty where there is none.
+    pub condition: List,
+    /// What the condition's noiseless bits must sum to.
+    pub parity: bool,
+    /// What falls on a fault.
+    pub distribution: Distribution,
+}
+
+impl Noise {
+    /// The probability.
+    #[must_use]
+    pub fn probability(&self) -> f64 {
+        f64::from_bits(self.p)
+    }
+}
+
+/// What falls on a fault: one of four kinds.
+#[derive(Debug, Clone, PartialEq)]
+#[allow(missing_docs)]
+pub enum Distribution {
+    Single(Pauli),
+    Depolarizing(List),
+    Uniform(Vec<Pauli>),
+    /// Each weight by its binary64 bits.
+    Weighted(Vec<(u64, Pauli)>),
+}
+
+/// A Clifford table's row as bits: X parts of the places from bit 0 on, then Z parts.
+#[must_use]
+pub fn table_row(table: u64, qubits: usize, row: usize) -> u64 {
+    let width = 2 * qubits;
+    table >> (width * row) & ((1 << width) - 1)
+}
+
+/// An instruction and where it stands.
+#[derive(Debug, Clone, PartialEq)]
+pub struct Line<'a> {
+    /// The line's number; a noise instruction's is that of its noise line.
+    pub number: u64,
+    /// The bytes with their LF, element lines included.
+    pub text: &'a [u8],
+    /// What it says.
+    pub instruction: Instruction,
+}
+
+/// A job that has passed tests 1 to 12.
+#[derive(Debug, Clone, PartialEq)]
+pub struct Job<'a> {
+    /// The header's numbers.
+    pub header: Header,
+    /// The header's bytes with their LF.
+    pub header_text: &'a [u8],
+    /// The instructions in their order.
+    pub lines: Vec<Line<'a>>,
+    /// How many outcomes are recorded; their ids are those below.
+    pub recorded: u64,
+}

@@ -1,0 +1,14 @@
+//! Document 01, read by hand and on its own: no line of it comes from the published Rust or from the engine under test.
+//!
+//! - [`job`]: what a job says, as data.
+//! - [`read`]: bytes to a job, or the refusal by tests 1 to 12.
+//! - [`write`]: a job's data back to text.
+//! - [`calls`]: every call by its signature, so that implementations can be compared.
+//! - [`plain`]: the calls in the plainest form, a shot at a time.
+
+pub mod calls;
+mod form;
+pub mod job;
+pub mod plain;
+pub mod read;
+pub mod write;

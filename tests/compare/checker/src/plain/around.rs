@@ -1,0 +1,92 @@
+//! Annotation, locations and the correlation check.
+
+use crate::job::{Distribution, Instruction, Job, MAX_LIST, Refusal};
+use crate::write;
+
+/// The qubits that annotation gives noise: the operands, or the support rising (control's, then target's).
+fn noise_qubits(instruction: &Instruction) -> Vec<u64> {
+    match instruction {
+        Instruction::Unitary { qubits, .. }
+        | Instruction::Clifford { qubits, .. }
+        | Instruction::Permute { qubits, .. } => qubits.to_vec(),
+        Instruction::Pauli(pauli)
+        | Instruction::Exponential(pauli)
+        | Instruction::Measure { observable: pauli, .. } => pauli.support(),
+        Instruction::Controlled { control, target } => [control.support(), target.support()].concat(),
+        Instruction::Allocate { .. }
+        | Instruction::Conditional { .. }
+        | Instruction::Reset { .. }
+        | Instruction::Inject { .. }
+        | Instruction::Flip { .. }
+        | Instruction::Noise(_) => Vec::new(),
+    }
+}
+
+/// 18: whether noise can stand over these qubits.
+#[must_use]
+pub fn can_annotate(qubits: &[u64]) -> bool {
+    let mut sorted = qubits.to_vec();
+    sorted.sort_unstable();
+    sorted.dedup();
+    sorted.len() == qubits.len() && qubits.len() <= MAX_LIST
+}
+
+/// The annotated job.
+pub(super) fn annotated(job: &Job<'_>, p: u64) -> Result<Vec<u8>, Refusal> {
+    let mut text = job.header_text.to_vec();
+    for line in &job.lines {
+        let qubits = noise_qubits(&line.instruction);
+        if !can_annotate(&qubits) {
+            return Err(Refusal::at(18, line.number));
+        }
+        let noise = if qubits.is_empty() {
+            String::new()
+        } else {
+            write::annotation(p, &qubits)
+        };
+        let before = matches!(line.instruction, Instruction::Measure { .. });
+        let parts = if before {
+            [noise.as_bytes(), line.text]
+        } else {
+            [line.text, noise.as_bytes()]
+        };
+        text.extend_from_slice(&parts.concat());
+    }
+    Ok(text)
+}
+
+/// Twice the qubits that annotation gives noise, summed over the job.
+pub(super) fn locations(job: &Job<'_>) -> u64 {
+    job.lines
+        .iter()
+        .map(|line| 2 * noise_qubits(&line.instruction).len() as u64)
+        .sum()
+}
+
+/// 1, 4^k - 1 or n.
+fn size(distribution: &Distribution) -> u64 {
+    match distribution {
+        Distribution::Single(_) => 1,
+        Distribution::Depolarizing(qubits) => (1 << (2 * qubits.len())) - 1,
+        Distribution::Uniform(paulis) => paulis.len() as u64,
+        Distribution::Weighted(elements) => elements.len() as u64,
+    }
+}
+
+/// 19 at the first line whose size differs from that of the first line with its correlation.
+pub(super) fn correlation(job: &Job<'_>) -> Result<(), Refusal> {
+    let mut sizes: Vec<(u64, u64)> = Vec::new();
+    for line in &job.lines {
+        let Instruction::Noise(noise) = &line.instruction else {
+            continue;
+        };
+        let Some(correlation) = noise.correlation else { continue };
+        let size = size(&noise.distribution);
+        match sizes.iter().find(|(earlier, _)| *earlier == correlation) {
+            Some((_, first)) if *first != size => return Err(Refusal::at(19, line.number)),
+            Some(_) => {}
+            None => sizes.push((correlation, size)),
+        }
+    }
+    Ok(())
+}

@@ -1,0 +1,94 @@
+//! A job's data as text. Every value has one form, so that reading the text gives the data back.
+
+use crate::job::{Distribution, Header, Instruction, Noise, Pauli};
+use std::fmt::Write;
+
+/// The header's line with its LF.
+#[must_use]
+pub fn header(header: &Header) -> String {
+    let Header {
+        qubits,
+        outcomes,
+        shots,
+    } = header;
+    format!("op=job qubits={qubits} outcomes={outcomes} shots={shots}\n")
+}
+
+/// An instruction's line, or lines, each with its LF.
+#[must_use]
+pub fn instruction(instruction: &Instruction) -> String {
+    match instruction {
+        Instruction::Unitary { gate, qubits } => format!("op=u g={gate} q={}\n", list(qubits)),
+        Instruction::Clifford { qubits, table } => format!("op=c q={} t={table:016x}\n", list(qubits)),
+        Instruction::Pauli(pauli) => format!("op=p {}\n", parts(pauli)),
+        Instruction::Exponential(pauli) => format!("op=e {}\n", parts(pauli)),
+        Instruction::Controlled { control, target } => {
+            format!("op=k {} u={} v={}\n", parts(control), list(&target.x), list(&target.z))
+        }
+        Instruction::Permute { places, qubits } => format!("op=m s={} q={}\n", list(places), list(qubits)),
+        Instruction::Measure { observable, id } => format!("op=o {} id={id}\n", parts(observable)),
+        Instruction::Allocate { id, angle } => format!("op=r id={id} angle={}\n", u8::from(*angle)),
+        Instruction::Conditional { pauli, ids, parity } => {
+            format!("op=f {} id={} parity={}\n", parts(pauli), list(ids), u8::from(*parity))
+        }
+        Instruction::Reset { qubit } => format!("op=z q={qubit}\n"),
+        Instruction::Inject { shot, pauli } => inject(*shot, pauli),
+        Instruction::Flip { shot, id } => format!("op=t shot={shot} id={id}\n"),
+        Instruction::Noise(fault) => noise(fault),
+    }
+}
+
+/// An injection's line with its LF.
+#[must_use]
+pub fn inject(shot: u64, pauli: &Pauli) -> String {
+    format!("op=i shot={shot} {}\n", parts(pauli))
+}
+
+/// The noise line that annotation puts, with its LF.
+#[must_use]
+pub fn annotation(p: u64, qubits: &[u64]) -> String {
+    format!("op=n p={p:016x} corr=- cond=- parity=0 d=2 q={}\n", list(qubits))
+}
+
+fn noise(noise: &Noise) -> String {
+    let correlation = noise.correlation.map_or("-".to_owned(), |corr| corr.to_string());
+    let condition = list(&noise.condition);
+    let parity = u8::from(noise.parity);
+    let mut text = format!(
+        "op=n p={:016x} corr={correlation} cond={condition} parity={parity} ",
+        noise.p
+    );
+    match &noise.distribution {
+        Distribution::Single(pauli) => _ = writeln!(text, "d=1 {}", parts(pauli)),
+        Distribution::Depolarizing(qubits) => _ = writeln!(text, "d=2 q={}", list(qubits)),
+        Distribution::Uniform(paulis) => {
+            _ = writeln!(text, "d=3 n={}", paulis.len());
+            for pauli in paulis {
+                _ = writeln!(text, "{}", parts(pauli));
+            }
+        }
+        Distribution::Weighted(elements) => {
+            _ = writeln!(text, "d=4 n={}", elements.len());
+            for (weight, pauli) in elements {
+                _ = writeln!(text, "w={weight:016x} {}", parts(pauli));
+            }
+        }
+    }
+    text
+}
+
+fn parts(pauli: &Pauli) -> String {
+    format!("x={} z={}", list(&pauli.x), list(&pauli.z))
+}
+
+fn list(entries: &[u64]) -> String {
+    if entries.is_empty() {
+        return "-".to_owned();
+    }
+    let mut text = String::new();
+    for (at, entry) in entries.iter().enumerate() {
+        let comma = if at == 0 { "" } else { "," };
+        _ = write!(text, "{comma}{entry}");
+    }
+    text
+}

@@ -1,0 +1,272 @@
+//! Times: the published Rust, document 01 by hand, and the engine, on the same jobs in one run.
+//!
+//! `published` is the published function on instructions that were read before; `with reading` goes from the job's text to the answer, with
+//! `checker` as the reader. Noiseless bits are ready for each in its own form. A time is the shortest of some rounds, in which the three take
+//! turns; the published Rust gets its frames anew in each, the engine clears those that it is lent.
+
+use checker::calls::{Calls, Draws, Rows};
+use checker::job::{Job, MAX_BYTES};
+use checker::plain::{Plain, settled};
+use checker::read::read;
+use generator::jobs::Made;
+use generator::loads;
+use generator::random::Random;
+use pauliverse::bridge::{Program, lend};
+use reference::Reference;
+use std::hint::black_box;
+use std::time::{Duration, Instant};
+
+#[cfg(feature = "linked")]
+const ENGINE: Option<&dyn Calls> = Some(&crate::linked::Linked);
+#[cfg(not(feature = "linked"))]
+const ENGINE: Option<&dyn Calls> = None;
+
+const ROUNDS: usize = 7;
+
+/// Measure every load.
+pub fn run() {
+    let columns = ["published", "with reading", "engine", "/published", "/reading"].map(|name| format!("{name:>12}"));
+    println!("{:52} {}", "milliseconds", columns.join(" "));
+    checks();
+    runs();
+    around();
+}
+
+/// What is timed; a part that isn't there has no time.
+struct Timed<'a> {
+    published: Option<Box<dyn FnMut() + 'a>>,
+    with_reading: Box<dyn FnMut() + 'a>,
+    engine: Option<Box<dyn FnMut() + 'a>>,
+}
+
+impl Timed<'_> {
+    fn report(mut self, name: &str) {
+        let longest = Duration::MAX;
+        let (mut published, mut reading, mut engine) = (longest, longest, longest);
+        for _ in 0..ROUNDS {
+            published = published.min(self.published.as_mut().map_or(longest, time));
+            reading = reading.min(time(&mut self.with_reading));
+            engine = engine.min(self.engine.as_mut().map_or(longest, time));
+        }
+        let show = |part: Duration| {
+            if part == longest {
+                "-".into()
+            } else {
+                format!("{:.3}", part.as_secs_f64() * 1e3)
+            }
+        };
+        let ratio = |part: Duration| match (part, engine) {
+            (Duration::MAX, _) | (_, Duration::MAX) => "-".into(),
+            (part, engine) => format!("{:.2}", engine.as_secs_f64() / part.as_secs_f64()),
+        };
+        println!(
+            "{name:52} {:>12} {:>12} {:>12} {:>12} {:>12}",
+            show(published),
+            show(reading),
+            show(engine),
+            ratio(published),
+            ratio(reading)
+        );
+    }
+}
+
+fn time(part: &mut impl FnMut()) -> Duration {
+    let start = Instant::now();
+    part();
+    start.elapsed()
+}
+
+// ---- checks
+
+fn checks() {
+    let header = loads::header(256, 4096);
+    let mixed = loads::mixed(header, 12_000, 0.001);
+    check(
+        "check, 1,000,000 bytes of gate lines",
+        &loads::cut(loads::gates(header, 80_000), 1_000_000),
+    );
+    check(
+        "check, 1,000,000 bytes of noise lines",
+        &loads::cut(loads::noise(header, 20_000, 0.001), 1_000_000),
+    );
+    check(
+        "check, a mixed job of 1,000,000 bytes at most",
+        &loads::cut(mixed, 1_000_000),
+    );
+}
+
+fn check(name: &str, job: &[u8]) {
+    Timed {
+        published: None,
+        with_reading: Box::new(|| _ = black_box(Plain.check(black_box(job)))),
+        engine: ENGINE.map(|engine| Box::new(move || _ = black_box(engine.check(black_box(job)))) as _),
+    }
+    .report(name);
+}
+
+// ---- runs, settling and the walk
+
+fn runs() {
+    for (qubits, shots) in [(256, 4096), (64, 1024), (10, 64)] {
+        let size = format!("{qubits} qubits, {shots} shots");
+        let header = loads::header(qubits, shots);
+        let made = loads::gates(header, 10_000);
+        measure_run(&format!("run, 10,000 gates, {size}"), &made);
+        let noisy = loads::noisy_gates(header, 500, 0.001);
+        measure_run(&format!("run, 500 gates with noise, {size}"), &noisy);
+        measure_run(
+            &format!("run, 500 lines of noise, {size}"),
+            &loads::noise(header, 500, 0.001),
+        );
+        measure_run(
+            &format!("run, 2,000 mixed lines, {size}"),
+            &loads::mixed(header, 2_000, 0.001),
+        );
+        measure_settle(&format!("settle, 500 gates with noise, {size}"), &noisy);
+        measure_walk(&format!("walk, 10,000 gates, {size}"), &made);
+    }
+}
+
+/// A job with draws that suffice, and noiseless bits.
+struct Load {
+    bytes: Vec<u8>,
+    main: Vec<u64>,
+    second: Vec<u64>,
+    noiseless: Vec<u64>,
+}
+
+impl Load {
+    fn new(made: &Made) -> Self {
+        let bytes = made.bytes();
+        let random = &mut Random::new(5);
+        let mut words = |count: usize| (0..count).map(|_| random.word()).collect::<Vec<u64>>();
+        let shots = usize::try_from(made.header.shots).expect("a checked number");
+        let noiseless = words(made.header.outcome_words());
+        let second = words(2 * shots + 64);
+        let mut main = words(made.instructions.len() * (shots + 64));
+        let load = |main| Load {
+            bytes: bytes.clone(),
+            main,
+            second: second.clone(),
+            noiseless: noiseless.clone(),
+        };
+        let all = load(main.clone());
+        let job = all.job();
+        let read = settled(&job, all.draws(), &all.noiseless)
+            .expect("enough words")
+            .words_read;
+        main.truncate(usize::try_from(read).expect("below the list's length"));
+        load(main)
+    }
+
+    fn job(&self) -> Job<'_> {
+        read(&self.bytes).expect("a job that the checks accept")
+    }
+
+    fn draws(&self) -> Draws<'_> {
+        Draws {
+            base: 0,
+            main: &self.main,
+            second: &self.second,
+        }
+    }
+}
+
+fn measure_run(name: &str, made: &Made) {
+    let load = &Load::new(made);
+    let job = load.job();
+    let program = Program::new(&job);
+    let noiseless = lend(&job, &load.draws(), &load.noiseless);
+    let lists = || {
+        (
+            vec![0; made.header.frame_words()],
+            vec![0; made.header.frame_words()],
+            vec![0; made.header.outcome_words()],
+        )
+    };
+    let mut rows = lists();
+    Timed {
+        published: Some(Box::new(|| {
+            _ = black_box(program.execute(0, &load.main, &noiseless).is_ok())
+        })),
+        with_reading: Box::new(|| {
+            let program = Program::new(&load.job());
+            _ = black_box(program.execute(0, &load.main, &noiseless).is_ok());
+        }),
+        engine: ENGINE.map(|engine| {
+            Box::new(move || {
+                let rows = Rows {
+                    frames_x: &mut rows.0,
+                    frames_z: &mut rows.1,
+                    deltas: &mut rows.2,
+                };
+                let answer = engine.run(black_box(&load.bytes), load.draws(), &load.noiseless, rows);
+                assert_eq!(answer.number, 0);
+            }) as _
+        }),
+    }
+    .report(name);
+}
+
+fn measure_settle(name: &str, made: &Made) {
+    let load = &Load::new(made);
+    let settle = |calls: &dyn Calls, out: &mut [u8]| {
+        let answer = calls.settle(black_box(&load.bytes), load.draws(), &load.noiseless, out);
+        assert_eq!(answer.number, 0);
+    };
+    let (mut out, mut engine_out) = (vec![0; MAX_BYTES], vec![0; MAX_BYTES]);
+    Timed {
+        published: None,
+        with_reading: Box::new(move || settle(&Reference, &mut out)),
+        engine: ENGINE.map(|engine| Box::new(move || settle(engine, &mut engine_out)) as _),
+    }
+    .report(name);
+}
+
+fn measure_walk(name: &str, made: &Made) {
+    let job = made.bytes();
+    let walk = |calls: &dyn Calls| assert_eq!(calls.walk(black_box(&job), 0, &[]).number, 0);
+    Timed {
+        published: None,
+        with_reading: Box::new(|| walk(&Plain)),
+        engine: ENGINE.map(|engine| Box::new(move || walk(engine)) as _),
+    }
+    .report(name);
+}
+
+// ---- annotation, locations, correlation
+
+fn around() {
+    let header = loads::header(256, 4096);
+    let gates = loads::gates(header, 10_000).bytes();
+    let job = read(&gates).expect("a job that the checks accept");
+    let circuit = Program::new(&job).circuit();
+    let p = 0.001_f64;
+    let annotate =
+        |calls: &dyn Calls, out: &mut [u8]| assert_eq!(calls.annotate(black_box(&gates), p.to_bits(), out).number, 0);
+    let (mut out, mut engine_out) = (vec![0; MAX_BYTES], vec![0; MAX_BYTES]);
+    Timed {
+        published: Some(Box::new(|| _ = black_box(circuit.with_depolarizing_noise(p)))),
+        with_reading: Box::new(move || annotate(&Plain, &mut out)),
+        engine: ENGINE.map(|engine| Box::new(move || annotate(engine, &mut engine_out)) as _),
+    }
+    .report("annotate, 10,000 gates");
+    Timed {
+        published: Some(Box::new(|| _ = black_box(black_box(&circuit).fault_count()))),
+        with_reading: Box::new(|| _ = black_box(Plain.locations(&gates))),
+        engine: ENGINE.map(|engine| Box::new(|| _ = black_box(engine.locations(&gates))) as _),
+    }
+    .report("locations, 10,000 gates");
+
+    let mixed = loads::mixed(header, 10_000, 0.001).bytes();
+    let job = read(&mixed).expect("a job that the checks accept");
+    let circuit = Program::new(&job).circuit();
+    Timed {
+        published: Some(Box::new(|| {
+            _ = black_box(black_box(&circuit).validate_correlated_faults().is_ok())
+        })),
+        with_reading: Box::new(|| _ = black_box(Plain.correlation(&mixed))),
+        engine: ENGINE.map(|engine| Box::new(|| _ = black_box(engine.correlation(&mixed))) as _),
+    }
+    .report("correlation, 10,000 mixed lines");
+}

@@ -1,0 +1,92 @@
+//! `compare`: the engine beside the reference, on random jobs.
+//!
+//! Each comparison prints its seed, what was compared, and the number of differences; a difference gives exit status 1 and its smallest form.
+
+mod bench;
+mod brute;
+mod differences;
+#[cfg(feature = "linked")]
+mod linked;
+mod minimise;
+mod settled;
+mod stored;
+
+use checker::calls::Calls;
+use differences::Refusals;
+use reference::vectors::{CALLS, Call};
+use std::process::ExitCode;
+use std::time::{SystemTime, UNIX_EPOCH};
+
+const USAGE: &str = "\
+usage: compare CALL N [SEED]      N random inputs of a call: check, run, settle, walk, annotate, locations, correlation, print
+       compare settled N [SEED]   N jobs run with their draws, and as their settled text
+       compare backward N [SEED]  N jobs: for sets and shots, all of a small job's, the sum of deltas is the walk's count modulo 2
+       compare vectors            the stored vectors
+       compare all N [SEED]       all of these
+       compare bench              times beside the published Rust's
+A difference is seen again by `compare CALL 1 SEED` with the seed that it prints.";
+
+/// The calls under test.
+#[cfg(feature = "linked")]
+const UNDER_TEST: (&str, &dyn Calls) = ("libkundatrezo", &linked::Linked);
+#[cfg(not(feature = "linked"))]
+const UNDER_TEST: (&str, &dyn Calls) = (
+    "document 01's plainest form (no library linked)",
+    &checker::plain::Plain,
+);
+
+fn main() -> ExitCode {
+    let arguments: Vec<String> = std::env::args().skip(1).collect();
+    let arguments: Vec<&str> = arguments.iter().map(String::as_str).collect();
+    let passed = match arguments[..] {
+        ["vectors"] => stored::passes(UNDER_TEST.1),
+        ["bench"] => {
+            bench::run();
+            true
+        }
+        [command, count] => counted(command, count, None),
+        [command, count, seed] => counted(command, count, Some(seed)),
+        _ => usage(),
+    };
+    if passed { ExitCode::SUCCESS } else { ExitCode::FAILURE }
+}
+
+fn usage() -> bool {
+    eprintln!("{USAGE}");
+    false
+}
+
+fn counted(command: &str, count: &str, seed: Option<&str>) -> bool {
+    let (Ok(count), Ok(seed)) = (count.parse(), seed.map_or(Ok(new_seed()), str::parse)) else {
+        return usage();
+    };
+    let asked = |name: &str| command == name || command == "all";
+    let calls: Vec<Call> = CALLS.into_iter().filter(|call| asked(call.name())).collect();
+    if calls.is_empty() && !asked("settled") && !asked("backward") {
+        return usage();
+    }
+    println!("seed {seed}");
+    println!("under test: {}", UNDER_TEST.0);
+    let mut passed = true;
+    let mut refusals = Refusals::default();
+    for call in calls {
+        passed &= differences::passes(UNDER_TEST.1, call, count, seed, &mut refusals);
+    }
+    if asked("settled") {
+        passed &= settled::passes(UNDER_TEST.1, count, seed);
+    }
+    if asked("backward") {
+        passed &= brute::passes(UNDER_TEST.1, count, seed);
+    }
+    if command == "all" {
+        passed &= stored::passes(UNDER_TEST.1);
+        println!("refusals of all calls: {refusals}");
+        println!("{}", if passed { "0 differences" } else { "differences" });
+    }
+    passed
+}
+
+fn new_seed() -> u64 {
+    let since = SystemTime::now().duration_since(UNIX_EPOCH).unwrap_or_default();
+    since.as_secs() * 1_000_000
+}

@@ -1,0 +1,248 @@
+//! Damaged copies of jobs: a byte, a line or a value changed.
+
+use crate::random::Random;
+use checker::job::Header;
+use checker::read::read;
+
+/// A copy of a job with some damage, which the checks often refuse.
+pub fn damaged(random: &mut Random, job: &[u8]) -> Vec<u8> {
+    let header = read(job).map(|job| job.header).unwrap_or_default();
+    let mut copy = job.to_vec();
+    let times = if random.one_in(4) { 2 } else { 1 };
+    for _ in 0..times {
+        copy = match random.below(25) {
+            0 | 1 => byte_damaged(random, copy),
+            2 | 3 => line_damaged(random, &copy),
+            4 => whole_damaged(random, copy),
+            _ => value_damaged(random, &copy, &header),
+        };
+    }
+    copy
+}
+
+/// A byte changed, dropped or inserted.
+fn byte_damaged(random: &mut Random, mut job: Vec<u8>) -> Vec<u8> {
+    const BYTES: &[u8] = b"0123456789abcdefABCDEF=,- \n\r\topqxzuvkmsirtndcw\0\xff";
+    if job.is_empty() {
+        return job;
+    }
+    let place = random.index(job.len());
+    match random.below(3) {
+        0 => job[place] = random.pick(BYTES),
+        1 => _ = job.remove(place),
+        _ => job.insert(place, random.pick(BYTES)),
+    }
+    job
+}
+
+/// A line dropped, repeated or moved; blank or header lines put in.
+fn line_damaged(random: &mut Random, job: &[u8]) -> Vec<u8> {
+    let mut lines: Vec<&[u8]> = job.split_inclusive(|&byte| byte == b'\n').collect();
+    if lines.is_empty() {
+        return job.to_vec();
+    }
+    let (place, other) = (random.index(lines.len()), random.index(lines.len()));
+    match random.below(6) {
+        0 => _ = lines.remove(place),
+        1 => lines.insert(place, lines[other]),
+        2 => lines.swap(place, other),
+        3 => lines.truncate(place + 1),
+        4 => lines.insert(place, b"\n"),
+        _ => lines.insert(place, lines[0]),
+    }
+    lines.concat()
+}
+
+/// The final LF dropped, or everything from some byte on.
+fn whole_damaged(random: &mut Random, mut job: Vec<u8>) -> Vec<u8> {
+    let kept = match random.below(6) {
+        0 => 0,
+        1 | 2 => random.index(job.len() + 1),
+        _ => job.len().saturating_sub(1),
+    };
+    job.truncate(kept);
+    job
+}
+
+// ---- values
+
+/// A value of some line changed. The key is chosen first, among those that the job has, so that rare lines are damaged as often as others.
+fn value_damaged(random: &mut Random, job: &[u8], header: &Header) -> Vec<u8> {
+    let Ok(text) = std::str::from_utf8(job) else {
+        return job.to_vec();
+    };
+    let fields: Vec<Field<'_>> = fields(text).collect();
+    let mut keys: Vec<&str> = fields.iter().map(|field| field.key).collect();
+    keys.sort_unstable();
+    keys.dedup();
+    let keys: Vec<&str> = keys.into_iter().flat_map(|key| vec![key; weight(key)]).collect();
+    if keys.is_empty() {
+        return job.to_vec();
+    }
+    let key = random.pick(&keys);
+    let with_key: Vec<Field<'_>> = fields.into_iter().filter(|field| field.key == key).collect();
+    let field = random.pick(&with_key);
+    let value = changed(random, &field, header);
+    let after = &text[field.place + field.value.len()..];
+    [&text[..field.place], &value, after].concat().into_bytes()
+}
+
+/// How often a key is damaged: less where little but 2 can come of it, more where a number hangs on it alone.
+fn weight(key: &str) -> usize {
+    match key {
+        "op" | "angle" | "parity" | "d" | "corr" => 1,
+        "s" | "n" | "w" => 6,
+        "p" | "t" | "id" | "shot" => 4,
+        _ => 2,
+    }
+}
+
+/// A field of a job.
+#[derive(Clone, Copy)]
+struct Field<'a> {
+    /// What the line begins with: `op=u`, or an element line's first field.
+    line: &'a str,
+    key: &'a str,
+    value: &'a str,
+    /// Where the value begins in the job.
+    place: usize,
+}
+
+fn fields(text: &str) -> impl Iterator<Item = Field<'_>> {
+    let start = text.as_ptr() as usize;
+    text.lines().flat_map(move |all| {
+        let line = all.split(' ').next().unwrap_or_default();
+        let pairs = all.split(' ').filter_map(|field| field.split_once('='));
+        pairs.map(move |(key, value)| Field {
+            line,
+            key,
+            value,
+            place: value.as_ptr() as usize - start,
+        })
+    })
+}
+
+fn changed(random: &mut Random, field: &Field<'_>, header: &Header) -> String {
+    const NO_VALUES: [&str; 12] = ["", "-", "00", "01", "+1", "-0", "0x1", "0,0", "1,", ",1", "-,1", "a"];
+    const LETTERS: [&str; 16] = [
+        "job", "u", "c", "p", "e", "k", "m", "o", "r", "f", "z", "i", "t", "n", "b", "op",
+    ];
+    let value = field.value;
+    let old = value.parse().unwrap_or(0);
+    if random.one_in(20) {
+        return random.pick(&NO_VALUES).to_owned();
+    }
+    match (field.key, field.line) {
+        ("op", _) => random.pick(&LETTERS).to_owned(),
+        ("qubits", _) => near(random, &[0, 1, 256, header.qubits]),
+        ("outcomes", _) => near(random, &[0, 1, 1024, header.outcomes]),
+        ("shots", _) => near(random, &[0, 1, 4096, header.shots]),
+        ("g", _) => near(random, &[10, 11, 14, 15]),
+        ("shot", _) => near(random, &[header.shots, 64]),
+        ("n", _) => near(random, &[0, 1, 64, old]),
+        ("corr", _) => near(random, &[0, 1]),
+        ("d", _) => near(random, &[0, 1, 2, 3, 4]),
+        ("angle" | "parity", _) => random.pick(&["0", "1", "2", "-", "00"]).to_owned(),
+        ("t", _) => table_changed(random, value),
+        ("p" | "w", _) => float_changed(random, value),
+        ("id", "op=o" | "op=r" | "op=t") => near(random, &[old, header.outcomes]),
+        ("id" | "cond", _) => list_changed(random, value, header.outcomes),
+        ("s", _) => list_changed(random, value, value.split(',').count() as u64),
+        ("q", "op=z") => near(random, &[header.qubits]),
+        _ => list_changed(random, value, header.qubits),
+    }
+}
+
+/// A number of some, or one above or below it, or the last below 2^64 or the first that isn't.
+fn near(random: &mut Random, numbers: &[u64]) -> String {
+    let number = random.pick(numbers);
+    match random.below(12) {
+        0 => u64::MAX.to_string(),
+        1 => random
+            .pick(&["18446744073709551616", "99999999999999999999"])
+            .to_owned(),
+        2..4 => number.saturating_sub(1).to_string(),
+        4..8 => number.to_string(),
+        _ => number.wrapping_add(1).to_string(),
+    }
+}
+
+/// A bit or two of a table changed, or its form.
+fn table_changed(random: &mut Random, value: &str) -> String {
+    let Ok(mut table) = u64::from_str_radix(value, 16) else {
+        return value.to_owned();
+    };
+    for _ in 0..random.between(1, 2) {
+        let width = random.pick(&[4, 16, 64]);
+        table ^= 1 << random.below(width);
+    }
+    form_changed(random, table)
+}
+
+/// A binary64 near the limits of probabilities and weights, or its form changed.
+fn float_changed(random: &mut Random, value: &str) -> String {
+    let old = u64::from_str_radix(value, 16).unwrap_or(0);
+    let limits = [
+        1.0_f64.to_bits(),
+        1.0_f64.to_bits() + 1,
+        1.0_f64.to_bits() - 1,
+        2.0_f64.to_bits(),
+        f64::INFINITY.to_bits(),
+        f64::NEG_INFINITY.to_bits(),
+        f64::NAN.to_bits(),
+        f64::NAN.to_bits() | 1 << 63,
+        f64::INFINITY.to_bits() + 1,
+        f64::MAX.to_bits(),
+        f64::MIN.to_bits(),
+        0,
+        1,
+        1 << 63,
+        1 << 63 | 1,
+        old ^ 1 << 63,
+        old ^ 1 << 62,
+    ];
+    let bits = random.pick(&limits);
+    form_changed(random, bits)
+}
+
+fn form_changed(random: &mut Random, word: u64) -> String {
+    match random.below(24) {
+        0 => format!("{word:016X}"),
+        1 => format!("{word:017x}"),
+        2 => format!("{:015x}", word >> 4),
+        3 => format!("{word:#018x}"),
+        _ => format!("{word:016x}"),
+    }
+}
+
+/// An entry changed, dropped, repeated or put in, mostly so that the list still rises; the list as long as may be, or longer.
+fn list_changed(random: &mut Random, value: &str, end: u64) -> String {
+    let mut entries: Vec<String> = value
+        .split(',')
+        .filter(|entry| *entry != "-")
+        .map(str::to_owned)
+        .collect();
+    let place = random.index(entries.len() + 1);
+    match random.below(12) {
+        0..3 => entries.push(near(random, &[end])),
+        3 => entries.insert(place, random.below(end.max(1)).to_string()),
+        4..6 if !entries.is_empty() => {
+            entries.pop();
+            entries.push(near(random, &[end]));
+        }
+        6 if place < entries.len() => entries[place] = random.below(end.max(1)).to_string(),
+        7 if place < entries.len() => entries.insert(place, entries[place].clone()),
+        8 if place < entries.len() => _ = entries.remove(place),
+        9 if entries.len() > 1 => entries.swap(0, 1),
+        _ => {
+            let length = random.pick(&[30, 31, 32, 33, 40]);
+            let first = random.pick(&[0, 0, 1]);
+            entries = (first..first + length).map(|entry: u64| entry.to_string()).collect();
+        }
+    }
+    if entries.is_empty() {
+        "-".to_owned()
+    } else {
+        entries.join(",")
+    }
+}

@@ -1,0 +1,349 @@
+//! What calls are handed: a job, and lists and buffers of lengths that suit it, or nearly.
+
+use crate::damage::damaged;
+use crate::jobs::{ANY, DENSE, Made, Shape, job};
+use crate::random::Random;
+use checker::calls::{Calls, Draws};
+use checker::job::{
+    Distribution, Header, Instruction, Job, Line, List, MAX_BYTES, MAX_LIST, MAX_PRINTED_BYTES, Noise, Pauli, usize_of,
+};
+use checker::plain::{Plain, settled};
+use checker::read::read;
+use checker::write;
+use reference::vectors::{Call, Input};
+
+/// A random input of a call.
+pub fn input(random: &mut Random, call: Call) -> Input {
+    let shape = shape(random, call);
+    let made = if random.one_in(300) {
+        large(random, call)
+    } else {
+        job(random, &shape)
+    };
+    let bytes = made.bytes();
+    let mut input = lent(random, call, &bytes);
+    let damage = if call == Call::Check {
+        !random.one_in(3)
+    } else {
+        random.one_in(5)
+    };
+    if random.one_in(300) {
+        input.job = at_limit(random, call);
+    } else if damage {
+        input.job = damaged(random, &bytes);
+    }
+    input
+}
+
+/// Jobs that a call is mostly handed: a walk without noise, a printing program within its limits.
+fn shape(random: &mut Random, call: Call) -> Shape {
+    let printed = Header {
+        qubits: 64,
+        outcomes: 256,
+        shots: 64,
+    };
+    let size = if random.one_in(2) { DENSE } else { ANY };
+    match call {
+        Call::Run | Call::Settle => size,
+        Call::Walk => Shape {
+            noise: if random.one_in(6) { ANY.noise } else { 0 },
+            ..size
+        },
+        Call::Print => Shape {
+            limits: if random.one_in(6) { ANY.limits } else { printed },
+            draws: random.one_in(4),
+            ..ANY
+        },
+        Call::Check => Shape {
+            noise: random.pick(&[2, 2, 30]),
+            ..ANY
+        },
+        Call::Correlation => Shape { noise: 60, ..ANY },
+        Call::Annotate | Call::Locations => ANY,
+    }
+}
+
+/// A long job; settling and annotation may pass the longest text that they may write.
+fn large(random: &mut Random, call: Call) -> Made {
+    let header = Header {
+        qubits: 256,
+        outcomes: 4,
+        shots: 4096,
+    };
+    let pauli = Pauli {
+        x: random.subset(256, MAX_LIST).into_iter().collect(),
+        z: random.subset(256, MAX_LIST).into_iter().collect(),
+    };
+    let (instruction, most) = match call {
+        Call::Settle => (always(pauli), 8),
+        Call::Annotate => (Instruction::Pauli(pauli), 10_000),
+        Call::Run | Call::Print => (Instruction::Exponential(pauli), 60),
+        _ => (Instruction::Exponential(pauli), 10_000),
+    };
+    let room = (MAX_BYTES - write::header(&header).len()) / write::instruction(&instruction).len();
+    let count = 1 + random.index(room.min(most));
+    Made {
+        header,
+        instructions: vec![instruction; count],
+    }
+}
+
+/// A Pauli in every shot.
+fn always(pauli: Pauli) -> Instruction {
+    Instruction::Noise(Box::new(Noise {
+        p: 1.0_f64.to_bits(),
+        correlation: Some(0),
+        condition: List::new(),
+        parity: false,
+        distribution: Distribution::Single(pauli),
+    }))
+}
+
+/// A job as long as the call takes, or a byte less or more: lines of two lengths without a common divisor.
+fn at_limit(random: &mut Random, call: Call) -> Vec<u8> {
+    const LINES: [&str; 2] = ["op=z q=0\n", "op=u g=4 q=0\n"];
+    const HEADER: &str = "op=job qubits=1 outcomes=0 shots=1\n";
+    let limit = if call == Call::Print {
+        MAX_PRINTED_BYTES
+    } else {
+        MAX_BYTES
+    };
+    let left = limit - 1 + random.index(3) - HEADER.len();
+    let longer = (0..).find(|count| (left - count * LINES[1].len()).is_multiple_of(LINES[0].len()));
+    let longer = longer.expect("the lengths have no common divisor");
+    let shorter = (left - longer * LINES[1].len()) / LINES[0].len();
+    [HEADER, &LINES[1].repeat(longer), &LINES[0].repeat(shorter)]
+        .concat()
+        .into_bytes()
+}
+
+/// What the call of an accepted job is lent.
+///
+/// # Panics
+///
+/// Panics if the checks refuse the job.
+pub fn lent(random: &mut Random, call: Call, bytes: &[u8]) -> Input {
+    let job = read(bytes).expect("a job that the checks accept");
+    let mut input = Input {
+        job: bytes.to_vec(),
+        ..Input::default()
+    };
+    match call {
+        Call::Run => {
+            lend_draws(random, &job, &mut input);
+            input.frames_x = words_near(random, job.header.frame_words());
+            input.frames_z = words_near(random, job.header.frame_words());
+            input.deltas = words_near(random, job.header.outcome_words());
+        }
+        Call::Settle => {
+            lend_draws(random, &job, &mut input);
+            let need = Plain.settle(bytes, input.draws(), &input.noiseless, &mut []).figure;
+            input.out_len = length_near(random, usize_of(need));
+        }
+        Call::Annotate => {
+            input.p = own_probability(random);
+            let need = Plain.annotate(bytes, input.p, &mut vec![0; MAX_BYTES]).figure;
+            input.out_len = length_near(random, usize_of(need));
+        }
+        Call::Walk => {
+            input.shot = walk_shot(random, &job);
+            input.set = walk_set(random, job.recorded);
+        }
+        Call::Check | Call::Locations | Call::Correlation | Call::Print => {}
+    }
+    input
+}
+
+/// A number that isn't below `end`.
+fn past(random: &mut Random, end: u64) -> u64 {
+    let large = random.word().max(end);
+    random.pick(&[end, end + 1, u64::MAX, large])
+}
+
+/// Annotation's own p, often one that passes.
+fn own_probability(random: &mut Random) -> u64 {
+    let passing = [1.0, 0.5, 0.001, 0.0, -0.0, -1.0, f64::NEG_INFINITY];
+    let failing = [1.0 + f64::EPSILON, 2.0, f64::INFINITY, f64::NAN, -f64::NAN];
+    let p = match random.below(12) {
+        0 => random.pick(&failing),
+        1..6 => random.pick(&passing),
+        _ => random.unit(),
+    };
+    p.to_bits()
+}
+
+/// A walk's shot, mostly one in which something is injected or flipped.
+fn walk_shot(random: &mut Random, job: &Job<'_>) -> u64 {
+    let fault = |line: &Line<'_>| match line.instruction {
+        Instruction::Inject { shot, .. } | Instruction::Flip { shot, .. } => Some(shot),
+        _ => None,
+    };
+    let shots: Vec<u64> = job.lines.iter().filter_map(fault).collect();
+    match random.below(12) {
+        0 => past(random, job.header.shots),
+        1..10 if !shots.is_empty() => random.pick(&shots),
+        _ => random.below(job.header.shots),
+    }
+}
+
+/// A set of recorded outcomes, now and then with an unrecorded one, a repeat or out of order.
+fn walk_set(random: &mut Random, recorded: u64) -> Vec<u64> {
+    let most = if random.one_in(2) { recorded } else { recorded.min(3) };
+    let count = usize_of(random.between(0, most));
+    let mut set = random.subset(recorded, count);
+    match random.below(30) {
+        0 => set.push(past(random, recorded)),
+        1 => set.extend(set.last().copied()),
+        2 => set.reverse(),
+        3 => set = (0..recorded).collect(),
+        _ => {}
+    }
+    set
+}
+
+/// Mostly what is needed; now and then a little more, or less.
+fn length_near(random: &mut Random, need: usize) -> usize {
+    match random.below(40) {
+        0..3 => need.saturating_sub(1),
+        3..6 => random.index(need + 1),
+        6 => 0,
+        7 => MAX_BYTES,
+        8 => need.max(MAX_BYTES) + random.index(10),
+        9..20 => need + random.index(100),
+        _ => need,
+    }
+}
+
+/// Random words, mostly as many as are needed or some more.
+fn words_near(random: &mut Random, need: usize) -> Vec<u64> {
+    let length = match random.below(60) {
+        0 => need.saturating_sub(1),
+        1 => random.index(need + 1),
+        2..12 => need + random.index(5),
+        _ => need,
+    };
+    (0..length).map(|_| random.word()).collect()
+}
+
+// ---- draws
+
+/// Lists of draws, noiseless bits and a base. The main list often ends where the job's draws end, or before.
+fn lend_draws(random: &mut Random, job: &Job<'_>, input: &mut Input) {
+    let noises: Vec<&Noise> = job
+        .lines
+        .iter()
+        .filter_map(|line| as_noise(&line.instruction))
+        .collect();
+    let thresholds: Vec<u64> = noises.iter().flat_map(|noise| thresholds(noise)).collect();
+    let per_line = 3 * usize_of(job.header.shots) + 8;
+    let uncorrelated = noises.iter().filter(|noise| noise.correlation.is_none()).count();
+    let correlations: Vec<u64> = noises.iter().filter_map(|noise| noise.correlation).collect();
+
+    let place = random.below(9);
+    let correlation = if correlations.is_empty() {
+        random.word()
+    } else {
+        random.pick(&correlations)
+    };
+    input.base = if random.one_in(10) {
+        random.word()
+    } else {
+        place.wrapping_sub(correlation)
+    };
+    let second_length = if correlations.is_empty() {
+        random.index(4)
+    } else {
+        per_line + usize_of(place)
+    };
+    let second_length = if random.one_in(8) {
+        random.index(second_length + 1)
+    } else {
+        second_length
+    };
+
+    input.noiseless = words_near(random, job.header.outcome_words());
+    input.main = draw_words(random, uncorrelated * per_line, &thresholds);
+    input.second = draw_words(random, second_length, &thresholds);
+    if input.noiseless.len() >= job.header.outcome_words() {
+        let draws = Draws {
+            base: input.base,
+            main: &input.main,
+            second: &input.second,
+        };
+        if let Ok(settled) = settled(job, draws, &input.noiseless) {
+            let length = main_length(random, usize_of(settled.words_read), input.main.len());
+            input.main.truncate(length);
+        }
+    }
+}
+
+fn as_noise(instruction: &Instruction) -> Option<&Noise> {
+    match instruction {
+        Instruction::Noise(noise) => Some(noise),
+        _ => None,
+    }
+}
+
+/// Exactly what is read, a little less, much less, or all.
+fn main_length(random: &mut Random, read: usize, all: usize) -> usize {
+    match random.below(8) {
+        0 => read.saturating_sub(1),
+        1 => random.index(read + 1),
+        2..6 => read,
+        _ => all,
+    }
+}
+
+/// The words at which a noise line's answer changes: that of its probability, and those of a weighted choice's running sums.
+fn thresholds(noise: &Noise) -> Vec<u64> {
+    let mut limits = vec![noise.probability()];
+    if let Distribution::Weighted(elements) = &noise.distribution {
+        let weights = || elements.iter().map(|(weight, _)| f64::from_bits(*weight));
+        let total: f64 = weights().sum();
+        limits.extend(weights().scan(0.0, |sum, weight| {
+            *sum += weight / total;
+            Some(*sum)
+        }));
+    }
+    limits.into_iter().map(threshold).collect()
+}
+
+/// The first word whose u isn't below p, for a p that some word's u is.
+#[allow(clippy::cast_possible_truncation, clippy::cast_sign_loss)]
+fn threshold(p: f64) -> u64 {
+    let scaled = (p * 9_007_199_254_740_992.0).ceil() as u64;
+    scaled.saturating_mul(2048)
+}
+
+/// Words of which many lie where something changes: next to a probability or a running sum, at either end, at the bound of a rejection.
+fn draw_words(random: &mut Random, count: usize, thresholds: &[u64]) -> Vec<u64> {
+    const EDGES: [u64; 8] = [
+        0,
+        2047,
+        2048,
+        1 << 62,
+        1 << 63,
+        u64::MAX - 2048,
+        u64::MAX - 2047,
+        u64::MAX,
+    ];
+    // Of 16 words so many are at a threshold, or otherwise out of the ordinary.
+    let (at_threshold, special) = random.pick(&[(0, 0), (2, 6), (8, 11)]);
+    let mut word = || match random.below(16) {
+        kind if kind < at_threshold && !thresholds.is_empty() => {
+            let below = random.below(2);
+            random.pick(thresholds).wrapping_sub(below)
+        }
+        kind if kind < special => match random.below(4) {
+            0 => random.pick(&EDGES),
+            1 => u64::MAX - random.below(70),
+            2 => random.below(70),
+            _ => {
+                let zeros = random.below(64);
+                random.word() >> zeros
+            }
+        },
+        _ => random.word(),
+    };
+    (0..count).map(|_| word()).collect()
+}

@@ -1,0 +1,13 @@
+//! Random jobs, from a seed alone.
+//!
+//! - [`random`]: the generator of numbers.
+//! - [`jobs`]: jobs that the checks accept, of every kind of line.
+//! - [`damage`]: copies of them that the checks often refuse.
+//! - [`loads`]: large jobs for measuring.
+//! - [`inputs`]: what calls are lent, with lists that run out and buffers that are short.
+
+pub mod damage;
+pub mod inputs;
+pub mod jobs;
+pub mod loads;
+pub mod random;

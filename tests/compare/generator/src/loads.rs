@@ -1,0 +1,109 @@
+//! Jobs for measuring: large, and alike in every run.
+
+use crate::jobs::{ANY, Made, Shape, job_of};
+use crate::random::Random;
+use checker::job::{Distribution, Header, Instruction, List, Noise};
+
+/// A header for measuring, with as many outcomes as may be.
+#[must_use]
+pub fn header(qubits: u64, shots: u64) -> Header {
+    Header {
+        qubits,
+        outcomes: 1024,
+        shots,
+    }
+}
+
+/// Gate lines alone.
+#[must_use]
+pub fn gates(header: Header, lines: usize) -> Made {
+    let mut random = Random::new(1);
+    let instructions = (0..lines).map(|_| gate(&mut random, header.qubits)).collect();
+    Made { header, instructions }
+}
+
+/// Gate lines, each with depolarizing noise on its qubits after it, and a measurement of every qubit at the end.
+#[must_use]
+pub fn noisy_gates(header: Header, gates: usize, p: f64) -> Made {
+    let mut random = Random::new(2);
+    let mut instructions = Vec::new();
+    for _ in 0..gates {
+        let gate = gate(&mut random, header.qubits);
+        let Instruction::Unitary { qubits, .. } = &gate else {
+            unreachable!("a gate")
+        };
+        let noise = depolarizing(qubits.clone(), p);
+        instructions.extend([gate, noise]);
+    }
+    let measured = (0..header.qubits).map(|qubit| Instruction::Measure {
+        observable: checker::job::Pauli {
+            x: List::new(),
+            z: [qubit].into_iter().collect(),
+        },
+        id: qubit,
+    });
+    instructions.extend(measured);
+    Made { header, instructions }
+}
+
+/// Noise lines alone.
+#[must_use]
+pub fn noise(header: Header, lines: usize, p: f64) -> Made {
+    let mut random = Random::new(3);
+    let line = |random: &mut Random| {
+        let count = 1 + random.index(2);
+        depolarizing(random.distinct(header.qubits, count).into_iter().collect(), p)
+    };
+    let instructions = (0..lines).map(|_| line(&mut random)).collect();
+    Made { header, instructions }
+}
+
+/// Lines of every kind. Faults are as rare as `p` says, and correlations small, so that a short second list with base 0 serves.
+#[must_use]
+pub fn mixed(header: Header, lines: u64, p: f64) -> Made {
+    let shape = Shape {
+        limits: header,
+        noise: 4,
+        ..ANY
+    };
+    let mut made = job_of(&mut Random::new(4), header, lines, &shape);
+    for instruction in &mut made.instructions {
+        if let Instruction::Noise(noise) = instruction {
+            noise.p = p.to_bits();
+            noise.correlation = noise.correlation.map(|correlation| correlation % 8);
+        }
+    }
+    made
+}
+
+/// A job's bytes cut after the last whole instruction within a length.
+#[must_use]
+pub fn cut(mut made: Made, length: usize) -> Vec<u8> {
+    loop {
+        let bytes = made.bytes();
+        if bytes.len() <= length {
+            return bytes;
+        }
+        let kept = made.instructions.len() * length / bytes.len();
+        made.instructions.truncate(kept.min(made.instructions.len() - 1));
+    }
+}
+
+fn gate(random: &mut Random, qubits: u64) -> Instruction {
+    let gate = random.below(15);
+    let count = if gate <= 10 { 1 } else { 2 };
+    Instruction::Unitary {
+        gate,
+        qubits: random.distinct(qubits, count).into_iter().collect(),
+    }
+}
+
+fn depolarizing(qubits: List, p: f64) -> Instruction {
+    Instruction::Noise(Box::new(Noise {
+        p: p.to_bits(),
+        correlation: None,
+        condition: List::new(),
+        parity: false,
+        distribution: Distribution::Depolarizing(qubits),
+    }))
+}

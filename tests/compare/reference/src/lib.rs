@@ -1,0 +1,166 @@
+//! Reference answers for every call.
+//!
+//! Frames, deltas, draws, annotation, locations and the correlation check come from the published Rust, compiled unchanged, and the walk's count from
+//! runs of it. What it hasn't, the text of jobs and their checks, comes from `checker`.
+
+pub mod vectors;
+
+use checker::calls::{Answer, Calls, Draws, Rows};
+use checker::job::{Header, Instruction, Job, Refusal, usize_of};
+use checker::plain::around::can_annotate;
+use checker::plain::{bit, deliver, deliver_settled, need_probability, need_walkable, need_words, print_with};
+use checker::read::{check, read};
+use checker::write;
+use pauliverse::bridge::{Executed, Program, lend};
+
+/// The calls on the published Rust.
+pub struct Reference;
+
+impl Calls for Reference {
+    fn check(&self, job: &[u8]) -> Answer {
+        Answer::of(check(job))
+    }
+
+    fn run(&self, job: &[u8], draws: Draws<'_>, noiseless: &[u64], rows: Rows<'_>) -> Answer {
+        Answer::of(run(job, draws, noiseless, rows))
+    }
+
+    fn settle(&self, job: &[u8], draws: Draws<'_>, noiseless: &[u64], out: &mut [u8]) -> Answer {
+        settled(job, draws, noiseless).map_or_else(Answer::from, |text| deliver_settled(&text, out))
+    }
+
+    fn walk(&self, job: &[u8], shot: u64, set: &[u64]) -> Answer {
+        let count = read(job).and_then(|job| walk(&job, shot, set));
+        count.map_or_else(Answer::from, Answer::success)
+    }
+
+    fn annotate(&self, job: &[u8], p: u64, out: &mut [u8]) -> Answer {
+        annotated(job, p).map_or_else(Answer::from, |text| deliver(&text, out))
+    }
+
+    fn locations(&self, job: &[u8]) -> Answer {
+        let count = read(job).map(|job| Program::new(&job).circuit().fault_count() as u64);
+        count.map_or_else(Answer::from, Answer::success)
+    }
+
+    fn correlation(&self, job: &[u8]) -> Answer {
+        Answer::of(read(job).and_then(|job| Program::new(&job).validate_correlated_faults()))
+    }
+
+    fn print(&self, input: &[u8]) -> Option<Vec<u8>> {
+        Some(print_with(self, input))
+    }
+}
+
+/// Execute a checked job on the published code.
+///
+/// # Errors
+///
+/// 14 at the noise line whose draws are spent.
+pub fn execute(job: &Job<'_>, draws: Draws<'_>, noiseless: &[u64]) -> Result<Executed, Refusal> {
+    let noiseless = lend(job, &draws, noiseless);
+    Program::new(job).execute(draws.base, draws.main, &noiseless)
+}
+
+fn run(bytes: &[u8], draws: Draws<'_>, noiseless: &[u64], rows: Rows<'_>) -> Result<(), Refusal> {
+    let job = read(bytes)?;
+    let (frame_words, outcome_words) = (job.header.frame_words(), job.header.outcome_words());
+    need_words(&[
+        (rows.frames_x, frame_words),
+        (rows.frames_z, frame_words),
+        (rows.deltas, outcome_words),
+        (noiseless, outcome_words),
+    ])?;
+    let frames_x = &mut rows.frames_x[..frame_words];
+    let frames_z = &mut rows.frames_z[..frame_words];
+    let deltas = &mut rows.deltas[..outcome_words];
+    frames_x.fill(0);
+    frames_z.fill(0);
+    deltas.fill(0);
+    let executed = execute(&job, draws, noiseless)?;
+    deltas.copy_from_slice(&all_deltas(&executed, &job.header));
+    let (x_rows, z_rows) = executed.frames();
+    frames_x.copy_from_slice(&x_rows);
+    frames_z.copy_from_slice(&z_rows);
+    Ok(())
+}
+
+/// The deltas of every outcome, row after row.
+fn all_deltas(executed: &Executed, header: &Header) -> Vec<u64> {
+    (0..usize_of(header.outcomes))
+        .flat_map(|id| executed.deltas(id))
+        .collect()
+}
+
+fn settled(bytes: &[u8], draws: Draws<'_>, noiseless: &[u64]) -> Result<Vec<u8>, Refusal> {
+    let job = read(bytes)?;
+    need_words(&[(noiseless, job.header.outcome_words())])?;
+    let outcomes = lend(&job, &draws, noiseless);
+    let faults = Program::new(&job).faults(draws.base, draws.main, &outcomes)?;
+    let mut text = job.header_text.to_vec();
+    for (line, faults) in job.lines.iter().zip(faults) {
+        if !matches!(line.instruction, Instruction::Noise(_)) {
+            text.extend_from_slice(line.text);
+        }
+        for (shot, pauli) in faults {
+            text.extend_from_slice(write::inject(shot, &pauli).as_bytes());
+        }
+    }
+    Ok(text)
+}
+
+/// The walk's count, without walking: each injection and flip of the shot gets a shot of its own, and the published code runs them all at once.
+/// Those in whose shot the set's deltas sum to 1 are counted.
+fn walk(job: &Job<'_>, shot: u64, set: &[u64]) -> Result<u64, Refusal> {
+    need_walkable(job, shot, set)?;
+    let mut faults = 0;
+    let mut apart = job.clone();
+    apart.lines.retain_mut(|line| match &mut line.instruction {
+        Instruction::Inject { shot: own, .. } | Instruction::Flip { shot: own, .. } => {
+            let kept = *own == shot;
+            *own = faults;
+            faults += u64::from(kept);
+            kept
+        }
+        _ => true,
+    });
+    if faults == 0 {
+        return Ok(0);
+    }
+    apart.header.shots = faults;
+    let no_draws = Draws {
+        base: 0,
+        main: &[],
+        second: &[],
+    };
+    let deltas = all_deltas(&execute(&apart, no_draws, &[])?, &apart.header);
+    let sum = |fault: u64| {
+        set.iter()
+            .fold(false, |sum, &id| sum ^ bit(&deltas, &apart.header, id, fault))
+    };
+    Ok((0..faults).map(|fault| u64::from(sum(fault))).sum())
+}
+
+fn annotated(bytes: &[u8], p: u64) -> Result<Vec<u8>, Refusal> {
+    let job = read(bytes)?;
+    need_probability(p)?;
+    let program = Program::new(&job);
+    let mut text = job.header_text.to_vec();
+    for (line, annotation) in job.lines.iter().zip(program.annotations(f64::from_bits(p))) {
+        let Some(annotation) = annotation else {
+            text.extend_from_slice(line.text);
+            continue;
+        };
+        if !can_annotate(&annotation.qubits) {
+            return Err(Refusal::at(18, line.number));
+        }
+        let noise = write::annotation(p, &annotation.qubits).into_bytes();
+        let parts = if annotation.before {
+            [&noise, line.text]
+        } else {
+            [line.text, &noise]
+        };
+        text.extend_from_slice(&parts.concat());
+    }
+    Ok(text)
+}

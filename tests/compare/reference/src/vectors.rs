@@ -1,0 +1,306 @@
+//! Stored calls with their answers: cases of lines `key value`, from `case N` to `end`.
+//!
+//! After `job N`, `text N` and `stdout N` follow exactly N bytes and one LF. Words are 16 hexadecimal digits each with commas between, `-` for none.
+
+use checker::calls::{Answer, Calls, Draws, Rows};
+use std::collections::HashMap;
+use std::fmt::Write;
+use std::path::{Path, PathBuf};
+
+/// The calls that have vectors: a file each.
+pub const CALLS: [Call; 8] = [
+    Call::Check,
+    Call::Run,
+    Call::Settle,
+    Call::Walk,
+    Call::Annotate,
+    Call::Locations,
+    Call::Correlation,
+    Call::Print,
+];
+
+/// A call by name.
+#[derive(Debug, Clone, Copy, PartialEq, Eq)]
+#[allow(missing_docs)]
+pub enum Call {
+    Check,
+    Run,
+    Settle,
+    Walk,
+    Annotate,
+    Locations,
+    Correlation,
+    Print,
+}
+
+impl Call {
+    /// The call's name, as of its subcommand and its file.
+    #[must_use]
+    pub fn name(self) -> &'static str {
+        match self {
+            Call::Check => "check",
+            Call::Run => "run",
+            Call::Settle => "settle",
+            Call::Walk => "walk",
+            Call::Annotate => "annotate",
+            Call::Locations => "locations",
+            Call::Correlation => "correlation",
+            Call::Print => "print",
+        }
+    }
+}
+
+/// What is lent and handed over to a call; each call uses its own part.
+#[derive(Debug, Clone, Default, PartialEq, Eq)]
+#[allow(missing_docs)]
+pub struct Input {
+    pub job: Vec<u8>,
+    pub base: u64,
+    pub main: Vec<u64>,
+    pub second: Vec<u64>,
+    pub noiseless: Vec<u64>,
+    pub frames_x: Vec<u64>,
+    pub frames_z: Vec<u64>,
+    pub deltas: Vec<u64>,
+    pub out_len: usize,
+    pub p: u64,
+    pub shot: u64,
+    pub set: Vec<u64>,
+}
+
+/// What a call answers and leaves.
+#[derive(Debug, Clone, Default, PartialEq, Eq)]
+#[allow(missing_docs)]
+pub struct Output {
+    pub answer: Answer,
+    /// Every lent word after the call.
+    pub frames_x: Vec<u64>,
+    pub frames_z: Vec<u64>,
+    pub deltas: Vec<u64>,
+    /// Every lent byte after the call, or what the program printed.
+    pub bytes: Vec<u8>,
+    /// Whether the figure may be larger than the one given: settling's with its 15.
+    pub at_least: bool,
+}
+
+/// What lent bytes hold before a call, so that bytes that stay can be told from bytes written.
+#[must_use]
+pub fn fresh_bytes(length: usize) -> Vec<u8> {
+    (0..length).map(|at| b'A' + (at % 23) as u8).collect()
+}
+
+impl Input {
+    /// The lent draws.
+    #[must_use]
+    pub fn draws(&self) -> Draws<'_> {
+        Draws {
+            base: self.base,
+            main: &self.main,
+            second: &self.second,
+        }
+    }
+
+    /// Make a call and keep all it leaves; none where its program isn't at hand.
+    pub fn make(&self, call: Call, calls: &dyn Calls) -> Option<Output> {
+        let mut output = Output::default();
+        let job = &self.job;
+        match call {
+            Call::Check => output.answer = calls.check(job),
+            Call::Run => {
+                output.frames_x = self.frames_x.clone();
+                output.frames_z = self.frames_z.clone();
+                output.deltas = self.deltas.clone();
+                let rows = Rows {
+                    frames_x: &mut output.frames_x,
+                    frames_z: &mut output.frames_z,
+                    deltas: &mut output.deltas,
+                };
+                output.answer = calls.run(job, self.draws(), &self.noiseless, rows);
+            }
+            Call::Settle => {
+                output.bytes = fresh_bytes(self.out_len);
+                output.answer = calls.settle(job, self.draws(), &self.noiseless, &mut output.bytes);
+                output.at_least = output.answer.number == 15;
+            }
+            Call::Walk => output.answer = calls.walk(job, self.shot, &self.set),
+            Call::Annotate => {
+                output.bytes = fresh_bytes(self.out_len);
+                output.answer = calls.annotate(job, self.p, &mut output.bytes);
+            }
+            Call::Locations => output.answer = calls.locations(job),
+            Call::Correlation => output.answer = calls.correlation(job),
+            Call::Print => output.bytes = calls.print(job)?,
+        }
+        Some(output)
+    }
+}
+
+impl Output {
+    /// Whether another output is as this one says.
+    #[must_use]
+    pub fn allows(&self, other: &Output) -> bool {
+        let mut other = other.clone();
+        if self.at_least && other.answer.figure >= self.answer.figure {
+            other.answer.figure = self.answer.figure;
+        }
+        *self == other
+    }
+}
+
+// ---- files
+
+/// The folder of the vectors: `KUNDATREZO_VECTORS`; without it, `shared/vectors` beside the repository.
+#[must_use]
+pub fn folder() -> PathBuf {
+    let beside_repository = || Path::new(env!("CARGO_MANIFEST_DIR")).join("../../../../shared/vectors");
+    std::env::var_os("KUNDATREZO_VECTORS").map_or_else(beside_repository, PathBuf::from)
+}
+
+/// A stored case.
+pub struct Case {
+    /// Its number in the file.
+    pub number: u64,
+    /// What is handed over.
+    pub input: Input,
+    /// What comes back.
+    pub output: Output,
+}
+
+/// The cases of a file's bytes.
+///
+/// # Panics
+///
+/// Panics if the file isn't in the form of the vectors.
+#[must_use]
+pub fn cases(call: Call, mut bytes: &[u8]) -> Vec<Case> {
+    let mut all = Vec::new();
+    let mut fields = HashMap::new();
+    while !bytes.is_empty() {
+        let (key, value) = take_field(&mut bytes);
+        if key == "end" {
+            all.push(case(call, &std::mem::take(&mut fields)));
+        } else {
+            fields.insert(key, value);
+        }
+    }
+    all
+}
+
+fn take_line<'a>(bytes: &mut &'a [u8]) -> &'a str {
+    let end = bytes.iter().position(|&byte| byte == b'\n').expect("a line ends");
+    let line = std::str::from_utf8(&bytes[..end]).expect("keys and values are text");
+    *bytes = &bytes[end + 1..];
+    line
+}
+
+fn take_field(bytes: &mut &[u8]) -> (String, Vec<u8>) {
+    let line = take_line(bytes);
+    let (key, value) = line.split_once(' ').unwrap_or((line, ""));
+    let value = match key {
+        "job" | "text" | "stdout" => {
+            let (text, rest) = bytes.split_at(value.parse().expect("a length"));
+            *bytes = rest.strip_prefix(b"\n").expect("LF after the bytes");
+            text.to_vec()
+        }
+        _ => value.as_bytes().to_vec(),
+    };
+    (key.to_owned(), value)
+}
+
+fn case(call: Call, fields: &HashMap<String, Vec<u8>>) -> Case {
+    let bytes = |key: &str| fields.get(key).cloned().unwrap_or_default();
+    let text = |key: &str| String::from_utf8(bytes(key)).expect("a value is text");
+    let number = |key: &str| text(key).parse::<u64>().unwrap_or(0);
+    let words = |key: &str| split(&text(key), 16);
+    let input = Input {
+        job: bytes("job"),
+        base: number("base"),
+        main: words("main"),
+        second: words("second"),
+        noiseless: words("noiseless"),
+        frames_x: words("frames_x"),
+        frames_z: words("frames_z"),
+        deltas: words("deltas"),
+        out_len: usize::try_from(number("out_len")).expect("a length"),
+        p: u64::from_str_radix(&text("p"), 16).unwrap_or(0),
+        shot: number("shot"),
+        set: split(&text("set"), 10),
+    };
+    let at_least = fields.contains_key("at_least");
+    let figure = number("count") + number("figure") + number("at_least");
+    let output = Output {
+        answer: Answer {
+            number: number("refusal"),
+            line: number("line"),
+            figure,
+        },
+        frames_x: words("after_frames_x"),
+        frames_z: words("after_frames_z"),
+        deltas: words("after_deltas"),
+        bytes: match call {
+            Call::Print => bytes("stdout"),
+            Call::Settle | Call::Annotate => written_over(&bytes("text"), input.out_len),
+            _ => Vec::new(),
+        },
+        at_least,
+    };
+    Case {
+        number: number("case"),
+        input,
+        output,
+    }
+}
+
+/// Fresh bytes with a text at their front.
+fn written_over(text: &[u8], length: usize) -> Vec<u8> {
+    let mut bytes = fresh_bytes(length);
+    bytes[..text.len()].copy_from_slice(text);
+    bytes
+}
+
+fn split(list: &str, radix: u32) -> Vec<u64> {
+    let entries = list.split(',').filter(|entry| !entry.is_empty() && *entry != "-");
+    entries
+        .map(|entry| u64::from_str_radix(entry, radix).expect("a number"))
+        .collect()
+}
+
+/// What a call is handed, as the first half of a case.
+#[must_use]
+pub fn input_text(call: Call, input: &Input) -> String {
+    let mut text = format!("job {}\n{}\n", input.job.len(), String::from_utf8_lossy(&input.job));
+    let joined = |words: &[u64]| {
+        let hex: Vec<_> = words.iter().map(|word| format!("{word:016x}")).collect();
+        if hex.is_empty() { "-".to_owned() } else { hex.join(",") }
+    };
+    if matches!(call, Call::Run | Call::Settle) {
+        _ = writeln!(text, "base {}", input.base);
+        for (key, words) in [
+            ("main", &input.main),
+            ("second", &input.second),
+            ("noiseless", &input.noiseless),
+        ] {
+            _ = writeln!(text, "{key} {}", joined(words));
+        }
+    }
+    match call {
+        Call::Run => {
+            for (key, words) in [
+                ("frames_x", &input.frames_x),
+                ("frames_z", &input.frames_z),
+                ("deltas", &input.deltas),
+            ] {
+                _ = writeln!(text, "{key} {}", joined(words));
+            }
+        }
+        Call::Walk => {
+            let set: Vec<_> = input.set.iter().map(u64::to_string).collect();
+            let set = if set.is_empty() { "-".to_owned() } else { set.join(",") };
+            _ = writeln!(text, "shot {}\nset {set}", input.shot);
+        }
+        Call::Annotate => _ = writeln!(text, "out_len {}\np {:016x}", input.out_len, input.p),
+        Call::Settle => _ = writeln!(text, "out_len {}", input.out_len),
+        Call::Check | Call::Locations | Call::Correlation | Call::Print => {}
+    }
+    text
+}
