@@ -1,0 +1,138 @@
+-- A line that one form was tried on: laws. Assumes nothing.
+use Prim.Native.Nat.{ℕ, zero, suc, _+_, _≤_, _<_}
+use native.Mathlib.Omega.{arith}
+use mathlib.Core.Path.{_≡_, refl, sym, ap, _∙_}
+use mathlib.Core.Bool.{Bool, true, false, cond, _&&_, true≢false}
+use mathlib.Core.List.{List, [], _∷_}
+use mathlib.Core.Option.{Option, none, some}
+use borrow.Author.Tests.{leb-true}
+use lib.Dec.{leb}
+use lib.ListN.{length, getD}
+use Rattle.pauli.specs.Gate.{Gate, gates, gateFrom, gateOf}
+use Rattle.pauli.specs.Laws.Code.{gate-none}
+use Rattle.text.specs.Bytes.{bytes}
+use Rattle.text.specs.Template.{Value, valuesOf, numberAt, listAt}
+use Rattle.text.specs.Fields.{numberLetters, listLetters, Held, Room, HasForm, ReadAs}
+use Rattle.text.specs.Laws.Values.{both}
+use Rattle.job.specs.Grammar.{Written, Form as TableForm, unitaryLine, forms, said, readBy, readLine}
+use Rattle.job.specs.Line.{Line}
+use Rattle.job.specs.Laws.Dispatch.{readAs}
+use Rattle.reader.specs.declared.Form.{Form}
+use Rattle.reader.specs.declared.Form.the-variants as form
+use Rattle.reader.specs.Parsed.{placeOf, noForm, formOf, ParsedAs, isUnread, Parsed}
+use Rattle.reader.specs.Tried.{Tried, formIf, FormBy, only}
+use Rattle.reader.specs.Laws.Sift.{read-alone, no-values, opening, read-by-bytes}
+
+-- ---- room
+
+-- there is room for the values of each form
+allRoom : List TableForm → Bool
+allRoom [] = true
+allRoom (f ∷ fs) = (leb (numberLetters (f .template)) 4 && leb (listLetters (f .template)) 4) && allRoom fs
+
+room-at : (fs : List TableForm) → allRoom fs ≡ true → (k : ℕ) → Room 0 0 (getD fs k noForm .template)
+unfolding allRoom noForm
+room-at [] e k = record { for-numbers = omega arith; for-lists = omega arith }
+room-at (f ∷ fs) e zero =
+    let h = both (leb (numberLetters (f .template)) 4) (leb (listLetters (f .template)) 4) (both (leb (numberLetters (f .template)) 4 && leb (listLetters (f .template)) 4) (allRoom fs) e .0) in
+    record {
+      for-numbers = omega (arith, leb-true (numberLetters (f .template)) 4 (h .0));
+      for-lists = omega (arith, leb-true (listLetters (f .template)) 4 (h .1));
+    }
+room-at (f ∷ fs) e (suc k) = room-at fs (both (leb (numberLetters (f .template)) 4 && leb (listLetters (f .template)) 4) (allRoom fs) e .1) k
+
+forms-room : allRoom forms ≡ true
+unfolding allRoom forms bytes
+forms-room = refl
+
+pub form-room : (f : Form) → Room 0 0 (formOf f .template)
+form-room f = room-at forms forms-room (placeOf f)
+
+-- ---- what was tried
+
+module _ {line fields : List ℕ} where
+  pub not-parsed : readLine line ≡ none → Parsed line form.Unread fields
+  not-parsed e = record { unread = λ _. e; read = λ h. absurd (true≢false h) }
+
+  module _ (f : Form) where
+    -- the line says nothing by the form
+    pub says-nothing : readAs (formOf f) line ≡ none → Tried (only f) line form.Unread fields
+    says-nothing e = record { parsed = λ h. not-parsed (h ∙ read-alone (formOf f) line ∙ e) }
+
+    -- it does
+    pub says : isUnread f ≡ false → (h : HasForm line (formOf f .template) fields) (w : Written) → formOf f .says (h .values) ≡ some w
+        → Tried (only f) line f fields
+    says known h w e =
+        record {
+          parsed = λ alone. record {
+            unread = λ u. absurd (true≢false (sym u ∙ known));
+            read = λ _. record {
+              values = h .values;
+              written = w;
+              by-form = h .reads;
+              says = e;
+              reads = alone ∙ read-alone (formOf f) line ∙ unfold said in rw (h .reads) e;
+              held = h .held;
+            };
+          };
+        }
+
+    -- a line by whose values the form says something, read by the form's template
+    pub read-tried : {r : Form} → isUnread f ≡ false → (ok : Bool) → r ≡ formIf ok f → ReadAs line (formOf f .template) ok fields
+        → ((vs : List Value) → valuesOf (formOf f .template) line ≡ some vs → (w : Written) × (formOf f .says vs ≡ some w))
+        → Tried (only f) line r fields
+    read-tried known true e h total = let v = h .read refl in let t = total (v .values) (v .reads) in rw e (says known v (t .0) (t .1))
+    read-tried known false e h total = rw e (says-nothing (no-values (formOf f) line (h .refused refl (form-room f))))
+
+    -- a form that says something by any values
+    pub plain-tried : {r : Form} → isUnread f ≡ false → ((vs : List Value) → (w : Written) × (formOf f .says vs ≡ some w))
+        → FormBy line (formOf f .template) f r fields → Tried (only f) line r fields
+    plain-tried known total b = read-tried known (b .ok) (b .result) (b .reads) (λ vs _. total vs)
+
+-- ---- the forms that are left
+
+-- no form is left
+pub none-left : {line fields : List ℕ} → Tried [] line form.Unread fields
+unfolding readBy
+none-left = record { parsed = not-parsed }
+
+-- the forms were tried that a line's bytes 0 and 3 leave
+pub by-bytes : {line fields : List ℕ} {r : Form} (a c : ℕ) → getD line 0 0 ≡ a → getD line 3 0 ≡ c → (fs : List TableForm)
+    → opening 3 c (opening 0 a forms) ≡ fs → Tried fs line r fields → Parsed line r fields
+by-bytes {line} a c e g fs left t =
+    t .parsed (
+    read-by-bytes line
+    ∙ ap (λ (b : ℕ). readBy (opening 3 (getD line 3 0) (opening 0 b forms)) line) e
+    ∙ ap (λ (b : ℕ). readBy (opening 3 b (opening 0 a forms)) line) g
+    ∙ ap (λ (gs : List TableForm). readBy gs line) left
+    )
+
+-- ---- a gate's code
+
+gate-from : (gs : List Gate) (code : ℕ) → code < length gs → (g : Gate) × (gateFrom gs code ≡ some g)
+unfolding gateFrom
+gate-from [] code h = absurd (omega arith)
+gate-from (g ∷ gs) zero h = (g, refl)
+gate-from (g ∷ gs) (suc code) h = gate-from gs code (omega arith)
+
+gate-some : (code : ℕ) → code ≤ 14 → (g : Gate) × (gateOf code ≡ some g)
+unfolding gateOf gates
+gate-some code h = gate-from gates code (omega arith)
+
+module _ {line fields : List ℕ} (h : HasForm line (formOf form.Unitary .template) fields) where
+  -- the code stands first
+  code-held : getD fields 0 0 ≡ numberAt 0 (h .values)
+  unfolding placeOf forms bytes
+  code-held = h .held .number 0 (omega arith)
+
+  pub gate-high : 14 < getD fields 0 0 → Tried (only form.Unitary) line form.Unread fields
+  unfolding placeOf forms bytes said unitaryLine
+  gate-high high =
+      let no-gate : gateOf (numberAt 0 (h .values)) ≡ none = gate-none (numberAt 0 (h .values)) (omega (arith, code-held)) in
+      says-nothing form.Unitary (rw (h .reads, no-gate))
+
+  pub gate-good : getD fields 0 0 ≤ 14 → Tried (only form.Unitary) line form.Unitary fields
+  unfolding placeOf forms bytes unitaryLine
+  gate-good low =
+      let found = gate-some (numberAt 0 (h .values)) (omega (arith, code-held)) in
+      says form.Unitary refl h (Written.line (Line.unitary (found .0) (listAt 0 (h .values)))) (rw (found .1))
