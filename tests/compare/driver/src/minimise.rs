@@ -24,11 +24,7 @@ const LISTS: [List; 7] = [
 
 /// Drop lines, bytes and lent words as long as `differs` holds.
 pub fn minimised(input: &Input, differs: impl Fn(&Input) -> bool) -> Input {
-    let mut search = Search {
-        least: input.clone(),
-        differs,
-        end: Instant::now() + TIME,
-    };
+    let mut search = Search { least: input.clone(), differs, end: Instant::now() + TIME };
     loop {
         let before = search.least.clone();
         search.drop_lines();
@@ -116,12 +112,8 @@ mod tests {
             set: vec![4, 5, 6],
             ..Input::default()
         };
-        let least = minimised(&input, |input| {
-            input.job.windows(2).any(|bytes| bytes == b"hr") && input.main.contains(&17)
-        });
-        assert_eq!(
-            (least.job.as_slice(), least.main, least.set),
-            (&b"hr"[..], vec![17], vec![])
-        );
+        let least =
+            minimised(&input, |input| input.job.windows(2).any(|bytes| bytes == b"hr") && input.main.contains(&17));
+        assert_eq!((least.job.as_slice(), least.main, least.set), (&b"hr"[..], vec![17], vec![]));
     }
 }

@@ -113,20 +113,13 @@ fn fields(text: &str) -> impl Iterator<Item = Field<'_>> {
     text.lines().flat_map(move |all| {
         let line = all.split(' ').next().unwrap_or_default();
         let pairs = all.split(' ').filter_map(|field| field.split_once('='));
-        pairs.map(move |(key, value)| Field {
-            line,
-            key,
-            value,
-            place: value.as_ptr() as usize - start,
-        })
+        pairs.map(move |(key, value)| Field { line, key, value, place: value.as_ptr() as usize - start })
     })
 }
 
 fn changed(random: &mut Random, field: &Field<'_>, header: &Header) -> String {
     const NO_VALUES: [&str; 12] = ["", "-", "00", "01", "+1", "-0", "0x1", "0,0", "1,", ",1", "-,1", "a"];
-    const LETTERS: [&str; 16] = [
-        "job", "u", "c", "p", "e", "k", "m", "o", "r", "f", "z", "i", "t", "n", "b", "op",
-    ];
+    const LETTERS: [&str; 16] = ["job", "u", "c", "p", "e", "k", "m", "o", "r", "f", "z", "i", "t", "n", "b", "op"];
     let value = field.value;
     let old = value.parse().unwrap_or(0);
     if random.one_in(20) {
@@ -158,9 +151,7 @@ fn near(random: &mut Random, numbers: &[u64]) -> String {
     let number = random.pick(numbers);
     match random.below(12) {
         0 => u64::MAX.to_string(),
-        1 => random
-            .pick(&["18446744073709551616", "99999999999999999999"])
-            .to_owned(),
+        1 => random.pick(&["18446744073709551616", "99999999999999999999"]).to_owned(),
         2..4 => number.saturating_sub(1).to_string(),
         4..8 => number.to_string(),
         _ => number.wrapping_add(1).to_string(),
@@ -217,11 +208,7 @@ fn form_changed(random: &mut Random, word: u64) -> String {
 
 /// An entry changed, dropped, repeated or put in, mostly so that the list still rises; the list as long as may be, or longer.
 fn list_changed(random: &mut Random, value: &str, end: u64) -> String {
-    let mut entries: Vec<String> = value
-        .split(',')
-        .filter(|entry| *entry != "-")
-        .map(str::to_owned)
-        .collect();
+    let mut entries: Vec<String> = value.split(',').filter(|entry| *entry != "-").map(str::to_owned).collect();
     let place = random.index(entries.len() + 1);
     match random.below(12) {
         0..3 => entries.push(near(random, &[end])),
@@ -240,9 +227,5 @@ fn list_changed(random: &mut Random, value: &str, end: u64) -> String {
             entries = (first..first + length).map(|entry: u64| entry.to_string()).collect();
         }
     }
-    if entries.is_empty() {
-        "-".to_owned()
-    } else {
-        entries.join(",")
-    }
+    if entries.is_empty() { "-".to_owned() } else { entries.join(",") }
 }
