@@ -14,10 +14,7 @@ fn main() {
         println!("cargo::error=the feature `linked` needs {FOLDER}, the folder of libkundatrezo.a");
         return;
     };
-    println!(
-        "cargo::rerun-if-changed={}",
-        Path::new(&folder).join("libkundatrezo.a").display()
-    );
+    println!("cargo::rerun-if-changed={}", Path::new(&folder).join("libkundatrezo.a").display());
     println!("cargo::rustc-link-search=native={folder}");
     println!("cargo::rustc-link-lib=static=kundatrezo");
 }

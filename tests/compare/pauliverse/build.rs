@@ -11,10 +11,7 @@ const FOLDER: &str = "KUNDATREZO_RUST_SRC";
 fn main() {
     println!("cargo::rerun-if-env-changed={FOLDER}");
     let sources = source_folder().join("pauliverse").join("src");
-    let modules: String = ["circuit", "frame_propagator", "noise"]
-        .iter()
-        .map(|name| module(&sources, name))
-        .collect();
+    let modules: String = ["circuit", "frame_propagator", "noise"].iter().map(|name| module(&sources, name)).collect();
     let out = PathBuf::from(env::var_os("OUT_DIR").expect("cargo sets it"));
     fs::write(out.join("modules.rs"), modules).expect("cargo's own folder");
     fs::write(out.join("simulation.rs"), simulation_trait(&sources)).expect("cargo's own folder");
@@ -50,8 +47,6 @@ fn module(sources: &Path, name: &str) -> String {
 fn simulation_trait(sources: &Path) -> String {
     let path = published(sources, "lib.rs");
     let text = fs::read_to_string(&path).expect("the path was found");
-    let start = text
-        .find("type Pauli = ")
-        .expect("lib.rs has the type names before its trait");
+    let start = text.find("type Pauli = ").expect("lib.rs has the type names before its trait");
     text[start..].to_owned()
 }

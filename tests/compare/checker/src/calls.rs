@@ -17,10 +17,7 @@ impl Answer {
     /// Success with a count or byte figure.
     #[must_use]
     pub fn success(figure: u64) -> Self {
-        Self {
-            figure,
-            ..Self::default()
-        }
+        Self { figure, ..Self::default() }
     }
 
     /// The answer of a call that gives nothing but success or a refusal.
@@ -32,11 +29,7 @@ impl Answer {
 
 impl From<Refusal> for Answer {
     fn from(refusal: Refusal) -> Self {
-        Self {
-            number: refusal.number,
-            line: refusal.line,
-            figure: 0,
-        }
+        Self { number: refusal.number, line: refusal.line, figure: 0 }
     }
 }
 

@@ -45,11 +45,7 @@ impl Fields<'_> {
         let qubits = self.number(b"ob qubits=")?;
         let outcomes = self.number(b" outcomes=")?;
         let shots = self.number(b" shots=")?;
-        self.end(Header {
-            qubits,
-            outcomes,
-            shots,
-        })
+        self.end(Header { qubits, outcomes, shots })
     }
 
     fn instruction(mut self, mark: &[u8]) -> Option<Instruction> {
@@ -58,44 +54,24 @@ impl Fields<'_> {
                 gate: self.number(b" g=").filter(|&gate| gate <= MAX_GATE)?,
                 qubits: self.list(b" q=")?,
             },
-            b"op=c" => Instruction::Clifford {
-                qubits: self.list(b" q=")?,
-                table: self.word(b" t=")?,
-            },
+            b"op=c" => Instruction::Clifford { qubits: self.list(b" q=")?, table: self.word(b" t=")? },
             b"op=p" => Instruction::Pauli(self.pauli(b" x=", b" z=")?),
             b"op=e" => Instruction::Exponential(self.pauli(b" x=", b" z=")?),
             b"op=k" => Instruction::Controlled {
                 control: self.pauli(b" x=", b" z=")?,
                 target: Box::new(self.pauli(b" u=", b" v=")?),
             },
-            b"op=m" => Instruction::Permute {
-                places: self.list(b" s=")?,
-                qubits: self.list(b" q=")?,
-            },
-            b"op=o" => Instruction::Measure {
-                observable: self.pauli(b" x=", b" z=")?,
-                id: self.number(b" id=")?,
-            },
-            b"op=r" => Instruction::Allocate {
-                id: self.number(b" id=")?,
-                angle: self.bit(b" angle=")?,
-            },
+            b"op=m" => Instruction::Permute { places: self.list(b" s=")?, qubits: self.list(b" q=")? },
+            b"op=o" => Instruction::Measure { observable: self.pauli(b" x=", b" z=")?, id: self.number(b" id=")? },
+            b"op=r" => Instruction::Allocate { id: self.number(b" id=")?, angle: self.bit(b" angle=")? },
             b"op=f" => Instruction::Conditional {
                 pauli: self.pauli(b" x=", b" z=")?,
                 ids: self.rising(b" id=")?,
                 parity: self.bit(b" parity=")?,
             },
-            b"op=z" => Instruction::Reset {
-                qubit: self.number(b" q=")?,
-            },
-            b"op=i" => Instruction::Inject {
-                shot: self.number(b" shot=")?,
-                pauli: self.pauli(b" x=", b" z=")?,
-            },
-            b"op=t" => Instruction::Flip {
-                shot: self.number(b" shot=")?,
-                id: self.number(b" id=")?,
-            },
+            b"op=z" => Instruction::Reset { qubit: self.number(b" q=")? },
+            b"op=i" => Instruction::Inject { shot: self.number(b" shot=")?, pauli: self.pauli(b" x=", b" z=")? },
+            b"op=t" => Instruction::Flip { shot: self.number(b" shot=")?, id: self.number(b" id=")? },
             _ => return None,
         };
         self.end(instruction)
@@ -117,13 +93,7 @@ impl Fields<'_> {
             b'4' => (Distribution::Weighted(Vec::new()), Some(self.number(b" n=")?)),
             _ => return None,
         };
-        let noise = Noise {
-            p,
-            correlation,
-            condition,
-            parity,
-            distribution,
-        };
+        let noise = Noise { p, correlation, condition, parity, distribution };
         self.end((Box::new(noise), elements))
     }
 
@@ -157,11 +127,7 @@ impl Fields<'_> {
     /// A number, or `-` for none.
     fn number_or_none(&mut self, key: &[u8]) -> Option<Option<u64>> {
         self.literal(key)?;
-        if self.skip(b'-') {
-            Some(None)
-        } else {
-            self.digits().map(Some)
-        }
+        if self.skip(b'-') { Some(None) } else { self.digits().map(Some) }
     }
 
     /// 16 lower-case hexadecimal digits.
@@ -209,10 +175,7 @@ impl Fields<'_> {
     }
 
     fn pauli(&mut self, x: &[u8], z: &[u8]) -> Option<Pauli> {
-        Some(Pauli {
-            x: self.rising(x)?,
-            z: self.rising(z)?,
-        })
+        Some(Pauli { x: self.rising(x)?, z: self.rising(z)? })
     }
 
     /// A decimal number below 2^64 without leading zeros.

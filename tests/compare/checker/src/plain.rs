@@ -79,11 +79,7 @@ pub fn need_words(lists: &[(&[u64], usize)]) -> Result<(), Refusal> {
 ///
 /// The refusal, where p doesn't pass.
 pub fn need_probability(p: u64) -> Result<(), Refusal> {
-    if is_probability(p) {
-        Ok(())
-    } else {
-        Err(Refusal::of_call(11))
-    }
+    if is_probability(p) { Ok(()) } else { Err(Refusal::of_call(11)) }
 }
 
 /// Annotation's end: its text at the front of `out`, or 15.
@@ -97,10 +93,7 @@ pub fn deliver(text: &[u8], out: &mut [u8]) -> Answer {
 
 /// Settling's end: as annotation's, but 15 has a figure too, here exactly the need.
 pub fn deliver_settled(text: &[u8], out: &mut [u8]) -> Answer {
-    Answer {
-        figure: text.len() as u64,
-        ..deliver(text, out)
-    }
+    Answer { figure: text.len() as u64, ..deliver(text, out) }
 }
 
 /// The printing program around a run.
@@ -123,16 +116,8 @@ pub fn print_with(calls: &impl Calls, input: &[u8]) -> Vec<u8> {
     }
     let (mut frames_x, mut frames_z) = (vec![0; header.frame_words()], vec![0; header.frame_words()]);
     let (mut deltas, noiseless) = (vec![0; header.outcome_words()], vec![0; header.outcome_words()]);
-    let draws = Draws {
-        base: 0,
-        main: &[],
-        second: &[],
-    };
-    let rows = Rows {
-        frames_x: &mut frames_x,
-        frames_z: &mut frames_z,
-        deltas: &mut deltas,
-    };
+    let draws = Draws { base: 0, main: &[], second: &[] };
+    let rows = Rows { frames_x: &mut frames_x, frames_z: &mut frames_z, deltas: &mut deltas };
     let answer = calls.run(input, draws, &noiseless, rows);
     if answer.number != 0 {
         assert_eq!(answer.number, 14, "a checked job with enough words");
@@ -143,14 +128,10 @@ pub fn print_with(calls: &impl Calls, input: &[u8]) -> Vec<u8> {
 
 fn printed(job: &Job<'_>, deltas: &[u64]) -> Vec<u8> {
     let header = job.header;
-    let mut text = format!(
-        "ok=1 qubits={} outcomes={} shots={}\n",
-        header.qubits, header.outcomes, header.shots
-    );
+    let mut text = format!("ok=1 qubits={} outcomes={} shots={}\n", header.qubits, header.outcomes, header.shots);
     for id in 0..job.recorded {
-        let bits: String = (0..header.shots)
-            .map(|shot| if bit(deltas, &job.header, id, shot) { '1' } else { '0' })
-            .collect();
+        let bits: String =
+            (0..header.shots).map(|shot| if bit(deltas, &job.header, id, shot) { '1' } else { '0' }).collect();
         text += &format!("id={id} delta={bits}\n");
     }
     text.into_bytes()

@@ -32,12 +32,7 @@ pub fn read(bytes: &[u8]) -> Result<Job<'_>, Refusal> {
     while let Some(line) = reader.next_line()? {
         lines.push(line);
     }
-    Ok(Job {
-        header: reader.header,
-        header_text,
-        lines,
-        recorded: reader.recorded,
-    })
+    Ok(Job { header: reader.header, header_text, lines, recorded: reader.recorded })
 }
 
 /// 11: whether bits are a probability that passes.
@@ -63,13 +58,7 @@ impl<'a> Reader<'a> {
         if bytes.is_empty() || bytes.len() > MAX_BYTES || bytes.last() != Some(&b'\n') {
             return Err(Refusal::of_call(1));
         }
-        let mut reader = Reader {
-            bytes,
-            position: 0,
-            line: 0,
-            header: Header::default(),
-            recorded: 0,
-        };
+        let mut reader = Reader { bytes, position: 0, line: 0, header: Header::default(), recorded: 0 };
         match reader.take_written()? {
             Written::Header(header) if in_range(&header) => reader.header = header,
             _ => return Err(reader.refusal(3)),
@@ -134,11 +123,7 @@ impl<'a> Reader<'a> {
         if matches!(instruction, Instruction::Measure { .. } | Instruction::Allocate { .. }) {
             self.recorded += 1;
         }
-        Ok(Some(Line {
-            number,
-            text: &self.bytes[start..self.position],
-            instruction,
-        }))
+        Ok(Some(Line { number, text: &self.bytes[start..self.position], instruction }))
     }
 
     /// The element lines of a noise line.

@@ -6,11 +6,7 @@ use std::fmt::Write;
 /// The header's line with its LF.
 #[must_use]
 pub fn header(header: &Header) -> String {
-    let Header {
-        qubits,
-        outcomes,
-        shots,
-    } = header;
+    let Header { qubits, outcomes, shots } = header;
     format!("op=job qubits={qubits} outcomes={outcomes} shots={shots}\n")
 }
 
@@ -54,10 +50,7 @@ fn noise(noise: &Noise) -> String {
     let correlation = noise.correlation.map_or("-".to_owned(), |corr| corr.to_string());
     let condition = list(&noise.condition);
     let parity = u8::from(noise.parity);
-    let mut text = format!(
-        "op=n p={:016x} corr={correlation} cond={condition} parity={parity} ",
-        noise.p
-    );
+    let mut text = format!("op=n p={:016x} corr={correlation} cond={condition} parity={parity} ", noise.p);
     match &noise.distribution {
         Distribution::Single(pauli) => _ = writeln!(text, "d=1 {}", parts(pauli)),
         Distribution::Depolarizing(qubits) => _ = writeln!(text, "d=2 q={}", list(qubits)),

@@ -74,10 +74,7 @@ fn headers() {
     assert_eq!(after_two_outcomes("op=job qubits=1 outcomes=0 shots=1"), (3, 4));
     assert_eq!(after_two_outcomes("op=job qubits=0 outcomes=0 shots=1"), (3, 4));
     assert_eq!(after_two_outcomes("op=job qubits=1 outcomes=0 shots="), (2, 4));
-    assert_eq!(
-        answer(b"op=n p=0000000000000000 corr=- cond=- parity=0 d=3 n=1\n"),
-        (2, 1)
-    );
+    assert_eq!(answer(b"op=n p=0000000000000000 corr=- cond=- parity=0 d=3 n=1\n"), (2, 1));
 }
 
 #[test]
@@ -160,14 +157,8 @@ fn noise_lines() {
         ("p=7ff0000000000000 corr=- cond=- parity=0 d=1 x=- z=-", 11),
         ("p=fff8000000000000 corr=- cond=- parity=0 d=1 x=- z=-", 11),
         ("p=fff0000000000000 corr=- cond=- parity=0 d=1 x=- z=-", 0),
-        (
-            "p=8000000000000000 corr=18446744073709551615 cond=- parity=0 d=2 q=0",
-            0,
-        ),
-        (
-            "p=8000000000000000 corr=18446744073709551616 cond=- parity=0 d=2 q=0",
-            2,
-        ),
+        ("p=8000000000000000 corr=18446744073709551615 cond=- parity=0 d=2 q=0", 0),
+        ("p=8000000000000000 corr=18446744073709551616 cond=- parity=0 d=2 q=0", 2),
         ("p=3ff0000000000001 corr=- cond=- parity=1 d=1 x=40 z=-", 2),
         ("p=3ff0000000000001 corr=- cond=2 parity=1 d=1 x=40 z=-", 4),
         ("p=3ff0000000000001 corr=- cond=2 parity=1 d=2 q=3,3", 5),
@@ -179,11 +170,7 @@ fn noise_lines() {
     ];
     for (fields, number) in table {
         let place = if number == 0 { 0 } else { 4 };
-        assert_eq!(
-            after_two_outcomes(&format!("op=n {fields}")),
-            (number, place),
-            "{fields}"
-        );
+        assert_eq!(after_two_outcomes(&format!("op=n {fields}")), (number, place), "{fields}");
     }
     let condition = format!("op=n p=3ff0000000000001 corr=- cond={long} parity=0 d=2 q=3");
     assert_eq!(after_two_outcomes(&condition), (5, 4));
@@ -209,10 +196,7 @@ fn element_lines() {
     assert_eq!(after_two_outcomes(&(noise(3, 2) + "x=40 z=-")), (2, 5));
     assert_eq!(after_two_outcomes(&(noise(3, 3) + "x=40 z=-\nx=- z=-")), (4, 5));
     assert_eq!(after_two_outcomes(&(noise(3, 1) + "op=z q=0")), (2, 5));
-    assert_eq!(
-        after_two_outcomes(&(noise(3, 1) + "w=3ff0000000000000 x=- z=-")),
-        (2, 5)
-    );
+    assert_eq!(after_two_outcomes(&(noise(3, 1) + "w=3ff0000000000000 x=- z=-")), (2, 5));
     assert_eq!(after_two_outcomes(&(noise(4, 1) + "x=- z=-")), (2, 5));
     assert_eq!(after_two_outcomes(&(noise(3, 1) + "x=- z=-\nx=- z=-")), (2, 6));
     assert_eq!(after_two_outcomes(&(noise(3, 1) + HEADER.trim_end())), (2, 5));
@@ -226,8 +210,5 @@ fn element_lines() {
     assert_eq!(weighted(&["7ff0000000000000", one]), (12, 5));
     assert_eq!(weighted(&["fff8000000000000", one]), (12, 5));
     assert_eq!(weighted(&[most, most, one, one]), (12, 8));
-    assert_eq!(
-        after_two_outcomes(&(noise(4, 1) + "w=7ff0000000000000 x=40 z=-")),
-        (4, 5)
-    );
+    assert_eq!(after_two_outcomes(&(noise(4, 1) + "w=7ff0000000000000 x=40 z=-")), (4, 5));
 }

@@ -49,11 +49,7 @@ impl Timed<'_> {
             engine = engine.min(self.engine.as_mut().map_or(longest, time));
         }
         let show = |part: Duration| {
-            if part == longest {
-                "-".into()
-            } else {
-                format!("{:.3}", part.as_secs_f64() * 1e3)
-            }
+            if part == longest { "-".into() } else { format!("{:.3}", part.as_secs_f64() * 1e3) }
         };
         let ratio = |part: Duration| match (part, engine) {
             (Duration::MAX, _) | (_, Duration::MAX) => "-".into(),
@@ -81,18 +77,9 @@ fn time(part: &mut impl FnMut()) -> Duration {
 fn checks() {
     let header = loads::header(256, 4096);
     let mixed = loads::mixed(header, 12_000, 0.001);
-    check(
-        "check, 1,000,000 bytes of gate lines",
-        &loads::cut(loads::gates(header, 80_000), 1_000_000),
-    );
-    check(
-        "check, 1,000,000 bytes of noise lines",
-        &loads::cut(loads::noise(header, 20_000, 0.001), 1_000_000),
-    );
-    check(
-        "check, a mixed job of 1,000,000 bytes at most",
-        &loads::cut(mixed, 1_000_000),
-    );
+    check("check, 1,000,000 bytes of gate lines", &loads::cut(loads::gates(header, 80_000), 1_000_000));
+    check("check, 1,000,000 bytes of noise lines", &loads::cut(loads::noise(header, 20_000, 0.001), 1_000_000));
+    check("check, a mixed job of 1,000,000 bytes at most", &loads::cut(mixed, 1_000_000));
 }
 
 fn check(name: &str, job: &[u8]) {
@@ -114,14 +101,8 @@ fn runs() {
         measure_run(&format!("run, 10,000 gates, {size}"), &made);
         let noisy = loads::noisy_gates(header, 500, 0.001);
         measure_run(&format!("run, 500 gates with noise, {size}"), &noisy);
-        measure_run(
-            &format!("run, 500 lines of noise, {size}"),
-            &loads::noise(header, 500, 0.001),
-        );
-        measure_run(
-            &format!("run, 2,000 mixed lines, {size}"),
-            &loads::mixed(header, 2_000, 0.001),
-        );
+        measure_run(&format!("run, 500 lines of noise, {size}"), &loads::noise(header, 500, 0.001));
+        measure_run(&format!("run, 2,000 mixed lines, {size}"), &loads::mixed(header, 2_000, 0.001));
         measure_settle(&format!("settle, 500 gates with noise, {size}"), &noisy);
         measure_walk(&format!("walk, 10,000 gates, {size}"), &made);
     }
@@ -144,17 +125,10 @@ impl Load {
         let noiseless = words(made.header.outcome_words());
         let second = words(2 * shots + 64);
         let mut main = words(made.instructions.len() * (shots + 64));
-        let load = |main| Load {
-            bytes: bytes.clone(),
-            main,
-            second: second.clone(),
-            noiseless: noiseless.clone(),
-        };
+        let load = |main| Load { bytes: bytes.clone(), main, second: second.clone(), noiseless: noiseless.clone() };
         let all = load(main.clone());
         let job = all.job();
-        let read = settled(&job, all.draws(), &all.noiseless)
-            .expect("enough words")
-            .words_read;
+        let read = settled(&job, all.draws(), &all.noiseless).expect("enough words").words_read;
         main.truncate(usize::try_from(read).expect("below the list's length"));
         load(main)
     }
@@ -164,11 +138,7 @@ impl Load {
     }
 
     fn draws(&self) -> Draws<'_> {
-        Draws {
-            base: 0,
-            main: &self.main,
-            second: &self.second,
-        }
+        Draws { base: 0, main: &self.main, second: &self.second }
     }
 }
 
@@ -178,28 +148,18 @@ fn measure_run(name: &str, made: &Made) {
     let program = Program::new(&job);
     let noiseless = lend(&job, &load.draws(), &load.noiseless);
     let lists = || {
-        (
-            vec![0; made.header.frame_words()],
-            vec![0; made.header.frame_words()],
-            vec![0; made.header.outcome_words()],
-        )
+        (vec![0; made.header.frame_words()], vec![0; made.header.frame_words()], vec![0; made.header.outcome_words()])
     };
     let mut rows = lists();
     Timed {
-        published: Some(Box::new(|| {
-            _ = black_box(program.execute(0, &load.main, &noiseless).is_ok())
-        })),
+        published: Some(Box::new(|| _ = black_box(program.execute(0, &load.main, &noiseless).is_ok()))),
         with_reading: Box::new(|| {
             let program = Program::new(&load.job());
             _ = black_box(program.execute(0, &load.main, &noiseless).is_ok());
         }),
         engine: ENGINE.map(|engine| {
             Box::new(move || {
-                let rows = Rows {
-                    frames_x: &mut rows.0,
-                    frames_z: &mut rows.1,
-                    deltas: &mut rows.2,
-                };
+                let rows = Rows { frames_x: &mut rows.0, frames_z: &mut rows.1, deltas: &mut rows.2 };
                 let answer = engine.run(black_box(&load.bytes), load.draws(), &load.noiseless, rows);
                 assert_eq!(answer.number, 0);
             }) as _
@@ -262,9 +222,7 @@ fn around() {
     let job = read(&mixed).expect("a job that the checks accept");
     let circuit = Program::new(&job).circuit();
     Timed {
-        published: Some(Box::new(|| {
-            _ = black_box(black_box(&circuit).validate_correlated_faults().is_ok())
-        })),
+        published: Some(Box::new(|| _ = black_box(black_box(&circuit).validate_correlated_faults().is_ok()))),
         with_reading: Box::new(|| _ = black_box(Plain.correlation(&mixed))),
         engine: ENGINE.map(|engine| Box::new(|| _ = black_box(engine.correlation(&mixed))) as _),
     }

@@ -10,17 +10,10 @@ use checker::read::read;
 use generator::inputs::lent;
 use generator::jobs::{ANY, SMALL, Shape, job};
 use generator::random::Random;
-use reference::vectors::{Call, Input, input_text};
+use reference::vectors::{Call, Input, input_bytes};
 
 /// Jobs of which a sample is taken.
-const LARGER: Shape = Shape {
-    limits: Header {
-        shots: 200,
-        ..ANY.limits
-    },
-    lines: 150,
-    ..ANY
-};
+const LARGER: Shape = Shape { limits: Header { shots: 200, ..ANY.limits }, lines: 150, ..ANY };
 
 /// How many sets and shots of a larger job are looked at.
 const SAMPLE: usize = 24;
@@ -73,9 +66,7 @@ fn sums_and_counts(calls: &dyn Calls, input: &Input) -> Option<Vec<Pair>> {
     let job = read(&input.job).ok()?;
     let settled = settled(calls, input)?;
     let pair = |(set, shot): (Vec<u64>, u64)| {
-        let sum = set
-            .iter()
-            .fold(false, |sum, &id| sum ^ bit(&ran.deltas, &job.header, id, shot));
+        let sum = set.iter().fold(false, |sum, &id| sum ^ bit(&ran.deltas, &job.header, id, shot));
         let walked = calls.walk(&settled, shot, &set);
         let count = (walked.number == 0).then_some(walked.figure);
         Pair { set, shot, sum, count }
@@ -112,15 +103,9 @@ fn report(calls: &dyn Calls, input: &Input, seed: u64) {
     let first_wrong = |input: &Input| sums_and_counts(calls, input)?.into_iter().find(Pair::differ);
     let least = minimised(input, |input| first_wrong(input).is_some());
     println!("sum and count differ, seed {seed}, at its smallest:");
-    print!("{}", input_text(Call::Run, &least));
+    print!("{}", String::from_utf8_lossy(&input_bytes(Call::Run, &least)));
     if let Some(pair) = first_wrong(&least) {
-        println!(
-            "set {:?}, shot {}: sum {}, count {:?}",
-            pair.set,
-            pair.shot,
-            u8::from(pair.sum),
-            pair.count
-        );
+        println!("set {:?}, shot {}: sum {}, count {:?}", pair.set, pair.shot, u8::from(pair.sum), pair.count);
         let settled = settled(calls, &least).unwrap_or_default();
         println!("settled:\n{}", String::from_utf8_lossy(&settled));
     }

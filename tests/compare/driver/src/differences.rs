@@ -5,7 +5,7 @@ use checker::calls::Calls;
 use generator::inputs::input;
 use generator::random::Random;
 use reference::Reference;
-use reference::vectors::{Call, Input, Output, input_text};
+use reference::vectors::{Call, Input, Output, input_bytes};
 use std::collections::BTreeMap;
 use std::fmt;
 
@@ -23,11 +23,7 @@ impl Refusals {
 
 impl fmt::Display for Refusals {
     fn fmt(&self, f: &mut fmt::Formatter<'_>) -> fmt::Result {
-        let counts: Vec<_> = self
-            .0
-            .iter()
-            .map(|(number, count)| format!("{number}:{count}"))
-            .collect();
+        let counts: Vec<_> = self.0.iter().map(|(number, count)| format!("{number}:{count}")).collect();
         f.write_str(&counts.join(" "))
     }
 }
@@ -60,9 +56,7 @@ pub fn passes(under_test: &dyn Calls, call: Call, count: u64, seed: u64, all: &m
 /// The refusal's number, also where it was printed.
 fn number(output: &Output) -> u64 {
     let printed = String::from_utf8_lossy(&output.bytes);
-    let refusal = printed
-        .strip_prefix("ok=0 refusal=")
-        .and_then(|rest| rest.split(' ').next()?.parse().ok());
+    let refusal = printed.strip_prefix("ok=0 refusal=").and_then(|rest| rest.split(' ').next()?.parse().ok());
     refusal.unwrap_or(output.answer.number)
 }
 
@@ -80,15 +74,11 @@ fn report(under_test: &dyn Calls, call: Call, seed: u64, input: &Input) {
         numbers(&both) == first && !both.0.allows(&both.1)
     });
     println!("difference in {}, seed {seed}, at its smallest:", call.name());
-    print!("{}", input_text(call, &least));
+    print!("{}", String::from_utf8_lossy(&input_bytes(call, &least)));
     for (name, calls) in [("expected", &Reference as &dyn Calls), ("got", under_test)] {
         let output = least.make(call, calls).expect("it was made before");
         println!("{name} {:?}", output.answer);
-        let words = [
-            ("frames_x", &output.frames_x),
-            ("frames_z", &output.frames_z),
-            ("deltas", &output.deltas),
-        ];
+        let words = [("frames_x", &output.frames_x), ("frames_z", &output.frames_z), ("deltas", &output.deltas)];
         for (key, words) in words.into_iter().filter(|(_, words)| !words.is_empty()) {
             println!("{name} {key} {words:x?}");
         }
@@ -121,10 +111,7 @@ mod tests {
 
     impl Calls for Refusing {
         fn check(&self, _: &[u8]) -> Answer {
-            Answer {
-                number: 1,
-                ..Answer::default()
-            }
+            Answer { number: 1, ..Answer::default() }
         }
 
         fn run(&self, job: &[u8], _: Draws<'_>, _: &[u64], _: Rows<'_>) -> Answer {

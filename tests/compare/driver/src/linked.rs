@@ -82,11 +82,7 @@ pub struct Linked;
 fn answered(call: impl FnOnce(*mut RawAnswer)) -> Answer {
     let mut raw = RawAnswer::default();
     call(&mut raw);
-    Answer {
-        number: raw.number,
-        line: raw.line,
-        figure: raw.figure,
-    }
+    Answer { number: raw.number, line: raw.line, figure: raw.figure }
 }
 
 // SAFETY, for every call below: pointers and lengths are those of slices that live through the call, and no two slices that it writes overlap.

@@ -23,6 +23,7 @@ usage: compare CALL N [SEED]      N random inputs of a call: check, run, settle,
        compare backward N [SEED]  N jobs: for sets and shots, all of a small job's, the sum of deltas is the walk's count modulo 2
        compare vectors            the stored vectors
        compare all N [SEED]       all of these
+       compare write CALL N SEED  N vectors of a call, made by the reference, on standard output
        compare bench              times beside the published Rust's
 A difference is seen again by `compare CALL 1 SEED` with the seed that it prints.";
 
@@ -30,10 +31,7 @@ A difference is seen again by `compare CALL 1 SEED` with the seed that it prints
 #[cfg(feature = "linked")]
 const UNDER_TEST: (&str, &dyn Calls) = ("libkundatrezo", &linked::Linked);
 #[cfg(not(feature = "linked"))]
-const UNDER_TEST: (&str, &dyn Calls) = (
-    "document 01's plainest form (no library linked)",
-    &checker::plain::Plain,
-);
+const UNDER_TEST: (&str, &dyn Calls) = ("document 01's plainest form (no library linked)", &checker::plain::Plain);
 
 fn main() -> ExitCode {
     let arguments: Vec<String> = std::env::args().skip(1).collect();
@@ -44,6 +42,7 @@ fn main() -> ExitCode {
             bench::run();
             true
         }
+        ["write", call, count, seed] => write(call, count, seed),
         [command, count] => counted(command, count, None),
         [command, count, seed] => counted(command, count, Some(seed)),
         _ => usage(),
@@ -54,6 +53,14 @@ fn main() -> ExitCode {
 fn usage() -> bool {
     eprintln!("{USAGE}");
     false
+}
+
+fn write(call: &str, count: &str, seed: &str) -> bool {
+    let call = CALLS.into_iter().find(|known| known.name() == call);
+    match (call, count.parse(), seed.parse()) {
+        (Some(call), Ok(count), Ok(seed)) => stored::write(call, count, seed),
+        _ => usage(),
+    }
 }
 
 fn counted(command: &str, count: &str, seed: Option<&str>) -> bool {

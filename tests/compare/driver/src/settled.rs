@@ -5,16 +5,10 @@ use checker::job::Header;
 use generator::inputs::lent;
 use generator::jobs::{ANY, Shape, job};
 use generator::random::Random;
-use reference::vectors::{Call, Input, Output, input_text};
+use reference::vectors::{Call, Input, Output, input_bytes};
 
 /// Jobs with shots enough for rows of several words.
-const SHAPE: Shape = Shape {
-    limits: Header {
-        shots: 200,
-        ..ANY.limits
-    },
-    ..ANY
-};
+const SHAPE: Shape = Shape { limits: Header { shots: 200, ..ANY.limits }, ..ANY };
 
 /// Run `count` jobs in both ways, and print what was found. Jobs that a run or settling refuses are left out.
 pub fn passes(under_test: &dyn Calls, count: u64, seed: u64) -> bool {
@@ -29,10 +23,8 @@ pub fn passes(under_test: &dyn Calls, count: u64, seed: u64) -> bool {
         compared += 1;
         if drawn != settled {
             differences += 1;
-            println!(
-                "a settled text runs otherwise, seed {seed}:\n{}",
-                input_text(Call::Run, &input)
-            );
+            let text = input_bytes(Call::Run, &input);
+            println!("a settled text runs otherwise, seed {seed}:\n{}", String::from_utf8_lossy(&text));
         }
     }
     println!("settled: {count} jobs, {compared} of them run in both ways, {differences} differences");

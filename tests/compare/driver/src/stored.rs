@@ -1,8 +1,39 @@
 //! The stored vectors.
 
 use checker::calls::Calls;
+use generator::inputs::input;
+use generator::random::Random;
 use reference::Reference;
-use reference::vectors::{CALLS, Call, cases, folder};
+use reference::vectors::{CALLS, Call, Case, case_bytes, cases, folder};
+use std::io::Write;
+
+/// The longest case that is written.
+const MOST_BYTES: usize = 6_000;
+
+/// Write `count` cases of a call to standard output, answered by the reference: those of the seeds from `seed` on that aren't too long.
+pub fn write(call: Call, count: u64, seed: u64) -> bool {
+    let mut out = std::io::stdout().lock();
+    let mut number = 1;
+    for seed in (0..).map(|k| seed.wrapping_add(k)) {
+        if number > count {
+            break;
+        }
+        let bytes = case_bytes(call, &case(call, number, seed));
+        if bytes.len() <= MOST_BYTES {
+            number += 1;
+            if out.write_all(&bytes).is_err() {
+                return false;
+            }
+        }
+    }
+    true
+}
+
+fn case(call: Call, number: u64, seed: u64) -> Case {
+    let input = input(&mut Random::new(seed), call);
+    let output = input.make(call, &Reference).expect("the reference makes every call");
+    Case { number, input, output }
+}
 
 /// Answer the vectors by the reference and by the calls under test, and print what was found.
 pub fn passes(under_test: &dyn Calls) -> bool {
@@ -34,10 +65,26 @@ fn answers(under_test: &dyn Calls, call: Call) -> bool {
             }
         }
     }
-    println!(
-        "vectors of {}: {} cases, {differences} differences",
-        call.name(),
-        cases.len()
-    );
+    println!("vectors of {}: {} cases, {differences} differences", call.name(), cases.len());
     differences == 0
+}
+
+#[cfg(test)]
+mod tests {
+    use super::case;
+    use reference::vectors::{CALLS, case_bytes, cases};
+
+    #[test]
+    fn written_cases_read_as_they_were() {
+        for call in CALLS {
+            let written: Vec<_> = (1..40).map(|number| case(call, number, number)).collect();
+            let bytes: Vec<u8> = written.iter().flat_map(|case| case_bytes(call, case)).collect();
+            let read = cases(call, &bytes);
+            assert_eq!(read.len(), written.len());
+            for (read, written) in read.iter().zip(&written) {
+                assert_eq!(case_bytes(call, read), case_bytes(call, written));
+                assert!(read.output.allows(&written.output), "{} case {}", call.name(), read.number);
+            }
+        }
+    }
 }

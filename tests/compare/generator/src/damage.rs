@@ -80,11 +80,21 @@ fn value_damaged(random: &mut Random, job: &[u8], header: &Header) -> Vec<u8> {
         return job.to_vec();
     }
     let key = random.pick(&keys);
-    let with_key: Vec<Field<'_>> = fields.into_iter().filter(|field| field.key == key).collect();
-    let field = random.pick(&with_key);
-    let value = changed(random, &field, header);
-    let after = &text[field.place + field.value.len()..];
-    [&text[..field.place], &value, after].concat().into_bytes()
+    let with_key: Vec<Field<'_>> = fields.iter().filter(|field| field.key == key).copied().collect();
+    let mut chosen = vec![random.pick(&with_key)];
+    let beside = |field: &&Field<'_>| field.number == chosen[0].number && field.key != key;
+    let beside: Vec<Field<'_>> = fields.iter().filter(beside).copied().collect();
+    // Two faults on one line: its lowest number counts.
+    if random.one_in(3) && !beside.is_empty() {
+        chosen.push(random.pick(&beside));
+    }
+    chosen.sort_by_key(|field| std::cmp::Reverse(field.place));
+    let mut damaged = text.to_owned();
+    for field in chosen {
+        let value = changed(random, &field, header);
+        damaged.replace_range(field.place..field.place + field.value.len(), &value);
+    }
+    damaged.into_bytes()
 }
 
 /// How often a key is damaged: less where little but 2 can come of it, more where a number hangs on it alone.
@@ -100,6 +110,8 @@ fn weight(key: &str) -> usize {
 /// A field of a job.
 #[derive(Clone, Copy)]
 struct Field<'a> {
+    /// The line, counted from 0.
+    number: usize,
     /// What the line begins with: `op=u`, or an element line's first field.
     line: &'a str,
     key: &'a str,
@@ -110,23 +122,16 @@ struct Field<'a> {
 
 fn fields(text: &str) -> impl Iterator<Item = Field<'_>> {
     let start = text.as_ptr() as usize;
-    text.lines().flat_map(move |all| {
+    text.lines().enumerate().flat_map(move |(number, all)| {
         let line = all.split(' ').next().unwrap_or_default();
         let pairs = all.split(' ').filter_map(|field| field.split_once('='));
-        pairs.map(move |(key, value)| Field {
-            line,
-            key,
-            value,
-            place: value.as_ptr() as usize - start,
-        })
+        pairs.map(move |(key, value)| Field { number, line, key, value, place: value.as_ptr() as usize - start })
     })
 }
 
 fn changed(random: &mut Random, field: &Field<'_>, header: &Header) -> String {
     const NO_VALUES: [&str; 12] = ["", "-", "00", "01", "+1", "-0", "0x1", "0,0", "1,", ",1", "-,1", "a"];
-    const LETTERS: [&str; 16] = [
-        "job", "u", "c", "p", "e", "k", "m", "o", "r", "f", "z", "i", "t", "n", "b", "op",
-    ];
+    const LETTERS: [&str; 16] = ["job", "u", "c", "p", "e", "k", "m", "o", "r", "f", "z", "i", "t", "n", "b", "op"];
     let value = field.value;
     let old = value.parse().unwrap_or(0);
     if random.one_in(20) {
@@ -158,9 +163,7 @@ fn near(random: &mut Random, numbers: &[u64]) -> String {
     let number = random.pick(numbers);
     match random.below(12) {
         0 => u64::MAX.to_string(),
-        1 => random
-            .pick(&["18446744073709551616", "99999999999999999999"])
-            .to_owned(),
+        1 => random.pick(&["18446744073709551616", "99999999999999999999"]).to_owned(),
         2..4 => number.saturating_sub(1).to_string(),
         4..8 => number.to_string(),
         _ => number.wrapping_add(1).to_string(),
@@ -217,15 +220,13 @@ fn form_changed(random: &mut Random, word: u64) -> String {
 
 /// An entry changed, dropped, repeated or put in, mostly so that the list still rises; the list as long as may be, or longer.
 fn list_changed(random: &mut Random, value: &str, end: u64) -> String {
-    let mut entries: Vec<String> = value
-        .split(',')
-        .filter(|entry| *entry != "-")
-        .map(str::to_owned)
-        .collect();
+    let mut entries: Vec<String> = value.split(',').filter(|entry| *entry != "-").map(str::to_owned).collect();
     let place = random.index(entries.len() + 1);
-    match random.below(12) {
+    let fresh = (0..end).map(|entry| entry.to_string()).find(|entry| !entries.contains(entry));
+    match random.below(13) {
         0..3 => entries.push(near(random, &[end])),
         3 => entries.insert(place, random.below(end.max(1)).to_string()),
+        12 => entries.extend(fresh),
         4..6 if !entries.is_empty() => {
             entries.pop();
             entries.push(near(random, &[end]));
@@ -240,9 +241,5 @@ fn list_changed(random: &mut Random, value: &str, end: u64) -> String {
             entries = (first..first + length).map(|entry: u64| entry.to_string()).collect();
         }
     }
-    if entries.is_empty() {
-        "-".to_owned()
-    } else {
-        entries.join(",")
-    }
+    if entries.is_empty() { "-".to_owned() } else { entries.join(",") }
 }

@@ -15,18 +15,10 @@ use reference::vectors::{Call, Input};
 /// A random input of a call.
 pub fn input(random: &mut Random, call: Call) -> Input {
     let shape = shape(random, call);
-    let made = if random.one_in(300) {
-        large(random, call)
-    } else {
-        job(random, &shape)
-    };
+    let made = if random.one_in(300) { large(random, call) } else { job(random, &shape) };
     let bytes = made.bytes();
     let mut input = lent(random, call, &bytes);
-    let damage = if call == Call::Check {
-        !random.one_in(3)
-    } else {
-        random.one_in(5)
-    };
+    let damage = if call == Call::Check { !random.one_in(3) } else { random.one_in(5) };
     if random.one_in(300) {
         input.job = at_limit(random, call);
     } else if damage {
@@ -37,27 +29,15 @@ pub fn input(random: &mut Random, call: Call) -> Input {
 
 /// Jobs that a call is mostly handed: a walk without noise, a printing program within its limits.
 fn shape(random: &mut Random, call: Call) -> Shape {
-    let printed = Header {
-        qubits: 64,
-        outcomes: 256,
-        shots: 64,
-    };
+    let printed = Header { qubits: 64, outcomes: 256, shots: 64 };
     let size = if random.one_in(2) { DENSE } else { ANY };
     match call {
         Call::Run | Call::Settle => size,
-        Call::Walk => Shape {
-            noise: if random.one_in(6) { ANY.noise } else { 0 },
-            ..size
-        },
-        Call::Print => Shape {
-            limits: if random.one_in(6) { ANY.limits } else { printed },
-            draws: random.one_in(4),
-            ..ANY
-        },
-        Call::Check => Shape {
-            noise: random.pick(&[2, 2, 30]),
-            ..ANY
-        },
+        Call::Walk => Shape { noise: if random.one_in(6) { ANY.noise } else { 0 }, ..size },
+        Call::Print => {
+            Shape { limits: if random.one_in(6) { ANY.limits } else { printed }, draws: random.one_in(4), ..ANY }
+        }
+        Call::Check => Shape { noise: random.pick(&[2, 2, 30]), ..ANY },
         Call::Correlation => Shape { noise: 60, ..ANY },
         Call::Annotate | Call::Locations => ANY,
     }
@@ -65,11 +45,7 @@ fn shape(random: &mut Random, call: Call) -> Shape {
 
 /// A long job; settling and annotation may pass the longest text that they may write.
 fn large(random: &mut Random, call: Call) -> Made {
-    let header = Header {
-        qubits: 256,
-        outcomes: 4,
-        shots: 4096,
-    };
+    let header = Header { qubits: 256, outcomes: 4, shots: 4096 };
     let pauli = Pauli {
         x: random.subset(256, MAX_LIST).into_iter().collect(),
         z: random.subset(256, MAX_LIST).into_iter().collect(),
@@ -82,10 +58,7 @@ fn large(random: &mut Random, call: Call) -> Made {
     };
     let room = (MAX_BYTES - write::header(&header).len()) / write::instruction(&instruction).len();
     let count = 1 + random.index(room.min(most));
-    Made {
-        header,
-        instructions: vec![instruction; count],
-    }
+    Made { header, instructions: vec![instruction; count] }
 }
 
 /// A Pauli in every shot.
@@ -103,18 +76,12 @@ fn always(pauli: Pauli) -> Instruction {
 fn at_limit(random: &mut Random, call: Call) -> Vec<u8> {
     const LINES: [&str; 2] = ["op=z q=0\n", "op=u g=4 q=0\n"];
     const HEADER: &str = "op=job qubits=1 outcomes=0 shots=1\n";
-    let limit = if call == Call::Print {
-        MAX_PRINTED_BYTES
-    } else {
-        MAX_BYTES
-    };
+    let limit = if call == Call::Print { MAX_PRINTED_BYTES } else { MAX_BYTES };
     let left = limit - 1 + random.index(3) - HEADER.len();
     let longer = (0..).find(|count| (left - count * LINES[1].len()).is_multiple_of(LINES[0].len()));
     let longer = longer.expect("the lengths have no common divisor");
     let shorter = (left - longer * LINES[1].len()) / LINES[0].len();
-    [HEADER, &LINES[1].repeat(longer), &LINES[0].repeat(shorter)]
-        .concat()
-        .into_bytes()
+    [HEADER, &LINES[1].repeat(longer), &LINES[0].repeat(shorter)].concat().into_bytes()
 }
 
 /// What the call of an accepted job is lent.
@@ -124,10 +91,7 @@ fn at_limit(random: &mut Random, call: Call) -> Vec<u8> {
 /// Panics if the checks refuse the job.
 pub fn lent(random: &mut Random, call: Call, bytes: &[u8]) -> Input {
     let job = read(bytes).expect("a job that the checks accept");
-    let mut input = Input {
-        job: bytes.to_vec(),
-        ..Input::default()
-    };
+    let mut input = Input { job: bytes.to_vec(), ..Input::default() };
     match call {
         Call::Run => {
             lend_draws(random, &job, &mut input);
@@ -229,47 +193,23 @@ fn words_near(random: &mut Random, need: usize) -> Vec<u64> {
 
 /// Lists of draws, noiseless bits and a base. The main list often ends where the job's draws end, or before.
 fn lend_draws(random: &mut Random, job: &Job<'_>, input: &mut Input) {
-    let noises: Vec<&Noise> = job
-        .lines
-        .iter()
-        .filter_map(|line| as_noise(&line.instruction))
-        .collect();
+    let noises: Vec<&Noise> = job.lines.iter().filter_map(|line| as_noise(&line.instruction)).collect();
     let thresholds: Vec<u64> = noises.iter().flat_map(|noise| thresholds(noise)).collect();
     let per_line = 3 * usize_of(job.header.shots) + 8;
     let uncorrelated = noises.iter().filter(|noise| noise.correlation.is_none()).count();
     let correlations: Vec<u64> = noises.iter().filter_map(|noise| noise.correlation).collect();
 
     let place = random.below(9);
-    let correlation = if correlations.is_empty() {
-        random.word()
-    } else {
-        random.pick(&correlations)
-    };
-    input.base = if random.one_in(10) {
-        random.word()
-    } else {
-        place.wrapping_sub(correlation)
-    };
-    let second_length = if correlations.is_empty() {
-        random.index(4)
-    } else {
-        per_line + usize_of(place)
-    };
-    let second_length = if random.one_in(8) {
-        random.index(second_length + 1)
-    } else {
-        second_length
-    };
+    let correlation = if correlations.is_empty() { random.word() } else { random.pick(&correlations) };
+    input.base = if random.one_in(10) { random.word() } else { place.wrapping_sub(correlation) };
+    let second_length = if correlations.is_empty() { random.index(4) } else { per_line + usize_of(place) };
+    let second_length = if random.one_in(8) { random.index(second_length + 1) } else { second_length };
 
     input.noiseless = words_near(random, job.header.outcome_words());
     input.main = draw_words(random, uncorrelated * per_line, &thresholds);
     input.second = draw_words(random, second_length, &thresholds);
     if input.noiseless.len() >= job.header.outcome_words() {
-        let draws = Draws {
-            base: input.base,
-            main: &input.main,
-            second: &input.second,
-        };
+        let draws = Draws { base: input.base, main: &input.main, second: &input.second };
         if let Ok(settled) = settled(job, draws, &input.noiseless) {
             let length = main_length(random, usize_of(settled.words_read), input.main.len());
             input.main.truncate(length);
@@ -317,16 +257,7 @@ fn threshold(p: f64) -> u64 {
 
 /// Words of which many lie where something changes: next to a probability or a running sum, at either end, at the bound of a rejection.
 fn draw_words(random: &mut Random, count: usize, thresholds: &[u64]) -> Vec<u64> {
-    const EDGES: [u64; 8] = [
-        0,
-        2047,
-        2048,
-        1 << 62,
-        1 << 63,
-        u64::MAX - 2048,
-        u64::MAX - 2047,
-        u64::MAX,
-    ];
+    const EDGES: [u64; 8] = [0, 2047, 2048, 1 << 62, 1 << 63, u64::MAX - 2048, u64::MAX - 2047, u64::MAX];
     // Of 16 words so many are at a threshold, or otherwise out of the ordinary.
     let (at_threshold, special) = random.pick(&[(0, 0), (2, 6), (8, 11)]);
     let mut word = || match random.below(16) {

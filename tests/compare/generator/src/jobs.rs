@@ -23,11 +23,7 @@ pub struct Shape {
 
 /// Any job of a header's limits.
 pub const ANY: Shape = Shape {
-    limits: Header {
-        qubits: 256,
-        outcomes: 1024,
-        shots: 4096,
-    },
+    limits: Header { qubits: 256, outcomes: 1024, shots: 4096 },
     lines: 1500,
     usual_lines: 25,
     all_outcomes: false,
@@ -37,11 +33,7 @@ pub const ANY: Shape = Shape {
 
 /// Jobs small enough to go through every set and shot.
 pub const SMALL: Shape = Shape {
-    limits: Header {
-        qubits: 4,
-        outcomes: 5,
-        shots: 5,
-    },
+    limits: Header { qubits: 4, outcomes: 5, shots: 5 },
     lines: 40,
     usual_lines: 25,
     all_outcomes: false,
@@ -51,11 +43,7 @@ pub const SMALL: Shape = Shape {
 
 /// Jobs with little room and many lines, so that what a line does is noticed by others.
 pub const DENSE: Shape = Shape {
-    limits: Header {
-        qubits: 5,
-        outcomes: 40,
-        shots: 70,
-    },
+    limits: Header { qubits: 5, outcomes: 40, shots: 70 },
     lines: 150,
     usual_lines: 80,
     all_outcomes: true,
@@ -123,11 +111,7 @@ fn header(random: &mut Random, shape: &Shape) -> Header {
     let shots = [1, 2, 3, 5, 63, 64, 65, 127, 128, 129, 1000, 4095, 4096];
     Header {
         qubits: limit(random, &qubits, 1, limits.qubits),
-        outcomes: if shape.all_outcomes {
-            limits.outcomes
-        } else {
-            limit(random, &outcomes, 0, limits.outcomes)
-        },
+        outcomes: if shape.all_outcomes { limits.outcomes } else { limit(random, &outcomes, 0, limits.outcomes) },
         shots: limit(random, &shots, 1, limits.shots),
     }
 }
@@ -135,11 +119,7 @@ fn header(random: &mut Random, shape: &Shape) -> Header {
 /// A number that often is an interesting one.
 fn limit(random: &mut Random, interesting: &[u64], least: u64, most: u64) -> u64 {
     let chosen = random.pick(interesting);
-    if chosen > most || random.one_in(4) {
-        random.between(least, most)
-    } else {
-        chosen
-    }
+    if chosen > most || random.one_in(4) { random.between(least, most) } else { chosen }
 }
 
 /// Few lines mostly, and fewer with many shots, so that a job is soon run.
@@ -182,35 +162,14 @@ impl Maker<'_> {
             3..5 => self.clifford(),
             5 => Instruction::Pauli(self.pauli()),
             6 => Instruction::Exponential(self.pauli()),
-            7 => Instruction::Controlled {
-                control: self.pauli(),
-                target: Box::new(self.pauli()),
-            },
+            7 => Instruction::Controlled { control: self.pauli(), target: Box::new(self.pauli()) },
             8 => self.permute(),
-            9..11 => Instruction::Measure {
-                observable: self.pauli(),
-                id: self.next_id()?,
-            },
-            11 => Instruction::Allocate {
-                id: self.next_id()?,
-                angle: self.random.one_in(2),
-            },
-            12 => Instruction::Conditional {
-                pauli: self.pauli(),
-                ids: self.ids(),
-                parity: self.random.one_in(2),
-            },
-            13 => Instruction::Reset {
-                qubit: self.qubits(1)[0],
-            },
-            14 => Instruction::Inject {
-                shot: self.shot(),
-                pauli: self.pauli(),
-            },
-            15 if self.recorded > 0 => Instruction::Flip {
-                shot: self.shot(),
-                id: self.random.below(self.recorded),
-            },
+            9..11 => Instruction::Measure { observable: self.pauli(), id: self.next_id()? },
+            11 => Instruction::Allocate { id: self.next_id()?, angle: self.random.one_in(2) },
+            12 => Instruction::Conditional { pauli: self.pauli(), ids: self.ids(), parity: self.random.one_in(2) },
+            13 => Instruction::Reset { qubit: self.qubits(1)[0] },
+            14 => Instruction::Inject { shot: self.shot(), pauli: self.pauli() },
+            15 if self.recorded > 0 => Instruction::Flip { shot: self.shot(), id: self.random.below(self.recorded) },
             18.. => Instruction::Noise(Box::new(self.noise())),
             _ => return None,
         })
@@ -244,10 +203,7 @@ impl Maker<'_> {
             return Pauli::default();
         }
         let (x, z) = (self.count(), self.count());
-        Pauli {
-            x: self.rising_qubits(x),
-            z: self.rising_qubits(z),
-        }
+        Pauli { x: self.rising_qubits(x), z: self.rising_qubits(z) }
     }
 
     /// At least one qubit, in any order.
@@ -271,10 +227,7 @@ impl Maker<'_> {
             return self.random.distinct(self.header.qubits, count).into_iter().collect();
         }
         let places = self.random.distinct(self.busy_qubits.len() as u64, count);
-        places
-            .into_iter()
-            .map(|place| self.busy_qubits[usize_of(place)])
-            .collect()
+        places.into_iter().map(|place| self.busy_qubits[usize_of(place)]).collect()
     }
 
     fn rising_qubits(&mut self, count: usize) -> List {
@@ -284,19 +237,11 @@ impl Maker<'_> {
     }
 
     fn shot(&mut self) -> u64 {
-        if self.random.one_in(4) {
-            self.random.below(self.header.shots)
-        } else {
-            self.random.pick(&self.busy_shots)
-        }
+        if self.random.one_in(4) { self.random.below(self.header.shots) } else { self.random.pick(&self.busy_shots) }
     }
 
     fn unitary(&mut self) -> Option<Instruction> {
-        let gate = if self.random.one_in(3) {
-            self.random.between(11, 14)
-        } else {
-            self.random.below(15)
-        };
+        let gate = if self.random.one_in(3) { self.random.between(11, 14) } else { self.random.below(15) };
         let count = if gate <= 10 { 1 } else { 2 };
         let qubits = self.qubits(count);
         (qubits.len() == count).then_some(Instruction::Unitary { gate, qubits })
@@ -312,17 +257,13 @@ impl Maker<'_> {
     fn permute(&mut self) -> Instruction {
         let qubits = self.places();
         let places = self.random.distinct(qubits.len() as u64, qubits.len());
-        Instruction::Permute {
-            places: places.into_iter().collect(),
-            qubits,
-        }
+        Instruction::Permute { places: places.into_iter().collect(), qubits }
     }
 
     // ---- noise
 
     fn noise(&mut self) -> Noise {
-        let correlation = (!self.random.one_in(3)).then(|| self.correlation());
-        let correlation = if self.random.one_in(2) { None } else { correlation };
+        let correlation = self.random.one_in(3).then(|| self.correlation());
         let size = correlation.and_then(|id| self.size(id));
         let condition = if self.random.one_in(2) { List::new() } else { self.ids() };
         Noise {
@@ -391,16 +332,7 @@ impl Maker<'_> {
 /// A probability's bits; without draws, one at or below zero.
 fn probability(random: &mut Random, draws: bool) -> u64 {
     let never = [0.0, -0.0, -1.0, f64::NEG_INFINITY, -f64::MIN_POSITIVE];
-    let often = [
-        1.0,
-        0.5,
-        0.25,
-        0.75,
-        0.9,
-        1.0 - f64::EPSILON / 2.0,
-        0.001,
-        f64::EPSILON / 2.0,
-    ];
+    let often = [1.0, 0.5, 0.25, 0.75, 0.9, 1.0 - f64::EPSILON / 2.0, 0.001, f64::EPSILON / 2.0];
     let rare = [f64::MIN_POSITIVE, f64::from_bits(1), f64::EPSILON / 4.0];
     let p = match random.below(8) {
         0 => random.pick(&never),
@@ -414,23 +346,10 @@ fn probability(random: &mut Random, draws: bool) -> u64 {
 
 /// Weights' bits whose total passes.
 fn weights(random: &mut Random, count: usize) -> Vec<u64> {
-    let special = [
-        0.0,
-        -0.0,
-        1.0,
-        2.0,
-        9.0,
-        f64::from_bits(1),
-        f64::MIN_POSITIVE,
-        f64::MAX / 64.0,
-    ];
+    let special = [0.0, -0.0, 1.0, 2.0, 9.0, f64::from_bits(1), f64::MIN_POSITIVE, f64::MAX / 64.0];
     let mut weights: Vec<f64> = Vec::new();
     for _ in 0..count {
-        weights.push(if random.one_in(3) {
-            random.pick(&special)
-        } else {
-            random.unit()
-        });
+        weights.push(if random.one_in(3) { random.pick(&special) } else { random.unit() });
     }
     if weights.iter().sum::<f64>() == 0.0 {
         weights[random.index(count)] = 0.5;

@@ -7,11 +7,7 @@ use checker::job::{Distribution, Header, Instruction, List, Noise};
 /// A header for measuring, with as many outcomes as may be.
 #[must_use]
 pub fn header(qubits: u64, shots: u64) -> Header {
-    Header {
-        qubits,
-        outcomes: 1024,
-        shots,
-    }
+    Header { qubits, outcomes: 1024, shots }
 }
 
 /// Gate lines alone.
@@ -29,17 +25,12 @@ pub fn noisy_gates(header: Header, gates: usize, p: f64) -> Made {
     let mut instructions = Vec::new();
     for _ in 0..gates {
         let gate = gate(&mut random, header.qubits);
-        let Instruction::Unitary { qubits, .. } = &gate else {
-            unreachable!("a gate")
-        };
+        let Instruction::Unitary { qubits, .. } = &gate else { unreachable!("a gate") };
         let noise = depolarizing(qubits.clone(), p);
         instructions.extend([gate, noise]);
     }
     let measured = (0..header.qubits).map(|qubit| Instruction::Measure {
-        observable: checker::job::Pauli {
-            x: List::new(),
-            z: [qubit].into_iter().collect(),
-        },
+        observable: checker::job::Pauli { x: List::new(), z: [qubit].into_iter().collect() },
         id: qubit,
     });
     instructions.extend(measured);
@@ -61,11 +52,7 @@ pub fn noise(header: Header, lines: usize, p: f64) -> Made {
 /// Lines of every kind. Faults are as rare as `p` says, and correlations small, so that a short second list with base 0 serves.
 #[must_use]
 pub fn mixed(header: Header, lines: u64, p: f64) -> Made {
-    let shape = Shape {
-        limits: header,
-        noise: 4,
-        ..ANY
-    };
+    let shape = Shape { limits: header, noise: 4, ..ANY };
     let mut made = job_of(&mut Random::new(4), header, lines, &shape);
     for instruction in &mut made.instructions {
         if let Instruction::Noise(noise) = instruction {
@@ -92,10 +79,7 @@ pub fn cut(mut made: Made, length: usize) -> Vec<u8> {
 fn gate(random: &mut Random, qubits: u64) -> Instruction {
     let gate = random.below(15);
     let count = if gate <= 10 { 1 } else { 2 };
-    Instruction::Unitary {
-        gate,
-        qubits: random.distinct(qubits, count).into_iter().collect(),
-    }
+    Instruction::Unitary { gate, qubits: random.distinct(qubits, count).into_iter().collect() }
 }
 
 fn depolarizing(qubits: List, p: f64) -> Instruction {

@@ -45,11 +45,7 @@ impl Program {
     #[must_use]
     pub fn new(job: &Job<'_>) -> Self {
         let steps = job.lines.iter().map(|line| (line.number, step(&line.instruction)));
-        Self {
-            header: job.header,
-            recorded: usize_of(job.recorded),
-            steps: steps.collect(),
-        }
+        Self { header: job.header, recorded: usize_of(job.recorded), steps: steps.collect() }
     }
 
     /// `execute` from a `new` frame, with resets, injections and flips at their own lines. The second list is lent by [`rand::lend_second`].
@@ -77,12 +73,7 @@ impl Program {
             }
         };
         until_spent(run).ok_or(Refusal::at(14, at))?;
-        Ok(Executed {
-            propagator,
-            header: self.header,
-            recorded: self.recorded,
-            words_read: rng.read(),
-        })
+        Ok(Executed { propagator, header: self.header, recorded: self.recorded, words_read: rng.read() })
     }
 
     /// The job's instructions as a circuit, which has no resets, injections and flips.
@@ -234,22 +225,13 @@ fn annotation(instruction: &Published, p: f64) -> Option<Annotation> {
         return None;
     }
     let before = instruction.noise_before();
-    let noise = if before {
-        noisy.iter().next()
-    } else {
-        noisy.iter_rev().next()
-    };
-    let Some(Published::Noise { fault }) = noise else {
-        panic!("the instruction and its noise")
-    };
+    let noise = if before { noisy.iter().next() } else { noisy.iter_rev().next() };
+    let Some(Published::Noise { fault }) = noise else { panic!("the instruction and its noise") };
     let PauliDistribution::DepolarizingOnQubits(qubits) = &fault.distribution else {
         panic!("depolarizing noise");
     };
     assert!(fault.probability.to_bits() == p.to_bits() && fault.correlation_id.is_none() && fault.condition.is_none());
-    Some(Annotation {
-        before,
-        qubits: qubits.iter().map(|&qubit| qubit as u64).collect(),
-    })
+    Some(Annotation { before, qubits: qubits.iter().map(|&qubit| qubit as u64).collect() })
 }
 
 /// What `inject_noise` draws, with the faults kept instead of injected.
@@ -284,37 +266,27 @@ fn draw_from(fault: &PauliFault, noiseless: &NoiselessOutcomes, rng: &mut impl R
 
 fn step(instruction: &Instruction) -> Step {
     Step::Instruction(match instruction {
-        Instruction::Unitary { gate, qubits } => Published::Unitary {
-            opcode: opcode(*gate),
-            qubits: indices(qubits),
-        },
-        Instruction::Clifford { qubits, table } => Published::Clifford {
-            clifford: clifford(*table, qubits.len()),
-            qubits: indices(qubits),
-        },
+        Instruction::Unitary { gate, qubits } => Published::Unitary { opcode: opcode(*gate), qubits: indices(qubits) },
+        Instruction::Clifford { qubits, table } => {
+            Published::Clifford { clifford: clifford(*table, qubits.len()), qubits: indices(qubits) }
+        }
         Instruction::Pauli(pauli) => Published::Pauli { pauli: of(pauli) },
         Instruction::Exponential(pauli) => Published::PauliExp { pauli: of(pauli) },
-        Instruction::Controlled { control, target } => Published::ControlledPauli {
-            control: of(control),
-            target: of(target),
-        },
-        Instruction::Permute { places, qubits } => Published::Permute {
-            permutation: indices(places),
-            qubits: indices(qubits),
-        },
-        Instruction::Measure { observable, id } => Published::Measure {
-            observable: of(observable),
-            outcome_id: usize_of(*id),
-        },
-        Instruction::Allocate { id, angle } => Published::AllocateRandomBit {
-            outcome_id: usize_of(*id),
-            symbolic_angle: *angle,
-        },
-        Instruction::Conditional { pauli, ids, parity } => Published::ConditionalPauli {
-            pauli: of(pauli),
-            outcomes: indices(ids),
-            parity: *parity,
-        },
+        Instruction::Controlled { control, target } => {
+            Published::ControlledPauli { control: of(control), target: of(target) }
+        }
+        Instruction::Permute { places, qubits } => {
+            Published::Permute { permutation: indices(places), qubits: indices(qubits) }
+        }
+        Instruction::Measure { observable, id } => {
+            Published::Measure { observable: of(observable), outcome_id: usize_of(*id) }
+        }
+        Instruction::Allocate { id, angle } => {
+            Published::AllocateRandomBit { outcome_id: usize_of(*id), symbolic_angle: *angle }
+        }
+        Instruction::Conditional { pauli, ids, parity } => {
+            Published::ConditionalPauli { pauli: of(pauli), outcomes: indices(ids), parity: *parity }
+        }
         Instruction::Noise(noise) => Published::noise(fault(noise)),
         Instruction::Reset { qubit } => return Step::Reset(usize_of(*qubit)),
         Instruction::Inject { shot, pauli } => return Step::Inject(usize_of(*shot), of(pauli)),
@@ -328,9 +300,7 @@ fn fault(noise: &Noise) -> PauliFault {
         Distribution::Depolarizing(qubits) => PauliDistribution::depolarizing(&indices(qubits)),
         Distribution::Uniform(paulis) => PauliDistribution::uniform(paulis.iter().map(of).collect()),
         Distribution::Weighted(elements) => {
-            let pairs = elements
-                .iter()
-                .map(|(weight, pauli)| (of(pauli), f64::from_bits(*weight)));
+            let pairs = elements.iter().map(|(weight, pauli)| (of(pauli), f64::from_bits(*weight)));
             PauliDistribution::weighted(pairs.collect())
         }
     };
@@ -340,11 +310,7 @@ fn fault(noise: &Noise) -> PauliFault {
         correlation_id: noise.correlation,
         condition: None,
     };
-    if noise.condition.is_empty() {
-        fault
-    } else {
-        fault.with_condition(&indices(&noise.condition), noise.parity)
-    }
+    if noise.condition.is_empty() { fault } else { fault.with_condition(&indices(&noise.condition), noise.parity) }
 }
 
 fn opcode(gate: u64) -> UnitaryOp {
@@ -392,8 +358,5 @@ fn of(pauli: &Pauli) -> SparsePauli {
 
 fn written(pauli: &SparsePauli) -> Pauli {
     let list = |bits: &IndexSet| bits.support().map(|qubit| qubit as u64).collect::<List>();
-    Pauli {
-        x: list(pauli.x_bits()),
-        z: list(pauli.z_bits()),
-    }
+    Pauli { x: list(pauli.x_bits()), z: list(pauli.z_bits()) }
 }

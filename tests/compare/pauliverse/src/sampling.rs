@@ -24,10 +24,7 @@ impl GeometricSampler {
     /// The sampler of a noise line, from shot 0.
     #[must_use]
     pub fn new(probability: f64) -> Self {
-        Self {
-            probability,
-            shots_left: SHOTS.get(),
-        }
+        Self { probability, shots_left: SHOTS.get() }
     }
 
     /// How many shots are passed over before the next fault; past every shot where no fault is left.

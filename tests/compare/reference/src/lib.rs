@@ -87,9 +87,7 @@ fn run(bytes: &[u8], draws: Draws<'_>, noiseless: &[u64], rows: Rows<'_>) -> Res
 
 /// The deltas of every outcome, row after row.
 fn all_deltas(executed: &Executed, header: &Header) -> Vec<u64> {
-    (0..usize_of(header.outcomes))
-        .flat_map(|id| executed.deltas(id))
-        .collect()
+    (0..usize_of(header.outcomes)).flat_map(|id| executed.deltas(id)).collect()
 }
 
 fn settled(bytes: &[u8], draws: Draws<'_>, noiseless: &[u64]) -> Result<Vec<u8>, Refusal> {
@@ -128,16 +126,9 @@ fn walk(job: &Job<'_>, shot: u64, set: &[u64]) -> Result<u64, Refusal> {
         return Ok(0);
     }
     apart.header.shots = faults;
-    let no_draws = Draws {
-        base: 0,
-        main: &[],
-        second: &[],
-    };
+    let no_draws = Draws { base: 0, main: &[], second: &[] };
     let deltas = all_deltas(&execute(&apart, no_draws, &[])?, &apart.header);
-    let sum = |fault: u64| {
-        set.iter()
-            .fold(false, |sum, &id| sum ^ bit(&deltas, &apart.header, id, fault))
-    };
+    let sum = |fault: u64| set.iter().fold(false, |sum, &id| sum ^ bit(&deltas, &apart.header, id, fault));
     Ok((0..faults).map(|fault| u64::from(sum(fault))).sum())
 }
 
@@ -155,11 +146,7 @@ fn annotated(bytes: &[u8], p: u64) -> Result<Vec<u8>, Refusal> {
             return Err(Refusal::at(18, line.number));
         }
         let noise = write::annotation(p, &annotation.qubits).into_bytes();
-        let parts = if annotation.before {
-            [&noise, line.text]
-        } else {
-            [line.text, &noise]
-        };
+        let parts = if annotation.before { [&noise, line.text] } else { [line.text, &noise] };
         text.extend_from_slice(&parts.concat());
     }
     Ok(text)

@@ -4,20 +4,11 @@
 
 use checker::calls::{Answer, Calls, Draws, Rows};
 use std::collections::HashMap;
-use std::fmt::Write;
 use std::path::{Path, PathBuf};
 
 /// The calls that have vectors: a file each.
-pub const CALLS: [Call; 8] = [
-    Call::Check,
-    Call::Run,
-    Call::Settle,
-    Call::Walk,
-    Call::Annotate,
-    Call::Locations,
-    Call::Correlation,
-    Call::Print,
-];
+pub const CALLS: [Call; 8] =
+    [Call::Check, Call::Run, Call::Settle, Call::Walk, Call::Annotate, Call::Locations, Call::Correlation, Call::Print];
 
 /// A call by name.
 #[derive(Debug, Clone, Copy, PartialEq, Eq)]
@@ -93,11 +84,7 @@ impl Input {
     /// The lent draws.
     #[must_use]
     pub fn draws(&self) -> Draws<'_> {
-        Draws {
-            base: self.base,
-            main: &self.main,
-            second: &self.second,
-        }
+        Draws { base: self.base, main: &self.main, second: &self.second }
     }
 
     /// Make a call and keep all it leaves; none where its program isn't at hand.
@@ -110,11 +97,8 @@ impl Input {
                 output.frames_x = self.frames_x.clone();
                 output.frames_z = self.frames_z.clone();
                 output.deltas = self.deltas.clone();
-                let rows = Rows {
-                    frames_x: &mut output.frames_x,
-                    frames_z: &mut output.frames_z,
-                    deltas: &mut output.deltas,
-                };
+                let rows =
+                    Rows { frames_x: &mut output.frames_x, frames_z: &mut output.frames_z, deltas: &mut output.deltas };
                 output.answer = calls.run(job, self.draws(), &self.noiseless, rows);
             }
             Call::Settle => {
@@ -157,6 +141,7 @@ pub fn folder() -> PathBuf {
 }
 
 /// A stored case.
+#[derive(Debug, Clone, PartialEq, Eq)]
 pub struct Case {
     /// Its number in the file.
     pub number: u64,
@@ -229,11 +214,7 @@ fn case(call: Call, fields: &HashMap<String, Vec<u8>>) -> Case {
     let at_least = fields.contains_key("at_least");
     let figure = number("count") + number("figure") + number("at_least");
     let output = Output {
-        answer: Answer {
-            number: number("refusal"),
-            line: number("line"),
-            figure,
-        },
+        answer: Answer { number: number("refusal"), line: number("line"), figure },
         frames_x: words("after_frames_x"),
         frames_z: words("after_frames_z"),
         deltas: words("after_deltas"),
@@ -244,11 +225,7 @@ fn case(call: Call, fields: &HashMap<String, Vec<u8>>) -> Case {
         },
         at_least,
     };
-    Case {
-        number: number("case"),
-        input,
-        output,
-    }
+    Case { number: number("case"), input, output }
 }
 
 /// Fresh bytes with a text at their front.
@@ -260,47 +237,84 @@ fn written_over(text: &[u8], length: usize) -> Vec<u8> {
 
 fn split(list: &str, radix: u32) -> Vec<u64> {
     let entries = list.split(',').filter(|entry| !entry.is_empty() && *entry != "-");
-    entries
-        .map(|entry| u64::from_str_radix(entry, radix).expect("a number"))
-        .collect()
+    entries.map(|entry| u64::from_str_radix(entry, radix).expect("a number")).collect()
 }
 
-/// What a call is handed, as the first half of a case.
+// ---- writing
+
+/// A case as its file has it.
 #[must_use]
-pub fn input_text(call: Call, input: &Input) -> String {
-    let mut text = format!("job {}\n{}\n", input.job.len(), String::from_utf8_lossy(&input.job));
-    let joined = |words: &[u64]| {
-        let hex: Vec<_> = words.iter().map(|word| format!("{word:016x}")).collect();
-        if hex.is_empty() { "-".to_owned() } else { hex.join(",") }
+pub fn case_bytes(call: Call, case: &Case) -> Vec<u8> {
+    let mut bytes = format!("case {}\n", case.number).into_bytes();
+    bytes.extend(input_bytes(call, &case.input));
+    bytes.extend(output_bytes(call, &case.output));
+    bytes.extend(b"end\n");
+    bytes
+}
+
+/// What a call is handed: the first half of a case.
+#[must_use]
+pub fn input_bytes(call: Call, input: &Input) -> Vec<u8> {
+    let mut bytes = with_length("job", &input.job);
+    let base = || vec![("base", input.base.to_string())];
+    let out_len = || vec![("out_len", input.out_len.to_string())];
+    let draws = || {
+        let lists = [("main", &input.main), ("second", &input.second), ("noiseless", &input.noiseless)];
+        lists.map(|(key, words)| (key, joined(words, 16))).to_vec()
     };
-    if matches!(call, Call::Run | Call::Settle) {
-        _ = writeln!(text, "base {}", input.base);
-        for (key, words) in [
-            ("main", &input.main),
-            ("second", &input.second),
-            ("noiseless", &input.noiseless),
-        ] {
-            _ = writeln!(text, "{key} {}", joined(words));
+    let rows = || {
+        let lists = [("frames_x", &input.frames_x), ("frames_z", &input.frames_z), ("deltas", &input.deltas)];
+        lists.map(|(key, words)| (key, joined(words, 16))).to_vec()
+    };
+    let fields = match call {
+        Call::Run => [base(), draws(), rows()].concat(),
+        Call::Settle => [base(), out_len(), draws()].concat(),
+        Call::Walk => vec![("shot", input.shot.to_string()), ("set", joined(&input.set, 10))],
+        Call::Annotate => [out_len(), vec![("p", format!("{:016x}", input.p))]].concat(),
+        Call::Check | Call::Locations | Call::Correlation | Call::Print => Vec::new(),
+    };
+    for (key, value) in fields {
+        bytes.extend(format!("{key} {value}\n").into_bytes());
+    }
+    bytes
+}
+
+fn output_bytes(call: Call, output: &Output) -> Vec<u8> {
+    if call == Call::Print {
+        return with_length("stdout", &output.bytes);
+    }
+    let Answer { number, line, figure } = output.answer;
+    let mut bytes = format!("refusal {number}\nline {line}\n").into_bytes();
+    let figure_key = match call {
+        Call::Walk | Call::Locations => Some("count"),
+        Call::Settle if output.at_least => Some("at_least"),
+        Call::Settle | Call::Annotate => Some("figure"),
+        Call::Check | Call::Run | Call::Correlation | Call::Print => None,
+    };
+    if let Some(key) = figure_key {
+        bytes.extend(format!("{key} {figure}\n").into_bytes());
+    }
+    if matches!(call, Call::Settle | Call::Annotate) {
+        let written = if number == 0 { usize::try_from(figure).expect("within the lent bytes") } else { 0 };
+        bytes.extend(with_length("text", &output.bytes[..written]));
+    }
+    if call == Call::Run {
+        let lists = [("frames_x", &output.frames_x), ("frames_z", &output.frames_z), ("deltas", &output.deltas)];
+        for (key, words) in lists {
+            bytes.extend(format!("after_{key} {}\n", joined(words, 16)).into_bytes());
         }
     }
-    match call {
-        Call::Run => {
-            for (key, words) in [
-                ("frames_x", &input.frames_x),
-                ("frames_z", &input.frames_z),
-                ("deltas", &input.deltas),
-            ] {
-                _ = writeln!(text, "{key} {}", joined(words));
-            }
-        }
-        Call::Walk => {
-            let set: Vec<_> = input.set.iter().map(u64::to_string).collect();
-            let set = if set.is_empty() { "-".to_owned() } else { set.join(",") };
-            _ = writeln!(text, "shot {}\nset {set}", input.shot);
-        }
-        Call::Annotate => _ = writeln!(text, "out_len {}\np {:016x}", input.out_len, input.p),
-        Call::Settle => _ = writeln!(text, "out_len {}", input.out_len),
-        Call::Check | Call::Locations | Call::Correlation | Call::Print => {}
-    }
-    text
+    bytes
+}
+
+/// A key with a length, the bytes and LF.
+fn with_length(key: &str, text: &[u8]) -> Vec<u8> {
+    [format!("{key} {}\n", text.len()).as_bytes(), text, b"\n"].concat()
+}
+
+/// Words in hexadecimal or numbers in decimal, with commas; `-` for none.
+fn joined(words: &[u64], radix: u32) -> String {
+    let entry = |word: &u64| if radix == 16 { format!("{word:016x}") } else { word.to_string() };
+    let entries: Vec<String> = words.iter().map(entry).collect();
+    if entries.is_empty() { "-".to_owned() } else { entries.join(",") }
 }

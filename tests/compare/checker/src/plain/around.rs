@@ -39,17 +39,9 @@ pub(super) fn annotated(job: &Job<'_>, p: u64) -> Result<Vec<u8>, Refusal> {
         if !can_annotate(&qubits) {
             return Err(Refusal::at(18, line.number));
         }
-        let noise = if qubits.is_empty() {
-            String::new()
-        } else {
-            write::annotation(p, &qubits)
-        };
+        let noise = if qubits.is_empty() { String::new() } else { write::annotation(p, &qubits) };
         let before = matches!(line.instruction, Instruction::Measure { .. });
-        let parts = if before {
-            [noise.as_bytes(), line.text]
-        } else {
-            [line.text, noise.as_bytes()]
-        };
+        let parts = if before { [noise.as_bytes(), line.text] } else { [line.text, noise.as_bytes()] };
         text.extend_from_slice(&parts.concat());
     }
     Ok(text)
@@ -57,10 +49,7 @@ pub(super) fn annotated(job: &Job<'_>, p: u64) -> Result<Vec<u8>, Refusal> {
 
 /// Twice the qubits that annotation gives noise, summed over the job.
 pub(super) fn locations(job: &Job<'_>) -> u64 {
-    job.lines
-        .iter()
-        .map(|line| 2 * noise_qubits(&line.instruction).len() as u64)
-        .sum()
+    job.lines.iter().map(|line| 2 * noise_qubits(&line.instruction).len() as u64).sum()
 }
 
 /// 1, 4^k - 1 or n.

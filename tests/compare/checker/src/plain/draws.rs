@@ -58,10 +58,7 @@ fn faults_from(words: &mut Words<'_>, noise: &Noise, header: &Header, noiseless:
     }
     for shot in 0..header.shots {
         let falls = unit(words.next()?) < noise.probability();
-        let sum = noise
-            .condition
-            .iter()
-            .fold(false, |sum, &id| sum ^ bit(noiseless, header, id, shot));
+        let sum = noise.condition.iter().fold(false, |sum, &id| sum ^ bit(noiseless, header, id, shot));
         if falls && (noise.condition.is_empty() || sum == noise.parity) {
             faults.push((shot, choose(&noise.distribution, words)?));
         }
@@ -100,17 +97,11 @@ fn below(count: u64, words: &mut Words<'_>) -> Option<u64> {
 fn depolarizing(qubits: &[u64], bits: u64) -> Pauli {
     let with_bit = |offset: usize| {
         let has = |place: usize| bits >> (2 * place + offset) & 1 == 1;
-        let mut list: Vec<u64> = (0..qubits.len())
-            .filter(|&place| has(place))
-            .map(|place| qubits[place])
-            .collect();
+        let mut list: Vec<u64> = (0..qubits.len()).filter(|&place| has(place)).map(|place| qubits[place]).collect();
         list.sort_unstable();
         list.into_iter().collect::<List>()
     };
-    Pauli {
-        x: with_bit(0),
-        z: with_bit(1),
-    }
+    Pauli { x: with_bit(0), z: with_bit(1) }
 }
 
 /// The first place whose running sum isn't below u, else the last.

@@ -11,10 +11,7 @@ pub(super) struct Frame {
 
 impl Default for Frame {
     fn default() -> Self {
-        Self {
-            x: [false; MAX_QUBITS as usize],
-            z: [false; MAX_QUBITS as usize],
-        }
+        Self { x: [false; MAX_QUBITS as usize], z: [false; MAX_QUBITS as usize] }
     }
 }
 
@@ -133,11 +130,7 @@ impl Frame {
         let count = qubits.len();
         let has = |frame: &Frame, generator: usize| {
             let qubit = usize_of(qubits[generator % count]);
-            if generator < count {
-                frame.x[qubit]
-            } else {
-                frame.z[qubit]
-            }
+            if generator < count { frame.x[qubit] } else { frame.z[qubit] }
         };
         let images = (0..2 * count).filter(|&generator| has(self, generator));
         let sum = images.fold(0, |sum, generator| sum ^ table_row(table, count, generator));
@@ -159,9 +152,7 @@ impl Frame {
             };
             (0..count).fold(false, |sum, place| sum ^ meets(place))
         };
-        let parts: Vec<_> = (0..count)
-            .map(|place| (with_image(count + place), with_image(place)))
-            .collect();
+        let parts: Vec<_> = (0..count).map(|place| (with_image(count + place), with_image(place))).collect();
         for (&qubit, (x, z)) in qubits.iter().zip(parts) {
             self.x[usize_of(qubit)] = x;
             self.z[usize_of(qubit)] = z;

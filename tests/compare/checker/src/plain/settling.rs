@@ -29,10 +29,7 @@ pub fn settled(job: &Job<'_>, draws: Draws<'_>, noiseless: &[u64]) -> Result<Set
             _ => Vec::new(),
         });
     }
-    Ok(Settled {
-        faults: all,
-        words_read: main.place(),
-    })
+    Ok(Settled { faults: all, words_read: main.place() })
 }
 
 impl Settled {

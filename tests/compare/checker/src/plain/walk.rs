@@ -14,10 +14,7 @@ pub fn need_walkable(job: &Job<'_>, shot: u64, set: &[u64]) -> Result<(), Refusa
     if shot >= job.header.shots || !rising || !recorded {
         return Err(Refusal::of_call(17));
     }
-    let noise = job
-        .lines
-        .iter()
-        .find(|line| matches!(line.instruction, Instruction::Noise(_)));
+    let noise = job.lines.iter().find(|line| matches!(line.instruction, Instruction::Noise(_)));
     noise.map_or(Ok(()), |line| Err(Refusal::at(16, line.number)))
 }
 
@@ -28,11 +25,7 @@ pub fn need_walkable(job: &Job<'_>, shot: u64, set: &[u64]) -> Result<(), Refusa
 /// 17 or 16.
 pub fn walk(job: &Job<'_>, shot: u64, set: &[u64]) -> Result<u64, Refusal> {
     need_walkable(job, shot, set)?;
-    let mut back = Carried {
-        observable: Frame::default(),
-        set: vec![false; usize_of(job.recorded)],
-        count: 0,
-    };
+    let mut back = Carried { observable: Frame::default(), set: vec![false; usize_of(job.recorded)], count: 0 };
     for &id in set {
         back.set[usize_of(id)] = true;
     }

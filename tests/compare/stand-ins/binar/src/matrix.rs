@@ -23,12 +23,7 @@ impl AlignedBitMatrix {
     #[must_use]
     pub fn with_shape(rows: usize, columns: usize) -> Self {
         let stride = words_for(columns);
-        Self {
-            words: vec![0; rows * stride],
-            rows,
-            columns,
-            stride,
-        }
+        Self { words: vec![0; rows * stride], rows, columns, stride }
     }
 
     /// Rows and columns.
@@ -64,11 +59,7 @@ impl AlignedBitMatrix {
         let (front, back) = self.words.split_at_mut(high * stride);
         let low_row = RowMut(&mut front[low * stride..][..stride]);
         let high_row = RowMut(&mut back[..stride]);
-        if first < second {
-            (low_row, high_row)
-        } else {
-            (high_row, low_row)
-        }
+        if first < second { (low_row, high_row) } else { (high_row, low_row) }
     }
 
     /// Exchange two rows.

@@ -12,17 +12,13 @@ impl AlignedBitVec {
     /// `length` bits, all 0.
     #[must_use]
     pub fn zeros(length: usize) -> Self {
-        Self {
-            words: vec![0; words_for(length)],
-        }
+        Self { words: vec![0; words_for(length)] }
     }
 
     /// A copy of a row.
     #[must_use]
     pub fn from_view<Row: Words>(row: &Row) -> Self {
-        Self {
-            words: row.words().to_vec(),
-        }
+        Self { words: row.words().to_vec() }
     }
 
     /// Set every bit to 0.

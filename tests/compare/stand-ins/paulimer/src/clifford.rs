@@ -47,10 +47,7 @@ impl CliffordUnitary {
     pub fn from_rows(qubits: usize, rows: impl IntoIterator<Item = u32>) -> Self {
         let images: Vec<_> = rows
             .into_iter()
-            .map(|row| ImageView {
-                x_bits: Bits(row & ((1 << qubits) - 1)),
-                z_bits: Bits(row >> qubits),
-            })
+            .map(|row| ImageView { x_bits: Bits(row & ((1 << qubits) - 1)), z_bits: Bits(row >> qubits) })
             .collect();
         assert_eq!(images.len(), 2 * qubits, "a row for each generator");
         Self { images }

@@ -99,9 +99,7 @@ impl<'a> LentWords<'a> {
 impl Rng for LentWords<'_> {
     #[inline]
     fn next_u64(&mut self) -> u64 {
-        let Some(&word) = self.words.get(self.read) else {
-            spent()
-        };
+        let Some(&word) = self.words.get(self.read) else { spent() };
         self.read += 1;
         word
     }
@@ -129,19 +127,14 @@ pub mod rngs {
     impl SeedableRng for SmallRng {
         /// The seed is base + corr, wrapping at 2^64: a place of the second list, counted from 0.
         fn seed_from_u64(seed: u64) -> Self {
-            SmallRng {
-                words: SECOND.with_borrow(Rc::clone),
-                place: usize::try_from(seed).unwrap_or(usize::MAX),
-            }
+            SmallRng { words: SECOND.with_borrow(Rc::clone), place: usize::try_from(seed).unwrap_or(usize::MAX) }
         }
     }
 
     impl Rng for SmallRng {
         #[inline]
         fn next_u64(&mut self) -> u64 {
-            let Some(&word) = self.words.get(self.place) else {
-                spent()
-            };
+            let Some(&word) = self.words.get(self.place) else { spent() };
             self.place += 1;
             word
         }

@@ -52,9 +52,7 @@ impl<A: Array> SmallVec<A> {
     /// An empty vector.
     #[must_use]
     pub fn new() -> Self {
-        Self {
-            items: Items::Inline(A::room(), 0),
-        }
+        Self { items: Items::Inline(A::room(), 0) }
     }
 
     /// Append an item.
