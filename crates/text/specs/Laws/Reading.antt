@@ -14,7 +14,7 @@ use Rattle.text.specs.declared.template.Put.{Put}
 use Rattle.text.specs.declared.template.Progress.{Progress}
 use Rattle.text.specs.Bytes.{space, until}
 use Rattle.text.specs.Template.{Value, number, list, aNumber, aList, isLetter, valueOf, andThen, sameByte, atEnd, valuesOf}
-use Rattle.text.specs.Fields.{listedAs, ListRead, numberLetter, listLetter, numberLetters, listLetters, Held, Room, inFront, Begins, ReadOn, HasForm, ReadAs, PutOne, PutAs}
+use Rattle.text.specs.Fields.{listedAs, ListRead, listBy, numberLetter, listLetter, numberLetters, listLetters, Held, Room, inFront, Begins, ReadOn, HasForm, ReadAs, PutOne, PutAs}
 use Rattle.text.specs.Laws.Pieces.{step}
 use Rattle.text.specs.Laws.Fields.{nothing-held, held-number, held-list, list-put}
 use Rattle.text.specs.Laws.Lists.{listed-count, listed-largest, listed-bad, listed-good}
@@ -92,6 +92,11 @@ module _ (o : Option (List ℕ)) (n l : ℕ) where
         lists-read = refl;
         holds = λ vs v. held-list v h put;
       }
+
+-- a list by its letter
+pub list-value : (t : ℕ) (v : List ℕ) {n l : ℕ} {p : Put} {before after : List ℕ} → numberLetter t ≡ 0 → listLetter t ≡ 1 → valueOf t v ≡ aList (listBy t v)
+    → PutAs 0 1 (aList (listBy t v)) n l p before after → PutAs (numberLetter t) (listLetter t) (valueOf t v) n l p before after
+list-value t v a b e q = rw (a, b, e) q
 
 -- ---- a line read on
 
