@@ -5,7 +5,7 @@ use mathlib.Core.Bool.{Bool, true, false, _&&_, _||_, and-true, true≢false}
 use mathlib.Core.Path.{_≡_, refl, sym, ap, _∙_}
 use mathlib.Core.List.{List, [], _∷_, _++_, append-assoc}
 use mathlib.Core.Option.{Option, none, some}
-use borrow.Author.Tests.{ltb-true, ltb-false}
+use borrow.Author.Tests.{ltb-true, ltb-false, ne-eqb}
 use lib.Dec.{eqb, ltb, eqb·suc-zero}
 use lib.ListN.{length, getD, take, drop, set, length-append}
 use Rattle.text.specs.declared.lists.Listed.{Listed}
@@ -37,6 +37,10 @@ pub rising-snoc : (l : List ℕ) (n : ℕ) → isRising (l ++ n ∷ []) ≡ (isR
 unfolding isRising risesFrom largestOf
 rising-snoc [] n = refl
 rising-snoc (a ∷ l) n = rw eqb·suc-zero (rises-snoc a l n)
+
+-- where there are members and they rise, the next one has to be larger
+pub rises-on : (b t : Bool) (count : ℕ) → b ≡ true → (count ≡ 0 → ⊥) → t ≡ (b && (eqb count 0 || t))
+rises-on b t count e h = simp (e, ne-eqb count 0 h)
 
 module _ (l : List ℕ) (n : ℕ) where
   -- the struct of a list with one member more

@@ -1,7 +1,7 @@
 -- Lines read by a template, value by value. Laws. Assumes nothing.
-use Prim.Native.Nat.{ℕ, zero, suc, _+_, _-_, _*_, _≤_, _<_}
+use Prim.Native.Nat.{ℕ, _+_, _-_, _*_, _≤_, _<_}
 use native.Mathlib.Omega.{arith}
-use mathlib.Core.Bool.{Bool, true, false, not, _&&_, true≢false}
+use mathlib.Core.Bool.{Bool, true, false, _&&_, true≢false}
 use mathlib.Core.Path.{_≡_, refl, sym, ap, _∙_}
 use mathlib.Core.List.{List, [], _∷_, _++_, append-assoc, append-nil}
 use mathlib.Core.Option.{Option, none, some}
@@ -14,14 +14,14 @@ use Rattle.text.specs.declared.template.Put.{Put}
 use Rattle.text.specs.declared.template.Progress.{Progress}
 use Rattle.text.specs.Bytes.{space, until}
 use Rattle.text.specs.Template.{Value, number, list, aNumber, aList, isLetter, valueOf, andThen, sameByte, atEnd, valuesOf}
-use Rattle.text.specs.Fields.{listedAs, ListRead, numberLetter, listLetter, numberLetters, listLetters, Held, Room, inFront, Begins, ReadOn, HasForm, ReadAs, PutOne, PutAs}
+use Rattle.text.specs.Fields.{listedAs, ListRead, listBy, numberLetter, listLetter, numberLetters, listLetters, Held, Room, inFront, Begins, ReadOn, HasForm, ReadAs, PutOne, PutAs}
 use Rattle.text.specs.Laws.Pieces.{step}
 use Rattle.text.specs.Laws.Fields.{nothing-held, held-number, held-list, list-put}
 use Rattle.text.specs.Laws.Lists.{listed-count, listed-largest, listed-bad, listed-good}
 
 -- ---- one value more
 
--- nothing was put
+-- nothing is put, for want of a value or of room
 not-put : (a b : ℕ) (o : Option Value) (n l : ℕ) (p : Put) (before after : List ℕ) → p .ok ≡ false → (n + a ≤ 4 → l + b ≤ 4 → o ≡ none)
     → PutAs a b o n l p before after
 not-put a b o n l p before after e f =
@@ -30,10 +30,11 @@ not-put a b o n l p before after e f =
       put = λ h. absurd (true≢false (sym h ∙ e));
     }
 
+-- there is no value
 pub no-value : (a b : ℕ) (o : Option Value) (n l : ℕ) (p : Put) (before after : List ℕ) → p .ok ≡ false → o ≡ none → PutAs a b o n l p before after
 no-value a b o n l p before after e h = not-put a b o n l p before after e (λ _ _. h)
 
--- one was
+-- a value is put
 one-put : (a b : ℕ) (o : Option Value) (n l : ℕ) (p : Put) (before after : List ℕ) → p .ok ≡ true → PutOne a b o n l p before after
     → PutAs a b o n l p before after
 one-put a b o n l p before after e f =
@@ -92,6 +93,11 @@ module _ (o : Option (List ℕ)) (n l : ℕ) where
         lists-read = refl;
         holds = λ vs v. held-list v h put;
       }
+
+-- a list by its letter
+pub list-value : (t : ℕ) (v : List ℕ) {n l : ℕ} {p : Put} {before after : List ℕ} → numberLetter t ≡ 0 → listLetter t ≡ 1 → valueOf t v ≡ aList (listBy t v)
+    → PutAs 0 1 (aList (listBy t v)) n l p before after → PutAs (numberLetter t) (listLetter t) (valueOf t v) n l p before after
+list-value t v a b e q = rw (a, b, e) q
 
 -- ---- a line read on
 
@@ -280,7 +286,7 @@ module _ {line template : List ℕ} {from numbers lists : ℕ} {p : Progress} {b
   end-reached e h =
       whole-template (some (r .read e .values)) (r .read e .reads [] ∙ rw (end-over line (p .at) h) (ap some (append-nil (r .read e .values))))
 
--- what a line's last two parts say: read by the first part of a template, and by the rest of it to the end
+-- a line read by the first part of a template, then by the rest of it to the end
 module _ {line first second : List ℕ} {p q : Progress} {before between after : List ℕ} (b : Begins line first 0 0 0 p before between)
     (r : ReadOn line second (p .at) (p .numbers) (p .lists) q between after) where
   parts-bad : valuesOf second (drop (p .at) line) ≡ none → valuesOf (first ++ second) line ≡ none
@@ -338,30 +344,3 @@ whole-read {line} {template} {p} {before} {after} r =
       holds = λ vs h. rw (append-nil vs) h;
     }
     r
-
--- ---- the bytes that a template begins with
-
--- no letter for a value
-unfoldable pub plainBytes : List ℕ → Bool
-plainBytes [] = true
-plainBytes (t ∷ ts) = not (isLetter t) && plainBytes ts
-
-plain-first : (t : ℕ) (ts : List ℕ) → plainBytes (t ∷ ts) ≡ true → (isLetter t ≡ false) × (plainBytes ts ≡ true)
-unfolding plainBytes
-plain-first t ts e = go (isLetter t) refl e
-  where
-    go : (b : Bool) → isLetter t ≡ b → (not b && plainBytes ts) ≡ true → (isLetter t ≡ false) × (plainBytes ts ≡ true)
-    go true h e = absurd (true≢false (sym e))
-    go false h e = (h, e)
-
--- a line that has not one of them is none of the template
-pub byte-differs : (first rest line : List ℕ) → plainBytes first ≡ true → (i : ℕ) → i < length first → (getD line i 0 ≡ getD first i 0 → ⊥)
-    → valuesOf (first ++ rest) line ≡ none
-byte-differs [] rest line p i h d = absurd (omega arith)
-byte-differs (t ∷ ts) rest [] p i h d = byte-over t (plain-first t ts p .0) (ts ++ rest) [] 0 (omega arith)
-byte-differs (t ∷ ts) rest (b ∷ l) p zero h d = byte-other t (plain-first t ts p .0) (ts ++ rest) (b ∷ l) 0 (omega arith) d
-byte-differs (t ∷ ts) rest (b ∷ l) p (suc i) h d = go (eqb b t) refl (byte-differs ts rest l (plain-first t ts p .1) i (omega arith) d)
-  where
-    go : (e : Bool) → eqb b t ≡ e → valuesOf (ts ++ rest) l ≡ none → valuesOf (t ∷ (ts ++ rest)) (b ∷ l) ≡ none
-    go true e ih = byte-same t (plain-first t ts p .0) (ts ++ rest) (b ∷ l) 0 (omega arith) (eqb-true b t e) ∙ ih
-    go false e ih = byte-other t (plain-first t ts p .0) (ts ++ rest) (b ∷ l) 0 (omega arith) (eqb-false b t e)

@@ -3,7 +3,7 @@ use borrow.Author.Needs.{needs}
 use borrow.Author.Tests.{ne-eqb}
 use Rattle.text.specs.Template.{valueOf}
 use Rattle.text.specs.Fields.{listBy}
-use Rattle.text.specs.Laws.Reading.{no-value}
+use Rattle.text.specs.Laws.Reading.{no-value, list-value}
 use Rattle.text.proofs.template.put_value.Statement.{statement}
 use Rattle.text.proofs.template.put_value.Tie as tie
 
@@ -63,21 +63,30 @@ same-length-4 c = search needs
 
 returns-4 : tie.Need-returns-4
 unfolding valueOf listBy
-returns-4 c = let key = c .before .before .before .before .match .keys4 in simp key (simp key at (c .before .before .put-list .ensures))
+returns-4 c =
+    let a = c .before .before .before .before .before .before .before .args in
+    let key = c .before .before .before .before .match .keys4 in
+    list-value (a .t) (a .s .now) (simp key) (simp key) (simp key) (c .before .before .put-list .ensures)
 
 same-length-5 : tie.Need-same-length-5
 same-length-5 c = search needs
 
 returns-5 : tie.Need-returns-5
 unfolding valueOf listBy
-returns-5 c = let key = c .before .before .before .before .match .keys5 in simp key (simp key at (c .before .before .put-list2 .ensures))
+returns-5 c =
+    let a = c .before .before .before .before .before .before .before .args in
+    let key = c .before .before .before .before .match .keys5 in
+    list-value (a .t) (a .s .now) (simp key) (simp key) (simp key) (c .before .before .put-list2 .ensures)
 
 same-length-6 : tie.Need-same-length-6
 same-length-6 c = search needs
 
 returns-6 : tie.Need-returns-6
 unfolding valueOf listBy
-returns-6 c = let key = c .before .before .before .before .match .keys6 in simp key (simp key at (c .before .before .put-list3 .ensures))
+returns-6 c =
+    let a = c .before .before .before .before .before .before .before .args in
+    let key = c .before .before .before .before .match .keys6 in
+    list-value (a .t) (a .s .now) (simp key) (simp key) (simp key) (c .before .before .put-list3 .ensures)
 
 returns-7 : tie.Need-returns-7
 unfolding valueOf
