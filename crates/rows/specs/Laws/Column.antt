@@ -152,8 +152,8 @@ cleared-over (q ∷ qs) c =
     ∙ fun-ext (at-or-off (λ i e. cond e false (c i) && outside qs i ≡ c i && (not e && outside qs i)) q (sym (&&-false (c q))) (λ i. refl))
 
 module _ (w s : ℕ) (h : s / 64 < w) where
-  -- a mask is row 0 of its words
-  mask-row : (q : ℕ) (mask l : List ℕ) → q * w + w ≤ length l → column w (xored (q * w) 0 w mask l) s ≡ added (column w l s) q (bitIn w mask 0 s)
+  -- a mask is row 0 of its words; it is added to row q
+  pub mask-row : (q : ℕ) (mask l : List ℕ) → q * w + w ≤ length l → column w (xored (q * w) 0 w mask l) s ≡ added (column w l s) q (bitIn w mask 0 s)
   unfolding column
   mask-row q mask l fits = ap (λ k. column w (xored (q * w) k w mask l) s) (sym (zero-mul w)) ∙ column-xored w s h q 0 mask l fits
 
