@@ -18,6 +18,13 @@ use Rattle.reader.specs.Parsed.{formOf, Parsed}
 pub record Tried (fs : List TableForm) (line : List ℕ) (r : Form) (fields : List ℕ) : Type 0 where
   pub parsed : readLine line ≡ readBy fs line → Parsed line r fields
 
+-- one form alone, and the forms of noise lines
+abbrev pub only : Form → List TableForm
+only f = formOf f ∷ []
+
+abbrev pub noiseForms : List TableForm
+noiseForms = formOf form.Single ∷ formOf form.Depolarizing ∷ formOf form.Uniform ∷ formOf form.Weighted ∷ []
+
 -- ---- by one template
 
 -- the form, where it is the line's; else none
@@ -52,10 +59,3 @@ pub record NoiseBegun (line : List ℕ) (p : Progress) (fields : List ℕ) : Typ
   pub before : List ℕ
   pub begins : Begins line noiseBegin 0 0 0 p before fields
   pub parity : parityAlone (begins .values) ≡ false
-
-abbrev pub only : Form → List TableForm
-only f = formOf f ∷ []
-
--- the forms of noise lines
-abbrev pub noiseForms : List TableForm
-noiseForms = formOf form.Single ∷ formOf form.Depolarizing ∷ formOf form.Uniform ∷ formOf form.Weighted ∷ []

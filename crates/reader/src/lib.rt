@@ -286,7 +286,7 @@ fn operation(line: &[u8], letter: u8, fields: &mut [u64]) -> Form
     }
 }
 
-// What a line says.
+// What a line says: its form, and its values in the lent words.
 pub fn read_line(line: &[u8], fields: &mut [u64]) -> Form
     requires { ⌜ 136 ≤ length (now fields) ⌝ }
     ensures { λ r. ⌜ Parsed (now (line .entry)) r (now (fields .exit)) ⌝ }

@@ -43,14 +43,18 @@ same-length-3 c = search needs
 
 returns-3 : tie.Need-returns-3
 unfolding noiseBegin bytes
-returns-3 c = let begun = c .before .before .before .before .before .before .before .before .before .read-on .ensures .read (not-false _ (c .before .before .before .before .before .if1 .left)) in parity-bad begun (parity-known begun (c .before .parity-alone .ensures) ∙ c .if3 .taken)
+returns-3 c =
+    let begun = c .before .before .before .before .before .before .before .before .before .read-on .ensures .read (not-false _ (c .before .before .before .before .before .if1 .left)) in
+    parity-bad begun (parity-known begun (c .before .parity-alone .ensures) ∙ c .if3 .taken)
 
 shared-slice-read-noise-kind : tie.Need-shared-slice-read-noise-kind
 shared-slice-read-noise-kind c = omega arith
 
 noise-kind-requires : tie.Need-noise-kind-requires
 unfolding noiseBegin bytes
-noise-kind-requires c κs = let begun = c .before .before .before .before .before .before .before .before .before .before .before .read-on .ensures .read (not-false _ (c .before .before .before .before .before .before .before .if1 .left)) in (record { before = _; begins = begun; parity = parity-known begun (c .before .before .before .parity-alone .ensures) ∙ c .before .before .if3 .left }, refl, omega arith)
+noise-kind-requires c κs =
+    let begun = c .before .before .before .before .before .before .before .before .before .before .before .read-on .ensures .read (not-false _ (c .before .before .before .before .before .before .before .if1 .left)) in
+    (record { before = _; begins = begun; parity = parity-known begun (c .before .before .before .parity-alone .ensures) ∙ c .before .before .if3 .left }, refl, omega arith)
 
 same-length-4 : tie.Need-same-length-4
 same-length-4 c = search needs

@@ -1,5 +1,4 @@
 -- `reader::parity_alone` meets its contract. Assumes nothing.
-use borrow.Author.Needs.{needs}
 use borrow.Author.Tests.{eq-eqb, ne-eqb}
 use Rattle.reader.proofs.parity_alone.Statement.{statement}
 use Rattle.reader.proofs.parity_alone.Tie as tie

@@ -1,6 +1,6 @@
 -- `reader::unitary` meets its contract. Assumes nothing.
 use borrow.Author.Needs.{needs}
-use borrow.Author.Tests.{not-true, not-false, ne-eqb, eq-eqb, eqb-true}
+use borrow.Author.Tests.{not-true, not-false}
 use native.Mathlib.Omega.{arith}
 use Rattle.text.specs.Bytes.{bytes}
 use Rattle.job.specs.Grammar.{forms}
@@ -22,7 +22,9 @@ same-length c = search needs
 
 returns : tie.Need-returns
 unfolding placeOf forms bytes
-returns c = says-nothing form.Unitary (no-values (formOf form.Unitary) _ (c .before .before .before .read-all .ensures .refused (not-true _ (c .if1 .taken)) (form-room form.Unitary)))
+returns c =
+    let refused = c .before .before .before .read-all .ensures .refused (not-true _ (c .if1 .taken)) (form-room form.Unitary) in
+    says-nothing form.Unitary (no-values (formOf form.Unitary) _ refused)
 
 slice-read-if2 : tie.Need-slice-read-if2
 slice-read-if2 c = omega arith

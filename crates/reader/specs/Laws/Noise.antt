@@ -1,5 +1,5 @@
 -- Noise lines, which begin alike and then differ in their digit of d: laws. Assumes nothing.
-use Prim.Native.Nat.{ℕ, _+_, _≤_, _<_}
+use Prim.Native.Nat.{ℕ, _≤_, _<_}
 use native.Mathlib.Omega.{arith}
 use mathlib.Core.Path.{_≡_, refl, sym, ap, _∙_}
 use mathlib.Core.Bool.{Bool, true, false, cond, _&&_}
@@ -10,16 +10,16 @@ use lib.Dec.{eqb, ltb}
 use lib.ListN.{length, getD, drop, List·getD-append, List·getD-eq-default}
 use Rattle.text.specs.Bytes.{bytes}
 use Rattle.text.specs.Template.{Value, isLetter, valuesOf, numbersIn, listsIn, numberAt, listAt}
-use Rattle.text.specs.Fields.{Held, Room, inFront, Begins, ReadOn}
+use Rattle.text.specs.Fields.{Held, inFront, Begins}
 use Rattle.text.specs.Laws.Values.{none-some}
 use Rattle.text.specs.Laws.Fields.{nothing-held, numbers-append, lists-append}
 use Rattle.text.specs.Laws.Reading.{byte-over, byte-other, parts-read}
 use Rattle.text.specs.declared.template.Progress.{Progress}
-use Rattle.job.specs.Grammar.{Kind, Written, noiseLine, pauliAt, Form as TableForm, isOne, forms, said, readBy, readLine}
+use Rattle.job.specs.Grammar.{Kind, Written, noiseLine, pauliAt, Form as TableForm, isOne, forms, said, readBy}
 use Rattle.job.specs.Laws.Dispatch.{readAs}
 use Rattle.reader.specs.declared.Form.{Form}
 use Rattle.reader.specs.declared.Form.the-variants as form
-use Rattle.reader.specs.Parsed.{placeOf, formOf, isUnread, Parsed}
+use Rattle.reader.specs.Parsed.{placeOf, formOf, isUnread}
 use Rattle.reader.specs.Tried.{Tried, KindBy, noiseBegin, parityAlone, NoiseBegun, only, noiseForms}
 use Rattle.reader.specs.Laws.Sift.{sift, formsOf, sifted, no-values}
 use Rattle.reader.specs.Laws.Tried.{not-parsed, read-tried, none-left}
@@ -148,7 +148,11 @@ module _ {line : List ℕ} {p : Progress} {before fields : List ℕ} (b : Begins
       → formsOf tableForm (sift (λ (k : KindForm). eqb d (k .digit)) kinds) ≡ fs → Tried fs line r after → Tried noiseForms line r after
   of-digit d same fs chosen t =
       record {
-        parsed = λ e. t .parsed (e ∙ read-kinds line (λ (k : KindForm). eqb d (k .digit)) (λ k h. other-digit k (rw (← same) h)) ∙ ap (λ (gs : List TableForm). readBy gs line) chosen);
+        parsed = λ e. t .parsed (
+            e
+            ∙ read-kinds line (λ (k : KindForm). eqb d (k .digit)) (λ k h. other-digit k (rw (← same) h))
+            ∙ ap (λ (gs : List TableForm). readBy gs line) chosen
+            );
       }
 
 -- the line ends behind `d=`

@@ -1,5 +1,5 @@
 -- Forms that a line can not have, sifted out by a few of its bytes: laws. Assumes nothing.
-use Prim.Native.Nat.{ℕ, suc, _+_, _≤_, _<_}
+use Prim.Native.Nat.{ℕ, suc, _≤_, _<_}
 use native.Mathlib.Omega.{arith}
 use mathlib.Core.Path.{_≡_, refl, sym, ap, _∙_}
 use mathlib.Core.Bool.{Bool, true, false, cond, _&&_, _||_, true≢false}
@@ -8,8 +8,8 @@ use mathlib.Core.Option.{Option, none, some}
 use borrow.Author.Tests.{ltb-true, leb-false, eqb-true, eqb-false, ne-eqb}
 use lib.Dec.{eqb, ltb, leb}
 use lib.ListN.{length, getD, take, drop, length-drop}
-use Rattle.text.specs.Bytes.{bytes, space, until}
-use Rattle.text.specs.Template.{Value, isLetter, valueOf, andThen, sameByte, atEnd, valuesOf}
+use Rattle.text.specs.Bytes.{space, until}
+use Rattle.text.specs.Template.{Value, isLetter, valueOf, andThen, sameByte, valuesOf}
 use Rattle.text.specs.Laws.Values.{both, none-some}
 use Rattle.text.specs.Laws.Places.{behind, literals, other-place}
 use Rattle.job.specs.Grammar.{Written, Form, forms, said, orLater, readBy, readLine}

@@ -1,10 +1,10 @@
 -- A line that one form was tried on: laws. Assumes nothing.
-use Prim.Native.Nat.{ℕ, zero, suc, _+_, _≤_, _<_}
+use Prim.Native.Nat.{ℕ, zero, suc, _≤_, _<_}
 use native.Mathlib.Omega.{arith}
 use mathlib.Core.Path.{_≡_, refl, sym, ap, _∙_}
-use mathlib.Core.Bool.{Bool, true, false, cond, _&&_, true≢false}
+use mathlib.Core.Bool.{Bool, true, false, _&&_, true≢false}
 use mathlib.Core.List.{List, [], _∷_}
-use mathlib.Core.Option.{Option, none, some}
+use mathlib.Core.Option.{none, some}
 use borrow.Author.Tests.{leb-true}
 use lib.Dec.{leb}
 use lib.ListN.{length, getD}
@@ -12,37 +12,44 @@ use Rattle.pauli.specs.Gate.{Gate, gates, gateFrom, gateOf}
 use Rattle.pauli.specs.Laws.Code.{gate-none}
 use Rattle.text.specs.Bytes.{bytes}
 use Rattle.text.specs.Template.{Value, valuesOf, numberAt, listAt}
-use Rattle.text.specs.Fields.{numberLetters, listLetters, Held, Room, HasForm, ReadAs}
+use Rattle.text.specs.Fields.{numberLetters, listLetters, Room, HasForm, ReadAs}
 use Rattle.text.specs.Laws.Values.{both}
 use Rattle.job.specs.Grammar.{Written, Form as TableForm, unitaryLine, forms, said, readBy, readLine}
 use Rattle.job.specs.Line.{Line}
 use Rattle.job.specs.Laws.Dispatch.{readAs}
 use Rattle.reader.specs.declared.Form.{Form}
 use Rattle.reader.specs.declared.Form.the-variants as form
-use Rattle.reader.specs.Parsed.{placeOf, noForm, formOf, ParsedAs, isUnread, Parsed}
+use Rattle.reader.specs.Parsed.{placeOf, noForm, formOf, isUnread, Parsed}
 use Rattle.reader.specs.Tried.{Tried, formIf, FormBy, only}
 use Rattle.reader.specs.Laws.Sift.{read-alone, no-values, opening, read-by-bytes}
 
 -- ---- room
 
+hasRoom : List ℕ → Bool
+hasRoom ts = leb (numberLetters ts) 4 && leb (listLetters ts) 4
+
 -- there is room for the values of each form
 allRoom : List TableForm → Bool
 allRoom [] = true
-allRoom (f ∷ fs) = (leb (numberLetters (f .template)) 4 && leb (listLetters (f .template)) 4) && allRoom fs
+allRoom (f ∷ fs) = hasRoom (f .template) && allRoom fs
+
+room : (ts : List ℕ) → hasRoom ts ≡ true → Room 0 0 ts
+unfolding hasRoom
+room ts e =
+    let h = both (leb (numberLetters ts) 4) (leb (listLetters ts) 4) e in
+    record {
+      for-numbers = omega (arith, leb-true (numberLetters ts) 4 (h .0));
+      for-lists = omega (arith, leb-true (listLetters ts) 4 (h .1));
+    }
 
 room-at : (fs : List TableForm) → allRoom fs ≡ true → (k : ℕ) → Room 0 0 (getD fs k noForm .template)
 unfolding allRoom noForm
 room-at [] e k = record { for-numbers = omega arith; for-lists = omega arith }
-room-at (f ∷ fs) e zero =
-    let h = both (leb (numberLetters (f .template)) 4) (leb (listLetters (f .template)) 4) (both (leb (numberLetters (f .template)) 4 && leb (listLetters (f .template)) 4) (allRoom fs) e .0) in
-    record {
-      for-numbers = omega (arith, leb-true (numberLetters (f .template)) 4 (h .0));
-      for-lists = omega (arith, leb-true (listLetters (f .template)) 4 (h .1));
-    }
-room-at (f ∷ fs) e (suc k) = room-at fs (both (leb (numberLetters (f .template)) 4 && leb (listLetters (f .template)) 4) (allRoom fs) e .1) k
+room-at (f ∷ fs) e zero = room (f .template) (both (hasRoom (f .template)) (allRoom fs) e .0)
+room-at (f ∷ fs) e (suc k) = room-at fs (both (hasRoom (f .template)) (allRoom fs) e .1) k
 
 forms-room : allRoom forms ≡ true
-unfolding allRoom forms bytes
+unfolding allRoom hasRoom forms bytes
 forms-room = refl
 
 pub form-room : (f : Form) → Room 0 0 (formOf f .template)
