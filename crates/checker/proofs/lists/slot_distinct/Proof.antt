@@ -1,0 +1,61 @@
+-- `checker::lists::slot_distinct` meets its contract. Assumes nothing.
+use native.Mathlib.Omega.{arith}
+use mathlib.Core.Path.{refl, ap, _∙_}
+use Rattle.job.specs.Checks.{distinct as Checks·distinct}
+use Rattle.checker.specs.Laws.Slots.{slot-list}
+use borrow.Author.Needs.{needs}
+use Rattle.checker.proofs.lists.slot_distinct.Statement.{statement}
+use Rattle.checker.proofs.lists.slot_distinct.Tie as tie
+
+mul-a : tie.Need-mul-a
+mul-a c = search needs
+
+add-a : tie.Need-add-a
+add-a c = search needs
+
+add-e : tie.Need-add-e
+add-e c = search needs
+
+mul-e : tie.Need-mul-e
+mul-e c = search needs
+
+shared-slice-read-e : tie.Need-shared-slice-read-e
+shared-slice-read-e c = search needs
+
+add-e-2 : tie.Need-add-e-2
+add-e-2 c = search needs
+
+mul-distinct : tie.Need-mul-distinct
+mul-distinct c = search needs
+
+sub-distinct : tie.Need-sub-distinct
+sub-distinct c = search needs
+
+part-distinct-start : tie.Need-part-distinct-start
+part-distinct-start c = search needs
+
+part-distinct-end : tie.Need-part-distinct-end
+part-distinct-end c = search needs
+
+distinct-requires : tie.Need-distinct-requires
+distinct-requires c κs = search needs
+
+returns : tie.Need-returns
+returns c = λ numbers lists vs h g. c .distinct .ensures ∙ ap Checks·distinct (slot-list _ _ h (omega arith) g (omega arith) refl)
+
+pub slot-distinct-spec : {M : Type 1} → statement M
+slot-distinct-spec =
+    tie.close
+    (tie.spec
+    mul-a
+    add-a
+    add-e
+    mul-e
+    shared-slice-read-e
+    add-e-2
+    mul-distinct
+    sub-distinct
+    part-distinct-start
+    part-distinct-end
+    distinct-requires
+    returns)

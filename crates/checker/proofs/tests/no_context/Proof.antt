@@ -1,0 +1,13 @@
+-- `checker::tests::no_context` meets its contract. Assumes nothing.
+use mathlib.Core.Path.{refl}
+use Rattle.job.specs.Checks.{noContext}
+use Rattle.checker.specs.Said.{totalIf, contextOf}
+use Rattle.checker.proofs.tests.no_context.Statement.{statement}
+use Rattle.checker.proofs.tests.no_context.Tie as tie
+
+returns : tie.Need-returns
+unfolding contextOf noContext totalIf
+returns c = refl
+
+pub no-context-spec : {M : Type 1} → statement M
+no-context-spec = tie.close (tie.spec returns)
