@@ -8,7 +8,7 @@ use Rattle.job.specs.Line.{Line}
 use Rattle.job.specs.Grammar.{Written}
 use Rattle.job.specs.Sound.{LineSound}
 use Rattle.reader.specs.declared.Form.{Form}
-use Rattle.checker.specs.Said.{Said}
+use Rattle.reader.specs.Parsed.{Said}
 use Rattle.propagator.specs.Acts.{Acts, lineRule}
 
 -- the list in slot i of a line's fields: its count stands at 4 + i, its members from 12 + 31 i on

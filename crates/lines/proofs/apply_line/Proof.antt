@@ -1,6 +1,6 @@
 -- `lines::apply_line` meets its contract. Assumes nothing.
 use Rattle.lines.specs.Laws.Obey.{frame-ready, frame-obeyed, obeyed-as, idle-obeyed}
-use Rattle.checker.specs.Laws.Forms.{othersThan}
+use Rattle.instructions.specs.Laws.Meaning.{othersThan}
 use mathlib.Core.List.{[], _∷_}
 use types.Run.{miss}
 use borrow.Author.Needs.{needs}

@@ -12,7 +12,7 @@ use Rattle.frames.specs.Forward.{forward}
 use Rattle.reader.specs.declared.Form.{Form}
 use Rattle.reader.specs.declared.Form.the-variants as form
 use Rattle.reader.specs.Parsed.{placeOf, noForm}
-use Rattle.checker.specs.Laws.Tests.{noise-said}
+use Rattle.instructions.specs.Laws.Meaning.{noise-said}
 use Rattle.propagator.specs.Acts.{Acts, lineRule}
 use Rattle.lines.specs.Plain.{Plain, Ready, Obeyed, FrameReady, FrameObeyed}
 use Rattle.lines.specs.Laws.Read.{written-line}

@@ -19,7 +19,7 @@ use Rattle.job.specs.Laws.Permutation.{permutation-parts}
 use Rattle.reader.specs.declared.Form.{Form}
 use Rattle.reader.specs.declared.Form.the-variants as form
 use Rattle.reader.specs.Parsed.{placeOf}
-use Rattle.checker.specs.Laws.Tests.{unitary-said}
+use Rattle.instructions.specs.Laws.Meaning.{unitary-said}
 use Rattle.propagator.specs.Acts.{written}
 use Rattle.lines.specs.Plain.{slot, Plain}
 
