@@ -11,13 +11,13 @@ use Rattle.pauli.specs.Bits.{sumOver, odd}
 use Rattle.text.specs.List.{isRising}
 use Rattle.job.specs.Checks.{allBelow}
 use Rattle.job.specs.Job.{answer, accepted, jobOf, recordedIn, checkJob}
-use Rattle.job.specs.Reply.{writtenText, refusedText, CountReply, refusedCount}
+use Rattle.job.specs.Reply.{writtenBy, writtenText, refusedText, CountReply, refusedCount}
 use Rattle.draws.specs.Settle.{SettledLine, Settled, settledList, settledText, numbered}
 use Rattle.rows.specs.Words.{wordsPerRow, bitIn}
 use Rattle.run.specs.Run.{Source, Memory, outcomeWords, enoughWords, lentOf, spentReply, runReply}
 use Rattle.backward.specs.Settling.{settledAnswer, settleReply}
 use Rattle.backward.specs.Walking.{firstNoise, plainLines, walkable, walkReply}
-use Rattle.backward.specs.Calls.{writtenBy, settlingOf, countOf, withSource}
+use Rattle.backward.specs.Calls.{settlingOf, countOf, withSource}
 use Rattle.backward.specs.Theorems.{demand-3}
 use Rattle.backward.specs.Laws.Replies.{settle-writes, writes-these, run-ends}
 use Rattle.backward.specs.Laws.CallsAgree as calls
