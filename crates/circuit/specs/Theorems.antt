@@ -1,15 +1,21 @@
 -- Theorems: the annotated text of an accepted job is a job of the annotated list. Their proofs stand in Laws. Assumes nothing.
-use mathlib.Core.Path.{_≡_}
+use mathlib.Core.Path.{_≡_, refl}
 use mathlib.Core.Bool.{true}
-use mathlib.Core.List.{List}
+use mathlib.Core.List.{List, [], _∷_}
 use mathlib.Core.Option.{none}
 use Prim.Native.Nat.{ℕ, _^_, _<_, _≤_}
 use lib.ListN.{length}
-use Rattle.text.specs.Bytes.{lines}
+use Rattle.text.specs.Bytes.{bytes, until, extend, pieces, lines, unlines}
+use Rattle.text.specs.List.{withFirst, numbersOf, listQ, risesFrom, isRising, onlyRising, listL, oneMember, listC, commas, listText}
+use Rattle.text.specs.Number.{allDecimal, decimalFrom, numberOf, allHex, hexFrom, hexOf, bitOf, decimalDigits, hexDigits}
+use Rattle.text.specs.Template.{aNumber, aList, valueOf, andThen, sameByte, atEnd, valuesOf, numbersIn, listsIn, valueText, firstText, lineText}
+use Rattle.pauli.specs.Gate.{gates, gateFrom, gateOf}
+use Rattle.job.specs.Grammar.{unitaryLine, optional, noiseLine, forms, said, orLater, readBy, readLine}
+use Rattle.job.specs.Rising.{including, rising}
 use Rattle.job.specs.Float.{float, isProbability}
 use Rattle.job.specs.Job.{accepted, jobOf, checkJob}
 use Rattle.job.specs.Reply.{writtenText, writtenBy}
-use Rattle.circuit.specs.Annotate.{annotatedText, firstUnfit}
+use Rattle.circuit.specs.Annotate.{noiseQubits, noiseBefore, noiseText, noiseLines, around, annotated, annotatedText, firstUnfit, locationsOf, locationsAt, locations}
 use Rattle.circuit.specs.Annotated.{annotatedList, instructionsOf}
 use Rattle.circuit.specs.Replies.{annotateReply}
 use Rattle.circuit.specs.Laws.Replies.{annotate-writes}
@@ -50,3 +56,51 @@ module _ (job : List ℕ) (p : ℕ) (small : p < 2 ^ 64) (out : List ℕ) (done 
   annotates-instructions =
       let w = annotate-writes job p out done in
       rw (w .text) (annotated-instructions job (w .passes) p small (w .probability) (w .fits))
+
+-- ---- a case of document 01, computed
+
+-- opens what lines are read and written with
+reading : Unit {0}
+unfolding bytes until extend pieces unlines withFirst numbersOf listQ risesFrom isRising onlyRising listL oneMember listC commas listText allDecimal decimalFrom numberOf allHex hexFrom hexOf bitOf decimalDigits hexDigits aNumber aList valueOf andThen sameByte atEnd valuesOf numbersIn listsIn valueText firstText lineText gates gateFrom gateOf unitaryLine optional noiseLine forms said orLater readBy readLine including rising
+reading = tt
+
+-- p = 2^-10: operands as written; a Y counts once and the support rises; control's support, then target's; none for the identity; before a measurement; none
+-- for a reset, and existing noise is copied with its elements.
+abbrev pub plainCase : List (List ℕ)
+plainCase =
+    bytes "op=job qubits=4 outcomes=1 shots=8"
+    ∷ bytes "op=u g=11 q=1,0"
+    ∷ bytes "op=p x=3 z=0,3"
+    ∷ bytes "op=k x=2 z=- u=- v=0,1"
+    ∷ bytes "op=e x=- z=-"
+    ∷ bytes "op=o x=- z=2 id=0"
+    ∷ bytes "op=z q=3"
+    ∷ bytes "op=n p=3fe0000000000000 corr=- cond=- parity=0 d=3 n=1"
+    ∷ bytes "x=1 z=-"
+    ∷ []
+
+abbrev pub annotatedCase : List (List ℕ)
+annotatedCase =
+    bytes "op=job qubits=4 outcomes=1 shots=8"
+    ∷ bytes "op=u g=11 q=1,0"
+    ∷ bytes "op=n p=3f50000000000000 corr=- cond=- parity=0 d=2 q=1,0"
+    ∷ bytes "op=p x=3 z=0,3"
+    ∷ bytes "op=n p=3f50000000000000 corr=- cond=- parity=0 d=2 q=0,3"
+    ∷ bytes "op=k x=2 z=- u=- v=0,1"
+    ∷ bytes "op=n p=3f50000000000000 corr=- cond=- parity=0 d=2 q=2,0,1"
+    ∷ bytes "op=e x=- z=-"
+    ∷ bytes "op=n p=3f50000000000000 corr=- cond=- parity=0 d=2 q=2"
+    ∷ bytes "op=o x=- z=2 id=0"
+    ∷ bytes "op=z q=3"
+    ∷ bytes "op=n p=3fe0000000000000 corr=- cond=- parity=0 d=3 n=1"
+    ∷ bytes "x=1 z=-"
+    ∷ []
+
+pub annotated-case : annotatedText 0x3f50_0000_0000_0000 (unlines plainCase) ≡ unlines annotatedCase
+unfolding annotatedText annotated around noiseBefore noiseQubits noiseLines noiseText reading
+annotated-case = refl
+
+-- its locations: twice 2, 2, 3 and 1 qubits
+pub located-case : locations (lines (unlines plainCase)) ≡ 16
+unfolding locations locationsAt locationsOf reading
+located-case = refl
