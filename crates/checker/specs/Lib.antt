@@ -1,6 +1,6 @@
 -- What the code says of the tests. Definitions, and laws that proofs cite.
 pub mod Slots
-pub mod Said
+pub mod Contexts
 pub mod Floats
 pub mod Rows
 pub mod Laws

@@ -77,3 +77,8 @@ isUnread form.WeightedElement = false
 pub record Parsed (line : List ℕ) (f : Form) (fields : List ℕ) : Type 0 where
   pub unread : isUnread f ≡ true → readLine line ≡ none
   pub read : isUnread f ≡ false → ParsedAs line f fields
+
+-- lent words hold the values by which a line of a form says what it says
+pub record Said (form : Form) (fields : List ℕ) (values : List Value) (written : Written) : Type 0 where
+  pub says : formOf form .says values ≡ some written
+  pub held : Held fields (numberLetters (formOf form .template)) (listLetters (formOf form .template)) values

@@ -4,7 +4,8 @@ use mathlib.Core.Path.{_≡_, refl, sym, _∙_}
 use borrow.Author.Tests.{not-true, not-false}
 use Prim.Native.Nat.{_-_}
 use lib.ListN.{length}
-use Rattle.checker.specs.Laws.Job.{said-by, Left, all-left, refused, goes-on, all-passed, badly-ended}
+use Rattle.checker.specs.Laws.Job.{Left, all-left, refused, goes-on, all-passed, badly-ended}
+use Rattle.instructions.specs.Laws.Meaning.{said-by}
 use Rattle.checker.proofs.check.Statement.{statement}
 use Rattle.checker.proofs.check.Tie as tie
 

@@ -1,68 +1,31 @@
 -- What a line says, by groups of forms, and what is expected and changed by it. Laws. Assumes nothing.
-use Prim.Native.Nat.{ℕ, zero, suc, _+_, _-_}
+use Prim.Native.Nat.{ℕ, _+_, _-_}
 use native.Mathlib.Numerals.{add-one}
 use native.Mathlib.Omega.{arith}
 use mathlib.Core.Path.{_≡_, refl, sym, ap, _∙_, subst}
-use mathlib.Core.Bool.{Bool, true, false, cond, not, _&&_, _||_, true≢false}
-use mathlib.Core.List.{List, [], _∷_}
+use mathlib.Core.Bool.{Bool, true, false, not, _&&_, true≢false}
+use mathlib.Core.List.{List}
 use mathlib.Core.Option.{Option, none, some}
 use borrow.Author.Tests.{not-false}
 use lib.Ieee.{Float, binary64, add}
 use lib.Dec.{eqb, ltb}
 use lib.ListN.{getD}
-use Rattle.pauli.specs.Gate.{gateOf}
 use Rattle.text.specs.Bytes.{bytes}
-use Rattle.text.specs.Template.{Value, numberAt, listAt}
+use Rattle.text.specs.Template.{Value, numberAt}
 use Rattle.text.specs.Fields.{Held}
 use Rattle.job.specs.Float.{float, nought, isWeight}
 use Rattle.job.specs.declared.Header.{Header}
-use Rattle.job.specs.Line.{SparsePauli, Line}
-use Rattle.job.specs.Grammar.{NoiseLine, Written, forms}
+use Rattle.job.specs.Grammar.{Written, forms}
 use Rattle.job.specs.Checks.{Context, records, elementLines, firstTotal, nextTotal, sameWeight, expected, inRange, headerFits, next, weightFits, ownTests, tests, refusalOf}
 use Rattle.text.specs.Laws.Values.{both}
 use Rattle.job.specs.Laws.Tests.{AllPass, refusal-passes}
 use Rattle.reader.specs.declared.Form.{Form}
 use Rattle.reader.specs.declared.Form.the-variants as form
-use Rattle.reader.specs.Parsed.{placeOf, noForm, formOf, isUnread}
+use Rattle.reader.specs.Parsed.{placeOf, formOf, isUnread, Said}
 use Rattle.checker.specs.declared.tests.Context.{Context as Known}
-use Rattle.checker.specs.Said.{totalIf, hasTotal, contextOf, Said}
-use Rattle.checker.specs.Laws.Tests.{some-same, noiseWith, noise-said, unitary-said}
-
--- what a line of a form says: a header, a line that records an outcome or not, noise with element lines or without, an element line
-pub data Meaning (f : Form) : Written → Type 0 where
-  header : (h : Header) → f ≡ form.Header → Meaning f (Written.header h)
-  plain : (l : Line) → records l ≡ false → Meaning f (Written.line l)
-  measure : (l : Line) → f ≡ form.Measure → Meaning f (Written.line l)
-  allocate : (l : Line) → f ≡ form.Allocate → Meaning f (Written.line l)
-  alone : (n : NoiseLine) → elementLines (n .kind) ≡ 0 → firstTotal (n .kind) ≡ none → Meaning f (Written.noise n)
-  uniform : (n : NoiseLine) → f ≡ form.Uniform → firstTotal (n .kind) ≡ none → Meaning f (Written.noise n)
-  weighted : (n : NoiseLine) → f ≡ form.Weighted → firstTotal (n .kind) ≡ some nought → Meaning f (Written.noise n)
-  element : (P : SparsePauli) → f ≡ form.Element → Meaning f (Written.element none P)
-  weighted-element : (v : ℕ) (P : SparsePauli) → f ≡ form.WeightedElement → Meaning f (Written.element (some v) P)
-
-pub meaning : (f : Form) (vs : List Value) (w : Written) → formOf f .says vs ≡ some w → Meaning f w
-unfolding forms placeOf bytes noForm records elementLines firstTotal noiseWith
-meaning form.Unread vs w e = let z : _≡_ {A = ℕ} 0 1 = cc in absurd (omega arith)
-meaning form.Header vs w e = subst (Meaning form.Header) (some-same e) (Meaning.header _ refl)
-meaning form.Unitary vs w e =
-    let (g, p, q) = unitary-said (gateOf (numberAt 0 vs)) (listAt 0 vs) w e in subst (Meaning form.Unitary) q (Meaning.plain _ refl)
-meaning form.Clifford vs w e = subst (Meaning form.Clifford) (some-same e) (Meaning.plain _ refl)
-meaning form.Pauli vs w e = subst (Meaning form.Pauli) (some-same e) (Meaning.plain _ refl)
-meaning form.Exponential vs w e = subst (Meaning form.Exponential) (some-same e) (Meaning.plain _ refl)
-meaning form.Controlled vs w e = subst (Meaning form.Controlled) (some-same e) (Meaning.plain _ refl)
-meaning form.Permute vs w e = subst (Meaning form.Permute) (some-same e) (Meaning.plain _ refl)
-meaning form.Measure vs w e = subst (Meaning form.Measure) (some-same e) (Meaning.measure _ refl)
-meaning form.Allocate vs w e = subst (Meaning form.Allocate) (some-same e) (Meaning.allocate _ refl)
-meaning form.Conditional vs w e = subst (Meaning form.Conditional) (some-same e) (Meaning.plain _ refl)
-meaning form.Reset vs w e = subst (Meaning form.Reset) (some-same e) (Meaning.plain _ refl)
-meaning form.Inject vs w e = subst (Meaning form.Inject) (some-same e) (Meaning.plain _ refl)
-meaning form.Flip vs w e = subst (Meaning form.Flip) (some-same e) (Meaning.plain _ refl)
-meaning form.Single vs w e = subst (Meaning form.Single) (noise-said _ vs w e) (Meaning.alone _ refl refl)
-meaning form.Depolarizing vs w e = subst (Meaning form.Depolarizing) (noise-said _ vs w e) (Meaning.alone _ refl refl)
-meaning form.Uniform vs w e = subst (Meaning form.Uniform) (noise-said _ vs w e) (Meaning.uniform _ refl refl)
-meaning form.Weighted vs w e = subst (Meaning form.Weighted) (noise-said _ vs w e) (Meaning.weighted _ refl refl)
-meaning form.Element vs w e = subst (Meaning form.Element) (some-same e) (Meaning.element _ refl)
-meaning form.WeightedElement vs w e = subst (Meaning form.WeightedElement) (some-same e) (Meaning.weighted-element _ _ refl)
+use Rattle.checker.specs.Contexts.{totalIf, contextOf}
+use Rattle.instructions.specs.Reading.{hasTotal}
+use Rattle.instructions.specs.Laws.Meaning.{Meaning, some-same, noiseBy, noise-said}
 
 -- ---- forms for which the code has no arm of their own
 
@@ -76,10 +39,10 @@ module _ (c : Context) (f : Form) where
   pub expected-other : (f ≡ form.Element → ⊥) → (f ≡ form.WeightedElement → ⊥) → (w : Written) → Meaning f w → eqb (c .due) 0 ≡ expected c w
   unfolding expected
   expected-other a b w (Meaning.header h e) = refl
-  expected-other a b w (Meaning.plain l e) = refl
+  expected-other a b w (Meaning.plain l e m) = refl
   expected-other a b w (Meaning.measure l e) = refl
   expected-other a b w (Meaning.allocate l e) = refl
-  expected-other a b w (Meaning.alone n e k) = refl
+  expected-other a b w (Meaning.alone n e k m) = refl
   expected-other a b w (Meaning.uniform n e k) = refl
   expected-other a b w (Meaning.weighted n e k) = refl
   expected-other a b w (Meaning.element P e) = absurd (a e)
@@ -89,10 +52,10 @@ module _ (c : Context) (f : Form) where
       → (w : Written) → Meaning f w → 0 ≡ next c w .due
   unfolding next
   none-due a b d g w (Meaning.header h e) = refl
-  none-due a b d g w (Meaning.plain l e) = refl
+  none-due a b d g w (Meaning.plain l e m) = refl
   none-due a b d g w (Meaning.measure l e) = refl
   none-due a b d g w (Meaning.allocate l e) = refl
-  none-due a b d g w (Meaning.alone n e k) = sym e
+  none-due a b d g w (Meaning.alone n e k m) = sym e
   none-due a b d g w (Meaning.uniform n e k) = absurd (a e)
   none-due a b d g w (Meaning.weighted n e k) = absurd (b e)
   none-due a b d g w (Meaning.element P e) = absurd (d e)
@@ -101,10 +64,10 @@ module _ (c : Context) (f : Form) where
   pub none-recorded : (f ≡ form.Header → ⊥) → (f ≡ form.Measure → ⊥) → (f ≡ form.Allocate → ⊥) → (w : Written) → Meaning f w → c .recorded ≡ next c w .recorded
   unfolding next
   none-recorded a b d w (Meaning.header h e) = absurd (a e)
-  none-recorded a b d w (Meaning.plain l e) = rw e
+  none-recorded a b d w (Meaning.plain l e m) = rw e
   none-recorded a b d w (Meaning.measure l e) = absurd (b e)
   none-recorded a b d w (Meaning.allocate l e) = absurd (d e)
-  none-recorded a b d w (Meaning.alone n e k) = refl
+  none-recorded a b d w (Meaning.alone n e k m) = refl
   none-recorded a b d w (Meaning.uniform n e k) = refl
   none-recorded a b d w (Meaning.weighted n e k) = refl
   none-recorded a b d w (Meaning.element P e) = refl
@@ -114,10 +77,10 @@ module _ (c : Context) (f : Form) where
   pub header-before : (f ≡ form.Header → ⊥) → (w : Written) → Meaning f w → (c .begun ≡ headerFits c w) × (c .header ≡ next c w .header)
   unfolding next headerFits
   header-before a w (Meaning.header h e) = absurd (a e)
-  header-before a w (Meaning.plain l e) = (refl, refl)
+  header-before a w (Meaning.plain l e m) = (refl, refl)
   header-before a w (Meaning.measure l e) = (refl, refl)
   header-before a w (Meaning.allocate l e) = (refl, refl)
-  header-before a w (Meaning.alone n e k) = (refl, refl)
+  header-before a w (Meaning.alone n e k m) = (refl, refl)
   header-before a w (Meaning.uniform n e k) = (refl, refl)
   header-before a w (Meaning.weighted n e k) = (refl, refl)
   header-before a w (Meaning.element P e) = (refl, refl)
@@ -127,10 +90,10 @@ module _ (c : Context) (f : Form) where
   pub no-total-after : (f ≡ form.Weighted → ⊥) → (f ≡ form.WeightedElement → ⊥) → (w : Written) → Meaning f w → expected c w ≡ true → next c w .total ≡ none
   unfolding next expected
   no-total-after a b w (Meaning.header h e) x = refl
-  no-total-after a b w (Meaning.plain l e) x = refl
+  no-total-after a b w (Meaning.plain l e m) x = refl
   no-total-after a b w (Meaning.measure l e) x = refl
   no-total-after a b w (Meaning.allocate l e) x = refl
-  no-total-after a b w (Meaning.alone n e k) x = k
+  no-total-after a b w (Meaning.alone n e k m) x = k
   no-total-after a b w (Meaning.uniform n e k) x = k
   no-total-after a b w (Meaning.weighted n e k) x = absurd (a e)
   no-total-after a b w (Meaning.element P e) x = go (ltb 0 (c .due)) (c .total) x
@@ -146,10 +109,10 @@ module _ (c : Context) (f : Form) where
   unfolding next
   total-begins b w (Meaning.weighted n e k) x t q = some-same (sym k ∙ q)
   total-begins b w (Meaning.header h e) x t q = no-sum q
-  total-begins b w (Meaning.plain l e) x t q = no-sum q
+  total-begins b w (Meaning.plain l e m) x t q = no-sum q
   total-begins b w (Meaning.measure l e) x t q = no-sum q
   total-begins b w (Meaning.allocate l e) x t q = no-sum q
-  total-begins b w (Meaning.alone n e k) x t q = no-sum (sym k ∙ q)
+  total-begins b w (Meaning.alone n e k m) x t q = no-sum (sym k ∙ q)
   total-begins b w (Meaning.uniform n e k) x t q = no-sum (sym k ∙ q)
   total-begins b w (Meaning.element P e) x t q =
       no-sum
@@ -195,11 +158,11 @@ module _ (c : Known) {f : List ℕ} {vs : List Value} {w : Written} where
 
   -- the element lines that are due after the line
   pub due-uniform : Said form.Uniform f vs w → Held f 3 2 vs × (numberAt 2 vs ≡ next (contextOf c) w .due)
-  unfolding forms placeOf bytes next elementLines noiseWith
+  unfolding forms placeOf bytes next elementLines noiseBy
   due-uniform h = (h .held, ap (λ (x : Written). next (contextOf c) x .due) (noise-said _ vs w (h .says)))
 
   pub due-weighted : Said form.Weighted f vs w → Held f 3 2 vs × (numberAt 2 vs ≡ next (contextOf c) w .due)
-  unfolding forms placeOf bytes next elementLines noiseWith
+  unfolding forms placeOf bytes next elementLines noiseBy
   due-weighted h = (h .held, ap (λ (x : Written). next (contextOf c) x .due) (noise-said _ vs w (h .says)))
 
   pub due-element : Said form.Element f vs w → c .due - 1 ≡ next (contextOf c) w .due
@@ -227,7 +190,7 @@ module _ (c : Known) {f : List ℕ} {vs : List Value} {w : Written} where
 -- the sum after a noise line with weights, and after an element line with one
 module _ (c : Context) (vs : List Value) (w : Written) where
   pub total-first : formOf form.Weighted .says vs ≡ some w → next c w .total ≡ some nought
-  unfolding forms placeOf bytes next firstTotal noiseWith
+  unfolding forms placeOf bytes next firstTotal noiseBy
   total-first e = sym (ap (λ (x : Written). next c x .total) (noise-said _ vs w e))
 
   pub total-more : formOf form.WeightedElement .says vs ≡ some w → expected c w ≡ true
@@ -302,19 +265,6 @@ module _ (c : Known) (vs : List Value) (w : Written) where
   pub recorded-allocate : formOf form.Allocate .says vs ≡ some w → c .recorded + 1 ≡ next (contextOf c) w .recorded
   unfolding forms placeOf bytes next records contextOf
   recorded-allocate e = add-one (c .recorded) ∙ ap (λ (x : Written). next (contextOf c) x .recorded) (some-same e)
-
--- ---- the numbers of the forms, as the code's enum has them, without those of some
-
-abbrev isIn : ℕ → List ℕ → Bool
-isIn k [] = false
-isIn k (j ∷ js) = eqb k j || isIn k js
-
-abbrev keysFrom : ℕ → ℕ → List ℕ → List ℕ
-keysFrom k zero js = []
-keysFrom k (suc n) js = cond (isIn k js) (keysFrom (suc k) n js) (k ∷ keysFrom (suc k) n js)
-
-abbrev pub othersThan : List ℕ → List ℕ
-othersThan js = keysFrom 0 20 js
 
 -- an unread line's form
 pub unread-form : (f : Form) → isUnread f ≡ true → f ≡ form.Unread

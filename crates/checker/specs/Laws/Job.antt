@@ -1,72 +1,24 @@
 -- A job checked line by line. Laws. Assumes nothing.
-use Prim.Native.Nat.{ℕ, zero, suc, _+_, _-_, _≤_, _<_}
+use Prim.Native.Nat.{ℕ, suc, _+_, _-_, _≤_, _<_}
 use native.Mathlib.Numerals.{add-one}
 use native.Mathlib.Omega.{arith}
 use mathlib.Core.Path.{_≡_, refl, sym, ap, _∙_}
-use mathlib.Core.Bool.{Bool, true, false, cond, _&&_}
+use mathlib.Core.Bool.{Bool, true, false, cond}
 use mathlib.Core.List.{List, [], _∷_}
 use mathlib.Core.Option.{some}
-use borrow.Author.Tests.{eqb-true, eqb-false, eq-eqb, ne-eqb}
-use lib.Dec.{eqb, ltb, leb}
-use lib.ListN.{length, getD, take, drop, drop-of-length-le, length-drop}
-use lib.Seq.{getD-drop}
-use Rattle.text.specs.Bytes.{LF, until, extend, pieces, lines}
-use Rattle.text.specs.Laws.Values.{both}
-use Rattle.text.specs.Laws.Pieces.{step, piece-more}
+use borrow.Author.Tests.{eq-eqb, ne-eqb}
+use lib.Dec.{eqb}
+use lib.ListN.{length, take, drop, drop-of-length-le}
+use Rattle.text.specs.Bytes.{LF, until, pieces, lines}
+use Rattle.text.specs.Laws.Pieces.{piece-more}
 use Rattle.job.specs.Grammar.{Written, readLine}
 use Rattle.job.specs.Checks.{Context, noContext, records, next, refusalOf}
-use Rattle.job.specs.Job.{maxBytes, answer, accepted, wellEnded, isLast, nextOf, checkLines, checkJob}
+use Rattle.job.specs.Job.{answer, accepted, wellEnded, isLast, nextOf, checkLines, checkJob}
 use Rattle.reader.specs.declared.Form.{Form}
 use Rattle.reader.specs.Parsed.{isUnread, ParsedAs, Parsed}
+use Rattle.instructions.specs.Laws.Places.{line-ends, last-line}
 use Rattle.checker.specs.declared.tests.Context.{Context as Known}
-use Rattle.checker.specs.Said.{contextOf, Said}
-
--- a line that was parsed is said
-pub said-by : {line : List ℕ} {f : Form} {fields : List ℕ} (p : ParsedAs line f fields) → Said f fields (p .values) (p .written)
-said-by p = record { says = p .says; held = p .held }
-
--- ---- where lines end
-
--- the first separator is not behind another
-until-most : (sep : ℕ) (l : List ℕ) (j : ℕ) → j < length l → getD l j 0 ≡ sep → until sep l ≤ j
-unfolding until
-until-most sep [] j h e = absurd (omega arith)
-until-most sep (b ∷ l) zero h e = rw (eq-eqb b sep e) (omega arith)
-until-most sep (b ∷ l) (suc j) h e = go (eqb b sep) (until-most sep l j (omega arith) e)
-  where
-    go : (t : Bool) → until sep l ≤ j → cond t 0 (suc (until sep l)) ≤ suc j
-    go true k = omega arith
-    go false k = omega arith
-
--- of a job that ends in LF each line is ended
-pub line-ends : (job : List ℕ) (at : ℕ) → wellEnded job ≡ true → at < length job → at + until LF (drop at job) < length job
-unfolding wellEnded
-line-ends job at w h =
-    let ended = eqb-true (getD job (length job - 1) 0) 10 (both (ltb 0 (length job) && leb (length job) maxBytes) (eqb (getD job (length job - 1) 0) 10) w .1) in
-    let there : at + (length job - 1 - at) ≡ length job - 1 = omega arith in
-    let last : getD (drop at job) (length job - 1 - at) 0 ≡ 10 = getD-drop at job (length job - 1 - at) 0 ∙ rw there ended in
-    let most = until-most 10 (drop at job) (length job - 1 - at) (rw length-drop (omega arith)) last in
-    omega arith
-
--- the last line is the one whose LF is the job's last byte
-some-line : (b : ℕ) (l : List ℕ) → isLast (lines (b ∷ l)) ≡ false
-unfolding pieces
-some-line b l = go (eqb b 10) (pieces [] 10 l)
-  where
-    go : (t : Bool) (ps : List (List ℕ)) → isLast (cond t ([] ∷ ps) (extend b ps)) ≡ false
-    go true ps = refl
-    go false [] = unfold extend in refl
-    go false (p ∷ ps) = unfold extend in refl
-
-pub last-line : (job : List ℕ) (e : ℕ) → e < length job → eqb (e + 1) (length job) ≡ isLast (lines (drop (e + 1) job))
-unfolding pieces
-last-line job e h = go (eqb (e + 1) (length job)) refl
-  where
-    go : (t : Bool) → eqb (e + 1) (length job) ≡ t → t ≡ isLast (lines (drop (e + 1) job))
-    go true q = let end = eqb-true (e + 1) (length job) q in let past : length job ≤ e + 1 = omega arith in ap (λ (l : List ℕ). isLast (lines l)) (sym (drop-of-length-le job past))
-    go false q =
-        let more : e + 1 < length job = omega (arith, eqb-false (e + 1) (length job) q) in
-        sym (ap (λ (l : List ℕ). isLast (lines l)) (step job (e + 1) more) ∙ some-line (getD job (e + 1) 0) (drop (e + 1 + 1) job))
+use Rattle.checker.specs.Contexts.{contextOf}
 
 -- ---- one line of those that are left
 

@@ -4,7 +4,7 @@ use native.Mathlib.Omega.{arith}
 use mathlib.Core.Path.{_≡_, refl, sym, ap, _∙_}
 use mathlib.Core.Bool.{Bool, true, false, cond, not, _&&_, _||_, and-true}
 use mathlib.Core.List.{List, [], _∷_, _++_}
-use mathlib.Core.Option.{Option, none, some}
+use mathlib.Core.Option.{none, some}
 use borrow.Author.Tests.{le-leb, eq-eqb, ne-eqb}
 use lib.Dec.{eqb, ltb, leb}
 use lib.ListN.{length}
@@ -17,14 +17,14 @@ use Rattle.text.specs.Fields.{Held}
 use Rattle.job.specs.Float.{float, isProbability, isWeight, isTotal}
 use Rattle.job.specs.Sound.{Every}
 use Rattle.job.specs.Clifford.{isClifford}
-use Rattle.job.specs.Line.{Line}
-use Rattle.job.specs.Grammar.{Kind, NoiseLine, Written, isOne, optional, unitaryLine, noiseLine, forms}
+use Rattle.job.specs.Grammar.{Written, forms}
 use Rattle.job.specs.Checks.{Test, test, allBelow, eachBelow, eachShort, distinct, isPermutation, idTest, outcomeTest, kindQubits, kindDistinct, elementsFit, noiseTests, lineTests, ownTests, weightFits, totalFits, nextTotal, lowest}
 use Rattle.reader.specs.declared.Form.the-variants as form
-use Rattle.reader.specs.Parsed.{placeOf, noForm}
+use Rattle.reader.specs.Parsed.{placeOf, noForm, Said}
 use Rattle.checker.specs.declared.tests.Context.{Context as Known}
+use Rattle.instructions.specs.Laws.Meaning.{some-same, noiseBy, noise-said, unitary-said}
 use Rattle.checker.specs.Slots.{listsFrom}
-use Rattle.checker.specs.Said.{totalIf, contextOf, Said, listedTests}
+use Rattle.checker.specs.Contexts.{totalIf, contextOf, listedTests}
 
 -- ---- the lowest number
 
@@ -117,34 +117,6 @@ module _ (k : ℕ) (s : List ℕ) where
     pub by-distinct : allBelow k s ≡ true → distinct s ≡ isPermutation k s
     unfolding isPermutation
     by-distinct h = rw (eq-eqb (length s) k e, h)
-
--- ---- what a line of a form says
-
-pub some-same : {A : Type 0} {a b : A} → some a ≡ some b → a ≡ b
-some-same e = cc
-
--- a noise line of a kind
-unfoldable pub noiseWith : Kind → List Value → NoiseLine
-noiseWith kind vs =
-    record {
-      probability = numberAt 0 vs;
-      correlation = optional (listAt 0 vs);
-      condition = record { outcomes = listAt 1 vs; parity = isOne (numberAt 1 vs) };
-      kind = kind;
-    }
-
-pub noise-said : (kind : Kind) (vs : List Value) (w : Written) → noiseLine kind vs ≡ some w → Written.noise (noiseWith kind vs) ≡ w
-unfolding noiseLine noiseWith
-noise-said kind vs w e = go (eqb (length (listAt 1 vs)) 0 && isOne (numberAt 1 vs)) (Written.noise (noiseWith kind vs)) e
-  where
-    go : (b : Bool) (v : Written) → cond b none (some v) ≡ some w → v ≡ w
-    go true v k = let z : _≡_ {A = ℕ} 0 1 = cc in absurd (omega arith)
-    go false v k = some-same k
-
-pub unitary-said : (o : Option Gate) (qs : List ℕ) (w : Written) → unitaryLine o qs ≡ some w → (g : Gate) × (o ≡ some g) × (Written.line (Line.unitary g qs) ≡ w)
-unfolding unitaryLine
-unitary-said none qs w e = let z : _≡_ {A = ℕ} 0 1 = cc in absurd (omega arith)
-unitary-said (some g) qs w e = (g, refl, some-same e)
 
 -- ---- how many operands a gate takes
 
@@ -281,7 +253,7 @@ module _ (c : Known) {f : List ℕ} {vs : List Value} {w : Written} where
       ∷ outcomeTest (contextOf c) (listAt 1 vs)
       ∷ test 11 (isProbability (float (numberAt 0 vs)))
       ∷ [])
-  unfolding lowest forms placeOf bytes ownTests noiseTests noiseWith kindQubits kindDistinct elementsFit contextOf listsFrom
+  unfolding lowest forms placeOf bytes ownTests noiseTests noiseBy kindQubits kindDistinct elementsFit contextOf listsFrom
   tests-single h = record { held = h .held; own = ap (λ (x : Written). lowest (ownTests (contextOf c) x)) (noise-said _ vs w (h .says)) }
 
   pub tests-depolarizing : Said form.Depolarizing f vs w
@@ -291,16 +263,16 @@ module _ (c : Known) {f : List ℕ} {vs : List Value} {w : Written} where
       ∷ outcomeTest (contextOf c) (listAt 1 vs)
       ∷ test 11 (isProbability (float (numberAt 0 vs)))
       ∷ [])
-  unfolding lowest forms placeOf bytes ownTests noiseTests noiseWith kindQubits kindDistinct elementsFit contextOf listsFrom
+  unfolding lowest forms placeOf bytes ownTests noiseTests noiseBy kindQubits kindDistinct elementsFit contextOf listsFrom
   tests-depolarizing h = record { held = h .held; own = ap (λ (x : Written). lowest (ownTests (contextOf c) x)) (noise-said _ vs w (h .says)) }
 
   -- d=3 and d=4
   pub tests-uniform : Said form.Uniform f vs w → Tested c f 3 2 vs w (listedTests (contextOf c) vs)
-  unfolding lowest forms placeOf bytes ownTests noiseTests noiseWith kindQubits kindDistinct elementsFit contextOf listsFrom listedTests eachBelow
+  unfolding lowest forms placeOf bytes ownTests noiseTests noiseBy kindQubits kindDistinct elementsFit contextOf listsFrom listedTests eachBelow
   tests-uniform h = record { held = h .held; own = ap (λ (x : Written). lowest (ownTests (contextOf c) x)) (noise-said _ vs w (h .says)) }
 
   pub tests-weighted : Said form.Weighted f vs w → Tested c f 3 2 vs w (listedTests (contextOf c) vs)
-  unfolding lowest forms placeOf bytes ownTests noiseTests noiseWith kindQubits kindDistinct elementsFit contextOf listsFrom listedTests eachBelow
+  unfolding lowest forms placeOf bytes ownTests noiseTests noiseBy kindQubits kindDistinct elementsFit contextOf listsFrom listedTests eachBelow
   tests-weighted h = record { held = h .held; own = ap (λ (x : Written). lowest (ownTests (contextOf c) x)) (noise-said _ vs w (h .says)) }
 
   pub tests-weighted-element : Said form.WeightedElement f vs w → c .weighted ≡ true

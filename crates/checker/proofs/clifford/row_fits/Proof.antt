@@ -1,5 +1,5 @@
 -- `checker::clifford::row_fits` meets its contract. Assumes nothing.
-use Rattle.checker.specs.Laws.Rows.{every-all}
+use Rattle.checker.specs.Laws.Rows.{every-all, every-none, every-more, every-fails}
 use native.Mathlib.Omega.{arith}
 use mathlib.Core.Path.{_≡_, sym, _∙_}
 use mathlib.Core.Bool.{true}
@@ -7,7 +7,6 @@ use Prim.Native.Nat.{_*_, _-_, _≤_}
 use borrow.Author.Tests.{not-true, not-false}
 use Rattle.job.specs.Clifford.{every}
 use Rattle.checker.specs.Rows.{pairFits}
-use Rattle.checker.specs.Laws.Rows.{every-none, every-more, every-fails}
 use Rattle.checker.proofs.clifford.row_fits.Statement.{statement}
 use Rattle.checker.proofs.clifford.row_fits.Tie as tie
 

@@ -1,6 +1,6 @@
 -- `checker::lists::short` meets its contract. Assumes nothing.
 use mathlib.Core.Bool.{true≢false}
-use Rattle.checker.specs.Laws.Slots.{up-to}
+use Rattle.checker.specs.Laws.Slots.{up-to, each-short, each-fails, each-next, each-end}
 use native.Mathlib.Omega.{arith}
 use mathlib.Core.Path.{_≡_, refl, sym, _∙_}
 use mathlib.Core.List.{List}
@@ -11,7 +11,6 @@ use Rattle.text.specs.Template.{Value, listAt}
 use Rattle.text.specs.Fields.{Held}
 use Rattle.job.specs.Checks.{eachShort}
 use Rattle.checker.specs.Slots.{listsFrom}
-use Rattle.checker.specs.Laws.Slots.{each-short, each-fails, each-next, each-end}
 use Rattle.checker.proofs.lists.short.Statement.{statement}
 use Rattle.checker.proofs.lists.short.Tie as tie
 

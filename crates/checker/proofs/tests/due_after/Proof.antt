@@ -1,10 +1,11 @@
 -- `checker::tests::due_after` meets its contract. Assumes nothing.
 use types.Run.{miss}
 use mathlib.Core.List.{[], _∷_}
-use Rattle.checker.specs.Said.{contextOf}
+use Rattle.checker.specs.Contexts.{contextOf}
 use native.Mathlib.Omega.{arith}
 use mathlib.Core.Path.{_∙_}
-use Rattle.checker.specs.Laws.Forms.{othersThan, meaning, none-due, due-uniform, due-weighted, due-element, due-weighted-element}
+use Rattle.checker.specs.Laws.Forms.{none-due, due-uniform, due-weighted, due-element, due-weighted-element}
+use Rattle.instructions.specs.Laws.Meaning.{othersThan, meaning}
 use borrow.Author.Needs.{needs}
 use Rattle.checker.proofs.tests.due_after.Statement.{statement}
 use Rattle.checker.proofs.tests.due_after.Tie as tie

@@ -4,8 +4,9 @@ use mathlib.Core.List.{[], _∷_}
 use mathlib.Core.Path.{refl, sym, _∙_}
 use mathlib.Core.Bool.{true≢false}
 use Rattle.checker.specs.Laws.Tests.{unread-said}
-use Rattle.checker.specs.Laws.Forms.{othersThan, unread-form, meaning, expected-other, expected-element, expected-weighted}
-use Rattle.checker.specs.Said.{contextOf}
+use Rattle.checker.specs.Laws.Forms.{unread-form, expected-other, expected-element, expected-weighted}
+use Rattle.instructions.specs.Laws.Meaning.{othersThan, meaning}
+use Rattle.checker.specs.Contexts.{contextOf}
 use borrow.Author.Needs.{needs}
 use Rattle.checker.proofs.tests.expected.Statement.{statement}
 use Rattle.checker.proofs.tests.expected.Tie as tie

@@ -1,9 +1,10 @@
 -- `checker::tests::header_after` meets its contract. Assumes nothing.
 use types.Run.{miss}
 use mathlib.Core.List.{[], _∷_}
-use Rattle.checker.specs.Said.{contextOf}
+use Rattle.checker.specs.Contexts.{contextOf}
 use mathlib.Core.Path.{_∙_}
-use Rattle.checker.specs.Laws.Forms.{othersThan, meaning, header-before, header-after}
+use Rattle.checker.specs.Laws.Forms.{header-before, header-after}
+use Rattle.instructions.specs.Laws.Meaning.{othersThan, meaning}
 use borrow.Author.Needs.{needs}
 use Rattle.checker.proofs.tests.header_after.Statement.{statement}
 use Rattle.checker.proofs.tests.header_after.Tie as tie

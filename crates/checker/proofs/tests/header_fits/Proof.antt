@@ -5,9 +5,10 @@ use mathlib.Core.Bool.{not}
 use Rattle.job.specs.declared.Header.{Header}
 use Rattle.job.specs.Checks.{inRange}
 use Rattle.checker.specs.Laws.Tests.{left-false, left-true}
-use Rattle.checker.specs.Said.{contextOf}
+use Rattle.checker.specs.Contexts.{contextOf}
 use mathlib.Core.Path.{sym, ap, _∙_}
-use Rattle.checker.specs.Laws.Forms.{othersThan, meaning, header-before, fits-header}
+use Rattle.checker.specs.Laws.Forms.{header-before, fits-header}
+use Rattle.instructions.specs.Laws.Meaning.{othersThan, meaning}
 use borrow.Author.Needs.{needs}
 use Rattle.checker.proofs.tests.header_fits.Statement.{statement}
 use Rattle.checker.proofs.tests.header_fits.Tie as tie

@@ -4,7 +4,7 @@ use lib.Dec.{eqb}
 use mathlib.Core.List.{[]}
 use Rattle.checker.specs.Laws.Tests.{fails, passes, left-false, right-false, both-true}
 use Rattle.job.specs.Checks.{lowest}
-use Rattle.checker.specs.Said.{contextOf}
+use Rattle.checker.specs.Contexts.{contextOf}
 use Rattle.checker.proofs.tests.id_number.Statement.{statement}
 use Rattle.checker.proofs.tests.id_number.Tie as tie
 

@@ -4,7 +4,7 @@ use mathlib.Core.Path.{sym, _∙_}
 use borrow.Author.Tests.{not-true, not-false, lt-leb, le-leb}
 use lib.Dec.{leb}
 use Rattle.text.specs.Template.{numberAt}
-use Rattle.checker.specs.Said.{listedTests}
+use Rattle.checker.specs.Contexts.{listedTests}
 use Rattle.checker.specs.Laws.Tests.{none-bad, fails, passes, two-fail, two-pass, left-false, right-false, both-true}
 use borrow.Author.Needs.{needs}
 use Rattle.checker.proofs.tests.listed_number.Statement.{statement}

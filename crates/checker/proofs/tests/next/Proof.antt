@@ -1,5 +1,5 @@
 -- `checker::tests::next` meets its contract. Assumes nothing.
-use Rattle.checker.specs.Said.{contextOf}
+use Rattle.checker.specs.Contexts.{contextOf}
 use Rattle.checker.specs.Laws.Forms.{sum-same, context-same, passed-expected, passed-begun}
 use borrow.Author.Needs.{needs}
 use Rattle.checker.proofs.tests.next.Statement.{statement}

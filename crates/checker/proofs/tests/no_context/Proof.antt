@@ -1,7 +1,7 @@
 -- `checker::tests::no_context` meets its contract. Assumes nothing.
 use mathlib.Core.Path.{refl}
 use Rattle.job.specs.Checks.{noContext}
-use Rattle.checker.specs.Said.{totalIf, contextOf}
+use Rattle.checker.specs.Contexts.{totalIf, contextOf}
 use Rattle.checker.proofs.tests.no_context.Statement.{statement}
 use Rattle.checker.proofs.tests.no_context.Tie as tie
 

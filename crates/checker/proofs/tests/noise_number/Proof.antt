@@ -4,7 +4,7 @@ use mathlib.Core.Path.{sym, _∙_}
 use borrow.Author.Tests.{not-true, not-false}
 use Rattle.checker.specs.Laws.Floats.{only-refused, only-accepted}
 use Rattle.checker.specs.Laws.Tests.{none-bad, fails, passes, one-below}
-use Rattle.checker.specs.Said.{contextOf}
+use Rattle.checker.specs.Contexts.{contextOf}
 use borrow.Author.Needs.{needs}
 use Rattle.checker.proofs.tests.noise_number.Statement.{statement}
 use Rattle.checker.proofs.tests.noise_number.Tie as tie

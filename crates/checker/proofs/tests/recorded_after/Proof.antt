@@ -1,8 +1,9 @@
 -- `checker::tests::recorded_after` meets its contract. Assumes nothing.
 use types.Run.{miss}
 use mathlib.Core.List.{[], _∷_}
-use Rattle.checker.specs.Said.{contextOf}
-use Rattle.checker.specs.Laws.Forms.{othersThan, meaning, none-recorded, recorded-header, recorded-measure, recorded-allocate}
+use Rattle.checker.specs.Contexts.{contextOf}
+use Rattle.checker.specs.Laws.Forms.{none-recorded, recorded-header, recorded-measure, recorded-allocate}
+use Rattle.instructions.specs.Laws.Meaning.{othersThan, meaning}
 use borrow.Author.Needs.{needs}
 use Rattle.checker.proofs.tests.recorded_after.Statement.{statement}
 use Rattle.checker.proofs.tests.recorded_after.Tie as tie

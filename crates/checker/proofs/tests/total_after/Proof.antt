@@ -3,10 +3,11 @@ use types.Run.{miss}
 use mathlib.Core.List.{[], _∷_}
 use mathlib.Core.Bool.{true≢false}
 use lib.Ieee.{binary64, add}
-use Rattle.checker.specs.Said.{contextOf}
+use Rattle.checker.specs.Contexts.{contextOf}
 use mathlib.Core.Path.{sym, ap, _∙_}
 use Rattle.checker.specs.Laws.Floats.{only-refused, only-accepted}
-use Rattle.checker.specs.Laws.Forms.{othersThan, meaning, total-begins, total-next, weight-held, weight-passed, passed-expected}
+use Rattle.checker.specs.Laws.Forms.{total-begins, total-next, weight-held, weight-passed, passed-expected}
+use Rattle.instructions.specs.Laws.Meaning.{othersThan, meaning}
 use borrow.Author.Needs.{needs}
 use Rattle.checker.proofs.tests.total_after.Statement.{statement}
 use Rattle.checker.proofs.tests.total_after.Tie as tie

@@ -1,9 +1,10 @@
 -- `checker::tests::weighted_after` meets its contract. Assumes nothing.
 use types.Run.{miss}
 use mathlib.Core.List.{[], _∷_}
-use Rattle.checker.specs.Said.{hasTotal}
+use Rattle.instructions.specs.Reading.{hasTotal}
 use mathlib.Core.Path.{sym, ap}
-use Rattle.checker.specs.Laws.Forms.{othersThan, meaning, no-total-after, total-first, total-more}
+use Rattle.checker.specs.Laws.Forms.{no-total-after, total-first, total-more}
+use Rattle.instructions.specs.Laws.Meaning.{othersThan, meaning}
 use borrow.Author.Needs.{needs}
 use Rattle.checker.proofs.tests.weighted_after.Statement.{statement}
 use Rattle.checker.proofs.tests.weighted_after.Tie as tie

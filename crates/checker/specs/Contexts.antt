@@ -1,18 +1,12 @@
 -- What the code's tests take a line and the lines before it to be. Definitions. Assumes nothing.
-use Prim.Native.Nat.{ℕ}
-use mathlib.Core.Path.{_≡_}
 use mathlib.Core.Bool.{Bool, true, false, _&&_}
 use mathlib.Core.List.{List, [], _∷_}
 use mathlib.Core.Option.{Option, none, some}
 use lib.Dec.{leb}
 use lib.Ieee.{Float}
 use Rattle.text.specs.Template.{Value, numberAt, listAt}
-use Rattle.text.specs.Fields.{numberLetters, listLetters, Held}
 use Rattle.job.specs.Float.{float, isProbability}
-use Rattle.job.specs.Grammar.{Written}
 use Rattle.job.specs.Checks.{Context, Test, test, eachShort, outcomeTest, maxElements}
-use Rattle.reader.specs.declared.Form.{Form}
-use Rattle.reader.specs.Parsed.{formOf}
 use Rattle.checker.specs.Slots.{listsFrom}
 use Rattle.checker.specs.declared.tests.Context.{Context as Known}
 
@@ -21,20 +15,10 @@ unfoldable pub totalIf : Bool → Float → Option Float
 totalIf true t = some t
 totalIf false t = none
 
--- whether there is a sum
-unfoldable pub hasTotal : Option Float → Bool
-hasTotal none = false
-hasTotal (some t) = true
-
 -- what the code's struct says of the lines before
 unfoldable pub contextOf : Known → Context
 contextOf c =
     record { begun = c .begun; header = c .header; recorded = c .recorded; due = c .due; total = totalIf (c .weighted) (c .total) }
-
--- lent words hold the values by which a line of a form says what it says
-pub record Said (form : Form) (fields : List ℕ) (values : List Value) (written : Written) : Type 0 where
-  pub says : formOf form .says values ≡ some written
-  pub held : Held fields (numberLetters (formOf form .template)) (listLetters (formOf form .template)) values
 
 -- the tests of a noise line whose elements stand on lines of their own
 unfoldable pub listedTests : Context → List Value → List Test

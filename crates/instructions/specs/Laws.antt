@@ -1,0 +1,9 @@
+-- Laws, for the proofs that cite them. Nothing here has to be believed.
+-- Where the lines of a job begin and end.
+pub mod Places
+-- What a line says, by groups of forms.
+pub mod Meaning
+-- A job from instruction to instruction.
+pub mod Steps
+-- The element lines of a noise line.
+pub mod Elements

@@ -1,0 +1,4 @@
+-- What reading an accepted job line by line says. Definitions, and laws that proofs cite.
+pub mod Reading
+pub mod Ahead
+pub mod Laws
