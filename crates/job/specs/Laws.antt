@@ -25,3 +25,5 @@ pub mod Instructions
 pub mod Passes
 -- Sound lines are in range, as theorems about lists of lines ask.
 pub mod Range
+-- Lines that are written by a form's template, and texts of lines as jobs.
+pub mod Texts

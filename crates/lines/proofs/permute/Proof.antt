@@ -7,10 +7,18 @@ use Rattle.lines.proofs.permute.Statement.{statement}
 use Rattle.lines.proofs.permute.Tie as tie
 
 list-requires : tie.Need-list-requires
-list-requires c κs = (omega arith, c .before .before .before .before .before .pre .plain .wide, permute-read (c .before .before .before .before .before .pre .plain) .few 0 (omega arith))
+list-requires c κs =
+    let r = permute-read (c .before .before .before .before .before .pre .plain) in
+    let places = r .few 0 (omega arith) in
+    let qubits = r .few 1 (omega arith) in
+    (omega arith, c .before .before .before .before .before .pre .plain .wide, omega arith)
 
 list-requires-2 : tie.Need-list-requires-2
-list-requires-2 c κs = (omega arith, c .before .before .before .before .before .before .pre .plain .wide, permute-read (c .before .before .before .before .before .before .pre .plain) .few 1 (omega arith))
+list-requires-2 c κs =
+    let r = permute-read (c .before .before .before .before .before .before .pre .plain) in
+    let places = r .few 0 (omega arith) in
+    let qubits = r .few 1 (omega arith) in
+    (omega arith, c .before .before .before .before .before .before .pre .plain .wide, omega arith)
 
 apply-permutation-requires : tie.Need-apply-permutation-requires
 unfolding LineSound
