@@ -5,3 +5,5 @@ pub mod Packed
 pub mod Parts
 -- Cliffords and permutations going back, by places.
 pub mod Images
+-- The job's own number of qubits, and 256.
+pub mod Same

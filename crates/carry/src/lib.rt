@@ -6,7 +6,7 @@ ghost use mathlib.Core.Path.{_≡_};
 ghost use mathlib.Core.Bool.{true};
 ghost use Prim.Native.Nat.{_+_, _*_, _^_, _<_, _≤_};
 ghost use lib.ListN.{length, getD};
-ghost use Rattle.pauli.specs.Bits.{Bits, _△_, added, bit};
+ghost use Rattle.pauli.specs.Bits.{Bits, _△_, given, added, members, bit};
 ghost use Rattle.pauli.specs.Pauli.{_∗_ as _times_, when, anticommutes as Pauli·anticommutes};
 ghost use Rattle.pauli.specs.Gate.{gateOf, conjugatedBack};
 ghost use Rattle.pauli.specs.Code.{byGate};
@@ -192,7 +192,29 @@ pub fn permute_back(b: Pauli, places: &[u64], qubits: &[u64]) -> Pauli
     add_parts(b, qubits, x ^ fetch(x, places), z ^ fetch(z, places))
 }
 
-// ---- Injections
+// ---- Measurements, conditionals and injections
+
+// Multiplied by the observable of a measurement whose outcome is in the set.
+pub fn measure_back(b: Pauli, set: &[u64], x: &[u64], z: &[u64], id: OutcomeId) -> Pauli
+    requires { ⌜ (allBelow 256 (now x) ≡ true) × (allBelow 256 (now z) ≡ true) ⌝ }
+    ensures { λ r. ⌜ asPauli r ≡ (asPauli b times when (inSet (now (set .entry)) (id .0)) (pauliOf record { x = now (x .entry); z = now (z .entry) })) ⌝ }
+{
+    if !pauli::has_outcome(set, id) {
+        return b;
+    }
+    b.multiply(Pauli::from_lists(x, z))
+}
+
+// The list of a conditional is added to the set where the observable anticommutes with its Pauli.
+pub fn conditional_back(set: &mut [u64], b: Pauli, x: &[u64], z: &[u64], ids: &[u64])
+    requires { ⌜ (length (now set) ≡ 16) × (allBelow 256 (now x) ≡ true) × (allBelow 256 (now z) ≡ true) × (allBelow 1024 (now ids) ≡ true) ⌝ }
+    ensures { λ _. ⌜ (length (now (set .exit)) ≡ 16) × (inSet (now (set .exit)) ≡ inSet (now (set .entry)) △ given (Pauli·anticommutes 256 (asPauli b) (pauliOf record { x = now (x .entry); z = now (z .entry) })) (members (now (ids .entry)))) ⌝ }
+{
+    if !b.anticommutes(Pauli::from_lists(x, z)) {
+        return;
+    }
+    pauli::add_outcomes(set, ids);
+}
 
 // Whether an injection anticommutes with the observable.
 pub fn injection_counts(b: Pauli, x: &[u64], z: &[u64]) -> bool

@@ -33,6 +33,14 @@ operand-below n l i positive e = go (decLt i (length l))
 pub all-below : {n : ℕ} {l : List ℕ} → allBelow n l ≡ true → AllBelow n l
 all-below {n} {l} e = record { below = below-at n l e }
 
+-- ---- a set added, or none
+
+pub none-added : (s t : Bits) → s ≡ s △ given false t
+none-added s t = fun-ext (λ i. simp bitwise)
+
+pub all-added : (s t : Bits) → s △ t ≡ s △ given true t
+all-added s t = fun-ext (λ i. simp bitwise)
+
 -- ---- places
 
 pub placed-same : (f g : Bits) (qs : List ℕ) → ((j : ℕ) → j < length qs → f j ≡ g j) → placed f qs ≡ placed g qs
