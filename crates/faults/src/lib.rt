@@ -39,7 +39,7 @@ pub struct ElementsRead {
 }
 
 // The total of the weights. Where elements have weights, the running sums too.
-fn weigh_up(weighted: bool, sums: &mut [f64], weights: &[f64]) -> f64
+fn sum_weights(weighted: bool, sums: &mut [f64], weights: &[f64]) -> f64
     requires { ⌜ (weighted ≡ true → 0 < length (now weights)) × (length (now sums) ≡ length (now weights)) ⌝ }
     ensures { λ r. ⌜ (r ≡ totalFrom nought (now (weights .entry))) × (weighted ≡ true → now (sums .exit) ≡ runningSums (now (weights .entry))) ⌝ }
 {
@@ -65,7 +65,7 @@ fn read_elements(
     ensures { λ r. ⌜ (n ≡ 0 → now (elements .exit) ≡ now (elements .entry)) × ((q : ElementLines (now (job .entry)) from n weighted) → ElementsKept q (now (elements .exit)) (now (sums .exit)) r) ⌝ }
 {
     let next = gather(job, from, n, weighted, elements, &mut *weights);
-    let t = weigh_up(weighted, sums, weights);
+    let t = sum_weights(weighted, sums, weights);
     ElementsRead { next, total: t }
 }
 

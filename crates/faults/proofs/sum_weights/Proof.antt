@@ -1,10 +1,10 @@
--- `faults::weigh_up` meets its contract.
+-- `faults::sum_weights` meets its contract.
 use mathlib.Core.Bool.{true≢false}
 use mathlib.Core.Path.{sym, _∙_}
 use borrow.Author.Tests.{not-true, not-false}
 use borrow.Author.Needs.{needs}
-use Rattle.faults.proofs.weigh_up.Statement.{statement}
-use Rattle.faults.proofs.weigh_up.Tie as tie
+use Rattle.faults.proofs.sum_weights.Statement.{statement}
+use Rattle.faults.proofs.sum_weights.Tie as tie
 
 total-requires : tie.Need-total-requires
 total-requires c κs = search needs
@@ -21,6 +21,6 @@ same-length c = search needs
 returns-2 : tie.Need-returns-2
 returns-2 c = search needs
 
-pub weigh-up-spec : {M : Type 1} → statement M
-weigh-up-spec =
+pub sum-weights-spec : {M : Type 1} → statement M
+sum-weights-spec =
     tie.close (tie.spec total-requires returns running-sums-requires same-length returns-2)
