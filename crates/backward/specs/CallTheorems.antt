@@ -11,13 +11,13 @@ use Rattle.pauli.specs.Bits.{sumOver, odd}
 use Rattle.text.specs.List.{isRising}
 use Rattle.job.specs.Checks.{allBelow}
 use Rattle.job.specs.Job.{answer, accepted, jobOf, recordedIn, checkJob}
-use Rattle.job.specs.Reply.{writtenText, refusedText, CountReply, refusedCount}
+use Rattle.job.specs.Reply.{TextReply, textFits, writtenBy, writtenText, refusedText, CountReply, refusedCount}
 use Rattle.draws.specs.Settle.{SettledLine, Settled, settledList, settledText, numbered}
 use Rattle.rows.specs.Words.{wordsPerRow, bitIn}
 use Rattle.run.specs.Run.{Source, Memory, outcomeWords, enoughWords, lentOf, spentReply, runReply}
-use Rattle.backward.specs.Settling.{settledAnswer, settleReply}
+use Rattle.backward.specs.Settling.{settleReply}
 use Rattle.backward.specs.Walking.{firstNoise, plainLines, walkable, walkReply}
-use Rattle.backward.specs.Calls.{writtenBy, settlingOf, countOf, withSource}
+use Rattle.backward.specs.Calls.{settlingOf, countOf, withSource}
 use Rattle.backward.specs.Theorems.{demand-3}
 use Rattle.backward.specs.Laws.Replies.{settle-writes, writes-these, run-ends}
 use Rattle.backward.specs.Laws.CallsAgree as calls
@@ -80,14 +80,17 @@ module _ (job : List ℕ) (m : Memory) where
   pub ran-settles : runReply job m .answered .number ≡ 0
       → (ls : List SettledLine)
       × (settlingOf job (m .source) ≡ Settled.settled ls)
-      × ((out : List ℕ) → settleReply job (m .source) out ≡ settledAnswer (jobOf job) (Settled.settled ls) out)
-  ran-settles ran = calls.ran-settles job m ran
+      × ((out : List ℕ)
+      → settleReply job (m .source) out .answered ≡ cond (textFits (settledText (jobOf job .text) ls) out) accepted (answer 15 0))
+  ran-settles ran =
+      let (ls, settles, replies) = calls.ran-settles job m ran in
+      (ls, settles, λ out. ap (λ (r : TextReply). r .answered) (replies out) ∙ calls.settled-number (jobOf job) ls out)
 
   -- Draws that are spent in a run are spent in settling, at the same line.
   pub ran-spent : (k : ℕ) → runReply job m .answered ≡ answer 14 k → (out : List ℕ) → settleReply job (m .source) out ≡ refusedText (answer 14 k) out
   ran-spent k spent out = calls.ran-spent job m k spent out
 
-  -- And the other way round, where the words of frames and deltas are enough, which settling does not need.
+  -- And the other way round for an accepted job, where the words of frames and deltas, which settling does not need, are enough.
   pub settling-spent : (k : ℕ) (out : List ℕ) → checkJob job .number ≡ 0 → enoughWords (jobOf job .header) m ≡ true
       → settleReply job (m .source) out .answered ≡ answer 14 k → runReply job m ≡ spentReply (jobOf job .header) m k
   settling-spent k out passes enough spent = calls.settling-spent job m k out passes enough spent

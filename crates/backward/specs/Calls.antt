@@ -1,18 +1,12 @@
 -- What theorems about the calls together speak of. Definitions. Assumes nothing.
 use mathlib.Core.List.{List}
 use Prim.Native.Nat.{ℕ}
-use lib.ListN.{take}
 use Rattle.pauli.specs.Bits.{members}
 use Rattle.job.specs.Job.{jobOf}
-use Rattle.job.specs.Reply.{TextReply}
 use Rattle.frames.specs.Forward.{settingOf}
 use Rattle.draws.specs.Settle.{SettledLine, Settled, settle, settledList}
 use Rattle.run.specs.Run.{Source, Memory, lentOf}
 use Rattle.backward.specs.Walk.{walk}
-
--- the first bytes of a reply's output, as many as its figure says
-abbrev pub writtenBy : TextReply → List ℕ
-writtenBy r = take (r .figure) (r .out)
 
 -- what a job settles to with what draws are taken from
 abbrev pub settlingOf : List ℕ → Source → Settled

@@ -1,6 +1,8 @@
 -- Laws, for the proofs that cite them. Nothing here has to be believed.
 -- Lists by their places.
 pub mod Lists
+-- A list made rising.
+pub mod Rising
 -- Permutations of the places (test 6).
 pub mod Permutation
 -- The tests of a line that passes.

@@ -11,7 +11,7 @@ ghost use Rattle.reader.specs.declared.Form.the-variants as Forms;
 ghost use Rattle.lines.specs.Plain.{slot, Plain, Ready, Obeyed, FrameReady, FrameObeyed};
 
 // The list in slot i of a line's fields.
-fn list<'a>(f: &'a [u64], i: usize) -> &'a [u64]
+pub fn list<'a>(f: &'a [u64], i: usize) -> &'a [u64]
     requires { ⌜ (i < 4) × (136 ≤ length (now f)) × (getD (now f) (4 + i) 0 ≤ 31) ⌝ }
     ensures { λ r. ⌜ now r ≡ slot (now (f .entry)) i ⌝ }
 {

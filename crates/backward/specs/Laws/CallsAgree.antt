@@ -181,6 +181,18 @@ text-run job m ls passes enough settles few other words =
 
 -- ---- a run and settling go by one settling
 
+-- 0, or 15
+pub settled-number : (j : Job) (ls : List SettledLine) (out : List ℕ)
+    → settledAnswer j (Settled.settled ls) out .answered ≡ cond (textFits (settledText (j .text) ls) out) accepted (answer 15 0)
+unfolding settledAnswer
+settled-number j ls out = go (textFits (settledText (j .text) ls) out)
+  where
+    go : (b : Bool)
+        → cond b (writtenText (settledText (j .text) ls) out) (record { answered = answer 15 0; figure = length (settledText (j .text) ls); out = out }) .answered
+        ≡ cond b accepted (answer 15 0)
+    go true = refl
+    go false = refl
+
 -- the noiseless words are enough where all words are
 noiseless-enough : (h : Header) (m : Memory) → enoughWords h m ≡ true → outcomeWords h ≤ length (m .source .noiseless)
 unfolding enoughWords

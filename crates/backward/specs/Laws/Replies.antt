@@ -10,11 +10,11 @@ use lib.Seq.{take-append-seam}
 use borrow.Author.Tests.{eqb-true, eqb-false, eq-eqb, ne-eqb, leb-true, le-leb}
 use Rattle.text.specs.Laws.Values.{both}
 use Rattle.job.specs.Job.{answer, Job, jobOf, checkJob}
-use Rattle.job.specs.Reply.{TextReply, refusedText, textFits, writtenText}
+use Rattle.job.specs.Reply.{writtenBy, TextReply, refusedText, textFits, writtenText}
 use Rattle.draws.specs.Settle.{SettledLine, Settled, settledText}
 use Rattle.draws.specs.Execute.{States, starts, Ended, execute}
 use Rattle.run.specs.Run.{Source, Memory, RunReply, outcomeWords, enoughWords, lentOf, untouched, spentReply, finishedReply, endedReply, runReply}
-use Rattle.backward.specs.Calls.{writtenBy, settlingOf}
+use Rattle.backward.specs.Calls.{settlingOf}
 use Rattle.backward.specs.Settling.{settledAnswer, settleReply}
 
 -- ---- a run

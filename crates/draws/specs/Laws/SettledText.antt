@@ -13,7 +13,7 @@ use Rattle.text.specs.Bytes.{LF, unlines}
 use Rattle.text.specs.Written.{Free, AllFree}
 use Rattle.text.specs.Theorems.{written-one-line, lines-free, unlines-lines}
 use Rattle.text.specs.List.{isRising}
-use Rattle.text.specs.Laws.Values.{both, Small}
+use Rattle.text.specs.Laws.Values.{both}
 use Rattle.job.specs.declared.Header.{Header}
 use Rattle.job.specs.Line.{SparsePauli, Line, WeightedPauli, Distribution, Noise, Instruction, Placed}
 use Rattle.job.specs.Grammar.{Written, injectTemplate, readLine}
@@ -27,7 +27,7 @@ use Rattle.job.specs.Laws.Accepted.{between, Accepted}
 use Rattle.job.specs.Laws.Begun.{job-passes, job-begun}
 use Rattle.job.specs.Laws.Instructions.{FirstInstruction, first-instruction}
 use Rattle.job.specs.Laws.Passes.{ReadAs}
-use Rattle.job.specs.Laws.Texts.{inject-one-line, inject-says, gathered-free}
+use Rattle.job.specs.Laws.Texts.{small-below, inject-one-line, inject-says, gathered-free}
 use Rattle.draws.specs.Draws.{Lent, depolarizingElement, noPauli, elementAt, Fault}
 use Rattle.draws.specs.Settle.{SettledLine, injectText, injection, Step, stepOf, Settled, prefixed, settleThen, settle, settledList, settledText, numbered}
 use Rattle.draws.specs.Laws.Elements.{Writable, selected-writable}
@@ -67,11 +67,6 @@ element-sound n (Distribution.uniform Ps) s e = every-or (PauliSound n) Ps noPau
 element-sound n (Distribution.weighted es) s e = every-or (PauliSound n) (map (λ (w : WeightedPauli). w .pauli) es) noPauli (paulis-sound n es (s .each)) (no-pauli n) e
 
 -- its members can be written
-small-below : (n : ℕ) (l : List ℕ) → n ≤ 256 → allBelow n l ≡ true → Small l
-small-below n [] h b i = omega arith
-small-below n (q ∷ l) h b zero = omega (arith, below-first n q l b .0)
-small-below n (q ∷ l) h b (suc i) = small-below n l h (below-first n q l b .1) i
-
 pub pauli-fits : (n : ℕ) (P : SparsePauli) → n ≤ 256 → PauliSound n P → PauliFits P
 pauli-fits n P h s =
     record {

@@ -1,5 +1,5 @@
 -- Lines that are written by a form's template, and texts of lines as jobs. Laws. Assumes nothing.
-use Prim.Native.Nat.{ℕ, suc, _+_, _-_, _^_, _≤_, _<_}
+use Prim.Native.Nat.{ℕ, zero, suc, _+_, _-_, _^_, _≤_, _<_}
 use native.Mathlib.Omega.{arith}
 use mathlib.Core.Path.{_≡_, refl, ap, _∙_}
 use mathlib.Core.Bool.{true, false}
@@ -13,13 +13,15 @@ use Rattle.text.specs.List.{isRising}
 use Rattle.text.specs.Template.{Value, valuesOf, numbersIn, listsIn, lineText}
 use Rattle.text.specs.Written.{Suits, AllSuit, atSpace, ofOneLine, Free, AllFree}
 use Rattle.text.specs.Theorems.{written-reads, lines-unlines}
-use Rattle.text.specs.Laws.Values.{FitL, FitQ, FitC}
+use Rattle.text.specs.Laws.Values.{Small, FitL, FitQ, FitC}
 use Rattle.text.specs.Laws.Places.{behind, literals}
 use Rattle.job.specs.declared.Header.{Header}
 use Rattle.job.specs.Line.{SparsePauli, Line, Placed}
 use Rattle.job.specs.Grammar.{Kind, NoiseLine, Written, Form, forms, injectTemplate, depolarizingTemplate, optional, noiseLine, said, readLine}
+use Rattle.job.specs.Checks.{allBelow}
 use Rattle.job.specs.Job.{accepted, wellEnded, checkJob, gather, gathered, headerOf, jobOfLines, jobOf}
 use Rattle.job.specs.Sound.{Every, HeaderSound}
+use Rattle.job.specs.Laws.Lists.{below-first}
 use Rattle.job.specs.Laws.Forms.{PauliFits}
 use Rattle.job.specs.Laws.Accepted.{between, Accepted}
 use Rattle.job.specs.Laws.Passes.{header-accepted}
@@ -43,6 +45,12 @@ form-written f m ds s =
     ∙ ap (λ (k : ℕ). said (formOf k .says) (valuesOf (formOf k .template) l)) (mark-same (f .template) l ds (m .mark) reads)
     ∙ ap (λ (g : Form). said (g .says) (valuesOf (g .template) l)) (m .back)
     ∙ ap (said (f .says)) reads
+
+-- qubits can be written
+pub small-below : (n : ℕ) (l : List ℕ) → n ≤ 256 → allBelow n l ≡ true → Small l
+small-below n [] h b i = omega arith
+small-below n (q ∷ l) h b zero = omega (arith, below-first n q l b .0)
+small-below n (q ∷ l) h b (suc i) = small-below n l h (below-first n q l b .1) i
 
 -- an injection, and depolarizing noise without correlation and condition
 abbrev pub injectValues : ℕ → SparsePauli → List Value
