@@ -1,15 +1,15 @@
 -- Cliffords and permutations going back, by the places of the operands. Laws. Assumes nothing.
-use Prim.Native.Nat.{ℕ, zero, suc, _+_, _≤_, _<_}
+use Prim.Native.Nat.{ℕ, suc, _+_, _≤_}
 use native.Mathlib.Nat.{add-zero}
 use native.Mathlib.Omega.{arith}
 use mathlib.Core.Path.{_≡_, refl, sym, ap, ap₂, _∙_, fun-ext}
-use mathlib.Core.Bool.{Bool, true, false, _&&_}
+use mathlib.Core.Bool.{Bool, true, _&&_}
 use mathlib.Core.List.{List, [], _∷_}
 use lib.Bits.{bitXor}
 use lib.ListN.{length, getD}
 use Rattle.pauli.specs.Bits.{Bits, _⊕_, _∩_, _△_, none, only, given, outside, parity, bit}
 use Rattle.pauli.specs.Pauli.{Pauli, identity, X-at, Z-at, _∗_, when, anticommutes, cleared}
-use Rattle.pauli.specs.Laws.F2.{f2, &&-false}
+use Rattle.pauli.specs.Laws.F2.{f2}
 use Rattle.pauli.specs.Laws.Parity.{bitwise}
 use Rattle.pauli.specs.Laws.Gates.{pauli-path}
 use Rattle.job.specs.Checks.{allBelow, distinct, isPermutation}

@@ -1,5 +1,5 @@
 -- Parts of a set at the operands. Laws. Assumes nothing.
-use Prim.Native.Nat.{ℕ, zero, suc, _+_, _/_, _%_, _^_, _≤_, _<_}
+use Prim.Native.Nat.{ℕ, suc, _+_, _≤_, _<_}
 use native.Mathlib.Nat.{add-zero}
 use native.Mathlib.Omega.{arith}
 use native.Mathlib.Decide.{decLt}
@@ -9,7 +9,7 @@ use mathlib.Core.List.{List, [], _∷_}
 use lib.ListN.{length, getD, drop, drop-of-length-le, List·getD-eq-default}
 use lib.Bits.{bitXor}
 use Rattle.text.specs.Laws.Pieces.{step}
-use Rattle.pauli.specs.Bits.{Bits, _⊕_, _∩_, _△_, none, only, given, added, outside, bit}
+use Rattle.pauli.specs.Bits.{Bits, _⊕_, _∩_, _△_, only, given, added, outside, bit}
 use Rattle.pauli.specs.Laws.F2.{f2}
 use Rattle.pauli.specs.Laws.Parity.{bitwise, added-is, △-none}
 use Rattle.pauli.specs.Laws.Word.{bit-xor}

@@ -1,5 +1,5 @@
 -- A line of a job of n qubits, at most 256, is carried back alike over n qubits and over 256: its operands are below n. Laws. Assumes nothing.
-use Prim.Native.Nat.{ℕ, _+_, _-_, _≤_, _<_}
+use Prim.Native.Nat.{ℕ, _+_, _-_, _≤_}
 use native.Mathlib.Omega.{arith}
 use mathlib.Core.Path.{_≡_, refl, sym, ap, ap₂, _∙_}
 use mathlib.Core.Bool.{Bool, true, false, _&&_}
@@ -15,8 +15,8 @@ use Rattle.job.specs.Line.{SparsePauli, pauliOf, Line}
 use Rattle.job.specs.Checks.{allBelow}
 use Rattle.job.specs.Sound.{PauliSound, LineSound}
 use Rattle.job.specs.Laws.Lists.{below-at, below-more, at-member}
-use Rattle.frames.specs.Forward.{exponentiate, controlledPauli, imagesOf, settingOf}
-use Rattle.backward.specs.Walk.{Carried, cliffordBack, carry, counts, Walk, oneMore, backward}
+use Rattle.frames.specs.Forward.{exponentiate, controlledPauli, settingOf}
+use Rattle.backward.specs.Walk.{Carried, carry, counts, Walk, oneMore, backward}
 use Rattle.carry.specs.Full.{full}
 use Rattle.carry.specs.Laws.Images.{clifford-placed}
 

@@ -1,13 +1,12 @@
 -- Lines going back, by their forms. Laws. Assumes nothing.
-use Prim.Native.Nat.{ℕ, _*_, _≤_}
+use Prim.Native.Nat.{ℕ}
 use native.Mathlib.Omega.{arith}
-use mathlib.Core.Path.{_≡_, refl, sym, ap, ap₂, _∙_, subst}
+use mathlib.Core.Path.{_≡_, refl, sym, ap, _∙_, subst}
 use mathlib.Core.Bool.{Bool, true, false, true≢false}
 use mathlib.Core.List.{List}
 use mathlib.Core.Option.{some}
 use lib.ListN.{length}
 use Rattle.pauli.specs.declared.Pauli.{Pauli as PauliWords}
-use Rattle.pauli.specs.Bits.{Bits}
 use Rattle.pauli.specs.Gate.{gateOf}
 use Rattle.pauli.specs.Fixed.{inSet}
 use Rattle.text.specs.Bytes.{bytes}
@@ -20,11 +19,11 @@ use Rattle.reader.specs.Parsed.{placeOf, noForm, formOf, Said}
 use Rattle.instructions.specs.Reading.{noiseForm}
 use Rattle.instructions.specs.Laws.Meaning.{some-same, unitary-said, Meaning, meaning}
 use Rattle.frames.specs.Forward.{Setting}
-use Rattle.backward.specs.Walk.{Carried, carry, counts, Walk, oneMore, backward}
+use Rattle.backward.specs.Walk.{carry, counts, Walk, oneMore, backward}
 use Rattle.lines.specs.Laws.Obey.{Idle}
 use Rattle.carry.specs.Full.{full}
 use Rattle.lines_back.specs.declared.Walk.{Walk as WalkWords}
-use Rattle.lines_back.specs.Back.{Ready, carriedOf, Back, Readable, walkOf, writtenBack, noiseBack, LineBack}
+use Rattle.lines_back.specs.Back.{Ready, Back, Readable, walkOf, writtenBack, noiseBack, LineBack}
 
 -- a form by its name
 module _ {f k : Form} {fields : List ℕ} (e : f ≡ k) where

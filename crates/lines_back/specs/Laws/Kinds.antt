@@ -1,6 +1,6 @@
 -- Each kind of line going back, by its fields. Laws. Assumes nothing.
 use Prim.Native.Nat.{ℕ, _≤_}
-use mathlib.Core.Path.{_≡_, refl, sym, ap, ap₂, _∙_, subst}
+use mathlib.Core.Path.{_≡_, refl, sym, ap, _∙_, subst}
 use mathlib.Core.Bool.{Bool, true, false, _&&_}
 use mathlib.Core.List.{List, [], _∷_}
 use lib.Dec.{eqb}
@@ -10,7 +10,7 @@ use Rattle.pauli.specs.Bits.{Bits, _△_, given, members}
 use Rattle.pauli.specs.Pauli.{Pauli, _∗_, when, anticommutes, cleared}
 use Rattle.pauli.specs.Gate.{gateOf, conjugatedBack}
 use Rattle.pauli.specs.Code.{byGate}
-use Rattle.pauli.specs.Fixed.{inSet, asPauli}
+use Rattle.pauli.specs.Fixed.{asPauli}
 use Rattle.job.specs.Line.{SparsePauli, pauliOf, Line}
 use Rattle.job.specs.Checks.{allBelow}
 use Rattle.job.specs.Sound.{PauliSound}
@@ -18,7 +18,7 @@ use Rattle.job.specs.Laws.Lists.{below-more}
 use Rattle.reader.specs.declared.Form.{Form}
 use Rattle.reader.specs.declared.Form.the-variants as form
 use Rattle.frames.specs.Forward.{exponentiate, controlledPauli, imagesOf}
-use Rattle.backward.specs.Walk.{Carried, cliffordBack, permuteBack, carry, counts}
+use Rattle.backward.specs.Walk.{cliffordBack, permuteBack, carry, counts}
 use Rattle.propagator.specs.Acts.{written}
 use Rattle.lines.specs.Plain.{slot}
 use Rattle.lines.specs.Laws.Read.{unitary-read, clifford-read, exponential-read, controlled-read, permute-read, measure-read, conditional-read, reset-read, inject-read, flip-read}
