@@ -1,15 +1,14 @@
 -- What the code says of the annotated text and of the calls. Definitions. Assumes nothing.
-use Prim.Native.Nat.{ℕ, zero, suc}
+use Prim.Native.Nat.{ℕ}
 use mathlib.Core.Path.{_≡_}
 use mathlib.Core.Bool.{Bool, false, cond}
 use mathlib.Core.List.{List, _++_}
-use mathlib.Core.Option.{Option, none, some}
 use Rattle.text.specs.Bytes.{lines}
 use Rattle.job.specs.Grammar.{Written}
-use Rattle.job.specs.Reply.{TextReply, CountReply}
+use Rattle.job.specs.Reply.{CountReply}
+use Rattle.instructions.specs.Lines.{numbered}
 use Rattle.writer.specs.Placed.{Puts}
 use Rattle.circuit.specs.Annotate.{noiseBefore, annotatedText, firstUnfit}
-use Rattle.annotation.specs.declared.Annotated.{Annotated}
 use Rattle.annotation.specs.declared.Counted.{Counted}
 use Rattle.annotation.specs.declared.lines.Progress.{Progress}
 
@@ -24,19 +23,11 @@ beforeIt (Written.element w P) = false
 abbrev pub aroundText : Bool → List ℕ → List ℕ → List ℕ
 aroundText before line noise = cond before (noise ++ line) (line ++ noise)
 
--- a line's number, where 0 is none
-unfoldable pub numbered : ℕ → Option ℕ
-numbered zero = none
-numbered (suc k) = some (suc k)
-
 -- the line that annotation does not fit; and where it fits all, the annotated text was put
 pub record Annotates (job : List ℕ) (p : ℕ) (r : Progress) (out after : List ℕ) : Type 0 where
   pub unfit : firstUnfit 1 (lines job) ≡ numbered (r .unfit)
   pub puts : r .unfit ≡ 0 → Puts 0 (annotatedText p job) out after (r .bytes)
 
--- the replies of the calls, with the lent bytes after them
-abbrev pub replyOf : Annotated → List ℕ → TextReply
-replyOf r out = record { answered = r .answer; figure = r .figure; out = out }
-
+-- the reply of the count
 abbrev pub countOf : Counted → CountReply
 countOf r = record { answered = r .answer; count = r .count }

@@ -4,7 +4,8 @@ ghost use Rattle.text.specs.Bytes.{lines as Bytes·lines};
 ghost use Rattle.job.specs.Job.{checkJob};
 ghost use Rattle.circuit.specs.Annotate.{firstUnfit, locations as Annotate·locations};
 ghost use Rattle.circuit.specs.Replies.{annotateAnswer, annotateReply, locationsReply};
-ghost use Rattle.annotation.specs.Lines.{replyOf, countOf};
+ghost use Rattle.writer.specs.Reply.{textReply};
+ghost use Rattle.annotation.specs.Lines.{countOf};
 
 pub mod lines;
 pub mod qubits;
@@ -16,77 +17,62 @@ use checker::floats::Checked;
 use checker::floats::probability;
 use instructions::next_line;
 use job::Answer;
+use writer::TextAnswer;
+use writer::refused;
 
 const MAX_BYTES: usize = 1048576;
 
-// What annotation says, and how many bytes it wrote.
-pub struct Annotated {
-    pub answer: Answer,
-    pub figure: u64,
-}
-
 // What the count says, and the count.
+#[repr(C)]
 pub struct Counted {
     pub answer: Answer,
     pub count: u64,
 }
 
 // Annotates an accepted job. The text is measured first, over no bytes, since nothing is written with a refusal.
-fn annotate_accepted(job: &[u8], p: u64, out: &mut [u8]) -> Annotated
+fn annotate_accepted(job: &[u8], p: u64, out: &mut [u8]) -> TextAnswer
     requires { ⌜ checkJob (now job) .number ≡ 0 ⌝ }
-    ensures { λ r. ⌜ replyOf r (now (out .exit)) ≡ annotateAnswer (now (job .entry)) p (now (out .entry)) (firstUnfit 1 (Bytes·lines (now (job .entry)))) ⌝ }
+    ensures { λ r. ⌜ textReply r (now (out .exit)) ≡ annotateAnswer (now (job .entry)) p (now (out .entry)) (firstUnfit 1 (Bytes·lines (now (job .entry)))) ⌝ }
 {
     let r = put_annotated(&mut out[..0], job, p);
     if r.unfit != 0 {
-        return Annotated {
-            answer: Answer {
-                number: 18,
-                line: r.unfit,
-            },
-            figure: 0,
-        };
+        return refused(Answer {
+            number: 18,
+            line: r.unfit,
+        });
     }
     if out.len() < r.bytes {
-        return Annotated {
-            answer: Answer {
-                number: 15,
-                line: 0,
-            },
-            figure: 0,
-        };
+        return refused(Answer {
+            number: 15,
+            line: 0,
+        });
     }
     if MAX_BYTES < r.bytes {
-        return Annotated {
-            answer: Answer {
-                number: 15,
-                line: 0,
-            },
-            figure: 0,
-        };
+        return refused(Answer {
+            number: 15,
+            line: 0,
+        });
     }
     put_annotated(out, job, p);
-    Annotated {
+    TextAnswer {
         answer: Answer { number: 0, line: 0 },
         figure: r.bytes as u64,
     }
 }
 
 // A line of depolarizing noise, with the probability of these bits, before each measurement and after each u, c, p, e, m and k.
-pub fn annotate(job: &[u8], p: u64, out: &mut [u8]) -> Annotated
-    ensures { λ r. ⌜ replyOf r (now (out .exit)) ≡ annotateReply (now (job .entry)) p (now (out .entry)) ⌝ }
+pub fn annotate(job: &[u8], p: u64, out: &mut [u8]) -> TextAnswer
+    ensures { λ r. ⌜ textReply r (now (out .exit)) ≡ annotateReply (now (job .entry)) p (now (out .entry)) ⌝ }
 {
     let answer = check(job);
     if answer.number != 0 {
-        return Annotated { answer, figure: 0 };
+        return refused(answer);
     }
     let Checked::Accepted(_) = probability(p) else {
-        return Annotated {
-            answer: Answer {
-                number: 11,
-                line: 0,
-            },
-            figure: 0,
-        };
+        return refused(Answer {
+            number: 11,
+            line: 0,
+        });
     };
     annotate_accepted(job, p, out)
 }

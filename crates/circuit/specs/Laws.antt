@@ -1,3 +1,3 @@
--- Laws, for the proofs that cite them. Nothing here has to be believed.
--- The lines of an accepted job, one after the other.
-pub mod Passed
+-- Laws, for the proofs that cite them: annotated lines are accepted, and are the annotated list; replies. Nothing here has to be believed.
+pub mod Annotated
+pub mod Replies

@@ -7,7 +7,8 @@ pub struct Header {
     pub shots: u64,
 }
 
-// What a call says: a refusal number, 0 for success, and a line, from 1, 0 where none fits.
+// What a call says: a refusal number, 0 for success, and a line, from 1, 0 where none fits. Calls hand it to C as it is.
+#[repr(C)]
 pub struct Answer {
     pub number: u64,
     pub line: u64,

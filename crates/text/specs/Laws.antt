@@ -7,3 +7,4 @@ pub mod Numbers
 pub mod Lists
 pub mod Fields
 pub mod Reading
+pub mod Written

@@ -6,5 +6,8 @@ pub mod List
 pub mod Template
 -- How the code's lent words hold the values of a line: definitions that the contracts cite.
 pub mod Fields
+-- Which values a template can write, and that they read back, for a reader.
+pub mod Written
+pub mod Theorems
 -- Laws of these definitions.
 pub mod Laws

@@ -7,8 +7,23 @@ ghost use lib.ListN.{length};
 ghost use Rattle.text.specs.Number.{decimal, hexByte, hexadecimal};
 ghost use Rattle.text.specs.List.{commas, listText};
 ghost use Rattle.writer.specs.Placed.{Puts};
+use job::Answer;
 
 pub mod lines;
+
+// What a call that writes text says: its answer, and its byte figure.
+#[repr(C)]
+pub struct TextAnswer {
+    pub answer: Answer,
+    pub figure: u64,
+}
+
+// A refusal with a figure of 0.
+pub fn refused(answer: Answer) -> TextAnswer
+    ensures { λ r. ⌜ r ≡ record { answer = answer; figure = 0 } ⌝ }
+{
+    TextAnswer { answer, figure: 0 }
+}
 
 pub fn put_byte(out: &mut [u8], at: usize, b: u8) -> usize
     requires { ⌜ at + 1 < 2 ^ 64 ⌝ }

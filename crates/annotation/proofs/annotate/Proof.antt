@@ -10,8 +10,11 @@ use Rattle.annotation.proofs.annotate.Tie as tie
 check-requires : tie.Need-check-requires
 check-requires c κs = search needs
 
+refused-requires : tie.Need-refused-requires
+refused-requires c κs = search needs
+
 returns : tie.Need-returns
-returns c = refused-reply _ _ _ (c .before .before .check .ensures) (c .if1 .taken)
+returns c = rw (c .refused .ensures) (refused-reply _ _ _ (c .before .before .before .check .ensures) (c .before .if1 .taken))
 
 probability-requires : tie.Need-probability-requires
 probability-requires c κs = search needs
@@ -22,8 +25,11 @@ enum-told c = search needs
 enum-told-2 : tie.Need-enum-told-2
 enum-told-2 c = search needs
 
+refused-requires-2 : tie.Need-refused-requires-2
+refused-requires-2 c κs = search needs
+
 returns-2 : tie.Need-returns-2
-returns-2 c = probability-reply _ _ _ (sym (ap (λ (a : Answer). a .number) (c .before .before .before .before .before .check .ensures)) ∙ c .before .before .before .if1 .left) (only-refused _ _ (sym (c .enum-told2 .given .1) ∙ c .before .before .probability .ensures))
+returns-2 c = rw (c .refused2 .ensures) (probability-reply _ _ _ (sym (ap (λ (a : Answer). a .number) (c .before .before .before .before .before .before .check .ensures)) ∙ c .before .before .before .before .if1 .left) (only-refused _ _ (sym (c .before .enum-told2 .given .1) ∙ c .before .before .before .probability .ensures)))
 
 annotate-accepted-requires : tie.Need-annotate-accepted-requires
 annotate-accepted-requires c κs = sym (ap (λ (a : Answer). a .number) (c .before .before .before .before .before .before .check .ensures)) ∙ c .before .before .before .before .if1 .left
@@ -39,10 +45,12 @@ annotate-spec =
     tie.close
     (tie.spec
     check-requires
+    refused-requires
     returns
     probability-requires
     enum-told
     enum-told-2
+    refused-requires-2
     returns-2
     annotate-accepted-requires
     same-length

@@ -13,23 +13,32 @@ slice-aggregate-put-annotated c = search needs
 put-annotated-requires : tie.Need-put-annotated-requires
 put-annotated-requires c κs = search needs
 
+refused-requires : tie.Need-refused-requires
+refused-requires c κs = search needs
+
 same-length : tie.Need-same-length
 same-length c = search needs
 
 returns : tie.Need-returns
-returns c = unfit-reply _ (c .before .before .before .before .put-annotated .ensures) (c .before .before .before .before .put-annotated .kept .0) (c .if1 .taken)
+returns c = rw (c .refused .ensures) (unfit-reply _ (c .before .before .before .before .before .put-annotated .ensures) (c .before .before .before .before .before .put-annotated .kept .0) (c .before .if1 .taken))
+
+refused-requires-2 : tie.Need-refused-requires-2
+refused-requires-2 c κs = search needs
 
 same-length-2 : tie.Need-same-length-2
 same-length-2 c = search needs
 
 returns-2 : tie.Need-returns-2
-returns-2 c = short-reply _ (c .before .before .before .before .before .before .put-annotated .ensures) (c .before .before .before .before .before .before .put-annotated .kept .0) (c .before .before .if1 .left) (c .if2 .taken)
+returns-2 c = rw (c .refused2 .ensures) (short-reply _ (c .before .before .before .before .before .before .before .put-annotated .ensures) (c .before .before .before .before .before .before .before .put-annotated .kept .0) (c .before .before .before .if1 .left) (c .before .if2 .taken))
+
+refused-requires-3 : tie.Need-refused-requires-3
+refused-requires-3 c κs = search needs
 
 same-length-3 : tie.Need-same-length-3
 same-length-3 c = search needs
 
 returns-3 : tie.Need-returns-3
-returns-3 c = large-reply _ (c .before .before .before .before .before .before .before .before .put-annotated .ensures) (c .before .before .before .before .before .before .before .before .put-annotated .kept .0) (c .before .before .before .before .if1 .left) (c .if3 .taken)
+returns-3 c = rw (c .refused3 .ensures) (large-reply _ (c .before .before .before .before .before .before .before .before .before .put-annotated .ensures) (c .before .before .before .before .before .before .before .before .before .put-annotated .kept .0) (c .before .before .before .before .before .if1 .left) (c .before .if3 .taken))
 
 put-annotated-requires-2 : tie.Need-put-annotated-requires-2
 put-annotated-requires-2 c κs = search needs
@@ -47,10 +56,13 @@ annotate-accepted-spec =
     slice-relend-prefix-put-annotated
     slice-aggregate-put-annotated
     put-annotated-requires
+    refused-requires
     same-length
     returns
+    refused-requires-2
     same-length-2
     returns-2
+    refused-requires-3
     same-length-3
     returns-3
     put-annotated-requires-2

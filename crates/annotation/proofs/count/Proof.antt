@@ -2,7 +2,8 @@
 use Prim.Native.Nat.{_-_}
 use mathlib.Core.Path.{_≡_, refl}
 use lib.ListN.{length}
-use Rattle.annotation.specs.Laws.Annotating.{Counting, count-none, count-more, count-all, some-read}
+use Rattle.instructions.specs.Laws.Lines.{some-read}
+use Rattle.annotation.specs.Laws.Annotating.{Counting, count-none, count-more, count-all}
 use native.Mathlib.Omega.{arith}
 use Rattle.annotation.proofs.count.Statement.{statement}
 use Rattle.annotation.proofs.count.Tie as tie

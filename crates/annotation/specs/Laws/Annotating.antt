@@ -1,6 +1,5 @@
 -- The loops over a job's lines. Laws. Assumes nothing.
-use Prim.Native.Nat.{ℕ, zero, suc, _+_, _-_, _*_, _^_, _≤_, _<_}
-use native.Mathlib.Numerals.{add-one}
+use Prim.Native.Nat.{ℕ, suc, _+_, _-_, _*_, _^_, _≤_, _<_}
 use native.Mathlib.Omega.{arith}
 use mathlib.Core.Path.{_≡_, refl, sym, ap, subst, _∙_}
 use mathlib.Core.Bool.{Bool, true, false, _&&_}
@@ -15,20 +14,19 @@ use Rattle.text.specs.Laws.Values.{both}
 use Rattle.text.specs.Template.{Value, lineText}
 use Rattle.job.specs.Grammar.{Written, depolarizingTemplate}
 use Rattle.job.specs.Checks.{maxMembers, distinct}
-use Rattle.job.specs.Job.{wellEnded, checkJob}
-use Rattle.job.specs.Laws.Begun.{ended-parts, job-passes}
+use Rattle.job.specs.Job.{checkJob}
 use Rattle.reader.specs.Parsed.{formOf}
 use Rattle.instructions.specs.declared.Next.{Next}
 use Rattle.instructions.specs.Reading.{lineAt, NextLine}
-use Rattle.instructions.specs.Laws.Meaning.{read-says}
+use Rattle.instructions.specs.Lines.{Left, numbered}
+use Rattle.instructions.specs.Laws.Lines.{Passed, left-all, here, line-read, left-more, numbered-some}
 use Rattle.instructions.specs.Laws.Places.{whole-line}
 use Rattle.writer.specs.Placed.{Puts}
 use Rattle.writer.specs.Laws.Placing.{Rest, rest-all, rest-more, rest-none}
 use Rattle.writer.specs.Laws.Lines.{depolarizing-next}
 use Rattle.circuit.specs.Annotate.{noiseText, noiseLines, annotated, annotatedText, noiseOn, firstUnfit, locations}
-use Rattle.circuit.specs.Laws.Passed.{Passes, Passed, all-passes, passes-line}
-use Rattle.annotation.specs.Qubits.{SoundRead, SomeRead, NoiseQubits}
-use Rattle.annotation.specs.Lines.{beforeIt, aroundText, numbered, Annotates}
+use Rattle.annotation.specs.Qubits.{NoiseQubits}
+use Rattle.annotation.specs.Lines.{beforeIt, aroundText, Annotates}
 use Rattle.annotation.specs.Laws.Merging.{part-few}
 use Rattle.annotation.specs.Laws.Around.{annotated-line, unfit-here, unfit-later, locations-line}
 
@@ -59,56 +57,6 @@ pub around-next : (before : Bool) (line : List ℕ) (p : ℕ) (qs : List ℕ) {a
     → Puts at (aroundText before line (unlines (noiseLines p qs))) out after next → next ≤ at + length line + (21 * length qs + 60)
 around-next true line p qs w = omega (arith, w .place, length-append (unlines (noiseLines p qs)) line, noise-length p qs)
 around-next false line p qs w = omega (arith, w .place, length-append line (unlines (noiseLines p qs)), noise-length p qs)
-
--- ---- a line of those that are left
-
--- the lines from `at` on pass, of which the first has number k
-pub record Left (job : List ℕ) (k at : ℕ) : Type 0 where
-  pub within : at ≤ length job
-  pub ended : wellEnded job ≡ true
-  pub size : length job ≤ 1048576
-  pub first : 1 ≤ k
-  pub number : k ≤ at + 1
-  pub passes : Passes k (lines (drop at job))
-
-pub left-all : (job : List ℕ) → checkJob job .number ≡ 0 → Left job 1 0
-left-all job e =
-    let ended = job-passes job e .0 in
-    record {
-      within = omega arith;
-      ended = ended;
-      size = ended-parts job ended .1;
-      first = omega arith;
-      number = omega arith;
-      passes = all-passes job e;
-    }
-
-module _ {job : List ℕ} {k at : ℕ} (a : Left job k at) {line : Next} {fields : List ℕ} (n : NextLine job at line fields) where
-  abbrev text : List ℕ
-  text = lineAt job at (line .end)
-
-  abbrev behind : List (List ℕ)
-  behind = lines (drop (line .end + 1) job)
-
-  pub here : Passed k text behind
-  here = passes-line (subst (Passes k) (n .place .cut) (a .passes))
-
-  pub line-read : SoundRead (line .form) fields (here .written)
-  line-read = let (vs, said) = read-says (n .parsed) (here .reads) in record { values = vs; said = said; sound = here .sound }
-
-  pub some-read : SomeRead (line .form) fields
-  some-read = record { written = here .written; read = line-read }
-
-  pub left-more : Left job (k + 1) (line .end + 1)
-  left-more =
-      record {
-        within = omega (arith, n .place .inside);
-        ended = a .ended;
-        size = a .size;
-        first = omega arith;
-        number = omega (arith, a .number, n .place .begins);
-        passes = rw (add-one k) (here .rest);
-      }
 
 -- ---- locations
 
@@ -165,19 +113,14 @@ module _ {job : List ℕ} {p : ℕ} {out : List ℕ} {k at next : ℕ} {after : 
   Fits b = b ≡ (distinct (take n words) && leb (length (take n words)) maxMembers)
 
   pub put-stops : {last : List ℕ} → Fits false → Annotates job p (record { unfit = k; bytes = 0 }) out last
-  unfolding numbered
   put-stops h =
       record {
         unfit =
             a .unfit ∙ ap (firstUnfit k) (l .place .cut)
             ∙ unfit-here (lineAt job at (line .end)) (lines (drop (line .end + 1) job)) (read .written) (read .reads) k (rw over at (sym h))
-            ∙ go k (a .left .first);
+            ∙ sym (numbered-some k (λ (e : k ≡ 0). omega (arith, a .left .first)));
         puts = λ e. absurd (omega (arith, a .left .first));
       }
-    where
-      go : (j : ℕ) → 1 ≤ j → some j ≡ numbered j
-      go zero z = absurd (omega arith)
-      go (suc j) z = refl
 
   fits-few : Fits true → length (take n words) ≤ 31
   fits-few h = leb-true _ _ (both (distinct (take n words)) (leb (length (take n words)) maxMembers) (sym h) .1)

@@ -1,10 +1,10 @@
 -- The replies of the calls. Laws. Assumes nothing.
-use Prim.Native.Nat.{ℕ, zero, suc, _≤_, _<_}
+use Prim.Native.Nat.{ℕ, _≤_, _<_}
 use native.Mathlib.Omega.{arith}
 use mathlib.Core.Path.{_≡_, refl, sym, ap, _∙_}
 use mathlib.Core.Bool.{true, false, and-false}
 use mathlib.Core.List.{List, [], _∷_, _++_}
-use mathlib.Core.Option.{none, some}
+use mathlib.Core.Option.{none}
 use borrow.Author.Tests.{le-leb, lt-leb, eq-eqb, ne-eqb}
 use lib.ListN.{length}
 use Rattle.text.specs.Bytes.{lines}
@@ -12,24 +12,16 @@ use Rattle.job.specs.declared.Answer.{Answer}
 use Rattle.job.specs.Float.{float, isProbability}
 use Rattle.job.specs.Job.{answer, accepted, checkJob}
 use Rattle.job.specs.Reply.{TextReply, refusedText}
+use Rattle.instructions.specs.Lines.{numbered}
+use Rattle.instructions.specs.Laws.Lines.{numbered-some, numbered-none}
 use Rattle.writer.specs.Placed.{placed}
 use Rattle.writer.specs.Laws.Placing.{placed-over}
 use Rattle.circuit.specs.Annotate.{annotatedText, firstUnfit, locations}
 use Rattle.circuit.specs.Replies.{annotateAnswer, annotateReply, locationsReply}
 use Rattle.annotation.specs.declared.lines.Progress.{Progress}
-use Rattle.annotation.specs.Lines.{numbered, Annotates}
+use Rattle.annotation.specs.Lines.{Annotates}
 
 -- ---- annotation of an accepted job
-
-numbered-some : (k : ℕ) → (k ≡ 0 → ⊥) → numbered k ≡ some k
-unfolding numbered
-numbered-some zero h = absurd (h refl)
-numbered-some (suc k) h = refl
-
-numbered-none : (k : ℕ) → numbered k ≡ none → k ≡ 0
-unfolding numbered
-numbered-none zero e = refl
-numbered-none (suc k) e = let z : _≡_ {A = ℕ} 0 1 = cc in absurd (omega arith)
 
 nothing-before : (front out : List ℕ) → length front ≡ 0 → front ++ out ≡ out
 nothing-before [] out e = refl

@@ -39,7 +39,8 @@ same-bits (suc n) v w a b e =
     same-bits n (v / 2) (w / 2) (omega arith) (omega arith) (λ j h. bit-later v 1 j ∙ e (1 + j) (omega arith) ∙ sym (bit-later w 1 j)) in
     omega arith
 
-four : (k : ℕ) → 2 ^ (2 * k) ≡ 4 ^ k
+-- 4 ^ k by bits
+pub four : (k : ℕ) → 2 ^ (2 * k) ≡ 4 ^ k
 four zero = refl
 four (suc k) = rw (mul-suc, pow-add, four k) (sym (pow-suc 4 k))
 

@@ -145,12 +145,12 @@ choice-below (Distribution.weighted es) ws h =
     let same : length floats ≡ length es = length-map es (λ (w : WeightedPauli). float (w .weight)) in
     subst (λ (k : ℕ). ChoiceBelow k (byWeight (runningSums floats) ws)) same (weight-below floats ws (omega arith))
 
-unfoldable ShotBelow : ℕ → ShotDraw → Type 0
+unfoldable pub ShotBelow : ℕ → ShotDraw → Type 0
 ShotBelow size ShotDraw.spent = Unit
 ShotBelow size (ShotDraw.drew none left) = Unit
 ShotBelow size (ShotDraw.drew (some e) left) = e < size
 
-shot-below : (n : Noise) (bits : Bits) (ws : List ℕ) → 0 < sizeOf (n .distribution) → ShotBelow (sizeOf (n .distribution)) (drawShot n bits ws)
+pub shot-below : (n : Noise) (bits : Bits) (ws : List ℕ) → 0 < sizeOf (n .distribution) → ShotBelow (sizeOf (n .distribution)) (drawShot n bits ws)
 unfolding drawShot ShotBelow
 shot-below n bits [] h = tt
 shot-below n bits (w ∷ ws) h =

@@ -13,23 +13,28 @@ use generator::loads;
 use generator::random::Random;
 use pauliverse::bridge::{Program, lend};
 use reference::Reference;
+use reference::vectors::Call;
 use std::hint::black_box;
 use std::time::{Duration, Instant};
 
-#[cfg(feature = "linked")]
-const ENGINE: Option<&dyn Calls> = Some(&crate::linked::Linked);
-#[cfg(not(feature = "linked"))]
-const ENGINE: Option<&dyn Calls> = None;
+/// The engine, where a library is linked that has the call.
+fn engine(call: Call) -> Option<&'static dyn Calls> {
+    crate::UNDER_TEST.1.contains(&call).then_some(crate::UNDER_TEST.0)
+}
 
-const ROUNDS: usize = 7;
+const ROUNDS: usize = 15;
 
-/// Measure every load.
-pub fn run() {
-    let columns = ["published", "with reading", "engine", "/published", "/reading"].map(|name| format!("{name:>12}"));
+/// Measure the loads of a part, or of all; whether there is such a part.
+pub fn run(part: &str) -> bool {
+    let parts: [(&str, fn()); 3] = [("checks", checks), ("runs", runs), ("around", around)];
+    let chosen: Vec<_> = parts.iter().filter(|(name, _)| part == "all" || part == *name).collect();
+    let columns = ["published", "with reading", "engine", "/published", "/reading", "ns a byte"]
+        .map(|name| format!("{name:>12}"));
     println!("{:52} {}", "milliseconds", columns.join(" "));
-    checks();
-    runs();
-    around();
+    for (_, measure) in &chosen {
+        measure();
+    }
+    !chosen.is_empty()
 }
 
 /// What is timed; a part that isn't there has no time.
@@ -40,7 +45,8 @@ struct Timed<'a> {
 }
 
 impl Timed<'_> {
-    fn report(mut self, name: &str) {
+    /// Time the parts in turns, and print the shortest times, and the engine's for a byte of the job.
+    fn report(mut self, name: &str, bytes: usize) {
         let longest = Duration::MAX;
         let (mut published, mut reading, mut engine) = (longest, longest, longest);
         for _ in 0..ROUNDS {
@@ -55,8 +61,10 @@ impl Timed<'_> {
             (Duration::MAX, _) | (_, Duration::MAX) => "-".into(),
             (part, engine) => format!("{:.2}", engine.as_secs_f64() / part.as_secs_f64()),
         };
+        let each =
+            if engine == longest { "-".into() } else { format!("{:.2}", engine.as_secs_f64() * 1e9 / bytes as f64) };
         println!(
-            "{name:52} {:>12} {:>12} {:>12} {:>12} {:>12}",
+            "{name:52} {:>12} {:>12} {:>12} {:>12} {:>12} {each:>12}",
             show(published),
             show(reading),
             show(engine),
@@ -76,9 +84,13 @@ fn time(part: &mut impl FnMut()) -> Duration {
 
 fn checks() {
     let header = loads::header(256, 4096);
+    for (size, bytes) in [("250,000", 250_000), ("500,000", 500_000), ("1,000,000", 1_000_000)] {
+        check(&format!("check, {size} bytes of gate lines"), &loads::cut(loads::gates(header, 80_000), bytes));
+    }
+    for (size, bytes) in [("250,000", 250_000), ("500,000", 500_000), ("1,000,000", 1_000_000)] {
+        check(&format!("check, {size} bytes of noise lines"), &loads::cut(loads::noise(header, 20_000, 0.001), bytes));
+    }
     let mixed = loads::mixed(header, 12_000, 0.001);
-    check("check, 1,000,000 bytes of gate lines", &loads::cut(loads::gates(header, 80_000), 1_000_000));
-    check("check, 1,000,000 bytes of noise lines", &loads::cut(loads::noise(header, 20_000, 0.001), 1_000_000));
     check("check, a mixed job of 1,000,000 bytes at most", &loads::cut(mixed, 1_000_000));
 }
 
@@ -86,9 +98,9 @@ fn check(name: &str, job: &[u8]) {
     Timed {
         published: None,
         with_reading: Box::new(|| _ = black_box(Plain.check(black_box(job)))),
-        engine: ENGINE.map(|engine| Box::new(move || _ = black_box(engine.check(black_box(job)))) as _),
+        engine: engine(Call::Check).map(|engine| Box::new(move || _ = black_box(engine.check(black_box(job)))) as _),
     }
-    .report(name);
+    .report(name, job.len());
 }
 
 // ---- runs, settling and the walk
@@ -157,7 +169,7 @@ fn measure_run(name: &str, made: &Made) {
             let program = Program::new(&load.job());
             _ = black_box(program.execute(0, &load.main, &noiseless).is_ok());
         }),
-        engine: ENGINE.map(|engine| {
+        engine: engine(Call::Run).map(|engine| {
             Box::new(move || {
                 let rows = Rows { frames_x: &mut rows.0, frames_z: &mut rows.1, deltas: &mut rows.2 };
                 let answer = engine.run(black_box(&load.bytes), load.draws(), &load.noiseless, rows);
@@ -165,7 +177,7 @@ fn measure_run(name: &str, made: &Made) {
             }) as _
         }),
     }
-    .report(name);
+    .report(name, load.bytes.len());
 }
 
 fn measure_settle(name: &str, made: &Made) {
@@ -178,9 +190,9 @@ fn measure_settle(name: &str, made: &Made) {
     Timed {
         published: None,
         with_reading: Box::new(move || settle(&Reference, &mut out)),
-        engine: ENGINE.map(|engine| Box::new(move || settle(engine, &mut engine_out)) as _),
+        engine: engine(Call::Settle).map(|engine| Box::new(move || settle(engine, &mut engine_out)) as _),
     }
-    .report(name);
+    .report(name, load.bytes.len());
 }
 
 fn measure_walk(name: &str, made: &Made) {
@@ -189,9 +201,9 @@ fn measure_walk(name: &str, made: &Made) {
     Timed {
         published: None,
         with_reading: Box::new(|| walk(&Plain)),
-        engine: ENGINE.map(|engine| Box::new(move || walk(engine)) as _),
+        engine: engine(Call::Walk).map(|engine| Box::new(move || walk(engine)) as _),
     }
-    .report(name);
+    .report(name, job.len());
 }
 
 // ---- annotation, locations, correlation
@@ -208,15 +220,15 @@ fn around() {
     Timed {
         published: Some(Box::new(|| _ = black_box(circuit.with_depolarizing_noise(p)))),
         with_reading: Box::new(move || annotate(&Plain, &mut out)),
-        engine: ENGINE.map(|engine| Box::new(move || annotate(engine, &mut engine_out)) as _),
+        engine: engine(Call::Annotate).map(|engine| Box::new(move || annotate(engine, &mut engine_out)) as _),
     }
-    .report("annotate, 10,000 gates");
+    .report("annotate, 10,000 gates", gates.len());
     Timed {
         published: Some(Box::new(|| _ = black_box(black_box(&circuit).fault_count()))),
         with_reading: Box::new(|| _ = black_box(Plain.locations(&gates))),
-        engine: ENGINE.map(|engine| Box::new(|| _ = black_box(engine.locations(&gates))) as _),
+        engine: engine(Call::Locations).map(|engine| Box::new(|| _ = black_box(engine.locations(&gates))) as _),
     }
-    .report("locations, 10,000 gates");
+    .report("locations, 10,000 gates", gates.len());
 
     let mixed = loads::mixed(header, 10_000, 0.001).bytes();
     let job = read(&mixed).expect("a job that the checks accept");
@@ -224,7 +236,7 @@ fn around() {
     Timed {
         published: Some(Box::new(|| _ = black_box(black_box(&circuit).validate_correlated_faults().is_ok()))),
         with_reading: Box::new(|| _ = black_box(Plain.correlation(&mixed))),
-        engine: ENGINE.map(|engine| Box::new(|| _ = black_box(engine.correlation(&mixed))) as _),
+        engine: engine(Call::Correlation).map(|engine| Box::new(|| _ = black_box(engine.correlation(&mixed))) as _),
     }
-    .report("correlation, 10,000 mixed lines");
+    .report("correlation, 10,000 mixed lines", mixed.len());
 }

@@ -8,6 +8,7 @@ mod differences;
 #[cfg(feature = "linked")]
 mod linked;
 mod minimise;
+mod replay;
 mod settled;
 mod stored;
 
@@ -24,25 +25,28 @@ usage: compare CALL N [SEED]      N random inputs of a call: check, run, settle,
        compare vectors            the stored vectors
        compare all N [SEED]       all of these
        compare write CALL N SEED  N vectors of a call, made by the reference, on standard output
-       compare bench              times beside the published Rust's
+       compare replay CALL        the list of a replay program, on standard output: check
+       compare bench [PART]       times beside the published Rust's and document 01's by hand; PART is checks, runs or around
 A difference is seen again by `compare CALL 1 SEED` with the seed that it prints.";
 
-/// The calls under test.
+/// The calls under test, and which of them are the library's; the others are document 01's plainest form.
 #[cfg(feature = "linked")]
-const UNDER_TEST: (&str, &dyn Calls) = ("libkundatrezo", &linked::Linked);
+const UNDER_TEST: (&dyn Calls, &[Call]) = (&linked::Linked, linked::CALLS);
 #[cfg(not(feature = "linked"))]
-const UNDER_TEST: (&str, &dyn Calls) = ("document 01's plainest form (no library linked)", &checker::plain::Plain);
+const UNDER_TEST: (&dyn Calls, &[Call]) = (&checker::plain::Plain, &[]);
 
 fn main() -> ExitCode {
     let arguments: Vec<String> = std::env::args().skip(1).collect();
     let arguments: Vec<&str> = arguments.iter().map(String::as_str).collect();
     let passed = match arguments[..] {
-        ["vectors"] => stored::passes(UNDER_TEST.1),
-        ["bench"] => {
-            bench::run();
-            true
+        ["vectors"] => {
+            say_under_test();
+            stored::passes(UNDER_TEST.0)
         }
+        ["bench"] => bench::run("all") || usage(),
+        ["bench", part] => bench::run(part) || usage(),
         ["write", call, count, seed] => write(call, count, seed),
+        ["replay", "check"] => replay::write_check(),
         [command, count] => counted(command, count, None),
         [command, count, seed] => counted(command, count, Some(seed)),
         _ => usage(),
@@ -73,24 +77,41 @@ fn counted(command: &str, count: &str, seed: Option<&str>) -> bool {
         return usage();
     }
     println!("seed {seed}");
-    println!("under test: {}", UNDER_TEST.0);
+    say_under_test();
     let mut passed = true;
     let mut refusals = Refusals::default();
     for call in calls {
-        passed &= differences::passes(UNDER_TEST.1, call, count, seed, &mut refusals);
+        passed &= differences::passes(UNDER_TEST.0, call, count, seed, &mut refusals);
     }
     if asked("settled") {
-        passed &= settled::passes(UNDER_TEST.1, count, seed);
+        passed &= settled::passes(UNDER_TEST.0, count, seed);
     }
     if asked("backward") {
-        passed &= brute::passes(UNDER_TEST.1, count, seed);
+        passed &= brute::passes(UNDER_TEST.0, count, seed);
     }
     if command == "all" {
-        passed &= stored::passes(UNDER_TEST.1);
+        passed &= stored::passes(UNDER_TEST.0);
         println!("refusals of all calls: {refusals}");
         println!("{}", if passed { "0 differences" } else { "differences" });
     }
     passed
+}
+
+/// Say who makes which of the calls under test.
+fn say_under_test() {
+    let names = |linked: bool| {
+        let made = CALLS.into_iter().filter(|call| UNDER_TEST.1.contains(call) == linked);
+        made.map(Call::name).collect::<Vec<_>>().join(", ")
+    };
+    println!(
+        "under test: by libkundatrezo: {}; in document 01's plainest form: {}",
+        or_none(names(true)),
+        or_none(names(false))
+    );
+}
+
+fn or_none(names: String) -> String {
+    if names.is_empty() { "none".into() } else { names }
 }
 
 fn new_seed() -> u64 {

@@ -5,7 +5,8 @@ use borrow.Author.Tests.{not-true, not-false}
 use lib.ListN.{length}
 use lib.Seq.{length-take-le}
 use Rattle.writer.specs.Laws.Placing.{rest-length}
-use Rattle.annotation.specs.Laws.Annotating.{Annotating, put-none, some-read, put-stops, put-room, put-more, put-all}
+use Rattle.instructions.specs.Laws.Lines.{some-read}
+use Rattle.annotation.specs.Laws.Annotating.{Annotating, put-none, put-stops, put-room, put-more, put-all}
 use native.Mathlib.Omega.{arith}
 use Rattle.annotation.proofs.lines.put_annotated.Statement.{statement}
 use Rattle.annotation.proofs.lines.put_annotated.Tie as tie

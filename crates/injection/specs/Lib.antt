@@ -1,0 +1,2 @@
+-- Laws of injections by faults.
+pub mod Laws

@@ -1,0 +1,42 @@
+-- `lines::clifford` meets its contract. Assumes nothing.
+use Rattle.lines.specs.Laws.Read.{clifford-read}
+use Rattle.job.specs.Sound.{LineSound}
+use native.Mathlib.Omega.{arith}
+use borrow.Author.Needs.{needs}
+use Rattle.lines.proofs.clifford.Statement.{statement}
+use Rattle.lines.proofs.clifford.Tie as tie
+
+list-requires : tie.Need-list-requires
+list-requires c κs = (omega arith, c .before .before .before .before .before .pre .plain .wide, clifford-read (c .before .before .before .before .before .pre .plain) .few 0 (omega arith))
+
+shared-slice-read-apply-clifford : tie.Need-shared-slice-read-apply-clifford
+shared-slice-read-apply-clifford c = search needs
+
+apply-clifford-requires : tie.Need-apply-clifford-requires
+unfolding LineSound
+apply-clifford-requires c κs =
+    let e = c .before .list .ensures in
+    let s = clifford-read (c .before .before .before .before .before .before .before .pre .plain) .sound in
+    (c .before .before .before .before .before .before .before .pre .narrow, c .before .before .before .before .before .before .before .pre .of-x, c .before .before .before .before .before .before .before .pre .of-z, rw e (s .few), rw e (s .operands .below))
+
+same-length : tie.Need-same-length
+same-length c = search needs
+
+same-length-2 : tie.Need-same-length-2
+same-length-2 c = search needs
+
+returns : tie.Need-returns
+returns c =
+    let e = c .before .before .before .before .before .before .list .ensures in
+    record { acts = λ m line p d. rw (← clifford-read p .is, ← e) (c .before .before .before .before .apply-clifford .ensures m d) }
+
+pub clifford-spec : {M : Type 1} → statement M
+clifford-spec =
+    tie.close
+    (tie.spec
+    list-requires
+    shared-slice-read-apply-clifford
+    apply-clifford-requires
+    same-length
+    same-length-2
+    returns)

@@ -1,0 +1,34 @@
+// A noise line by value, and what it draws from the lent words.
+pub mod choice;
+pub mod condition;
+pub mod shots;
+pub mod words;
+
+// The four kinds of distribution. The weighted one carries its total; its running sums lie in an array beside it.
+pub enum PauliDistribution {
+    Single,
+    Depolarizing(u64),
+    Uniform(u64),
+    Weighted(f64),
+}
+
+// Words come from the main list, or from the second at the place that a correlation names.
+pub enum Correlation {
+    Uncorrelated,
+    Shared(u64),
+}
+
+// The noiseless bits of the first `count` of `outcomes` sum to `parity`. A count of 0 is no condition.
+pub struct OutcomeCondition {
+    pub outcomes: [u64; 31],
+    pub count: usize,
+    pub parity: u64,
+}
+
+// A noise line's probability, kind and condition travel together.
+pub struct PauliFault {
+    pub probability: f64,
+    pub distribution: PauliDistribution,
+    pub correlation: Correlation,
+    pub condition: OutcomeCondition,
+}

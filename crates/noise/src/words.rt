@@ -1,0 +1,67 @@
+// Words: as numbers from 0 to 1, and the part of the two lists of them that a noise line reads from.
+use crate::Correlation;
+ghost use mathlib.Core.Path.{_≡_};
+ghost use Prim.Native.Nat.{_≤_};
+ghost use lib.ListN.{length, drop};
+ghost use Rattle.draws.specs.Draws.{unitOf, falls, Lent, partOf};
+ghost use Rattle.noise.specs.Kinds.{correlationOf};
+ghost use Rattle.noise.specs.Shots.{skipOf};
+
+// u = floor(w / 2048) / 2^53. A number below 2^53 is cast without loss, and scaling by a power of two is exact.
+pub fn unit(w: u64) -> f64
+    ensures { λ r. ⌜ r ≡ unitOf w ⌝ }
+{
+    (w / 2048) as f64 / 9007199254740992.0
+}
+
+// A fault falls if u < p.
+pub fn is_fault(w: u64, p: f64) -> bool
+    ensures { λ r. ⌜ r ≡ falls w p ⌝ }
+{
+    unit(w) < p
+}
+
+// What a list holds from a place on: nothing where that is past the end.
+fn tail<'a>(words: &'a [u64], from: usize) -> &'a [u64]
+    ensures { λ r. ⌜ now r ≡ drop from (now (words .entry)) ⌝ }
+{
+    if from <= words.len() {
+        &words[from..]
+    } else {
+        &words[words.len()..]
+    }
+}
+
+// The part of one of the two lists that a noise line reads from: the main list from a position on, or the second from base + c on, wrapping at 2^64.
+pub fn part<'a>(
+    main: &'a [u64],
+    second: &'a [u64],
+    correlation: Correlation,
+    base: u64,
+    position: usize,
+) -> &'a [u64]
+    ensures { λ r. ⌜ ((lent : Lent) → lent .second ≡ now (second .entry) → lent .base ≡ base → now r ≡ partOf lent (correlationOf correlation) (drop position (now (main .entry)))) ⌝ }
+{
+    match correlation {
+        Correlation::Uncorrelated => tail(main, position),
+        Correlation::Shared(c) => tail(second, std::num::wrapping_add_u64(base, c) as usize),
+    }
+}
+
+// How many shots, of so many, are passed over before the next fault: as many words bring none. Fewer where the words end.
+pub fn next_skip(words: &[u64], at: usize, shots: usize, p: f64) -> usize
+    requires { ⌜ at ≤ length (now words) ⌝ }
+    ensures { λ r. ⌜ r ≡ skipOf p shots (drop at (now (words .entry))) ⌝ }
+{
+    let mut i = 0;
+    while i < shots {
+        if words.len() <= at + i {
+            return i;
+        }
+        if is_fault(words[at + i], p) {
+            return i;
+        }
+        i += 1;
+    }
+    i
+}

@@ -1,0 +1,48 @@
+/* Kundatrezo: a Pauli-frame noise engine. The calls of libkundatrezo.a, for x86-64 Linux.
+ *
+ * A list is lent as a pointer to its first element and its length in elements. A pointer is never null, not even of an empty list, and two
+ * lists of a call may overlap only where the call writes neither. The library keeps no state and no pointer, calls nothing of its caller's, and
+ * takes no memory but some of the stack. Calls on memory of their own may run at the same time.
+ *
+ * A call requires nothing of what lists hold or of how long they are: a job of any bytes gets an answer.
+ */
+#ifndef KUNDATREZO_H
+#define KUNDATREZO_H
+
+#include <stddef.h>
+#include <stdint.h>
+
+#ifdef __cplusplus
+extern "C" {
+#endif
+
+/* What a call says. */
+struct kundatrezo_answer {
+    uint64_t number; /* 0: success; else the number of the refusal */
+    uint64_t line;   /* the line of the refusal, from 1; 0 with success, and where no line fits */
+};
+
+/* The numbers of refusals. The first bad line of a job counts, and its lowest number. */
+enum kundatrezo_refusal {
+    KUNDATREZO_LENGTH = 1,       /* the job is empty, longer than 1,048,576 bytes, or has no LF at its end; line 0 */
+    KUNDATREZO_FORM = 2,         /* form of a line, a gate code above 14, or the job ends before its element lines */
+    KUNDATREZO_HEADER = 3,       /* header missing, repeated or out of range */
+    KUNDATREZO_QUBIT = 4,        /* a qubit not below the header's qubits */
+    KUNDATREZO_OPERANDS = 5,     /* number of operands, a repeated operand, or a list of more than 31 */
+    KUNDATREZO_PERMUTATION = 6,  /* s is no permutation of the places */
+    KUNDATREZO_CLIFFORD = 7,     /* not a Clifford */
+    KUNDATREZO_NEXT_ID = 8,      /* id of a measurement or an allocation not the next one, or not below the header's outcomes */
+    KUNDATREZO_NOT_RECORDED = 9, /* an outcome that is not recorded yet */
+    KUNDATREZO_SHOT = 10,        /* a shot not below the header's shots */
+    KUNDATREZO_PROBABILITY = 11, /* p is NaN or above 1 */
+    KUNDATREZO_ELEMENTS = 12     /* n not 1 to 64; a weight below zero or not finite; their total zero or not finite */
+};
+
+/* Tests 1 to 12 of a job: number 0 if the job is accepted, else the first bad line and its lowest number. Nothing is written. */
+struct kundatrezo_answer kundatrezo_check(const uint8_t *job, size_t job_len);
+
+#ifdef __cplusplus
+}
+#endif
+
+#endif
