@@ -1,16 +1,23 @@
-// The faults of a noise line, injected in their shots: what an element adds to the rows of frames.
+// The faults of a noise line, injected in their shots.
+use noise::PauliDistribution;
+use noise::choice::bound;
+use noise::choice::limit;
+use noise::shots::NextFault;
+use noise::shots::next_fault;
 use pauli::Shot;
 ghost use mathlib.Core.Path.{_≡_};
 ghost use mathlib.Core.Bool.{true, cond};
 ghost use mathlib.Core.List.{List};
 ghost use Prim.Native.Nat.{ℕ, _+_, _*_, _^_, _<_, _≤_};
 ghost use lib.ListN.{length};
-ghost use Rattle.job.specs.Line.{Line};
+ghost use Rattle.job.specs.Line.{SparsePauli, Line};
 ghost use Rattle.job.specs.Checks.{allBelow, distinct};
 ghost use Rattle.draws.specs.Draws.{selected, depolarizingElement};
 ghost use Rattle.rows.specs.Overwrite.{flipped};
 ghost use Rattle.rows.specs.Listed.{RowsIn, overList};
 ghost use Rattle.propagator.specs.Acts.{Acts, lineRule};
+ghost use Rattle.faults.specs.Elements.{ElementHeld};
+ghost use Rattle.injection.specs.Injected.{ListedHeld, ElementReady, ElementInjected, FaultsReady, FaultsInjected};
 
 // ---- The elements of d=2
 
@@ -57,4 +64,96 @@ pub fn inject_depolarizing(
     let v = e + 1;
     flip_selected(x, w, qubits, v, s);
     flip_selected(z, w, qubits, v / 2, s);
+}
+
+// ---- Any element
+
+// Element e of a distribution, by its two lists: the counts lie in its first two of 64 words, the lists behind them.
+fn inject_listed(
+    x: &mut [u64],
+    z: &mut [u64],
+    w: usize,
+    n: usize,
+    shot: Shot,
+    elements: &[u64],
+    e: u64,
+)
+    requires { ⌜ ListedHeld n (now elements) e × (length (now x) ≡ n * w) × (length (now z) ≡ n * w) × (shot .0 < 64 * w) ⌝ }
+    ensures { λ _. ⌜ ((P : SparsePauli) → ElementHeld (now (elements .entry)) e P → (m : ℕ) (d : List ℕ) → Acts w (lineRule n m (Line.inject (shot .0) P)) (now (x .entry)) (now (z .entry)) d (now (x .exit)) (now (z .exit)) d) ⌝ }
+{
+    let a = e as usize * 64;
+    let xs = a + 2;
+    let xe = xs + elements[a] as usize;
+    let zs = a + 33;
+    let ze = zs + elements[a + 1] as usize;
+    propagator::paulis::inject_pauli(x, z, w, n, shot, &elements[xs..xe], &elements[zs..ze]);
+}
+
+// Element e of a distribution. The qubits of d=2 stand as the first list of element 0.
+pub fn inject_element(
+    x: &mut [u64],
+    z: &mut [u64],
+    w: usize,
+    n: usize,
+    shot: Shot,
+    d: PauliDistribution,
+    elements: &[u64],
+    e: u64,
+)
+    requires { ⌜ ElementReady n d (now elements) e × (length (now x) ≡ n * w) × (length (now z) ≡ n * w) × (shot .0 < 64 * w) ⌝ }
+    ensures { λ _. ⌜ ElementInjected w n (shot .0) d (now (elements .entry)) e (now (x .entry)) (now (z .entry)) (now (x .exit)) (now (z .exit)) ⌝ }
+{
+    match d {
+        PauliDistribution::Depolarizing(k) => {
+            let end = 2 + k as usize;
+            inject_depolarizing(x, z, w, n, shot, &elements[2..end], e)
+        }
+        _ => inject_listed(x, z, w, n, shot, elements, e),
+    }
+}
+
+// ---- The faults of a line
+
+// The faults of all shots were injected, with the place of the next word; or a word was needed past the end.
+pub enum Drawn {
+    Done(usize),
+    Spent,
+}
+
+// Injects the faults of a noise line, from shot to shot. The words are its part of the draws; the mask has the shots whose condition is satisfied.
+pub fn inject_faults(
+    words: &[u64],
+    mask: &[u64],
+    p: f64,
+    d: PauliDistribution,
+    sums: &[f64],
+    elements: &[u64],
+    x: &mut [u64],
+    z: &mut [u64],
+    w: usize,
+    n: usize,
+    shots: usize,
+) -> Drawn
+    requires { ⌜ FaultsReady n shots w p d (now sums) (now elements) (now mask) (now x) (now z) ⌝ }
+    ensures { λ r. ⌜ FaultsInjected n shots w p d (now (sums .entry)) (now (elements .entry)) (now (mask .entry)) (now (words .entry)) (now (x .entry)) (now (z .entry)) (now (x .exit)) (now (z .exit)) r ⌝ }
+{
+    let c = bound(d);
+    let most = limit(c);
+    let mut at = 0;
+    let mut shot = 0;
+    loop {
+        match next_fault(words, at, mask, shot, shots, p, d, c, most, sums) {
+            NextFault::Spent => {
+                return Drawn::Spent;
+            }
+            NextFault::Done(next) => {
+                return Drawn::Done(next);
+            }
+            NextFault::At(s, e, next) => {
+                inject_element(x, z, w, n, Shot(s), d, elements, e);
+                at = next;
+                shot = s + 1;
+            }
+        }
+    }
 }

@@ -40,7 +40,7 @@ use Rattle.faults.specs.Laws.Elements.{kept-held, kept-qubits}
 use Rattle.faults.specs.Laws.Line.{NoiseView, noise-view, probability-held}
 
 -- a noise line that was read
-pub noise-lines : {job : List ℕ} {h : Header} {r k at : ℕ} {next : Next} {fields : List ℕ} → NoiseRead job h r k at next fields
+unfoldable pub noise-lines : {job : List ℕ} {h : Header} {r k at : ℕ} {next : Next} {fields : List ℕ} → NoiseRead job h r k at next fields
     → (noiseless : List ℕ) (w : ℕ) → h .outcomes * w ≤ length noiseless → NoiseLines job (next .end + 1) (next .form) fields noiseless w
 noise-lines {job} {h} {r} {k} {at} {next} m noiseless w fits =
     record {

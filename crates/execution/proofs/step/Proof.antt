@@ -1,0 +1,99 @@
+-- `execution::step` meets its contract. Assumes nothing.
+use Rattle.execution.specs.Laws.Steps.{plain-ready, plain-went, noise-ready, noise-done}
+use Rattle.instructions.specs.Laws.Steps.{plain-read, noise-read}
+use mathlib.Core.Path.{sym, _∙_}
+use native.Mathlib.Omega.{arith}
+use borrow.Author.Needs.{needs}
+use Rattle.execution.proofs.step.Statement.{statement}
+use Rattle.execution.proofs.step.Tie as tie
+
+next-line-requires : tie.Need-next-line-requires
+next-line-requires c κs = search needs
+
+add-next : tie.Need-add-next
+add-next c = search needs
+
+is-noise-requires : tie.Need-is-noise-requires
+is-noise-requires c κs = search needs
+
+apply-noise-requires : tie.Need-apply-noise-requires
+apply-noise-requires c κs =
+    let ready = c .before .before .before .before .before .before .before .before .before .before .before .before .before .before .before .before .before .before .before .before .pre .0 in
+    let rows = c .before .before .before .before .before .before .before .before .before .before .before .before .before .before .before .before .before .before .before .before .pre .1 in (
+      noise-ready (noise-read (ready .ahead) (c .before .before .before .before .before .before .before .before .before .next-line .ensures) (sym (c .before .before .before .before .before .is-noise .ensures) ∙ c .before .before .before .before .if1 .taken)) (rows .of-noiseless),
+      record {
+        of-fields = omega (arith, ready .of-fields, c .before .before .before .before .before .before .before .before .before .next-line .kept);
+        of-elements = ready .of-elements;
+        narrow = rows .narrow;
+        in-words = rows .in-words;
+        of-x = rows .of-x;
+        of-z = rows .of-z;
+      },
+      ready .within,
+    )
+
+same-length : tie.Need-same-length
+same-length c = search needs
+
+same-length-2 : tie.Need-same-length-2
+same-length-2 c = search needs
+
+same-length-3 : tie.Need-same-length-3
+same-length-3 c = search needs
+
+same-length-4 : tie.Need-same-length-4
+same-length-4 c = search needs
+
+returns : tie.Need-returns
+returns c =
+    record {
+      by = λ recorded k ahead states holds.
+          noise-done (noise-read ahead (c .before .before .before .before .before .before .before .before .before .before .before .before .before .before .before .before .next-line .ensures) (sym (c .before .before .before .before .before .before .before .before .before .before .before .before .is-noise .ensures) ∙ c .before .before .before .before .before .before .before .before .before .before .before .if1 .taken)) (c .before .before .before .before .before .before .before .before .before .before .before .before .before .before .before .before .before .before .before .before .before .before .before .before .before .before .before .pre .1 .of-noiseless)
+          (c .before .before .before .before .before .before .apply-noise .ensures) _ states holds;
+    }
+
+apply-line-requires : tie.Need-apply-line-requires
+apply-line-requires c κs =
+    let ready = c .before .before .before .before .before .before .before .before .before .before .before .before .before .before .before .before .before .before .before .before .pre .0 in
+    plain-ready (plain-read (ready .ahead) (c .before .before .before .before .before .before .before .before .before .next-line .ensures) (sym (c .before .before .before .before .before .is-noise .ensures) ∙ c .before .before .before .before .if1 .left)) (ready .ahead) (c .before .before .before .before .before .before .before .before .before .before .before .before .before .before .before .before .before .before .before .before .pre .1) (omega (arith, ready .of-fields, c .before .before .before .before .before .before .before .before .before .next-line .kept))
+
+same-length-5 : tie.Need-same-length-5
+same-length-5 c = search needs
+
+same-length-6 : tie.Need-same-length-6
+same-length-6 c = search needs
+
+same-length-7 : tie.Need-same-length-7
+same-length-7 c = search needs
+
+same-length-8 : tie.Need-same-length-8
+same-length-8 c = search needs
+
+returns-2 : tie.Need-returns-2
+returns-2 c =
+    let ready = c .before .before .before .before .before .before .before .before .before .before .before .before .before .before .before .before .before .before .before .before .before .before .before .before .before .before .before .pre .0 in
+    record {
+      by = λ recorded k ahead states holds.
+          plain-went (plain-read ahead (c .before .before .before .before .before .before .before .before .before .before .before .before .before .before .before .before .next-line .ensures) (sym (c .before .before .before .before .before .before .before .before .before .before .before .before .is-noise .ensures) ∙ c .before .before .before .before .before .before .before .before .before .before .before .if1 .left)) ahead (c .before .before .before .before .before .before .before .before .before .before .before .before .before .before .before .before .before .before .before .before .before .before .before .before .before .before .before .pre .1)
+          (omega (arith, ready .of-fields, c .before .before .before .before .before .before .before .before .before .before .before .before .before .before .before .before .next-line .kept)) _ _ _ (ready .within) _ _ _ (c .before .before .before .before .before .before .apply-line .ensures) states holds;
+    }
+
+pub step-spec : {M : Type 1} → statement M
+step-spec =
+    tie.close
+    (tie.spec
+    next-line-requires
+    add-next
+    is-noise-requires
+    apply-noise-requires
+    same-length
+    same-length-2
+    same-length-3
+    same-length-4
+    returns
+    apply-line-requires
+    same-length-5
+    same-length-6
+    same-length-7
+    same-length-8
+    returns-2)

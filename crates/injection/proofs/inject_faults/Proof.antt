@@ -1,0 +1,123 @@
+-- `injection::inject_faults` meets its contract. Assumes nothing.
+use Rattle.injection.specs.Laws.Faults.{Injecting, injecting-none, injecting-spent, injecting-done, element-ready, injecting-at}
+use Rattle.noise.specs.Laws.Next.{at-within, at-shot}
+use Rattle.noise.specs.Kinds.{boundOf}
+use Rattle.draws.specs.Draws.{limitOf}
+use borrow.Author.Needs.{needs}
+use lib.ListN.{length}
+use Prim.Native.Nat.{_-_, _≤_}
+use mathlib.Core.Path.{_≡_, refl, _∙_}
+use native.Mathlib.Omega.{arith}
+use Rattle.injection.proofs.inject_faults.Statement.{statement}
+use Rattle.injection.proofs.inject_faults.Tie as tie
+
+abbrev Inv-loop : tie.InvT-loop
+Inv-loop words mask p d sums elements x₀ z₀ w n shots c most at₀ shot₀ x z at shot =
+    (at ≤ length words) × (shot ≤ shots) × (length x ≡ length x₀) × (length z ≡ length z₀) × (c ≡ boundOf d) × (most ≡ limitOf c)
+    × Injecting n shots w p d sums elements mask words x₀ z₀ x z at shot
+
+abbrev μ-loop : tie.MeasureT-loop
+μ-loop words mask p d sums elements x₀ z₀ w n shots c most at₀ shot₀ x z at shot = shots - shot
+
+bound-requires : tie.Need-bound-requires Inv-loop μ-loop
+bound-requires c κs = c .before .before .before .before .before .before .pre .line .small
+
+limit-requires : tie.Need-limit-requires Inv-loop μ-loop
+limit-requires c κs = tt
+
+loop-holds : tie.Need-loop-holds Inv-loop μ-loop
+loop-holds c = (omega arith, omega arith, refl, refl, c .before .bound .ensures, c .limit .ensures, injecting-none _ _ _ _ _ _ _ _ _ _ _)
+
+next-fault-requires : tie.Need-next-fault-requires Inv-loop μ-loop
+next-fault-requires c κs =
+    let i = c .loop .inv in
+    let words = c .before .before .before .before .before .before .before .before .before .pre .in-words in
+    let mask = c .before .before .before .before .before .before .before .before .before .pre .in-mask in
+    (i .0, i .1, omega arith, i .4, i .5)
+
+enum-told : tie.Need-enum-told Inv-loop μ-loop
+enum-told c = search needs
+
+same-length : tie.Need-same-length Inv-loop μ-loop
+same-length c = c .before .before .before .loop .inv .2
+
+same-length-2 : tie.Need-same-length-2 Inv-loop μ-loop
+same-length-2 c = c .before .before .before .loop .inv .3
+
+returns : tie.Need-returns Inv-loop μ-loop
+returns c =
+    injecting-spent _ _ _ _ _ _ _ _ _ _ _ _ _ _ _ (c .before .before .before .loop .inv .1) (c .before .before .before .before .before .before .before .before .before .before .before .before .pre .in-words) _ (c .before .before .next-fault .ensures) (c .before .before .before .loop .inv .6) (c .enum-told .given .1)
+
+enum-known-next : tie.Need-enum-known-next Inv-loop μ-loop
+enum-known-next c = search needs
+
+same-length-3 : tie.Need-same-length-3 Inv-loop μ-loop
+same-length-3 c = c .before .before .before .before .loop .inv .2
+
+same-length-4 : tie.Need-same-length-4 Inv-loop μ-loop
+same-length-4 c = c .before .before .before .before .loop .inv .3
+
+returns-2 : tie.Need-returns-2 Inv-loop μ-loop
+returns-2 c =
+    injecting-done _ _ _ _ _ _ _ _ _ _ _ _ _ _ _ (c .before .before .before .before .loop .inv .1) (c .before .before .before .before .before .before .before .before .before .before .before .before .before .pre .in-words) _ (c .before .before .before .next-fault .ensures) (c .before .before .before .before .loop .inv .6) _ (c .before .next .given .1)
+
+enum-known-s : tie.Need-enum-known-s Inv-loop μ-loop
+enum-known-s c = search needs
+
+inject-element-requires : tie.Need-inject-element-requires Inv-loop μ-loop
+inject-element-requires c κs =
+    let i = c .before .before .before .before .before .before .loop .inv in
+    let r = c .before .before .before .before .before .before .before .before .before .before .before .before .before .before .before .pre in
+    let found = c .before .before .before .before .before .next-fault .ensures in
+    let shot = at-shot found _ _ _ (c .before .before .before .s .given .1) in
+    let words = r .in-words in (
+      element-ready _ _ _ _ _ _ _ _ _ _ _ _ _ _ _ (i .1) words _ found (i .6) r _ _ _ (c .before .before .before .s .given .1),
+      i .2 ∙ r .of-x,
+      i .3 ∙ r .of-z,
+      omega arith,
+    )
+
+add-shot : tie.Need-add-shot Inv-loop μ-loop
+add-shot c = let shot = at-shot (c .before .before .before .before .before .before .before .before .before .before .next-fault .ensures) _ _ _ (c .before .before .before .before .before .before .before .before .s .given .1) in record { fits = omega arith }
+
+loop-less : tie.Need-loop-less Inv-loop μ-loop
+loop-less c = let shot = at-shot (c .before .before .before .before .before .before .before .before .before .before .next-fault .ensures) _ _ _ (c .before .before .before .before .before .before .before .before .s .given .1) in omega arith
+
+loop-again : tie.Need-loop-again Inv-loop μ-loop
+loop-again c =
+    let i = c .before .before .before .before .before .before .before .before .before .before .before .loop .inv in
+    let found = c .before .before .before .before .before .before .before .before .before .before .next-fault .ensures in
+    let k = c .before .before .before .before .before .before .before .before .s .given .1 in
+    let shot = at-shot found _ _ _ k in (
+      at-within found _ _ _ k,
+      omega arith,
+      c .before .before .before .before .inject-element .kept .0 ∙ i .2,
+      c .before .before .before .before .inject-element .kept .1 .0 ∙ i .3,
+      i .4,
+      i .5,
+      injecting-at _ _ _ _ _ _ _ _ _ _ _ _ _ _ _ (i .1) (c .before .before .before .before .before .before .before .before .before .before .before .before .before .before .before .before .before .before .before .before .pre .in-words) _ found (i .6) _ _ _ _ _ k (c .before .before .before .before .inject-element .ensures),
+    )
+
+pub inject-faults-spec : {M : Type 1} → statement M
+inject-faults-spec =
+    tie.close
+    (tie.spec
+    Inv-loop
+    μ-loop
+    bound-requires
+    limit-requires
+    loop-holds
+    next-fault-requires
+    enum-told
+    same-length
+    same-length-2
+    returns
+    enum-known-next
+    same-length-3
+    same-length-4
+    returns-2
+    enum-known-s
+    inject-element-requires
+    add-shot
+    loop-less
+    loop-again)
