@@ -1,12 +1,13 @@
 -- What the code's values say of a noise line. Definitions. Assumes nothing.
 use Prim.Native.Nat.{ℕ, _-_, _^_, _<_}
 use mathlib.Core.Path.{_≡_}
-use mathlib.Core.List.{List, map}
+use mathlib.Core.List.{List}
 use mathlib.Core.Option.{Option, none, some}
 use lib.ListN.{length}
 use lib.Ieee.{Float}
 use Rattle.job.specs.Line.{WeightedPauli, Distribution, Noise}
 use Rattle.job.specs.Float.{float, nought, totalFrom}
+use Rattle.job.specs.Sound.{weightsOf}
 use Rattle.draws.specs.Draws.{runningSums}
 use Rattle.noise.specs.declared.PauliDistribution.{PauliDistribution}
 use Rattle.noise.specs.declared.PauliDistribution.the-variants.{Single, Depolarizing, Uniform, Weighted}
@@ -19,10 +20,6 @@ correlationOf Uncorrelated = none
 correlationOf (Shared c) = some c
 
 -- ---- distributions
-
--- the weights of elements, as floats
-abbrev pub weightsOf : List WeightedPauli → List Float
-weightsOf es = map (λ (e : WeightedPauli). float (e .weight)) es
 
 -- one of four kinds, the weighted one with its total
 unfoldable pub kindOf : Distribution → PauliDistribution

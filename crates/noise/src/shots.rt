@@ -49,7 +49,7 @@ pub fn draw_shot(
 }
 
 // Whether a shot is in a mask.
-fn is_set(mask: &[u64], shot: usize) -> bool
+pub fn is_set(mask: &[u64], shot: usize) -> bool
     requires { ⌜ shot < 64 * length (now mask) ⌝ }
     ensures { λ r. ⌜ r ≡ bit (getD (now (mask .entry)) (shot / 64) 0) (shot % 64) ⌝ }
 {

@@ -1,0 +1,111 @@
+-- `faults::elements::gather` meets its contract. The invariant: the first e elements were read and kept.
+use Rattle.faults.specs.Laws.Gather.{gathered-none, gathered-inside, weight-sound, gathered-more}
+use Rattle.faults.specs.Laws.Elements.{kept-length}
+use Rattle.faults.specs.Prepared.{ElementLines, Gathered}
+use lib.ListN.{length, length-set}
+use mathlib.Core.Path.{_≡_, refl, sym, subst, _∙_}
+use native.Mathlib.Omega.{arith}
+use Prim.Native.Nat.{_-_, _≤_}
+use Rattle.faults.proofs.elements.gather.Statement.{statement}
+use Rattle.faults.proofs.elements.gather.Tie as tie
+
+abbrev Inv-loop : tie.InvT-loop
+Inv-loop job from n weighted elements₀ weights₀ f₀ at₀ e₀ elements weights f at e =
+    (e ≤ n)
+    × (length elements ≡ length elements₀)
+    × (length weights ≡ n)
+    × (n ≡ 0 → elements ≡ elements₀)
+    × ((q : ElementLines job from n weighted) → Gathered q elements weights at e)
+    × (length f ≡ 136)
+
+abbrev μ-loop : tie.MeasureT-loop
+μ-loop job from n weighted elements₀ weights₀ f₀ at₀ e₀ elements weights f at e = n - e
+
+loop-holds : tie.Need-loop-holds Inv-loop μ-loop
+loop-holds c = (omega arith, refl, c .before .before .before .pre .2, λ z. refl, λ q. gathered-none q _ _, refl)
+
+slice-aggregate-next-line : tie.Need-slice-aggregate-next-line Inv-loop μ-loop
+slice-aggregate-next-line c = omega (arith, c .before .before .loop .inv .5)
+
+next-line-requires : tie.Need-next-line-requires Inv-loop μ-loop
+next-line-requires c κs =
+    let q = c .before .before .before .before .before .before .pre .0 in
+    let g = c .before .before .loop .inv .4 q in
+    (g .among .ended, gathered-inside q g (c .before .loop-test .taken), omega (arith, c .before .before .loop .inv .5))
+
+slice-aggregate-keep-element : tie.Need-slice-aggregate-keep-element Inv-loop μ-loop
+slice-aggregate-keep-element c = omega (arith, c .before .before .before .before .before .before .loop .inv .5, c .before .before .before .next-line .kept)
+
+keep-element-requires : tie.Need-keep-element-requires Inv-loop μ-loop
+keep-element-requires c κs = (omega (arith, c .before .before .before .before .before .before .before .before .before .before .pre .1), omega (arith, c .before .before .before .before .before .before .loop .inv .5, c .before .before .before .next-line .kept), omega arith)
+
+array-read-weight-of : tie.Need-array-read-weight-of Inv-loop μ-loop
+array-read-weight-of c = omega (arith, c .before .before .before .before .before .before .before .before .before .loop .inv .5, c .before .before .before .before .before .before .next-line .kept)
+
+weight-of-requires : tie.Need-weight-of-requires Inv-loop μ-loop
+weight-of-requires c κs =
+    let q = c .before .before .before .before .before .before .before .before .before .before .before .before .before .pre .0 in
+    weight-sound q (c .before .before .before .before .before .before .before .before .before .loop .inv .4 q) (c .before .before .before .before .before .before .before .before .loop-test .taken) (c .before .before .before .before .before .before .next-line .ensures)
+
+mul-weights : tie.Need-mul-weights Inv-loop μ-loop
+mul-weights c = omega arith
+
+slice-write-weights : tie.Need-slice-write-weights Inv-loop μ-loop
+slice-write-weights c = omega arith
+
+add-at : tie.Need-add-at Inv-loop μ-loop
+add-at c = omega (arith, c .before .before .before .before .before .before .before .before .next-line .ensures .place .inside)
+
+add-e : tie.Need-add-e Inv-loop μ-loop
+add-e c = omega arith
+
+loop-less : tie.Need-loop-less Inv-loop μ-loop
+loop-less c = omega arith
+
+loop-again : tie.Need-loop-again Inv-loop μ-loop
+loop-again c =
+    let inv = c .before .before .before .before .before .before .before .before .before .before .before .loop .inv in (
+      omega arith,
+      kept-length _ _ _ _ _ (c .before .before .before .before .keep-element .ensures) ∙ inv .1,
+      simp length-set (inv .2),
+      λ (z : c .before .before .before .before .before .before .before .before .before .before .before .before .before .before .before .args .n ≡ 0). absurd (omega arith),
+      λ q.
+          rw (c .before .before .before .before .keep-element .ensures)
+          (gathered-more q (inv .4 q) (c .before .before .before .before .before .before .before .before .before .before .loop-test .taken) (c .before .before .before .before .before .before .before .before .next-line .ensures) (omega (arith, c .before .before .before .before .before .before .before .before .before .before .before .before .before .before .before .pre .1)) (inv .2) _ (c .before .weight-of .ensures)),
+      omega (arith, inv .5, c .before .before .before .before .before .before .before .before .next-line .kept),
+    )
+
+same-length : tie.Need-same-length Inv-loop μ-loop
+same-length c = c .before .loop .inv .1
+
+same-length-2 : tie.Need-same-length-2 Inv-loop μ-loop
+same-length-2 c = c .before .loop .inv .2 ∙ sym (c .before .before .before .before .before .pre .2)
+
+returns : tie.Need-returns Inv-loop μ-loop
+returns c =
+    let inv = c .before .loop .inv in
+    let done : c .before .loop .e ≡ c .before .before .before .before .before .args .n = omega arith in
+    (inv .3, λ q. subst (Gathered q _ _ _) done (inv .4 q))
+
+pub gather-spec : {M : Type 1} → statement M
+gather-spec =
+    tie.close
+    (tie.spec
+    Inv-loop
+    μ-loop
+    loop-holds
+    slice-aggregate-next-line
+    next-line-requires
+    slice-aggregate-keep-element
+    keep-element-requires
+    array-read-weight-of
+    weight-of-requires
+    mul-weights
+    slice-write-weights
+    add-at
+    add-e
+    loop-less
+    loop-again
+    same-length
+    same-length-2
+    returns)

@@ -1,0 +1,95 @@
+-- Element lines, read and kept one after the other. Laws. Assumes nothing.
+use Prim.Native.Nat.{ℕ, _+_, _*_, _≤_, _<_}
+use native.Mathlib.Nat.{add-zero, not-suc-le-zero}
+use native.Mathlib.Decide.{ℕ-discrete}
+use native.Mathlib.Numerals.{add-one}
+use native.Mathlib.Omega.{arith}
+use mathlib.Core.Path.{_≡_, refl, sym, ap, ap₂, subst, _∙_}
+use mathlib.Core.Bool.{Bool, true, false, cond}
+use mathlib.Core.List.{List, [], _∷_, _++_}
+use lib.ListN.{length, getD, drop, set}
+use lib.Seq.{take-all, take-suc, take-suc-set, getD-drop}
+use lib.Ieee.{Float}
+use Rattle.text.specs.Template.{Value}
+use Rattle.text.specs.Fields.{Held}
+use Rattle.job.specs.Line.{WeightedPauli}
+use Rattle.job.specs.Float.{float, nought, isWeight, totalFrom}
+use Rattle.job.specs.Sound.{weightsOf}
+use Rattle.draws.specs.Draws.{noPauli, runningSums}
+use Rattle.instructions.specs.declared.Next.{Next}
+use Rattle.instructions.specs.Reading.{NextLine}
+use Rattle.instructions.specs.Ahead.{elementBy, ElementRead}
+use Rattle.instructions.specs.Laws.Elements.{among-inside, element-read}
+use Rattle.faults.specs.Elements.{kept, ElementHeld}
+use Rattle.faults.specs.Prepared.{ElementLines, Gathered, ElementsKept}
+use Rattle.faults.specs.Laws.Elements.{kept-held, held-others}
+
+-- no element
+abbrev noElement : WeightedPauli
+noElement = record { weight = 0; pauli = noPauli }
+
+weights-append : (a b : List WeightedPauli) → weightsOf (a ++ b) ≡ weightsOf a ++ weightsOf b
+weights-append [] b = refl
+weights-append (e ∷ a) b = ap (λ (l : List Float). float (e .weight) ∷ l) (weights-append a b)
+
+-- the element whose line was read is the i-th
+element-at : (es : List WeightedPauli) (i : ℕ) (x : WeightedPauli) (later : List WeightedPauli) → drop i es ≡ x ∷ later → getD es i noElement ≡ x
+element-at es i x later e =
+    ap (λ (k : ℕ). getD es k noElement) (sym (add-zero i)) ∙ sym (getD-drop i es 0 noElement) ∙ ap (λ (l : List WeightedPauli). getD l 0 noElement) e
+
+-- the weight that its fields give
+weight-given : (weighted : Bool) {f : List ℕ} {vs : List Value} → Held f (cond weighted 1 0) 2 vs
+    → cond weighted (float (getD f 0 0)) nought ≡ float (elementBy weighted vs .weight)
+weight-given true h = ap float (h .number 0 (omega arith))
+weight-given false h = refl
+
+module _ {job : List ℕ} {at n : ℕ} {weighted : Bool} (q : ElementLines job at n weighted) {elements : List ℕ} {weights : List Float} {place i : ℕ} where
+  pub gathered-inside : Gathered q elements weights place i → i < n → place < length job
+  gathered-inside g h = among-inside (g .among) (omega (arith, q .count))
+
+  module _ (g : Gathered q elements weights place i) (h : i < n) {next : Next} {f : List ℕ} (l : NextLine job place next f) where
+    read : ElementRead job (q .header) (q .recorded) weighted (q .elements) (q .rest) (q .line) i next f
+    read = element-read (g .among) (omega (arith, q .count)) l
+
+    pub weight-sound : weighted ≡ true → isWeight (float (getD f 0 0)) ≡ true
+    weight-sound e =
+        let held : Held f 1 2 (read .values) = subst (λ (b : Bool). Held f (cond b 1 0) 2 (read .values)) e (read .held) in
+        rw (held .number 0 (omega arith)) (read .weight e .weight)
+
+    pub gathered-more : n * 64 ≤ length elements → length weights ≡ n → (w : Float) → w ≡ cond weighted (float (getD f 0 0)) nought
+        → Gathered q (kept i 0 f elements) (set weights i w) (next .end + 1) (i + 1)
+    gathered-more fits size w e =
+        let is : getD (q .elements) i noElement ≡ elementBy weighted (read .values) = element-at (q .elements) i _ _ (read .element) in
+        let few = read .pauli in
+        let new : ElementHeld (kept i 0 f elements) i (getD (q .elements) i noElement .pauli) =
+        rw is (kept-held (read .held) i 0 elements (omega arith) (omega arith) (few .x .few) (few .z .few)) in
+        record {
+          among = read .among;
+          weighed =
+              rw (add-one, take-suc-set weights i w (omega arith), take-suc (q .elements) i noElement (omega (arith, q .count)), weights-append)
+              (ap₂ (λ (a : List Float) (b : Float). a ++ (b ∷ [])) (g .weighed) (e ∙ weight-given weighted (read .held) ∙ ap (λ (x : WeightedPauli). float (x .weight)) (sym is)));
+          held = λ k m. either k m new (ℕ-discrete k i);
+        }
+      where
+        either : (k : ℕ) → k < i + 1 → ElementHeld (kept i 0 f elements) i (getD (q .elements) i noElement .pauli) → Dec (k ≡ i)
+            → ElementHeld (kept i 0 f elements) k (getD (q .elements) k noElement .pauli)
+        either k m new (yes s) = rw s new
+        either k m new (no ne) = held-others (g .held k (omega arith)) i 0 f ne (omega arith)
+
+pub gathered-none : {job : List ℕ} {at n : ℕ} {weighted : Bool} (q : ElementLines job at n weighted) (elements : List ℕ) (weights : List Float)
+    → Gathered q elements weights at 0
+gathered-none q elements weights = record { among = q .among; weighed = refl; held = λ e m. absurd (not-suc-le-zero m) }
+
+-- all of them, with their weights summed up
+pub kept-all : {job : List ℕ} {at n : ℕ} {weighted : Bool} (q : ElementLines job at n weighted) {elements : List ℕ} {weights : List Float} {next : ℕ} {t : Float}
+    {sums : List Float} → Gathered q elements weights next n → length weights ≡ n → t ≡ totalFrom nought weights
+    → (weighted ≡ true → sums ≡ runningSums weights) → ElementsKept q elements sums (record { next = next; total = t })
+kept-all {n = n} q {weights = weights} g size total running =
+    let all : weights ≡ weightsOf (q .elements) =
+    sym (take-all n weights (omega arith)) ∙ g .weighed ∙ ap weightsOf (take-all n (q .elements) (omega (arith, q .count))) in
+    record {
+      among = g .among;
+      held = g .held;
+      total = total ∙ ap (totalFrom nought) all;
+      running = λ e. running e ∙ ap runningSums all;
+    }
