@@ -1,10 +1,10 @@
 -- A pass over a job that puts its settled text. Definitions. Assumes nothing.
 use mathlib.Core.Path.{_≡_}
 use mathlib.Core.List.{List}
-use Prim.Native.Nat.{ℕ, _+_, _-_, _*_, _≤_, _<_}
+use Prim.Native.Nat.{ℕ, _+_, _*_, _≤_, _<_}
 use lib.ListN.{length, drop}
 use Rattle.job.specs.declared.Header.{Header}
-use Rattle.job.specs.Job.{Job, jobOf, checkJob}
+use Rattle.job.specs.Job.{jobOf, checkJob}
 use Rattle.instructions.specs.Ahead.{instructionsAt, Ahead}
 use Rattle.writer.specs.Placed.{Puts}
 use Rattle.draws.specs.Draws.{Lent}
@@ -55,13 +55,13 @@ pub record Between (p : Pass) (here : Place) : Type 0 where
   pub rows : header .outcomes * p .w ≤ length (p .noiseless)
   pub position : here .position ≤ length (p .main)
 
--- The instruction at a place was put, and the next one begins at `next`. A line of the job comes to at most 2^23 bytes.
+-- The instruction at a place was put, and the next one begins at `next`. An instruction comes to at most 2^23 bytes.
 pub record Onward (p : Pass) (out : List ℕ) (here : Place) (after : List ℕ) (next : Place) : Type 0 where
   pub lines : List SettledLine
   pub settles : settledFrom p here ≡ prefixed lines (settledFrom p next)
   pub puts : Puts (here .byte) (textOf lines) out after (next .byte)
-  pub onward : here .at < next .at
-  pub few : next .byte ≤ here .byte + 8388608 * (next .at - here .at)
+  pub onward : here .line < next .line
+  pub few : next .byte ≤ here .byte + 8388608
   pub between : Between p next
 
 -- or its draws were spent
