@@ -2,3 +2,5 @@
 pub mod Lists
 pub mod Elements
 pub mod Injections
+pub mod Pass
+pub mod Reply

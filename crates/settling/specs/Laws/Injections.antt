@@ -11,13 +11,11 @@ use lib.Seq.{drop-drop}
 use Rattle.text.specs.Bytes.{LF, unlines}
 use Rattle.job.specs.Line.{Distribution, sizeOf, Noise, Instruction}
 use Rattle.job.specs.Float.{float, nought}
-use Rattle.job.specs.Sound.{DistributionSound}
 use Rattle.writer.specs.Placed.{Puts}
 use Rattle.writer.specs.Laws.Placing.{puts-nothing, puts-more}
 use Rattle.writer.specs.Laws.Lines.{inject-next}
 use Rattle.draws.specs.Draws.{elementAt, Lent, Fault, Draws, alsoFault, drawShots, drawLine, partOf, mainAfter}
 use Rattle.draws.specs.Settle.{SettledLine, injectText, injection, Step, noiseStep, stepOf}
-use Rattle.draws.specs.Laws.Faults.{depolarizing-size}
 use Rattle.draws.specs.Laws.SettledText.{element-sound}
 use Rattle.noise.specs.declared.PauliDistribution.{PauliDistribution}
 use Rattle.noise.specs.declared.Correlation.{Correlation}
@@ -27,6 +25,7 @@ use Rattle.noise.specs.declared.shots.NextFault.the-variants as next
 use Rattle.noise.specs.Kinds.{correlationOf}
 use Rattle.noise.specs.Shots.{FaultFound}
 use Rattle.noise.specs.Laws.Next.{draws-spent, draws-done, draws-at, done-within, at-below}
+use Rattle.faults.specs.Laws.Drawn.{size-some}
 use Rattle.settling.specs.declared.injections.Drawn.{Drawn}
 use Rattle.settling.specs.declared.injections.Drawn.the-variants.{Spent, Done}
 use Rattle.settling.specs.Elements.{elementIn, ElementIn}
@@ -65,14 +64,6 @@ also-more fs f (Draws.drawn gs ws) = ap (λ (l : List Fault). Draws.drawn l ws) 
 
 -- ---- an element
 
--- a sound distribution has an element
-some-element : (n : ℕ) (D : Distribution) → DistributionSound n D → 0 < sizeOf D
-unfolding DistributionSound sizeOf
-some-element n (Distribution.single P) s = omega arith
-some-element n (Distribution.depolarizing qs) s = depolarizing-size qs (s .filled)
-some-element n (Distribution.uniform Ps) s = s .filled
-some-element n (Distribution.weighted es) s = s .filled
-
 module _ {p : Float} {d : PauliDistribution} {sums : List Float} {mask elements : List ℕ} {shots : ℕ} (q : Ready p d sums mask elements shots) where
   abbrev D : Distribution
   D = q .noise .distribution
@@ -80,7 +71,7 @@ module _ {p : Float} {d : PauliDistribution} {sums : List Float} {mask elements 
   -- the next fault
   module _ {words : List ℕ} {at shot : ℕ} {r : NextFault} (found : FaultFound words at mask shot shots p d sums r) (here : shot ≤ shots) where
     below : (s e i : ℕ) → r ≡ next.At s e i → e < sizeOf D
-    below s e i k = at-below found here (q .stands) (q .lent) (q .fits) (q .satisfied) s e i k (some-element (q .qubits) D (q .sound))
+    below s e i k = at-below found here (q .stands) (q .lent) (q .fits) (q .satisfied) s e i k (size-some (q .qubits) D (q .sound))
 
     pub element-inside : (s e i : ℕ) → r ≡ next.At s e i → ElementIn d elements e
     element-inside s e i k = q .inside e (below s e i k)
