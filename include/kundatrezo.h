@@ -60,6 +60,25 @@ enum kundatrezo_refusal {
 /* Tests 1 to 12 of a job: number 0 if the job is accepted, else the first bad line and its lowest number. Nothing is written. */
 struct kundatrezo_answer kundatrezo_check(const uint8_t *job, size_t job_len);
 
+/* A run of all shots from cleared frames.
+ *
+ * w = (shots + 63) / 64 words make a row, bit s % 64 of word s / 64 being shot s; bits past the last shot are 0. x and z have a row for each qubit: the X
+ * and Z parts of the frames. deltas has a row for each outcome: where it is 1, the outcome differs from the noiseless one. noiseless has the outcomes'
+ * noiseless bits in the same layout, which conditions of noise lines look at. main and second are lists of random words: noise lines read on in main,
+ * and one with corr c reads second from base + c on, modulo 2^64.
+ *
+ * x, z and deltas are written: the words that the header needs hold the frames and deltas at the end, words beyond them stay. A refusal writes
+ * nothing, but for KUNDATREZO_DRAWS, which leaves the needed words 0. */
+struct kundatrezo_answer kundatrezo_run(const uint8_t *job, size_t job_len, uint64_t *x, size_t x_len, uint64_t *z, size_t z_len, uint64_t *deltas,
+                                        size_t deltas_len, const uint64_t *noiseless, size_t noiseless_len, const uint64_t *main_words,
+                                        size_t main_len, const uint64_t *second, size_t second_len, uint64_t base);
+
+/* Settling: the job with each noise instruction replaced by the injections that a run with the same words draws. Bytes of out beyond the text stay, and
+ * a refusal writes nothing; the figure of KUNDATREZO_TEXT is the bytes that the text needs. */
+struct kundatrezo_text_answer kundatrezo_settle(const uint8_t *job, size_t job_len, const uint64_t *noiseless, size_t noiseless_len,
+                                                const uint64_t *main_words, size_t main_len, const uint64_t *second, size_t second_len,
+                                                uint64_t base, uint8_t *out, size_t out_len);
+
 /* The walk: how many of the job's injections and flips in the shot flip the sum of the outcomes in the set. The job has no noise (settle it first);
  * the set's outcomes rise strictly and are recorded by the job. Nothing is written. */
 struct kundatrezo_count_answer kundatrezo_walk(const uint8_t *job, size_t job_len, uint64_t shot, const uint64_t *set, size_t set_len);

@@ -68,6 +68,49 @@ static void walk(void)
     expect_walk(1, set, 3, KUNDATREZO_SET, 0);
 }
 
+/* One qubit, one outcome, 65 shots: two words a row. The first shot's word brings a fault, the others bring none; then the words are spent. */
+static const char drawn[] = "op=job qubits=1 outcomes=1 shots=65\n"
+                            "op=n p=3fe0000000000000 corr=- cond=- parity=0 d=1 x=0 z=-\n"
+                            "op=o x=- z=0 id=0\n";
+
+static void run(void)
+{
+    uint64_t words[65], x[3] = {7, 7, 7}, z[2] = {7, 7}, deltas[2] = {7, 7}, noiseless[2] = {0, 0};
+    for (int i = 0; i < 65; i++)
+        words[i] = i == 0 ? 0 : UINT64_MAX;
+    const uint8_t *job = (const uint8_t *)drawn;
+    size_t length = sizeof drawn - 1;
+    struct kundatrezo_answer got = kundatrezo_run(job, length, x, 3, z, 2, deltas, 1, noiseless, 2, words, 65, words, 0, 0);
+    expect_figure("run", KUNDATREZO_WORDS, 0, 7, got, deltas[0]);
+    got = kundatrezo_run(job, length, x, 3, z, 2, deltas, 2, noiseless, 2, words, 64, words, 0, 0);
+    expect_figure("run", KUNDATREZO_DRAWS, 2, 0, got, x[0] | x[1] | z[0] | z[1] | deltas[0] | deltas[1]);
+    got = kundatrezo_run(job, length, x, 3, z, 2, deltas, 2, noiseless, 2, words, 65, words, 0, 0);
+    expect_figure("run", 0, 0, 1, got, deltas[0]);
+    expect_figure("run, X words", 0, 0, 1, got, x[0]);
+    expect_figure("run, words beyond", 0, 0, 7, got, x[2]);
+}
+
+static void settle(void)
+{
+    static const char settled[] = "op=job qubits=1 outcomes=1 shots=65\n"
+                                  "op=i shot=0 x=0 z=-\n"
+                                  "op=o x=- z=0 id=0\n";
+    uint64_t words[65], noiseless[2] = {0, 0};
+    uint8_t out[sizeof settled] = {0};
+    for (int i = 0; i < 65; i++)
+        words[i] = i == 0 ? 0 : UINT64_MAX;
+    const uint8_t *job = (const uint8_t *)drawn;
+    size_t length = sizeof drawn - 1;
+    struct kundatrezo_text_answer got = kundatrezo_settle(job, length, noiseless, 2, words, 65, words, 0, 0, out, 4);
+    expect_figure("settle", KUNDATREZO_TEXT, 0, sizeof settled - 1, got.answer, got.figure);
+    got = kundatrezo_settle(job, length, noiseless, 2, words, 65, words, 0, 0, out, sizeof out);
+    expect_figure("settle", 0, 0, sizeof settled - 1, got.answer, got.figure);
+    if (memcmp(out, settled, sizeof settled) != 0) {
+        printf("settle wrote something else\n");
+        failed = 1;
+    }
+}
+
 static void annotate(void)
 {
     static const char measured[] = "op=job qubits=1 outcomes=1 shots=1\nop=o x=- z=0 id=0\n";
@@ -93,6 +136,8 @@ static void annotate(void)
 int main(void)
 {
     check();
+    run();
+    settle();
     walk();
     annotate();
     puts(failed ? "calls from C: differences" : "calls from C: 0 differences");

@@ -9,7 +9,7 @@ use std::io::Write;
 use std::process::{Command, Stdio};
 
 /// The calls that the library has so far. The others are made in document 01's plainest form.
-pub const CALLS: &[Call] = &[Call::Check, Call::Walk, Call::Annotate, Call::Locations];
+pub const CALLS: &[Call] = &[Call::Check, Call::Run, Call::Settle, Call::Walk, Call::Annotate, Call::Locations];
 
 /// `struct kundatrezo_answer`.
 #[repr(C)]
@@ -27,6 +27,38 @@ struct RawFigure {
 
 unsafe extern "C" {
     fn kundatrezo_check(job: *const u8, job_len: usize) -> RawAnswer;
+
+    fn kundatrezo_run(
+        job: *const u8,
+        job_len: usize,
+        x: *mut u64,
+        x_len: usize,
+        z: *mut u64,
+        z_len: usize,
+        deltas: *mut u64,
+        deltas_len: usize,
+        noiseless: *const u64,
+        noiseless_len: usize,
+        main: *const u64,
+        main_len: usize,
+        second: *const u64,
+        second_len: usize,
+        base: u64,
+    ) -> RawAnswer;
+
+    fn kundatrezo_settle(
+        job: *const u8,
+        job_len: usize,
+        noiseless: *const u64,
+        noiseless_len: usize,
+        main: *const u64,
+        main_len: usize,
+        second: *const u64,
+        second_len: usize,
+        base: u64,
+        out: *mut u8,
+        out_len: usize,
+    ) -> RawFigure;
 
     fn kundatrezo_walk(job: *const u8, job_len: usize, shot: u64, set: *const u64, set_len: usize) -> RawFigure;
 
@@ -57,11 +89,45 @@ impl Calls for Linked {
     }
 
     fn run(&self, job: &[u8], draws: Draws<'_>, noiseless: &[u64], rows: Rows<'_>) -> Answer {
-        Plain.run(job, draws, noiseless, rows)
+        unsafe {
+            kundatrezo_run(
+                job.as_ptr(),
+                job.len(),
+                rows.frames_x.as_mut_ptr(),
+                rows.frames_x.len(),
+                rows.frames_z.as_mut_ptr(),
+                rows.frames_z.len(),
+                rows.deltas.as_mut_ptr(),
+                rows.deltas.len(),
+                noiseless.as_ptr(),
+                noiseless.len(),
+                draws.main.as_ptr(),
+                draws.main.len(),
+                draws.second.as_ptr(),
+                draws.second.len(),
+                draws.base,
+            )
+        }
+        .into()
     }
 
     fn settle(&self, job: &[u8], draws: Draws<'_>, noiseless: &[u64], out: &mut [u8]) -> Answer {
-        Plain.settle(job, draws, noiseless, out)
+        unsafe {
+            kundatrezo_settle(
+                job.as_ptr(),
+                job.len(),
+                noiseless.as_ptr(),
+                noiseless.len(),
+                draws.main.as_ptr(),
+                draws.main.len(),
+                draws.second.as_ptr(),
+                draws.second.len(),
+                draws.base,
+                out.as_mut_ptr(),
+                out.len(),
+            )
+        }
+        .into()
     }
 
     fn walk(&self, job: &[u8], shot: u64, set: &[u64]) -> Answer {
