@@ -1,6 +1,3 @@
 -- Laws, for the proofs that cite them. Nothing here has to be believed.
-pub mod Lists
-pub mod Elements
-pub mod Injections
 pub mod Pass
 pub mod Reply

@@ -1,6 +1,3 @@
--- Definitions that contracts cite: lists and elements in lent words, injections that are put, and a pass over a job. The laws are for the proofs.
-pub mod Lists
-pub mod Elements
-pub mod Injections
+-- Definitions that contracts cite: a pass over a job that puts its settled text. The laws are for the proofs.
 pub mod Pass
 pub mod Laws

@@ -15,7 +15,7 @@ use Rattle.settling.specs.declared.Moved.{Moved}
 use Rattle.settling.specs.declared.Moved.the-variants as moved
 use Rattle.settling.specs.declared.TextLength.{TextLength}
 use Rattle.settling.specs.declared.TextLength.the-variants as length-of
-use Rattle.settling.specs.Injections.{textOf}
+use Rattle.noise_text.specs.Injections.{textOf}
 
 -- what a pass reads: the job, the noiseless bits, w words a row, and the two lists of draws
 pub record Pass : Type 0 where

@@ -1,24 +1,22 @@
 // Settling of a job: its text with each noise instruction replaced by the injections that fall.
 ghost use mathlib.Core.Path.{_≡_};
-ghost use mathlib.Core.Bool.{true};
+ghost use mathlib.Core.Bool.{true, _&&_};
 ghost use Prim.Native.Nat.{_+_, _*_, _^_, _<_, _≤_};
+ghost use lib.Dec.{leb};
 ghost use lib.ListN.{length};
+ghost use Rattle.job.specs.Job.{maxBytes};
 ghost use Rattle.instructions.specs.Reading.{NextLine, noiseForm};
 ghost use Rattle.writer.specs.Reply.{textReply};
 ghost use Rattle.backward.specs.Settling.{settleReply};
 ghost use Rattle.settling.specs.Pass.{passOf, Between, InstructionPut, Fits, SettledPut};
-
-pub mod injections;
-pub mod lists;
-
-use crate::injections::Drawn;
-use crate::injections::put_noise;
 use checker::examine;
 use faults::prepare;
 use instructions::Next;
 use instructions::is_noise;
 use instructions::next_line;
 use job::Answer;
+use noise_text::Drawn;
+use noise_text::put_noise;
 use text::pieces::find;
 use writer::TextAnswer;
 use writer::put_bytes;
@@ -204,15 +202,22 @@ fn put_settled<'a>(
     TextLength::Length(here.byte)
 }
 
-// 15, with the bytes that the text needs.
-fn too_long(need: usize) -> TextAnswer
-    ensures { λ r. ⌜ r ≡ record { answer = record { number = 15; line = 0 }; figure = need } ⌝ }
+// Whether a text of so many bytes fits the lent ones and the limit.
+fn text_fits(need: usize, lent: usize) -> bool
+    ensures { λ r. ⌜ r ≡ (leb need lent && leb need maxBytes) ⌝ }
+{
+    if lent < need {
+        return false;
+    }
+    need <= MAX_BYTES
+}
+
+// An answer without a line, with the bytes that the text needs.
+fn measured(number: u64, need: usize) -> TextAnswer
+    ensures { λ r. ⌜ r ≡ record { answer = record { number = number; line = 0 }; figure = need } ⌝ }
 {
     TextAnswer {
-        answer: Answer {
-            number: 15,
-            line: 0,
-        },
+        answer: Answer { number, line: 0 },
         figure: need as u64,
     }
 }
@@ -259,11 +264,8 @@ pub fn settle<'a>(
             line: k,
         }),
         TextLength::Length(need) => {
-            if out.len() < need {
-                return too_long(need);
-            }
-            if MAX_BYTES < need {
-                return too_long(need);
+            if !text_fits(need, out.len()) {
+                return measured(15, need);
             }
             put_settled(
                 &mut out[..need],
@@ -275,10 +277,7 @@ pub fn settle<'a>(
                 second,
                 base,
             );
-            TextAnswer {
-                answer: Answer { number: 0, line: 0 },
-                figure: need as u64,
-            }
+            measured(0, need)
         }
     }
 }

@@ -68,7 +68,7 @@ returns c =
     let ready = c .before .before .before .before .before .before .before .before .before .before .before .before .before .before .prepare .ensures (noise-here b n noisy) in
     let room : 4096 ≤ length (c .before .before .before .before .before .before .before .before .before .before .before .before .before .before .prepare .last .1 .1 .1 .1 .1 .1 .0) = omega (arith, c .before .before .before .before .before .before .before .before .before .before .before .before .before .before .before .before .before .before .before .before .before .before .before .before .before .before .pre .5, c .before .before .before .before .before .before .before .before .before .before .before .before .before .before .prepare .kept) in
     let masked : length (c .before .before .before .before .before .before .before .before .before .before .before .before .before .before .prepare .last .1 .1 .1 .1 .1 .1 .1 .1 .0) ≡ 64 = omega (arith, c .before .before .before .before .before .before .before .before .before .before .before .before .before .before .prepare .kept) in
-    noise-spent b n noisy ready room masked (c .before .before .before .before .put-noise .ensures (ready-here b n noisy ready room masked) _) (c .enum-told .given .1)
+    noise-spent b n noisy ready room masked {out = c .before .before .before .before .before .before .before .before .before .before .before .before .before .before .before .before .before .before .before .before .before .before .before .before .before .before .args .out .now} {after = c .before .before .before .before .put-noise .last .0} (c .before .before .before .before .put-noise .ensures (ready-here b n noisy ready room masked) _) (c .enum-told .given .1)
 
 same-length-3 : tie.Need-same-length-3
 same-length-3 c = search needs
@@ -84,7 +84,7 @@ returns-2 c =
     let ready = c .before .before .before .before .before .before .before .before .before .before .before .before .before .before .before .before .prepare .ensures (noise-here b n noisy) in
     let room : 4096 ≤ length (c .before .before .before .before .before .before .before .before .before .before .before .before .before .before .before .before .prepare .last .1 .1 .1 .1 .1 .1 .0) = omega (arith, c .before .before .before .before .before .before .before .before .before .before .before .before .before .before .before .before .before .before .before .before .before .before .before .before .before .before .before .before .pre .5, c .before .before .before .before .before .before .before .before .before .before .before .before .before .before .before .before .prepare .kept) in
     let masked : length (c .before .before .before .before .before .before .before .before .before .before .before .before .before .before .before .before .prepare .last .1 .1 .1 .1 .1 .1 .1 .1 .0) ≡ 64 = omega (arith, c .before .before .before .before .before .before .before .before .before .before .before .before .before .before .before .before .prepare .kept) in
-    noise-done b n noisy ready room masked (c .before .before .before .before .before .before .put-noise .ensures (ready-here b n noisy ready room masked) _) _ _ (c .before .before .position .given .1)
+    noise-done b n noisy ready room masked {out = c .before .before .before .before .before .before .before .before .before .before .before .before .before .before .before .before .before .before .before .before .before .before .before .before .before .before .before .before .args .out .now} {after = c .before .before .before .before .before .before .put-noise .last .0} (c .before .before .before .before .before .before .put-noise .ensures (ready-here b n noisy ready room masked) _) _ _ (c .before .before .position .given .1)
 
 pub put-noise-line-spec : {M : Type 1} → statement M
 put-noise-line-spec =

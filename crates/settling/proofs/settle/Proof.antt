@@ -1,8 +1,8 @@
 -- `settling::settle` meets its contract. Assumes nothing.
-use Rattle.settling.specs.Laws.Reply.{refused-job, refused-words, spent-reply, long-reply, done-reply, header-known, few-words, missing-words, fits-of}
+use Rattle.settling.specs.Laws.Reply.{refused-job, refused-words, room-for, spent-reply, long-reply, done-reply, header-known, few-words, missing-words, fits-of}
 use lib.Seq.{length-take-le}
-use borrow.Author.Tests.{lt-leb, le-leb}
-use mathlib.Core.Path.{sym}
+use borrow.Author.Tests.{not-true, not-false}
+use mathlib.Core.Path.{sym, _∙_}
 use native.Mathlib.Omega.{arith}
 use borrow.Author.Needs.{needs}
 use Rattle.settling.proofs.settle.Statement.{statement}
@@ -49,35 +49,35 @@ refused-requires-3 c κs = search needs
 enum-known-need : tie.Need-enum-known-need
 enum-known-need c = search needs
 
-too-long-requires : tie.Need-too-long-requires
-too-long-requires c κs = search needs
+text-fits-requires : tie.Need-text-fits-requires
+text-fits-requires c κs = search needs
+
+measured-requires : tie.Need-measured-requires
+measured-requires c κs = search needs
 
 returns-3 : tie.Need-returns-3
-returns-3 c = long-reply (fits-of (c .before .before .before .before .before .before .before .before .before .before .before .before .before .examine .ensures) (c .before .before .before .before .before .before .before .before .before .before .if1 .left) (c .before .before .before .before .before .before .before .before .if2 .left)) (c .before .before .before .before .before .before .put-settled .ensures) _ (c .before .before .before .need .given .1) (c .too-long .ensures) (rw (lt-leb _ _ (c .before .if3 .taken)))
-
-too-long-requires-2 : tie.Need-too-long-requires-2
-too-long-requires-2 c κs = search needs
-
-returns-4 : tie.Need-returns-4
-returns-4 c = long-reply (fits-of (c .before .before .before .before .before .before .before .before .before .before .before .before .before .before .examine .ensures) (c .before .before .before .before .before .before .before .before .before .before .before .if1 .left) (c .before .before .before .before .before .before .before .before .before .if2 .left)) (c .before .before .before .before .before .before .before .put-settled .ensures) _ (c .before .before .before .before .need .given .1) (c .too-long2 .ensures) (rw (le-leb _ _ (c .before .before .if3 .left), lt-leb _ _ (c .before .if4 .taken)))
+returns-3 c = long-reply (fits-of (c .before .before .before .before .before .before .before .before .before .before .before .before .before .before .examine .ensures) (c .before .before .before .before .before .before .before .before .before .before .before .if1 .left) (c .before .before .before .before .before .before .before .before .before .if2 .left)) (c .before .before .before .before .before .before .before .put-settled .ensures) _ (c .before .before .before .before .need .given .1) (c .measured .ensures) (sym (c .before .before .text-fits .ensures) ∙ not-true _ (c .before .if3 .taken))
 
 slice-relend-prefix-put-settled : tie.Need-slice-relend-prefix-put-settled
-slice-relend-prefix-put-settled c = search needs
+slice-relend-prefix-put-settled c = room-for _ _ (sym (c .before .text-fits .ensures) ∙ not-false _ (c .if3 .left))
 
 slice-aggregate-put-settled-2 : tie.Need-slice-aggregate-put-settled-2
-slice-aggregate-put-settled-2 c = sym (length-take-le _ _ (c .before .before .if3 .left))
+slice-aggregate-put-settled-2 c = sym (length-take-le _ _ (room-for _ _ (sym (c .before .before .text-fits .ensures) ∙ not-false _ (c .before .if3 .left))))
 
 put-settled-requires-2 : tie.Need-put-settled-requires-2
 put-settled-requires-2 c κs = fits-of (c .before .before .before .before .before .before .before .before .before .before .before .before .before .before .examine .ensures) (c .before .before .before .before .before .before .before .before .before .before .before .if1 .left) (c .before .before .before .before .before .before .before .before .before .if2 .left)
 
-returns-5 : tie.Need-returns-5
-returns-5 c = spent-reply (fits-of (c .before .before .before .before .before .before .before .before .before .before .before .before .examine .ensures) (c .before .before .before .before .before .before .before .before .before .if1 .left) (c .before .before .before .before .before .before .before .if2 .left)) (c .before .before .before .before .before .put-settled .ensures) _ (c .before .before .k .given .1) (c .refused3 .ensures)
+measured-requires-2 : tie.Need-measured-requires-2
+measured-requires-2 c κs = search needs
+
+returns-4 : tie.Need-returns-4
+returns-4 c = spent-reply (fits-of (c .before .before .before .before .before .before .before .before .before .before .before .before .examine .ensures) (c .before .before .before .before .before .before .before .before .before .if1 .left) (c .before .before .before .before .before .before .before .if2 .left)) (c .before .before .before .before .before .put-settled .ensures) _ (c .before .before .k .given .1) (c .refused3 .ensures)
 
 same-length : tie.Need-same-length
 same-length c = search needs
 
-returns-6 : tie.Need-returns-6
-returns-6 c = done-reply (fits-of (c .before .before .before .before .before .before .before .before .before .before .before .before .before .before .before .before .before .examine .ensures) (c .before .before .before .before .before .before .before .before .before .before .before .before .before .before .if1 .left) (c .before .before .before .before .before .before .before .before .before .before .before .before .if2 .left)) (c .before .before .before .before .before .before .before .before .before .before .put-settled .ensures) _ (c .before .before .before .before .before .before .before .need .given .1) (c .before .before .put-settled2 .ensures) (c .before .before .before .before .before .if3 .left) (c .before .before .before .before .if4 .left)
+returns-5 : tie.Need-returns-5
+returns-5 c = done-reply (fits-of (c .before .before .before .before .before .before .before .before .before .before .before .before .before .before .before .before .before .before .examine .ensures) (c .before .before .before .before .before .before .before .before .before .before .before .before .before .before .before .if1 .left) (c .before .before .before .before .before .before .before .before .before .before .before .before .before .if2 .left)) (c .before .before .before .before .before .before .before .before .before .before .before .put-settled .ensures) _ (c .before .before .before .before .before .before .before .before .need .given .1) (c .before .before .before .put-settled2 .ensures) (c .measured2 .ensures) (sym (c .before .before .before .before .before .before .text-fits .ensures) ∙ not-false _ (c .before .before .before .before .before .if3 .left))
 
 pub settle-spec : {M : Type 1} → statement M
 settle-spec =
@@ -96,13 +96,13 @@ settle-spec =
     enum-known-k
     refused-requires-3
     enum-known-need
-    too-long-requires
+    text-fits-requires
+    measured-requires
     returns-3
-    too-long-requires-2
-    returns-4
     slice-relend-prefix-put-settled
     slice-aggregate-put-settled-2
     put-settled-requires-2
-    returns-5
+    measured-requires-2
+    returns-4
     same-length
-    returns-6)
+    returns-5)

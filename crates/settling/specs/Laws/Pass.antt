@@ -20,16 +20,16 @@ use Rattle.writer.specs.Laws.Placing.{puts-nothing, puts-more}
 use Rattle.draws.specs.Settle.{SettledLine, Step, stepOf, Settled, prefixed, settleThen, settle, settledText}
 use Rattle.faults.specs.declared.Prepared.{Prepared}
 use Rattle.faults.specs.Prepared.{NoiseLines, noiseIn, PreparedAs}
-use Rattle.settling.specs.declared.injections.Drawn.{Drawn}
-use Rattle.settling.specs.declared.injections.Drawn.the-variants as drawn
+use Rattle.noise_text.specs.declared.Drawn.{Drawn}
+use Rattle.noise_text.specs.declared.Drawn.the-variants as drawn
 use Rattle.settling.specs.declared.Place.{Place}
 use Rattle.settling.specs.declared.Moved.{Moved}
 use Rattle.settling.specs.declared.Moved.the-variants as moved
 use Rattle.settling.specs.declared.TextLength.the-variants as text-length
-use Rattle.settling.specs.Injections.{textOf, PutAs, StepPut, ReadyOf}
+use Rattle.noise_text.specs.Injections.{textOf, PutAs, StepPut, ReadyOf}
 use Rattle.settling.specs.Pass.{Pass, lentBy, settledBy, settledFrom, Between, Onward, MovedTo, InstructionPut, Fits, PutAll, SettledPut}
-use Rattle.settling.specs.Laws.Elements.{element-of}
-use Rattle.settling.specs.Laws.Injections.{text-append, text-one}
+use Rattle.noise_text.specs.Laws.Elements.{element-of}
+use Rattle.noise_text.specs.Laws.Injections.{text-append, text-one}
 
 -- ---- lines before others
 

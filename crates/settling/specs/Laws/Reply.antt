@@ -1,17 +1,18 @@
 -- The whole reply of settling. Laws. Assumes nothing.
 use mathlib.Core.Path.{_≡_, refl, sym, ap, _∙_}
-use mathlib.Core.Bool.{false, _&&_}
+use mathlib.Core.Bool.{true, false, _&&_}
 use mathlib.Core.List.{List, _++_, append-nil}
 use Prim.Native.Nat.{ℕ, _+_, _*_, _/_, _≤_, _<_}
 use native.Mathlib.Nat.{mul-le-mul}
 use native.Mathlib.Omega.{arith}
-use borrow.Author.Tests.{eq-eqb, ne-eqb, le-leb, lt-leb}
+use borrow.Author.Tests.{leb-true, eq-eqb, ne-eqb, le-leb, lt-leb}
 use lib.Dec.{leb}
 use lib.ListN.{length, take, drop, drop-of-length-le}
 use lib.Seq.{length-take-le}
+use Rattle.text.specs.Laws.Values.{both}
 use Rattle.job.specs.declared.Answer.{Answer}
 use Rattle.job.specs.declared.Header.{Header}
-use Rattle.job.specs.Job.{answer, Job, jobOf, checkJob}
+use Rattle.job.specs.Job.{maxBytes, Job, jobOf, checkJob}
 use Rattle.job.specs.Sound.{HeaderSound}
 use Rattle.job.specs.Laws.Lines.{header-sound}
 use Rattle.job.specs.Laws.Begun.{job-begun}
@@ -42,6 +43,9 @@ module _ (job : List ℕ) (s : Source) (out : List ℕ) {r : TextAnswer} where
   refused-words says passes few = rw (says, eq-eqb (checkJob job .number) 0 passes, lt-leb (outcomeWords (jobOf job .header)) (length (s .noiseless)) few)
 
 -- ---- settled
+
+pub room-for : (need lent : ℕ) → leb need lent && leb need maxBytes ≡ true → need ≤ lent
+room-for need lent fits = leb-true need lent (both (leb need lent) (leb need maxBytes) fits .0)
 
 abbrev sourceOf : Pass → Source
 sourceOf p = record { noiseless = p .noiseless; main = p .main; second = p .second; base = p .base }
@@ -74,7 +78,7 @@ module _ {p : Pass} (f : Fits p) where
         go (Settled.settled ls) u = let z : _≡_ {A = ℕ} 0 1 = cc (u .is, e) in absurd (omega arith)
 
     module _ {need : ℕ} (e : t ≡ text-length.Length need) where
-      pub long-reply : {r : TextAnswer} → r ≡ record { answer = record { number = 15; line = 0 }; figure = need } → leb need (length out) && leb need 1048576 ≡ false
+      pub long-reply : {r : TextAnswer} → r ≡ record { answer = record { number = 15; line = 0 }; figure = need } → leb need (length out) && leb need maxBytes ≡ false
           → textReply r out ≡ settleReply (p .job) (sourceOf p) out
       unfolding PutAll settledAnswer
       long-reply {r} says long = go (settledBy p) (put .put) ∙ sym (reply-is out)
@@ -87,24 +91,24 @@ module _ {p : Pass} (f : Fits p) where
               rw (says, same, long)
 
       -- the second pass writes what the first has measured
-      pub done-reply : {text : List ℕ} {s : TextLength} → SettledPut p (take need out) text s → need ≤ length out → need ≤ 1048576
-          → textReply (record { answer = record { number = 0; line = 0 }; figure = need }) (text ++ drop need out) ≡ settleReply (p .job) (sourceOf p) out
+      pub done-reply : {r : TextAnswer} {text : List ℕ} {s : TextLength} → SettledPut p (take need out) text s
+          → r ≡ record { answer = record { number = 0; line = 0 }; figure = need } → leb need (length out) && leb need maxBytes ≡ true
+          → textReply r (text ++ drop need out) ≡ settleReply (p .job) (sourceOf p) out
       unfolding PutAll settledAnswer
-      done-reply {text} {s} again fits few = go (settledBy p) (put .put) (again .put) ∙ sym (reply-is out)
+      done-reply {r} {text} {s} again says fits = go (settledBy p) (put .put) (again .put) ∙ sym (reply-is out)
         where
-          go : (o : Settled) → PutAll p start o after t → PutAll p (take need out) o text s
-              → textReply (record { answer = record { number = 0; line = 0 }; figure = need }) (text ++ drop need out) ≡ settledAnswer (jobOf (p .job)) o out
+          go : (o : Settled) → PutAll p start o after t → PutAll p (take need out) o text s → textReply r (text ++ drop need out) ≡ settledAnswer (jobOf (p .job)) o out
           go (Settled.spentAt j) u v = let z : _≡_ {A = ℕ} 0 1 = cc (u, e) in absurd (omega arith)
           go (Settled.settled ls) u v =
               let whole = settledText (jobOf (p .job) .text) ls in
               let measured : u .long ≡ need = cc (u .is, e) in
               let same : length whole ≡ need = omega (arith, u .puts .place) in
-              let size : length (take need out) ≡ need = length-take-le need out fits in
+              let size : length (take need out) ≡ need = length-take-le need out (room-for need (length out) fits) in
               let part : length whole ≤ length (take need out) = omega arith in
               let none : length (take need out) ≤ length whole = omega arith in
               let written : text ≡ whole =
               v .puts .bytes ∙ placed-over whole (take need out) part ∙ ap (λ (l : List ℕ). whole ++ l) (drop-of-length-le (take need out) none) ∙ append-nil whole in
-              rw (same, written, le-leb need (length out) fits, le-leb need 1048576 few)
+              rw (says, same, written, fits)
 
 -- ---- what the checks leave
 

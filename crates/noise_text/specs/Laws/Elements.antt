@@ -13,7 +13,7 @@ use Rattle.faults.specs.Elements.{DistributionHeld}
 use Rattle.faults.specs.Laws.Drawn.{size-fits, size-few, held-element, held-qubits}
 use Rattle.noise.specs.declared.PauliDistribution.{PauliDistribution}
 use Rattle.noise.specs.declared.PauliDistribution.the-variants.{Single, Depolarizing, Uniform, Weighted}
-use Rattle.settling.specs.Elements.{keptElement, elementIn, Kept, KeptQubits, ElementIn}
+use Rattle.noise_text.specs.Elements.{keptElement, elementIn, Kept, KeptQubits, ElementIn}
 
 -- all kinds but one keep their elements whole
 pub whole-in : {l : List ℕ} {e : ℕ} (d : PauliDistribution) → ((k : ℕ) → d ≡ Depolarizing k → ⊥) → ElementIn d l e → Kept l e

@@ -14,9 +14,9 @@ use Rattle.noise.specs.declared.PauliDistribution.{PauliDistribution}
 use Rattle.noise.specs.declared.Correlation.{Correlation}
 use Rattle.noise.specs.Kinds.{correlationOf, Small, Represents}
 use Rattle.noise.specs.Condition.{Masks}
-use Rattle.settling.specs.declared.injections.Drawn.{Drawn}
-use Rattle.settling.specs.declared.injections.Drawn.the-variants.{Spent, Done}
-use Rattle.settling.specs.Elements.{elementIn, ElementIn}
+use Rattle.noise_text.specs.declared.Drawn.{Drawn}
+use Rattle.noise_text.specs.declared.Drawn.the-variants.{Spent, Done}
+use Rattle.noise_text.specs.Elements.{elementIn, ElementIn}
 
 -- ---- what is put
 

@@ -1,14 +1,14 @@
--- `settling::injections::put_faults` meets its contract. The invariant: the injections of some faults are put, and the others are drawn from here on. Assumes nothing.
-use Rattle.settling.specs.Laws.Injections.{element-inside, element-next, Putting, put-none, put-more, put-spent, put-done}
-use Rattle.settling.specs.Injections.{Ready}
+-- `noise_text::put_faults` meets its contract. The invariant: the injections of some faults are put, and the others are drawn from here on. Assumes nothing.
+use Rattle.noise_text.specs.Laws.Injections.{element-inside, element-next, Putting, put-none, put-more, put-spent, put-done}
+use Rattle.noise_text.specs.Injections.{Ready}
 use Rattle.noise.specs.Laws.Next.{at-shot, at-within}
 use lib.ListN.{length}
 use Prim.Native.Nat.{_+_, _-_, _*_, _≤_}
 use mathlib.Core.Path.{_≡_, refl, _∙_}
 use borrow.Author.Needs.{needs}
 use native.Mathlib.Omega.{arith}
-use Rattle.settling.proofs.injections.put_faults.Statement.{statement}
-use Rattle.settling.proofs.injections.put_faults.Tie as tie
+use Rattle.noise_text.proofs.put_faults.Statement.{statement}
+use Rattle.noise_text.proofs.put_faults.Tie as tie
 
 abbrev Inv-loop : tie.InvT-loop
 Inv-loop out₀ from words mask shots p d sums elements c rejected place₀ at₀ shot₀ out place at shot =

@@ -1,14 +1,14 @@
--- `settling::injections::put_element` meets its contract. Assumes nothing.
-use Rattle.settling.specs.Laws.Elements.{whole-in, whole-is, qubits-in}
-use Rattle.settling.specs.Elements.{elementIn}
+-- `noise_text::put_element` meets its contract. Assumes nothing.
+use Rattle.noise_text.specs.Laws.Elements.{whole-in, whole-is, qubits-in}
+use Rattle.noise_text.specs.Elements.{elementIn}
 use lib.ListN.{length-take}
 use mathlib.Core.List.{[], _∷_}
 use native.Mathlib.Nat.{add-sub-cancel}
 use native.Mathlib.Omega.{arith}
 use types.Run.{miss}
 use borrow.Author.Needs.{needs}
-use Rattle.settling.proofs.injections.put_element.Statement.{statement}
-use Rattle.settling.proofs.injections.put_element.Tie as tie
+use Rattle.noise_text.proofs.put_element.Statement.{statement}
+use Rattle.noise_text.proofs.put_element.Tie as tie
 
 enum-known-d : tie.Need-enum-known-d
 enum-known-d c = search needs

@@ -26,10 +26,10 @@ use Rattle.noise.specs.Kinds.{correlationOf}
 use Rattle.noise.specs.Shots.{FaultFound}
 use Rattle.noise.specs.Laws.Next.{draws-spent, draws-done, draws-at, done-within, at-below}
 use Rattle.faults.specs.Laws.Drawn.{size-some}
-use Rattle.settling.specs.declared.injections.Drawn.{Drawn}
-use Rattle.settling.specs.declared.injections.Drawn.the-variants.{Spent, Done}
-use Rattle.settling.specs.Elements.{elementIn, ElementIn}
-use Rattle.settling.specs.Injections.{textOf, PutAs, StepPut, injected, Ready, ReadyOf}
+use Rattle.noise_text.specs.declared.Drawn.{Drawn}
+use Rattle.noise_text.specs.declared.Drawn.the-variants.{Spent, Done}
+use Rattle.noise_text.specs.Elements.{elementIn, ElementIn}
+use Rattle.noise_text.specs.Injections.{textOf, PutAs, StepPut, injected, Ready, ReadyOf}
 
 -- ---- texts
 

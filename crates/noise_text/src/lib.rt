@@ -1,4 +1,17 @@
-// The injections that stand for a noise line.
+// The injections that stand for a noise line, put into lent bytes as lines.
+ghost use mathlib.Core.List.{List, [], _∷_, _++_};
+ghost use Prim.Native.Nat.{ℕ, _+_, _*_, _^_, _<_, _≤_};
+ghost use lib.ListN.{length, drop};
+ghost use Rattle.text.specs.Bytes.{LF};
+ghost use Rattle.job.specs.Line.{Instruction};
+ghost use Rattle.writer.specs.Placed.{Puts};
+ghost use Rattle.draws.specs.Draws.{depolarizingElement, drawShots};
+ghost use Rattle.draws.specs.Settle.{injectText, stepOf};
+ghost use Rattle.noise_text.specs.Elements.{keptElement, elementIn, Kept, ElementIn};
+ghost use Rattle.noise_text.specs.Injections.{StepPut, injected, Ready, ReadyOf};
+
+pub mod lists;
+
 use crate::lists::select;
 use noise::Correlation;
 use noise::PauliDistribution;
@@ -8,16 +21,6 @@ use noise::shots::NextFault;
 use noise::shots::next_fault;
 use noise::words::part;
 use writer::lines::put_inject;
-ghost use mathlib.Core.List.{List, [], _∷_, _++_};
-ghost use Prim.Native.Nat.{ℕ, _+_, _*_, _^_, _<_, _≤_};
-ghost use lib.ListN.{length, drop};
-ghost use Rattle.text.specs.Bytes.{LF};
-ghost use Rattle.job.specs.Line.{Instruction};
-ghost use Rattle.writer.specs.Placed.{Puts};
-ghost use Rattle.draws.specs.Draws.{depolarizingElement, drawShots};
-ghost use Rattle.draws.specs.Settle.{injectText, stepOf};
-ghost use Rattle.settling.specs.Elements.{keptElement, elementIn, Kept, ElementIn};
-ghost use Rattle.settling.specs.Injections.{StepPut, injected, Ready, ReadyOf};
 
 // ---- An element
 

@@ -1,11 +1,11 @@
--- `settling::injections::put_depolarizing` meets its contract. Assumes nothing.
-use Rattle.settling.specs.Laws.Lists.{few-selected, selected-count}
+-- `noise_text::put_depolarizing` meets its contract. Assumes nothing.
+use Rattle.noise_text.specs.Laws.Lists.{few-selected, selected-count}
 use Rattle.draws.specs.Settle.{injectText}
 use Rattle.draws.specs.Draws.{depolarizingElement}
 use native.Mathlib.Omega.{arith}
 use borrow.Author.Needs.{needs}
-use Rattle.settling.proofs.injections.put_depolarizing.Statement.{statement}
-use Rattle.settling.proofs.injections.put_depolarizing.Tie as tie
+use Rattle.noise_text.proofs.put_depolarizing.Statement.{statement}
+use Rattle.noise_text.proofs.put_depolarizing.Tie as tie
 
 add-v : tie.Need-add-v
 add-v c = search needs

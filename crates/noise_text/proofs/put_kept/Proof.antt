@@ -1,10 +1,10 @@
--- `settling::injections::put_kept` meets its contract. Assumes nothing.
-use Rattle.settling.specs.Elements.{keptElement}
+-- `noise_text::put_kept` meets its contract. Assumes nothing.
+use Rattle.noise_text.specs.Elements.{keptElement}
 use Rattle.draws.specs.Settle.{injectText}
 use native.Mathlib.Nat.{add-sub-cancel-left}
 use borrow.Author.Needs.{needs}
-use Rattle.settling.proofs.injections.put_kept.Statement.{statement}
-use Rattle.settling.proofs.injections.put_kept.Tie as tie
+use Rattle.noise_text.proofs.put_kept.Statement.{statement}
+use Rattle.noise_text.proofs.put_kept.Tie as tie
 
 mul-a : tie.Need-mul-a
 mul-a c = search needs

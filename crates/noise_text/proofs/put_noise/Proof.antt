@@ -1,11 +1,11 @@
--- `settling::injections::put_noise` meets its contract. Assumes nothing.
+-- `noise_text::put_noise` meets its contract. Assumes nothing.
 use mathlib.Core.Path.{refl}
 use mathlib.Core.List.{[]}
-use Rattle.settling.specs.Laws.Injections.{step-within, no-draws, spent-draws, main-draws, second-draws}
+use Rattle.noise_text.specs.Laws.Injections.{step-within, no-draws, spent-draws, main-draws, second-draws}
 use native.Mathlib.Omega.{arith}
 use borrow.Author.Needs.{needs}
-use Rattle.settling.proofs.injections.put_noise.Statement.{statement}
-use Rattle.settling.proofs.injections.put_noise.Tie as tie
+use Rattle.noise_text.proofs.put_noise.Statement.{statement}
+use Rattle.noise_text.proofs.put_noise.Tie as tie
 
 returns : tie.Need-returns
 returns c = λ q text. no-draws q text _ _ (c .before .before .before .before .before .before .before .pre .1) (c .if1 .taken)
