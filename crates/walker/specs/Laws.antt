@@ -3,6 +3,8 @@
 pub mod Starts
 -- What is known of each line of an accepted job.
 pub mod Known
+-- Lines that are passed over.
+pub mod Passed
 -- Line after line.
 pub mod Going
 -- The tests of the call, and its reply.

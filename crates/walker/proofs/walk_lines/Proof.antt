@@ -4,7 +4,7 @@ use mathlib.Core.Path.{_≡_, refl, sym, _∙_}
 use lib.ListN.{length}
 use Rattle.pauli.specs.Fixed.{inSet}
 use Rattle.instructions.specs.Reading.{lineAt}
-use Rattle.walker.specs.Laws.Going.{Going, going-first, line-readable, line-left, going-on, going-done}
+use Rattle.walker.specs.Laws.Going.{Going, going-first, line-known, line-left, going-on, going-done}
 use Rattle.walker.proofs.walk_lines.Statement.{statement}
 use Rattle.walker.proofs.walk_lines.Tie as tie
 
@@ -38,29 +38,22 @@ part-line-start c = omega (arith, c .line-start .ensures .within)
 part-line-end : tie.Need-part-line-end Inv-loop μ-loop
 part-line-end c = omega (arith, c .line-start .ensures .within, c .before .before .loop .inv .0 .within)
 
-slice-aggregate-read-line : tie.Need-slice-aggregate-read-line Inv-loop μ-loop
-slice-aggregate-read-line c = omega (arith, c .before .before .before .before .loop .inv .1)
+slice-aggregate-step-back : tie.Need-slice-aggregate-step-back Inv-loop μ-loop
+slice-aggregate-step-back c = omega (arith, c .before .before .before .before .loop .inv .1)
 
-read-line-requires : tie.Need-read-line-requires Inv-loop μ-loop
-read-line-requires c κs = omega (arith, c .before .before .before .before .loop .inv .1)
-
-slice-aggregate-line-back : tie.Need-slice-aggregate-line-back Inv-loop μ-loop
-slice-aggregate-line-back c = omega (arith, c .before .before .before .before .before .before .before .loop .inv .1, c .before .before .read-line .kept)
-
-line-back-requires : tie.Need-line-back-requires Inv-loop μ-loop
+step-back-requires : tie.Need-step-back-requires Inv-loop μ-loop
 unfolding lineAt
-line-back-requires c κs = (line-readable _ (c .before .before .before .before .before .before .before .before .before .before .before .before .pre .0) (c .before .before .before .before .before .before .before .before .loop .inv .0) (c .before .before .before .before .before .before .before .loop-test .taken) (c .before .before .before .before .before .before .line-start .ensures) (c .before .before .before .read-line .ensures) (omega (arith, c .before .before .before .before .before .before .before .before .loop .inv .1, c .before .before .before .read-line .kept)), c .before .before .before .before .before .before .before .before .loop .inv .0 .long, omega (arith, c .before .before .before .before .before .before .before .before .loop .inv .0 .counted, c .before .before .before .before .before .before .before .loop-test .taken))
+step-back-requires c κs = (line-known _ (c .before .before .before .before .before .before .before .before .before .pre .0) (c .before .before .before .before .before .loop .inv .0) (c .before .before .before .before .loop-test .taken) (c .before .before .before .line-start .ensures), omega (arith, c .before .before .before .before .before .loop .inv .1), c .before .before .before .before .before .loop .inv .0 .long, omega (arith, c .before .before .before .before .before .loop .inv .0 .counted, c .before .before .before .before .loop-test .taken))
 
 sub-k : tie.Need-sub-k Inv-loop μ-loop
-unfolding lineAt
-sub-k c = line-left _ (c .before .before .before .before .before .before .before .before .before .before .before .before .before .before .before .pre .0) (c .before .before .before .before .before .before .before .before .before .before .before .loop .inv .0) (c .before .before .before .before .before .before .before .before .before .before .loop-test .taken) (c .before .before .before .before .before .before .before .before .before .line-start .ensures) (c .before .before .before .before .before .before .read-line .ensures) (omega (arith, c .before .before .before .before .before .before .before .before .before .before .before .loop .inv .1, c .before .before .before .before .before .before .read-line .kept))
+sub-k c = line-left _ (c .before .before .before .before .before .before .before .before .before .before .before .before .before .pre .0) (c .before .before .before .before .before .before .before .before .before .loop .inv .0) (c .before .before .before .before .before .before .before .before .loop-test .taken) (c .before .before .before .before .before .before .before .line-start .ensures)
 
 loop-less : tie.Need-loop-less Inv-loop μ-loop
-loop-less c = omega (arith, c .before .before .before .before .before .before .before .before .before .line-start .ensures .within, c .before .before .before .before .before .before .before .before .before .before .loop-test .taken)
+loop-less c = omega (arith, c .before .before .before .before .before .before .before .line-start .ensures .within, c .before .before .before .before .before .before .before .before .loop-test .taken)
 
 loop-again : tie.Need-loop-again Inv-loop μ-loop
 unfolding lineAt
-loop-again c = (going-on _ (c .before .before .before .before .before .before .before .before .before .before .before .before .before .before .before .pre .0) (c .before .before .before .before .before .before .before .before .before .before .before .loop .inv .0) (c .before .before .before .before .before .before .before .before .before .before .loop-test .taken) (c .before .before .before .before .before .before .before .before .before .line-start .ensures) (c .before .before .before .before .before .before .read-line .ensures) (omega (arith, c .before .before .before .before .before .before .before .before .before .before .before .loop .inv .1, c .before .before .before .before .before .before .read-line .kept)) _ _ (c .before .before .line-back .ensures), omega (arith, c .before .before .before .before .before .before .before .before .before .before .before .loop .inv .1, c .before .before .before .before .before .before .read-line .kept))
+loop-again c = (going-on _ (c .before .before .before .before .before .before .before .before .before .before .before .before .before .pre .0) (c .before .before .before .before .before .before .before .before .before .loop .inv .0) (c .before .before .before .before .before .before .before .before .loop-test .taken) (c .before .before .before .before .before .before .before .line-start .ensures) _ _ (c .before .before .before .step-back .ensures), omega (arith, c .before .before .before .before .before .before .before .before .before .loop .inv .1, c .before .before .before .step-back .kept))
 
 same-length : tie.Need-same-length Inv-loop μ-loop
 same-length c = c .before .loop .inv .0 .long ∙ sym (c .before .before .before .before .before .pre .2)
@@ -82,10 +75,8 @@ walk-lines-spec =
     sub-line-2
     part-line-start
     part-line-end
-    slice-aggregate-read-line
-    read-line-requires
-    slice-aggregate-line-back
-    line-back-requires
+    slice-aggregate-step-back
+    step-back-requires
     sub-k
     loop-less
     loop-again

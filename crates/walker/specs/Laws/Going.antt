@@ -15,7 +15,7 @@ use Rattle.pauli.specs.Fixed.{inSet}
 use Rattle.text.specs.Bytes.{LF, pieces, lines}
 use Rattle.job.specs.declared.Header.{Header}
 use Rattle.job.specs.Line.{Line, Placed}
-use Rattle.job.specs.Grammar.{Written}
+use Rattle.job.specs.Grammar.{Written, readLine}
 use Rattle.text.specs.Laws.Values.{both}
 use Rattle.job.specs.Job.{maxBytes, wellEnded, checkJob, Gathered, gather, gathered, Job, jobOf}
 use Rattle.job.specs.Sound.{HeaderSound, LineSound}
@@ -32,17 +32,32 @@ use Rattle.carry.specs.Full.{full}
 use Rattle.carry.specs.Laws.Same.{same-backward}
 use Rattle.lines_back.specs.declared.Walk.{Walk as WalkWords}
 use Rattle.lines_back.specs.Back.{Readable, walkOf, writtenBack, noiseBack, LineBack}
-use Rattle.walker.specs.Steps.{LineStart, LineBefore, Started, lineOrNone, WalkedBack}
-use Rattle.walker.specs.Laws.Known.{Known, job-known}
+use Rattle.walker.specs.Steps.{LineStart, LineBefore, Started, lineOrNone, WalkedBack, Known, OfJob, PassedOver, TextBack}
+use Rattle.walker.specs.Laws.Known.{job-known}
 
 -- ---- one line
 
--- a line that was read, among the lines of an accepted job
-abbrev readable : {h : Header} {text : List ℕ} {form : Form} {fields : List ℕ} → Known h text → HeaderSound h → Parsed text form fields → 136 ≤ length fields
-    → Readable form fields
-readable {h} k range parsed wide =
-    let (vs, said) = read-says parsed (k .reads) in
-    record { header = h; range = range; wide = wide; values = vs; written = k .written; said = said; sound = k .sound }
+-- a line of an accepted job that was read
+pub readable : {text : List ℕ} {form : Form} {fields : List ℕ} → OfJob text → Parsed text form fields → 136 ≤ length fields → Readable form fields
+readable o parsed wide =
+    let (vs, said) = read-says parsed (o .known .reads) in
+    record { header = o .header; range = o .range; wide = wide; values = vs; written = o .known .written; said = said; sound = o .known .sound }
+
+-- by its form and its fields, and by its bytes
+pub read-back : {text : List ℕ} {form : Form} {fields : List ℕ} {shot k : ℕ} {w w′ : WalkWords} {set set′ : List ℕ} → Parsed text form fields → 136 ≤ length fields
+    → LineBack form fields shot k w w′ set set′ → TextBack text shot k w w′ set set′
+unfolding readable
+read-back parsed wide l = record { long = l .long; walks = λ o. l .walks (readable o parsed wide); noise = λ o. l .noise (readable o parsed wide) }
+
+-- a line that is passed over
+pub passed-back : {text : List ℕ} {shot k : ℕ} {w : WalkWords} {set : List ℕ} → ((v : Written) → readLine text ≡ some v → PassedOver shot v) → length set ≡ 16
+    → TextBack text shot k w w set set
+passed-back {k = k} {w = w} {set = set} p long =
+    record {
+      long = long;
+      walks = λ o. p (o .known .written) (o .known .reads) .walks (walkOf w set);
+      noise = λ o. p (o .known .written) (o .known .reads) .noise k (w .noise);
+    }
 
 -- over the job's own number of qubits
 same-written : (h : Header) → h .qubits ≤ 256 → (shot : ℕ) (v : Written) → ((l : Line) → v ≡ Written.line l → (r : ℕ) × (r ≤ h .outcomes) × LineSound h r l)
@@ -129,8 +144,8 @@ module _ (job : List ℕ) (passes : checkJob job .number ≡ 0) where
         noise = rw (s .noise);
       }
 
-  module _ {shot : ℕ} {S : Bits} {w : WalkWords} {set : List ℕ} {k e at : ℕ} {form : Form} {fields : List ℕ} (g : Going job shot S w set k e) (positive : 0 < e)
-      (b : LineBefore job (e - 1) at) (parsed : Parsed (lineAt job at (e - 1)) form fields) (wide : 136 ≤ length fields) where
+  module _ {shot : ℕ} {S : Bits} {w : WalkWords} {set : List ℕ} {k e at : ℕ} (g : Going job shot S w set k e) (positive : 0 < e)
+      (b : LineBefore job (e - 1) at) where
     abbrev text : List ℕ
     text = lineAt job at (e - 1)
 
@@ -143,8 +158,8 @@ module _ (job : List ℕ) (passes : checkJob job .number ≡ 0) where
     known : Known (jobOf job .header) text
     known = job-known job passes (lines (take at job)) text (g .done) whole-more
 
-    pub line-readable : Readable form fields
-    line-readable = readable known range parsed wide
+    pub line-known : OfJob text
+    line-known = record { header = jobOf job .header; range = range; known = known }
 
     -- some lines are left
     pub line-left : 0 < k
@@ -156,10 +171,10 @@ module _ (job : List ℕ) (passes : checkJob job .number ≡ 0) where
         let p : suc (k - 1) ≡ k = omega (arith, line-left) in
         ap (λ (j : ℕ). gathered j (text ∷ g .done)) p ∙ ap (λ (o : Option Written). gather k text o (gathered (suc k) (g .done))) (known .reads)
 
-    pub going-on : (w′ : WalkWords) (set′ : List ℕ) → LineBack form fields shot k w w′ set set′ → Going job shot S w′ set′ (k - 1) at
-    unfolding line-readable
+    pub going-on : (w′ : WalkWords) (set′ : List ℕ) → TextBack text shot k w w′ set set′ → Going job shot S w′ set′ (k - 1) at
+    unfolding line-known
     going-on w′ set′ l =
-        let q = line-readable in
+        let q = line-known in
         let same = same-written (jobOf job .header) (range .few-qubits) shot (known .written) (known .sound) (walkOf w set) in
         let count = ap (λ (x : Walk). x .count) (l .walks q) in
         let lines-left = ap length cut ∙ length-append (lines (take at job)) (text ∷ []) in

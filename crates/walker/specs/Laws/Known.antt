@@ -18,15 +18,7 @@ use Rattle.job.specs.Laws.Accepted.{Passing, between, Accepted, accepted-first}
 use Rattle.job.specs.Laws.Begun.{Begun, job-begun}
 use Rattle.job.specs.Laws.Gather.{recorded-more}
 use Rattle.job.specs.Laws.Recorded.{instruction-within}
-
--- a line of a job with this header
-pub record Known (h : Header) (text : List ℕ) : Type 0 where
-  pub written : Written
-  pub reads : readLine text ≡ some written
-  pub sound : (l : Line) → written ≡ Written.line l → (r : ℕ) × (r ≤ h .outcomes) × LineSound h r l
-
-line-of : {a b : Line} → Written.line a ≡ Written.line b → a ≡ b
-line-of e = cc
+use Rattle.walker.specs.Steps.{Known}
 
 -- a line that passes
 passed-sound : (c : Context) (ls : List (List ℕ)) (l : Line) → WrittenFits (Written.line l) → Passing c ls (Written.line l) → LineSound (c .header) (c .recorded) l

@@ -61,11 +61,18 @@ line-before job e r h lf le s f =
     }
 
 -- the bytes from j on up to e are free of LF if those behind j are, and j is none
-pub free-step : (job : List ℕ) (e j : ℕ) → j < e → e < length job → (getD job j 0 ≡ 10 → ⊥) → Free 10 (lineAt job (suc j) e) → Free 10 (lineAt job j e)
+free-step : (job : List ℕ) (e j : ℕ) → j < e → e < length job → (getD job j 0 ≡ 10 → ⊥) → Free 10 (lineAt job (suc j) e) → Free 10 (lineAt job j e)
 unfolding until lineAt
 free-step job e j h g ne f =
     let n : e - j ≡ suc (e - suc j) = omega arith in
     rw (n, drop-cons job j 0 (omega arith), ne-eqb _ _ ne) (ap suc f)
+
+module _ (job : List ℕ) (e i : ℕ) (inside : e < length job) (within : i ≤ e) where
+  pub free-more : 0 < i → (getD job (i - 1) 0 ≡ 10 → ⊥) → Free 10 (lineAt job i e) → Free 10 (lineAt job (i - 1) e)
+  free-more h ne f = let n : suc (i - 1) ≡ i = omega arith in free-step job e (i - 1) (omega arith) inside ne (rw n f)
+
+  pub free-two : 1 < i → (getD job (i - 1) 0 ≡ 10 → ⊥) → (getD job (i - 2) 0 ≡ 10 → ⊥) → Free 10 (lineAt job i e) → Free 10 (lineAt job (i - 2) e)
+  free-two h last ne f = let n : suc (i - 2) ≡ i - 1 = omega arith in free-step job e (i - 2) (omega arith) inside ne (rw n (free-more (omega arith) last f))
 
 pub free-none : (job : List ℕ) (e : ℕ) → Free 10 (lineAt job e e)
 unfolding until lineAt
