@@ -25,7 +25,7 @@ struct kundatrezo_answer {
 /* What a call that writes a text says. */
 struct kundatrezo_text_answer {
     struct kundatrezo_answer answer;
-    uint64_t figure; /* with success, the bytes that were written; else 0, but for KUNDATREZO_TEXT from settling: the bytes that are needed */
+    uint64_t figure; /* with success, the bytes that were written; else 0, but for KUNDATREZO_ROOM from settling: the bytes that are needed */
 };
 
 /* What a call that counts says. */
@@ -50,11 +50,11 @@ enum kundatrezo_refusal {
     KUNDATREZO_ELEMENTS = 12,    /* n not 1 to 64; a weight below zero or not finite; their total zero or not finite */
     KUNDATREZO_WORDS = 13,       /* lent words too few; line 0 */
     KUNDATREZO_DRAWS = 14,       /* a needed draw lies past its list; the noise line */
-    KUNDATREZO_TEXT = 15,        /* a text longer than the lent bytes or than 1,048,576; line 0 */
+    KUNDATREZO_ROOM = 15,        /* a text longer than the lent bytes or than 1,048,576; line 0 */
     KUNDATREZO_NOISE = 16,       /* noise in a walk; the first noise line */
-    KUNDATREZO_SET = 17,         /* a walk's shot not below shots, or its set not strictly rising or with an outcome that is not recorded; line 0 */
-    KUNDATREZO_SUPPORT = 18,     /* annotation over a repeated qubit or over more than 31 */
-    KUNDATREZO_CORRELATION = 19  /* sizes of one correlation differ; the later line */
+    KUNDATREZO_WALK = 17,        /* a walk's shot not below shots, or its set not strictly rising or with an outcome that is not recorded; line 0 */
+    KUNDATREZO_ANNOTATION = 18,  /* annotation over a repeated qubit or over more than 31 */
+    KUNDATREZO_SIZES = 19        /* sizes of one correlation differ; the later line */
 };
 
 /* Tests 1 to 12 of a job: number 0 if the job is accepted, else the first bad line and its lowest number. Nothing is written. */
@@ -74,7 +74,7 @@ struct kundatrezo_answer kundatrezo_run(const uint8_t *job, size_t job_len, uint
                                         size_t main_len, const uint64_t *second, size_t second_len, uint64_t base);
 
 /* Settling: the job with each noise instruction replaced by the injections that a run with the same words draws. Bytes of out beyond the text stay, and
- * a refusal writes nothing; the figure of KUNDATREZO_TEXT is the bytes that the text needs. */
+ * a refusal writes nothing; the figure of KUNDATREZO_ROOM is the bytes that the text needs. */
 struct kundatrezo_text_answer kundatrezo_settle(const uint8_t *job, size_t job_len, const uint64_t *noiseless, size_t noiseless_len,
                                                 const uint64_t *main_words, size_t main_len, const uint64_t *second, size_t second_len,
                                                 uint64_t base, uint8_t *out, size_t out_len);
@@ -89,6 +89,9 @@ struct kundatrezo_text_answer kundatrezo_annotate(const uint8_t *job, size_t job
 
 /* How many fault locations the job has. Nothing is written. */
 struct kundatrezo_count_answer kundatrezo_locations(const uint8_t *job, size_t job_len);
+
+/* The correlation check: whether noise lines of one correlation all have as many elements. Nothing is written. */
+struct kundatrezo_answer kundatrezo_correlation(const uint8_t *job, size_t job_len);
 
 #ifdef __cplusplus
 }

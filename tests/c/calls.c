@@ -64,8 +64,8 @@ static void walk(void)
     expect_walk(1, set, 2, 0, 2);
     expect_walk(1, set + 1, 1, 0, 1);
     expect_walk(0, set, 2, 0, 0);
-    expect_walk(2, set, 2, KUNDATREZO_SET, 0);
-    expect_walk(1, set, 3, KUNDATREZO_SET, 0);
+    expect_walk(2, set, 2, KUNDATREZO_WALK, 0);
+    expect_walk(1, set, 3, KUNDATREZO_WALK, 0);
 }
 
 /* One qubit, one outcome, 65 shots: two words a row. The first shot's word brings a fault, the others bring none; then the words are spent. */
@@ -102,7 +102,7 @@ static void settle(void)
     const uint8_t *job = (const uint8_t *)drawn;
     size_t length = sizeof drawn - 1;
     struct kundatrezo_text_answer got = kundatrezo_settle(job, length, noiseless, 2, words, 65, words, 0, 0, out, 4);
-    expect_figure("settle", KUNDATREZO_TEXT, 0, sizeof settled - 1, got.answer, got.figure);
+    expect_figure("settle", KUNDATREZO_ROOM, 0, sizeof settled - 1, got.answer, got.figure);
     got = kundatrezo_settle(job, length, noiseless, 2, words, 65, words, 0, 0, out, sizeof out);
     expect_figure("settle", 0, 0, sizeof settled - 1, got.answer, got.figure);
     if (memcmp(out, settled, sizeof settled) != 0) {
@@ -122,7 +122,7 @@ static void annotate(void)
     size_t length = sizeof measured - 1;
     uint64_t half = 0x3fe0000000000000;
     struct kundatrezo_text_answer got = kundatrezo_annotate(job, length, half, out, sizeof noisy - 2);
-    expect_figure("annotate", KUNDATREZO_TEXT, 0, 0, got.answer, got.figure);
+    expect_figure("annotate", KUNDATREZO_ROOM, 0, 0, got.answer, got.figure);
     got = kundatrezo_annotate(job, length, half, out, sizeof out);
     expect_figure("annotate", 0, 0, sizeof noisy - 1, got.answer, got.figure);
     if (memcmp(out, noisy, sizeof noisy) != 0) {
@@ -133,6 +133,15 @@ static void annotate(void)
     expect_figure("locations", 0, 0, 2, counted.answer, counted.count);
 }
 
+static void correlation(void)
+{
+    static const char job[] = "op=job qubits=2 outcomes=0 shots=1\n"
+                              "op=n p=0000000000000000 corr=5 cond=- parity=0 d=2 q=0\n"
+                              "op=n p=0000000000000000 corr=5 cond=- parity=0 d=2 q=0,1\n";
+    struct kundatrezo_answer got = kundatrezo_correlation((const uint8_t *)job, sizeof job - 1);
+    expect_figure("correlation", KUNDATREZO_SIZES, 3, 0, got, 0);
+}
+
 int main(void)
 {
     check();
@@ -140,6 +149,7 @@ int main(void)
     settle();
     walk();
     annotate();
+    correlation();
     puts(failed ? "calls from C: differences" : "calls from C: 0 differences");
     return failed;
 }

@@ -8,7 +8,7 @@ ghost use Rattle.writer.specs.Reply.{textReply};
 ghost use Rattle.run.specs.Run.{runReply};
 ghost use Rattle.backward.specs.Settling.{settleReply};
 ghost use Rattle.backward.specs.Walking.{walkReply};
-ghost use Rattle.circuit.specs.Replies.{annotateReply, locationsReply};
+ghost use Rattle.circuit.specs.Replies.{annotateReply, locationsReply, correlationReply};
 ghost use Rattle.kundatrezo.specs.Reply.{countReply};
 use job::Answer;
 use writer::TextAnswer;
@@ -92,4 +92,12 @@ pub extern "C" fn kundatrezo_locations(job: &[u8]) -> CountAnswer
         answer,
         count: r.count,
     }
+}
+
+// Whether noise lines of one correlation all have as many elements.
+#[no_mangle]
+pub extern "C" fn kundatrezo_correlation(job: &[u8]) -> Answer
+    ensures { λ r. ⌜ r ≡ correlationReply (now (job .entry)) ⌝ }
+{
+    correlations::correlation(job)
 }

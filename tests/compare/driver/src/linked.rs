@@ -3,13 +3,12 @@
 //! A slice passes as a pointer and a length in elements; the answer comes back as a struct by value.
 
 use checker::calls::{Answer, Calls, Draws, Rows};
-use checker::plain::Plain;
 use reference::vectors::Call;
 use std::io::Write;
 use std::process::{Command, Stdio};
 
-/// The calls that the library has so far. The others are made in document 01's plainest form.
-pub const CALLS: &[Call] = &[Call::Check, Call::Run, Call::Settle, Call::Walk, Call::Annotate, Call::Locations];
+/// The calls that the library has.
+pub const CALLS: &[Call] = &[Call::Check, Call::Run, Call::Settle, Call::Walk, Call::Annotate, Call::Locations, Call::Correlation];
 
 /// `struct kundatrezo_answer`.
 #[repr(C)]
@@ -65,6 +64,8 @@ unsafe extern "C" {
     fn kundatrezo_annotate(job: *const u8, job_len: usize, p: u64, out: *mut u8, out_len: usize) -> RawFigure;
 
     fn kundatrezo_locations(job: *const u8, job_len: usize) -> RawFigure;
+
+    fn kundatrezo_correlation(job: *const u8, job_len: usize) -> RawAnswer;
 }
 
 impl From<RawAnswer> for Answer {
@@ -143,7 +144,7 @@ impl Calls for Linked {
     }
 
     fn correlation(&self, job: &[u8]) -> Answer {
-        Plain.correlation(job)
+        unsafe { kundatrezo_correlation(job.as_ptr(), job.len()) }.into()
     }
 
     /// The printing program is a program: its path is in `KUNDATREZO_PRINT`.
