@@ -22,6 +22,18 @@ struct kundatrezo_answer {
     uint64_t line;   /* the line of the refusal, from 1; 0 with success, and where no line fits */
 };
 
+/* What a call that writes a text says. */
+struct kundatrezo_text_answer {
+    struct kundatrezo_answer answer;
+    uint64_t figure; /* with success, the bytes that were written; else 0, but for KUNDATREZO_TEXT from settling: the bytes that are needed */
+};
+
+/* What a call that counts says. */
+struct kundatrezo_count_answer {
+    struct kundatrezo_answer answer;
+    uint64_t count; /* 0 with a refusal */
+};
+
 /* The numbers of refusals. The first bad line of a job counts, and its lowest number. */
 enum kundatrezo_refusal {
     KUNDATREZO_LENGTH = 1,       /* the job is empty, longer than 1,048,576 bytes, or has no LF at its end; line 0 */
@@ -35,11 +47,48 @@ enum kundatrezo_refusal {
     KUNDATREZO_NOT_RECORDED = 9, /* an outcome that is not recorded yet */
     KUNDATREZO_SHOT = 10,        /* a shot not below the header's shots */
     KUNDATREZO_PROBABILITY = 11, /* p is NaN or above 1 */
-    KUNDATREZO_ELEMENTS = 12     /* n not 1 to 64; a weight below zero or not finite; their total zero or not finite */
+    KUNDATREZO_ELEMENTS = 12,    /* n not 1 to 64; a weight below zero or not finite; their total zero or not finite */
+    KUNDATREZO_WORDS = 13,       /* lent words too few; line 0 */
+    KUNDATREZO_DRAWS = 14,       /* a needed draw lies past its list; the noise line */
+    KUNDATREZO_TEXT = 15,        /* a text longer than the lent bytes or than 1,048,576; line 0 */
+    KUNDATREZO_NOISE = 16,       /* noise in a walk; the first noise line */
+    KUNDATREZO_SET = 17,         /* a walk's shot not below shots, or its set not strictly rising or with an outcome that is not recorded; line 0 */
+    KUNDATREZO_SUPPORT = 18,     /* annotation over a repeated qubit or over more than 31 */
+    KUNDATREZO_CORRELATION = 19  /* sizes of one correlation differ; the later line */
 };
 
 /* Tests 1 to 12 of a job: number 0 if the job is accepted, else the first bad line and its lowest number. Nothing is written. */
 struct kundatrezo_answer kundatrezo_check(const uint8_t *job, size_t job_len);
+
+/* A run of all shots from cleared frames.
+ *
+ * w = (shots + 63) / 64 words make a row, bit s % 64 of word s / 64 being shot s; bits past the last shot are 0. x and z have a row for each qubit: the X
+ * and Z parts of the frames. deltas has a row for each outcome: where it is 1, the outcome differs from the noiseless one. noiseless has the outcomes'
+ * noiseless bits in the same layout, which conditions of noise lines look at. main and second are lists of random words: noise lines read on in main,
+ * and one with corr c reads second from base + c on, modulo 2^64.
+ *
+ * x, z and deltas are written: the words that the header needs hold the frames and deltas at the end, words beyond them stay. A refusal writes
+ * nothing, but for KUNDATREZO_DRAWS, which leaves the needed words 0. */
+struct kundatrezo_answer kundatrezo_run(const uint8_t *job, size_t job_len, uint64_t *x, size_t x_len, uint64_t *z, size_t z_len, uint64_t *deltas,
+                                        size_t deltas_len, const uint64_t *noiseless, size_t noiseless_len, const uint64_t *main_words,
+                                        size_t main_len, const uint64_t *second, size_t second_len, uint64_t base);
+
+/* Settling: the job with each noise instruction replaced by the injections that a run with the same words draws. Bytes of out beyond the text stay, and
+ * a refusal writes nothing; the figure of KUNDATREZO_TEXT is the bytes that the text needs. */
+struct kundatrezo_text_answer kundatrezo_settle(const uint8_t *job, size_t job_len, const uint64_t *noiseless, size_t noiseless_len,
+                                                const uint64_t *main_words, size_t main_len, const uint64_t *second, size_t second_len,
+                                                uint64_t base, uint8_t *out, size_t out_len);
+
+/* The walk: how many of the job's injections and flips in the shot flip the sum of the outcomes in the set. The job has no noise (settle it first);
+ * the set's outcomes rise strictly and are recorded by the job. Nothing is written. */
+struct kundatrezo_count_answer kundatrezo_walk(const uint8_t *job, size_t job_len, uint64_t shot, const uint64_t *set, size_t set_len);
+
+/* Annotation: the job with a depolarizing noise line at every fault location, before a measurement and after the other lines. p_bits is the
+ * probability by the bits of its double; one that is NaN or above 1 is refused by KUNDATREZO_PROBABILITY with line 0. A refusal writes nothing. */
+struct kundatrezo_text_answer kundatrezo_annotate(const uint8_t *job, size_t job_len, uint64_t p_bits, uint8_t *out, size_t out_len);
+
+/* How many fault locations the job has. Nothing is written. */
+struct kundatrezo_count_answer kundatrezo_locations(const uint8_t *job, size_t job_len);
 
 #ifdef __cplusplus
 }

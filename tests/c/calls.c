@@ -37,9 +37,109 @@ static void check(void)
     expect_check(late, sizeof late - 1, KUNDATREZO_QUBIT, 3);
 }
 
+static const char flipped[] = "op=job qubits=1 outcomes=2 shots=2\n"
+                              "op=i shot=1 x=0 z=-\n"
+                              "op=o x=- z=0 id=0\n"
+                              "op=r id=1 angle=0\n"
+                              "op=t shot=1 id=1\n";
+
+static void expect_figure(const char *call, uint64_t number, uint64_t line, uint64_t figure, struct kundatrezo_answer answer, uint64_t got)
+{
+    if (answer.number != number || answer.line != line || got != figure) {
+        printf("%s: %llu %llu %llu, not %llu %llu %llu\n", call, (unsigned long long)answer.number, (unsigned long long)answer.line,
+               (unsigned long long)got, (unsigned long long)number, (unsigned long long)line, (unsigned long long)figure);
+        failed = 1;
+    }
+}
+
+static void expect_walk(uint64_t shot, const uint64_t *set, size_t set_len, uint64_t number, uint64_t count)
+{
+    struct kundatrezo_count_answer got = kundatrezo_walk((const uint8_t *)flipped, sizeof flipped - 1, shot, set, set_len);
+    expect_figure("walk", number, 0, count, got.answer, got.count);
+}
+
+static void walk(void)
+{
+    static const uint64_t set[] = {0, 1, 1};
+    expect_walk(1, set, 2, 0, 2);
+    expect_walk(1, set + 1, 1, 0, 1);
+    expect_walk(0, set, 2, 0, 0);
+    expect_walk(2, set, 2, KUNDATREZO_SET, 0);
+    expect_walk(1, set, 3, KUNDATREZO_SET, 0);
+}
+
+/* One qubit, one outcome, 65 shots: two words a row. The first shot's word brings a fault, the others bring none; then the words are spent. */
+static const char drawn[] = "op=job qubits=1 outcomes=1 shots=65\n"
+                            "op=n p=3fe0000000000000 corr=- cond=- parity=0 d=1 x=0 z=-\n"
+                            "op=o x=- z=0 id=0\n";
+
+static void run(void)
+{
+    uint64_t words[65], x[3] = {7, 7, 7}, z[2] = {7, 7}, deltas[2] = {7, 7}, noiseless[2] = {0, 0};
+    for (int i = 0; i < 65; i++)
+        words[i] = i == 0 ? 0 : UINT64_MAX;
+    const uint8_t *job = (const uint8_t *)drawn;
+    size_t length = sizeof drawn - 1;
+    struct kundatrezo_answer got = kundatrezo_run(job, length, x, 3, z, 2, deltas, 1, noiseless, 2, words, 65, words, 0, 0);
+    expect_figure("run", KUNDATREZO_WORDS, 0, 7, got, deltas[0]);
+    got = kundatrezo_run(job, length, x, 3, z, 2, deltas, 2, noiseless, 2, words, 64, words, 0, 0);
+    expect_figure("run", KUNDATREZO_DRAWS, 2, 0, got, x[0] | x[1] | z[0] | z[1] | deltas[0] | deltas[1]);
+    got = kundatrezo_run(job, length, x, 3, z, 2, deltas, 2, noiseless, 2, words, 65, words, 0, 0);
+    expect_figure("run", 0, 0, 1, got, deltas[0]);
+    expect_figure("run, X words", 0, 0, 1, got, x[0]);
+    expect_figure("run, words beyond", 0, 0, 7, got, x[2]);
+}
+
+static void settle(void)
+{
+    static const char settled[] = "op=job qubits=1 outcomes=1 shots=65\n"
+                                  "op=i shot=0 x=0 z=-\n"
+                                  "op=o x=- z=0 id=0\n";
+    uint64_t words[65], noiseless[2] = {0, 0};
+    uint8_t out[sizeof settled] = {0};
+    for (int i = 0; i < 65; i++)
+        words[i] = i == 0 ? 0 : UINT64_MAX;
+    const uint8_t *job = (const uint8_t *)drawn;
+    size_t length = sizeof drawn - 1;
+    struct kundatrezo_text_answer got = kundatrezo_settle(job, length, noiseless, 2, words, 65, words, 0, 0, out, 4);
+    expect_figure("settle", KUNDATREZO_TEXT, 0, sizeof settled - 1, got.answer, got.figure);
+    got = kundatrezo_settle(job, length, noiseless, 2, words, 65, words, 0, 0, out, sizeof out);
+    expect_figure("settle", 0, 0, sizeof settled - 1, got.answer, got.figure);
+    if (memcmp(out, settled, sizeof settled) != 0) {
+        printf("settle wrote something else\n");
+        failed = 1;
+    }
+}
+
+static void annotate(void)
+{
+    static const char measured[] = "op=job qubits=1 outcomes=1 shots=1\nop=o x=- z=0 id=0\n";
+    static const char noisy[] = "op=job qubits=1 outcomes=1 shots=1\n"
+                                "op=n p=3fe0000000000000 corr=- cond=- parity=0 d=2 q=0\n"
+                                "op=o x=- z=0 id=0\n";
+    static uint8_t out[sizeof noisy];
+    const uint8_t *job = (const uint8_t *)measured;
+    size_t length = sizeof measured - 1;
+    uint64_t half = 0x3fe0000000000000;
+    struct kundatrezo_text_answer got = kundatrezo_annotate(job, length, half, out, sizeof noisy - 2);
+    expect_figure("annotate", KUNDATREZO_TEXT, 0, 0, got.answer, got.figure);
+    got = kundatrezo_annotate(job, length, half, out, sizeof out);
+    expect_figure("annotate", 0, 0, sizeof noisy - 1, got.answer, got.figure);
+    if (memcmp(out, noisy, sizeof noisy) != 0) {
+        printf("annotate wrote something else\n");
+        failed = 1;
+    }
+    struct kundatrezo_count_answer counted = kundatrezo_locations(job, length);
+    expect_figure("locations", 0, 0, 2, counted.answer, counted.count);
+}
+
 int main(void)
 {
     check();
+    run();
+    settle();
+    walk();
+    annotate();
     puts(failed ? "calls from C: differences" : "calls from C: 0 differences");
     return failed;
 }

@@ -4,5 +4,7 @@ pub mod Settling
 pub mod Walking
 -- What is proved of these definitions, for a reader.
 pub mod Theorems
+pub mod Calls
+pub mod CallTheorems
 -- Laws of these definitions.
 pub mod Laws

@@ -1,6 +1,7 @@
 // Tests 1 to 12 of a job.
 ghost use mathlib.Core.Path.{_≡_};
 ghost use Rattle.job.specs.Job.{wellEnded, checkJob};
+ghost use Rattle.checker.specs.Examines.{Examines};
 
 pub mod clifford;
 pub mod floats;
@@ -10,9 +11,9 @@ pub mod tests;
 use crate::tests::next;
 use crate::tests::no_context;
 use crate::tests::refusal;
+use instructions::next_line;
 use job::Answer;
-use reader::read_line;
-use text::pieces::find;
+use job::Header;
 
 const MAX_BYTES: usize = 1048576;
 
@@ -30,29 +31,65 @@ fn well_ended(job: &[u8]) -> bool
     job[n - 1] == 10
 }
 
-// Tests 1 to 12: the first bad line, and its lowest number.
-pub fn check(job: &[u8]) -> Answer
-    ensures { λ r. ⌜ r ≡ checkJob (now (job .entry)) ⌝ }
+// The answer of tests 1 to 12; of an accepted job also its header's numbers, how many outcomes it records, and how many lines it has.
+pub struct Examined {
+    pub answer: Answer,
+    pub header: Header,
+    pub recorded: u64,
+    pub lines: u64,
+}
+
+// A job that a number refuses.
+fn refused(number: u64, line: u64) -> Examined
+    ensures { λ r. ⌜ r .answer ≡ record { number = number; line = line } ⌝ }
+{
+    Examined {
+        answer: Answer { number, line },
+        header: Header {
+            qubits: 0,
+            outcomes: 0,
+            shots: 0,
+        },
+        recorded: 0,
+        lines: 0,
+    }
+}
+
+// Tests 1 to 12, and what the calls after them have to know of the job, so that they need not read it for that.
+pub fn examine(job: &[u8]) -> Examined
+    ensures { λ r. ⌜ Examines (now (job .entry)) r ⌝ }
 {
     if !well_ended(job) {
-        return Answer { number: 1, line: 0 };
+        return refused(1, 0);
     }
     let mut fields = [0u64; 136];
     let mut c = no_context();
     let mut at = 0;
-    let mut k: u64 = 1;
+    let mut k: u64 = 0;
     while at < job.len() {
-        let e = find(job, at, 10);
-        let line = &job[at..e];
-        let form = read_line(line, &mut fields);
-        let last = e + 1 == job.len();
-        let number = refusal(c, last, form, &fields);
+        let line = next_line(job, at, &mut fields);
+        let form = line.form;
+        at = line.end + 1;
+        k += 1;
+        let number = refusal(c, at == job.len(), form, &fields);
         if number != 0 {
-            return Answer { number, line: k };
+            return refused(number, k);
         }
         c = next(c, form, &fields);
-        at = e + 1;
-        k += 1;
     }
-    Answer { number: 0, line: 0 }
+    let header = c.header;
+    Examined {
+        answer: Answer { number: 0, line: 0 },
+        header,
+        recorded: c.recorded,
+        lines: k,
+    }
+}
+
+// Tests 1 to 12: the first bad line, and its lowest number.
+pub fn check(job: &[u8]) -> Answer
+    ensures { λ r. ⌜ r ≡ checkJob (now (job .entry)) ⌝ }
+{
+    let r = examine(job);
+    r.answer
 }

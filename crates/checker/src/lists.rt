@@ -69,7 +69,7 @@ fn contains(members: &[u64], n: u64) -> bool
 }
 
 // Whether no member stands twice.
-fn distinct(members: &[u64]) -> bool
+pub fn distinct(members: &[u64]) -> bool
     ensures { λ r. ⌜ r ≡ Checks·distinct (now (members .entry)) ⌝ }
 {
     let mut i = 0;

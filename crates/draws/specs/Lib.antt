@@ -6,3 +6,4 @@ pub mod Execute
 pub mod Laws
 -- Theorems on them.
 pub mod Theorems
+pub mod SettledTheorems

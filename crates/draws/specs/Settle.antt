@@ -1,10 +1,11 @@
 -- Settling: each noise instruction is replaced by `op=i` lines, shots rising, identities included, and the rest is copied. Assumes nothing.
 use mathlib.Core.List.{List, [], _∷_, _++_, map}
-use Prim.Native.Nat.{ℕ}
+use Prim.Native.Nat.{ℕ, suc}
 use Rattle.text.specs.Bytes.{unlines}
 use Rattle.text.specs.Template.{Value, lineText}
 use Rattle.job.specs.Line.{SparsePauli, Line, Distribution, Noise, Instruction, Placed}
 use Rattle.job.specs.Grammar.{injectTemplate}
+use Rattle.job.specs.Job.{placedAt}
 use Rattle.draws.specs.Draws.{Lent, elementAt, Fault, Draws, drawLine, partOf, mainAfter}
 
 -- a line of the settled job, with its text
@@ -58,3 +59,8 @@ settledList = map (λ (l : SettledLine). l .line)
 -- the settled text: the header, which is copied, and the settled lines
 unfoldable pub settledText : List ℕ → List SettledLine → List ℕ
 settledText header ls = unlines (header ∷ map (λ (l : SettledLine). l .text) ls)
+
+-- settled lines as the instructions of a job, one to a line, from line k on
+unfoldable pub numbered : ℕ → List SettledLine → List Placed
+numbered k [] = []
+numbered k (l ∷ ls) = placedAt k (l .text) (Instruction.line (l .line)) ∷ numbered (suc k) ls

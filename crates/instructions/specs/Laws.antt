@@ -7,3 +7,5 @@ pub mod Meaning
 pub mod Steps
 -- The element lines of a noise line.
 pub mod Elements
+-- The lines of an accepted job, one after the other.
+pub mod Lines

@@ -1,6 +1,8 @@
 -- Laws, for the proofs that cite them. Nothing here has to be believed.
 -- Lists by their places.
 pub mod Lists
+-- A list made rising.
+pub mod Rising
 -- Permutations of the places (test 6).
 pub mod Permutation
 -- The tests of a line that passes.
@@ -25,3 +27,5 @@ pub mod Instructions
 pub mod Passes
 -- Sound lines are in range, as theorems about lists of lines ask.
 pub mod Range
+-- Lines that are written by a form's template, and texts of lines as jobs.
+pub mod Texts

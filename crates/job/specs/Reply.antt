@@ -3,7 +3,7 @@ use mathlib.Core.Bool.{Bool, _&&_}
 use mathlib.Core.List.{List, _++_}
 use Prim.Native.Nat.{ℕ}
 use lib.Dec.{leb}
-use lib.ListN.{length, drop}
+use lib.ListN.{length, take, drop}
 use Rattle.job.specs.declared.Answer.{Answer}
 use Rattle.job.specs.Job.{maxBytes, accepted}
 
@@ -28,6 +28,10 @@ textFits text out = leb (length text) (length out) && leb (length text) maxBytes
 -- the byte figure is what was written
 abbrev pub writtenText : List ℕ → List ℕ → TextReply
 writtenText text out = record { answered = accepted; figure = length text; out = over text out }
+
+-- the first bytes of the output, as many as the figure says
+abbrev pub writtenBy : TextReply → List ℕ
+writtenBy r = take (r .figure) (r .out)
 
 -- the answer and the count
 pub record CountReply : Type 0 where

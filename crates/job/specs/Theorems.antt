@@ -17,7 +17,7 @@ use Rattle.job.specs.Laws.Lines.{header-sound}
 use Rattle.job.specs.Laws.Accepted.{between}
 use Rattle.job.specs.Laws.Begun.{ended-parts, job-passes, Begun, job-begun}
 use Rattle.job.specs.Laws.Gather.{gathered-sound, gathered-said}
-use Rattle.job.specs.Laws.Recorded.{recorded-within, ids-count, contextAfter, after-first, recorded-after}
+use Rattle.job.specs.Laws.Recorded.{recorded-within, ids-count, contextAfter, after-first, recorded-after, header-after}
 use Rattle.job.specs.Laws.Tests.{tests-rise, lowest-least}
 use Rattle.job.specs.Laws.Passes.{ReadAs, lines-accepted, header-accepted}
 use Rattle.job.specs.Laws.Dispatch.{markOf, readAs, formOf, read-by-mark}
@@ -73,6 +73,16 @@ recorded-counted job e =
     ∙ recorded-after 2 (between (b .header) 0) (b .rest) (b .passes)
     ∙ zero-add (recordedIn (gathered 2 (b .rest) .instructions))
     ∙ ap (λ (j : Job). recordedIn (j .instructions)) (sym (b .is))
+
+-- Behind the last line of an accepted job the tests know its header.
+pub header-known : (job : List ℕ) → checkJob job .number ≡ 0 → contextAfter noContext (lines job) .header ≡ jobOf job .header
+unfolding next between noContext
+header-known job e =
+    let b = job-begun job e in
+    ap (λ (ls : List (List ℕ)). contextAfter noContext ls .header) (b .split)
+    ∙ ap (λ (c : Context). c .header) (after-first noContext (b .text) (b .rest) (Written.header (b .header)) (b .reads))
+    ∙ header-after 2 (between (b .header) 0) (b .rest) (b .passes)
+    ∙ ap (λ (j : Job). j .header) (sym (b .is))
 
 -- A line has one form at most, which its mark names: it says what it says by that form.
 pub one-form : (l : List ℕ) → readLine l ≡ readAs (formOf (markOf l)) l

@@ -4,7 +4,21 @@
 // get an answer, and what is promised here is the whole of it.
 ghost use mathlib.Core.Path.{_≡_};
 ghost use Rattle.job.specs.Job.{checkJob};
+ghost use Rattle.writer.specs.Reply.{textReply};
+ghost use Rattle.run.specs.Run.{runReply};
+ghost use Rattle.backward.specs.Settling.{settleReply};
+ghost use Rattle.backward.specs.Walking.{walkReply};
+ghost use Rattle.circuit.specs.Replies.{annotateReply, locationsReply};
+ghost use Rattle.kundatrezo.specs.Reply.{countReply};
 use job::Answer;
+use writer::TextAnswer;
+
+// What a call that counts says: its answer and its count.
+#[repr(C)]
+pub struct CountAnswer {
+    pub answer: Answer,
+    pub count: u64,
+}
 
 // Tests 1 to 12 of a job.
 #[no_mangle]
@@ -12,4 +26,70 @@ pub extern "C" fn kundatrezo_check(job: &[u8]) -> Answer
     ensures { λ r. ⌜ r ≡ checkJob (now (job .entry)) ⌝ }
 {
     checker::check(job)
+}
+
+// A run of a job.
+#[no_mangle]
+pub extern "C" fn kundatrezo_run<'a>(
+    job: &[u8],
+    x: &mut [u64],
+    z: &mut [u64],
+    deltas: &mut [u64],
+    noiseless: &[u64],
+    main: &'a [u64],
+    second: &'a [u64],
+    base: u64,
+) -> Answer
+    ensures { λ r. ⌜ runReply (now (job .entry)) (record { x = now (x .entry); z = now (z .entry); deltas = now (deltas .entry); source = record { noiseless = now (noiseless .entry); main = now (main .entry); second = now (second .entry); base = base } }) ≡ record { answered = r; x = now (x .exit); z = now (z .exit); deltas = now (deltas .exit) } ⌝ }
+{
+    runner::run(job, x, z, deltas, noiseless, main, second, base)
+}
+
+// The job with its noise replaced by the injections that the same words draw.
+#[no_mangle]
+pub extern "C" fn kundatrezo_settle<'a>(
+    job: &[u8],
+    noiseless: &[u64],
+    main: &'a [u64],
+    second: &'a [u64],
+    base: u64,
+    out: &mut [u8],
+) -> TextAnswer
+    ensures { λ r. ⌜ textReply r (now (out .exit)) ≡ settleReply (now (job .entry)) (record { noiseless = now (noiseless .entry); main = now (main .entry); second = now (second .entry); base = base }) (now (out .entry)) ⌝ }
+{
+    settling::settle(job, noiseless, main, second, base, out)
+}
+
+// The walk of a set of outcomes in a shot, over a job without noise.
+#[no_mangle]
+pub extern "C" fn kundatrezo_walk(job: &[u8], shot: u64, set: &[u64]) -> CountAnswer
+    ensures { λ r. ⌜ countReply r ≡ walkReply (now (job .entry)) shot (now (set .entry)) ⌝ }
+{
+    let r = walker::walk(job, shot, set);
+    let answer = r.answer;
+    CountAnswer {
+        answer,
+        count: r.count,
+    }
+}
+
+// The job with depolarizing noise, whose probability has the bits p.
+#[no_mangle]
+pub extern "C" fn kundatrezo_annotate(job: &[u8], p: u64, out: &mut [u8]) -> TextAnswer
+    ensures { λ r. ⌜ textReply r (now (out .exit)) ≡ annotateReply (now (job .entry)) p (now (out .entry)) ⌝ }
+{
+    annotation::annotate(job, p, out)
+}
+
+// How many fault locations a job has.
+#[no_mangle]
+pub extern "C" fn kundatrezo_locations(job: &[u8]) -> CountAnswer
+    ensures { λ r. ⌜ countReply r ≡ locationsReply (now (job .entry)) ⌝ }
+{
+    let r = annotation::locations(job);
+    let answer = r.answer;
+    CountAnswer {
+        answer,
+        count: r.count,
+    }
 }

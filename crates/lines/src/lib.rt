@@ -11,7 +11,7 @@ ghost use Rattle.reader.specs.declared.Form.the-variants as Forms;
 ghost use Rattle.lines.specs.Plain.{slot, Plain, Ready, Obeyed, FrameReady, FrameObeyed};
 
 // The list in slot i of a line's fields.
-fn list<'a>(f: &'a [u64], i: usize) -> &'a [u64]
+pub fn list<'a>(f: &'a [u64], i: usize) -> &'a [u64]
     requires { ⌜ (i < 4) × (136 ≤ length (now f)) × (getD (now f) (4 + i) 0 ≤ 31) ⌝ }
     ensures { λ r. ⌜ now r ≡ slot (now (f .entry)) i ⌝ }
 {
@@ -26,14 +26,14 @@ fn unitary(f: &[u64], x: &mut [u64], z: &mut [u64], w: usize, n: usize)
     requires { ⌜ FrameReady Forms.Unitary (now f) w n (now x) (now z) ⌝ }
     ensures { λ _. ⌜ FrameObeyed Forms.Unitary (now (f .entry)) w n (now (x .entry)) (now (z .entry)) (now (x .exit)) (now (z .exit)) ⌝ }
 {
-    propagator::gates::apply_unitary_op(x, z, w, n, f[0], list(f, 0));
+    unitaries::gates::apply_unitary_op(x, z, w, n, f[0], list(f, 0));
 }
 
 fn clifford(f: &[u64], x: &mut [u64], z: &mut [u64], w: usize, n: usize)
     requires { ⌜ FrameReady Forms.Clifford (now f) w n (now x) (now z) ⌝ }
     ensures { λ _. ⌜ FrameObeyed Forms.Clifford (now (f .entry)) w n (now (x .entry)) (now (z .entry)) (now (x .exit)) (now (z .exit)) ⌝ }
 {
-    propagator::cliffords::apply_clifford(x, z, w, n, list(f, 0), f[0]);
+    unitaries::cliffords::apply_clifford(x, z, w, n, list(f, 0), f[0]);
 }
 
 fn exponential(f: &[u64], x: &mut [u64], z: &mut [u64], w: usize, n: usize)
@@ -63,7 +63,7 @@ fn permute(f: &[u64], x: &mut [u64], z: &mut [u64], w: usize, n: usize)
     requires { ⌜ FrameReady Forms.Permute (now f) w n (now x) (now z) ⌝ }
     ensures { λ _. ⌜ FrameObeyed Forms.Permute (now (f .entry)) w n (now (x .entry)) (now (z .entry)) (now (x .exit)) (now (z .exit)) ⌝ }
 {
-    propagator::cliffords::apply_permutation(x, z, w, n, list(f, 0), list(f, 1));
+    unitaries::cliffords::apply_permutation(x, z, w, n, list(f, 0), list(f, 1));
 }
 
 fn reset(f: &[u64], x: &mut [u64], z: &mut [u64], w: usize, n: usize)

@@ -1,13 +1,13 @@
 // Qubits, outcomes and shots by their numbers, fixed sets of them, and Pauli operators up to their phase.
 mod sets;
 
+pub use sets::add_outcomes;
 pub use sets::add_qubit;
 pub use sets::has_outcome;
 pub use sets::has_qubit;
 pub use sets::outcomes;
 pub use sets::put_qubit;
 pub use sets::qubits;
-pub use sets::sum_of_outcomes;
 pub use sets::sum_of_qubits;
 ghost use mathlib.Core.Path.{_≡_};
 ghost use mathlib.Core.List.{[], _∷_};

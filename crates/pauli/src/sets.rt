@@ -50,10 +50,8 @@ fn insert(set: &mut [u64], q: usize)
     requires { ⌜ q / 64 < length (now set) ⌝ }
     ensures { λ _. ⌜ (length (now (set .exit)) ≡ length (now (set .entry))) × (inSet (now (set .exit)) ≡ replaced (inSet (now (set .entry))) q true) ⌝ }
 {
-    if contains(set, q) {
-        return;
-    }
-    toggle(set, q);
+    let k = q / 64;
+    set[k] |= 1u64 << (q % 64);
 }
 
 // Puts the listed numbers into a set.
@@ -96,12 +94,12 @@ pub fn has_qubit(set: [u64; 4], q: QubitId) -> bool
     contains(&set, q)
 }
 
-// Whether an outcome is in a set.
-pub fn has_outcome(set: [u64; 16], id: OutcomeId) -> bool
-    ensures { λ r. ⌜ r ≡ inSet set (id .0) ⌝ }
+// Whether an outcome is in a lent set.
+pub fn has_outcome(set: &[u64], id: OutcomeId) -> bool
+    ensures { λ r. ⌜ r ≡ inSet (now (set .entry)) (id .0) ⌝ }
 {
     let id = id.0;
-    contains(&set, id)
+    contains(set, id)
 }
 
 // The sum of two sets of qubits.
@@ -113,13 +111,13 @@ pub fn sum_of_qubits(a: [u64; 4], b: [u64; 4]) -> [u64; 4]
     r
 }
 
-// The sum of two sets of outcomes.
-pub fn sum_of_outcomes(a: [u64; 16], b: [u64; 16]) -> [u64; 16]
-    ensures { λ r. ⌜ inSet r ≡ inSet a △ inSet b ⌝ }
+// Adds the listed outcomes to a lent set: the symmetric difference.
+pub fn add_outcomes(set: &mut [u64], ids: &[u64])
+    requires { ⌜ (length (now set) ≡ 16) × AllBelow 1024 (now ids) ⌝ }
+    ensures { λ _. ⌜ (length (now (set .exit)) ≡ 16) × (inSet (now (set .exit)) ≡ inSet (now (set .entry)) △ members (now (ids .entry))) ⌝ }
 {
-    let mut r = a;
-    add_set(&mut r, &b);
-    r
+    let other = outcomes(ids);
+    add_set(set, &other);
 }
 
 // The set with b added to the bit of q.

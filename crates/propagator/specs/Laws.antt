@@ -1,6 +1,4 @@
 -- Laws, for the proofs that cite them. Nothing here has to be believed.
 pub mod Lists
 pub mod Acts
-pub mod Gates
 pub mod Paulis
-pub mod Images

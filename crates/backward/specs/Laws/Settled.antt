@@ -1,35 +1,20 @@
 -- Laws: how execution ends, and that the lines to which the instructions of an accepted job settle are in range. Assumes nothing.
 use mathlib.Core.Path.{_≡_, refl, sym, subst}
 use mathlib.Core.List.{List, [], _∷_, _++_}
-use Prim.Native.Nat.{ℕ, _+_, _<_, _≤_}
-use native.Mathlib.Nat.{add-zero}
+use Prim.Native.Nat.{ℕ, _+_, _≤_}
 use native.Mathlib.Omega.{arith}
 use Rattle.job.specs.declared.Header.{Header}
 use Rattle.job.specs.Line.{Line, Distribution, Instruction, Placed}
-use Rattle.job.specs.Job.{recordedBy, recordedIn}
-use Rattle.job.specs.InRange.{InRange, AllInRange}
-use Rattle.job.specs.Sound.{LineSound, InstructionSound, InstructionsSound}
-use Rattle.job.specs.Laws.Recorded.{recorded-within}
+use Rattle.job.specs.Job.{recordedBy}
+use Rattle.job.specs.InRange.{AllInRange}
+use Rattle.job.specs.Sound.{InstructionSound, InstructionsSound}
+use Rattle.job.specs.Laws.Recorded.{instruction-within}
+use Rattle.job.specs.Laws.Range.{line-in-range}
 use Rattle.draws.specs.Draws.{Lent, Fault}
 use Rattle.draws.specs.Settle.{SettledLine, injection, Step, stepOf, Settled, prefixed, settleThen, settle, settledList}
 use Rattle.draws.specs.Execute.{States, Ended}
 use Rattle.draws.specs.Laws.Settling.{settledList-append}
 use Rattle.draws.specs.Laws.Within.{injected, Injections, noise-injects}
-
-line-in-range : (h : Header) (r : ℕ) (l : Line) → r ≤ h .outcomes → LineSound h r l → InRange (h .qubits) (h .outcomes) l
-unfolding LineSound
-line-in-range h r (Line.unitary g qs) k s = s .operands .below
-line-in-range h r (Line.clifford qs t) k s = s .operands .below
-line-in-range h r (Line.pauli P) k s = tt
-line-in-range h r (Line.exponential P) k s = tt
-line-in-range h r (Line.controlled C T) k s = tt
-line-in-range h r (Line.permute p qs) k s = s .operands .below
-line-in-range h r (Line.measure P id) k s = s .outcome .below
-line-in-range h r (Line.allocate id angle) k s = tt
-line-in-range h r (Line.conditional P ids par) k s = tt
-line-in-range h r (Line.reset qs) k s = tt
-line-in-range h r (Line.inject shot P) k s = tt
-line-in-range h r (Line.flip shot id) k s = let known : id < r = s .known in omega arith
 
 append-in-range : (n m : ℕ) (ls ms : List Line) → AllInRange n m ls → AllInRange n m ms → AllInRange n m (ls ++ ms)
 append-in-range n m [] ms a b = b
@@ -56,19 +41,11 @@ module _ (h : Header) where
   unfolding InstructionSound
   step-in-range r lent main text (Instruction.line l) ls left k s e =
       let own : record { line = l; text = text } ∷ [] ≡ ls = unfold stepOf in cc in
-      subst (λ (x : List SettledLine). AllInRange (h .qubits) (h .outcomes) (settledList x)) own (line-in-range h r l k s, tt)
+      subst (λ (x : List SettledLine). AllInRange (h .qubits) (h .outcomes) (settledList x)) own (line-in-range h r l s k, tt)
   step-in-range r lent main text (Instruction.noise n) ls left k s e =
       let i : Injections lent n ls = noise-injects lent main text n ls left e in
       subst (λ (x : List SettledLine). AllInRange (h .qubits) (h .outcomes) (settledList x)) (sym (i .are))
       (injected-in-range (h .qubits) (h .outcomes) (n .distribution) (i .faults))
-
-  one-recorded : (i : Placed) → recordedIn (i ∷ []) ≡ recordedBy (i .instruction)
-  unfolding recordedIn
-  one-recorded i = add-zero _
-
-  recorded-next : (r : ℕ) (i : Placed) → r ≤ h .outcomes → InstructionSound h r (i .instruction) → r + recordedBy (i .instruction) ≤ h .outcomes
-  unfolding InstructionsSound
-  recorded-next r i k s = rw (one-recorded i) at (recorded-within h r (i ∷ []) (s, tt) k)
 
   unfoldable SettledInRange : Settled → Type 0
   SettledInRange (Settled.spentAt k) = Unit
@@ -82,7 +59,7 @@ module _ (h : Header) where
       (λ left. settle-range (r + recordedBy (i .instruction)) lent left is next rest)
     where
       next : r + recordedBy (i .instruction) ≤ h .outcomes
-      next = recorded-next r i k first
+      next = instruction-within h r (i .instruction) first k
 
       joined : (ls : List SettledLine) → AllInRange (h .qubits) (h .outcomes) (settledList ls) → (o : Settled) → SettledInRange o → SettledInRange (prefixed ls o)
       joined ls a (Settled.spentAt n) b = unfold prefixed SettledInRange in tt

@@ -1,22 +1,30 @@
 -- A job checked line by line. Laws. Assumes nothing.
-use Prim.Native.Nat.{ℕ, suc, _+_, _-_, _≤_, _<_}
+use Prim.Native.Nat.{ℕ, suc, _+_, _≤_}
 use native.Mathlib.Numerals.{add-one}
 use native.Mathlib.Omega.{arith}
+use native.Mathlib.Nat.{zero-add}
 use mathlib.Core.Path.{_≡_, refl, sym, ap, _∙_}
 use mathlib.Core.Bool.{Bool, true, false, cond}
-use mathlib.Core.List.{List, [], _∷_}
+use mathlib.Core.List.{List, _∷_}
 use mathlib.Core.Option.{some}
 use borrow.Author.Tests.{eq-eqb, ne-eqb}
 use lib.Dec.{eqb}
-use lib.ListN.{length, take, drop, drop-of-length-le}
-use Rattle.text.specs.Bytes.{LF, until, pieces, lines}
-use Rattle.text.specs.Laws.Pieces.{piece-more}
+use lib.ListN.{length, drop, drop-of-length-le}
+use Rattle.text.specs.Bytes.{pieces, lines}
+use Rattle.text.specs.Template.{Value}
+use Rattle.job.specs.declared.Answer.{Answer}
 use Rattle.job.specs.Grammar.{Written, readLine}
 use Rattle.job.specs.Checks.{Context, noContext, records, next, refusalOf}
 use Rattle.job.specs.Job.{answer, accepted, wellEnded, isLast, nextOf, checkLines, checkJob}
-use Rattle.reader.specs.declared.Form.{Form}
-use Rattle.reader.specs.Parsed.{isUnread, ParsedAs, Parsed}
-use Rattle.instructions.specs.Laws.Places.{line-ends, last-line}
+use Rattle.job.specs.Theorems.{recorded-counted, header-known}
+use Rattle.job.specs.Laws.Recorded.{contextAfter, after-first}
+use Rattle.reader.specs.Parsed.{isUnread, Said}
+use Rattle.instructions.specs.Laws.Places.{last-line}
+use Rattle.instructions.specs.declared.Next.{Next as Line}
+use Rattle.instructions.specs.Reading.{lineAt, NextLine}
+use Rattle.instructions.specs.Laws.Meaning.{said-by}
+use Rattle.checker.specs.declared.Examined.{Examined}
+use Rattle.checker.specs.Examines.{Examines}
 use Rattle.checker.specs.declared.tests.Context.{Context as Known}
 use Rattle.checker.specs.Contexts.{contextOf}
 
@@ -37,16 +45,29 @@ no-line k c job at h = rw (drop-of-length-le job h)
 
 -- ---- the code's loop
 
--- the lines from `at` on are left, and the struct says what the lines before them say
+-- k lines were read, the lines from `at` on are left, and the struct says what the lines before them say
 pub record Left (job : List ℕ) (c : Known) (at k : ℕ) : Type 0 where
   pub within : at ≤ length job
-  pub number : k ≤ at + 1
+  pub number : k ≤ at
+  pub ended : wellEnded job ≡ true
   pub recorded : c .recorded ≤ at
-  pub same : checkLines 1 noContext (lines job) ≡ checkLines k (contextOf c) (lines (drop at job))
+  pub same : checkLines 1 noContext (lines job) ≡ checkLines (k + 1) (contextOf c) (lines (drop at job))
+  pub after : contextAfter noContext (lines job) ≡ contextAfter (contextOf c) (lines (drop at job))
+  pub count : length (lines job) ≡ k + length (lines (drop at job))
 
-pub all-left : {job : List ℕ} {c : Known} → contextOf c ≡ noContext → Left job c 0 1
+pub all-left : {job : List ℕ} {c : Known} → wellEnded job ≡ true → contextOf c ≡ noContext → Left job c 0 0
 unfolding contextOf noContext
-all-left e = let z = ap (λ (x : Context). x .recorded) e in record { within = omega arith; number = omega arith; recorded = omega arith; same = rw e }
+all-left {job} ended e =
+    let z = ap (λ (x : Context). x .recorded) e in
+    record {
+      within = omega arith;
+      number = omega arith;
+      ended = ended;
+      recorded = omega arith;
+      same = rw e;
+      after = rw e;
+      count = sym (zero-add (length (lines job)));
+    }
 
 -- a line records at most one outcome
 most : (x : Context) (w : Written) → next x w .recorded ≤ x .recorded + 1
@@ -64,61 +85,89 @@ one-more : (c d : Known) (w : Written) → contextOf d ≡ next (contextOf c) w 
 unfolding contextOf
 one-more c d w e = let r = ap (λ (x : Context). x .recorded) e in omega (arith, r, most (contextOf c) w)
 
--- what the code found of the line from `at` to `e`
-module _ {job : List ℕ} {c : Known} {at k : ℕ} (left : Left job c at k) (ended : wellEnded job ≡ true) (here : at < length job)
-    (e : ℕ) (found : e ≡ at + until LF (drop at job)) (f : Form) (fields : List ℕ) (parsed : Parsed (take (e - at) (drop at job)) f fields) where
-  pub inside : e < length job
-  inside = rw found (line-ends job at ended here)
+-- a refused job
+pub bad-job : {job : List ℕ} {r : Examined} {number k : ℕ} → r .answer ≡ answer number k → answer number k ≡ checkJob job → (number ≡ 0 → ⊥) → Examines job r
+bad-job said is bad = record { answers = said ∙ is; finds = λ e. absurd (bad (ap (λ (a : Answer). a .number) is ∙ e)) }
 
-  abbrev line : List ℕ
-  line = take (e - at) (drop at job)
+pub badly-ended : {job : List ℕ} {r : Examined} → r .answer ≡ answer 1 0 → wellEnded job ≡ false → Examines job r
+unfolding checkJob
+badly-ended said e = bad-job said (rw e) (λ z. omega arith)
 
-  cut : lines (drop at job) ≡ line ∷ lines (drop (e + 1) job)
-  cut = piece-more 10 job at e (omega arith) found [] inside
+-- what the code found of the line that begins at `at`
+module _ {job : List ℕ} {c : Known} {at k : ℕ} (left : Left job c at k)
+    {line : Line} {fields : List ℕ} (read : NextLine job at line fields) (number : ℕ)
+    (unread : isUnread (line .form) ≡ true → number ≡ 2)
+    (tests : (vs : List Value) (w : Written) → Said (line .form) fields vs w → number ≡ refusalOf (contextOf c) (eqb (line .end + 1) (length job)) (some w)) where
+  abbrev text : List ℕ
+  text = lineAt job at (line .end)
 
-  module _ (number : ℕ)
-      (unread : isUnread f ≡ true → number ≡ 2)
-      (read : (p : ParsedAs line f fields) → number ≡ refusalOf (contextOf c) (eqb (e + 1) (length job)) (some (p .written))) where
-    tested : number ≡ refusalOf (contextOf c) (isLast (lines (drop (e + 1) job))) (readLine line)
-    tested = rw (← last-line job e inside) (go (isUnread f) refl)
-      where
-        go : (b : Bool) → isUnread f ≡ b → number ≡ refusalOf (contextOf c) (eqb (e + 1) (length job)) (readLine line)
-        go true u = rw (parsed .unread u) (unfold refusalOf in unread u)
-        go false u = let p = parsed .read u in rw (p .reads) (read p)
+  abbrev behind : List (List ℕ)
+  behind = lines (drop (line .end + 1) job)
 
-    pub refused : (number ≡ 0 → ⊥) → answer number k ≡ checkJob job
-    unfolding checkJob
-    refused h =
-        rw ended (sym (left .same ∙ ap (checkLines k (contextOf c)) cut ∙ line-refused k (contextOf c) line (lines (drop (e + 1) job)) number tested h))
+  tested : number ≡ refusalOf (contextOf c) (isLast behind) (readLine text)
+  tested = rw (← last-line job (line .end) (read .place .inside)) (go (isUnread (line .form)) refl)
+    where
+      go : (b : Bool) → isUnread (line .form) ≡ b → number ≡ refusalOf (contextOf c) (eqb (line .end + 1) (length job)) (readLine text)
+      go true u = rw (read .parsed .unread u) (unfold refusalOf in unread u)
+      go false u = let p = read .parsed .read u in rw (p .reads) (tests (p .values) (p .written) (said-by p))
 
-    -- an unread line is refused
-    pub was-read : number ≡ 0 → isUnread f ≡ false
-    was-read h = go (isUnread f) refl
-      where
-        go : (b : Bool) → isUnread f ≡ b → b ≡ false
-        go true u = absurd (omega (arith, unread u))
-        go false u = refl
+  pub bad-line : {r : Examined} → r .answer ≡ answer number (k + 1) → (number ≡ 0 → ⊥) → Examines job r
+  unfolding checkJob
+  bad-line said bad =
+      bad-job said
+      (rw (left .ended)
+      (sym (left .same ∙ ap (checkLines (k + 1) (contextOf c)) (read .place .cut) ∙ line-refused (k + 1) (contextOf c) text behind number tested bad)))
+      bad
 
-    pub goes-on : (d : Known) → number ≡ 0 → ((p : ParsedAs line f fields) → contextOf d ≡ next (contextOf c) (p .written)) → Left job d (e + 1) (k + 1)
-    goes-on d h after =
-        let p = parsed .read (was-read h) in
-        let now = after p in
-        record {
-          within = omega (arith, inside);
-          number = omega (arith, left .number);
-          recorded = omega (arith, left .recorded, one-more c d (p .written) now);
-          same =
-              left .same
-              ∙ ap (checkLines k (contextOf c)) cut
-              ∙ line-passed k (contextOf c) line (lines (drop (e + 1) job)) number tested h
-              ∙ ap (λ (x : Context). checkLines (k + 1) x (lines (drop (e + 1) job))) (rw (p .reads) (unfold nextOf in sym now));
-        }
+  -- an unread line is refused
+  was-read : number ≡ 0 → isUnread (line .form) ≡ false
+  was-read h = go (isUnread (line .form)) refl
+    where
+      go : (b : Bool) → isUnread (line .form) ≡ b → b ≡ false
+      go true u = absurd (omega (arith, unread u))
+      go false u = refl
+
+  pub goes-on : (d : Known) → number ≡ 0
+      → ((vs : List Value) (w : Written) → Said (line .form) fields vs w → refusalOf (contextOf c) (eqb (line .end + 1) (length job)) (some w) ≡ 0
+      → contextOf d ≡ next (contextOf c) w)
+      → Left job d (line .end + 1) (k + 1)
+  unfolding nextOf
+  goes-on d h change =
+      let p = read .parsed .read (was-read h) in
+      let now = change (p .values) (p .written) (said-by p) (sym (tests (p .values) (p .written) (said-by p)) ∙ h) in
+      record {
+        within = omega (arith, read .place .inside);
+        number = omega (arith, left .number, read .place .begins);
+        ended = left .ended;
+        recorded = omega (arith, left .recorded, read .place .begins, one-more c d (p .written) now);
+        same =
+            left .same
+            ∙ ap (checkLines (k + 1) (contextOf c)) (read .place .cut)
+            ∙ line-passed (k + 1) (contextOf c) text behind number tested h
+            ∙ ap (λ (x : Context). checkLines (k + 1 + 1) x behind) (rw (p .reads) (sym now));
+        after =
+            left .after
+            ∙ ap (contextAfter (contextOf c)) (read .place .cut)
+            ∙ after-first (contextOf c) text behind (p .written) (p .reads)
+            ∙ ap (λ (x : Context). contextAfter x behind) (sym now);
+        count = omega (arith, left .count, ap length (read .place .cut));
+      }
 
 -- no line is left
-pub all-passed : {job : List ℕ} {c : Known} {at k : ℕ} → Left job c at k → wellEnded job ≡ true → length job ≤ at → answer 0 0 ≡ checkJob job
-unfolding checkJob
-all-passed {job} {c} {at} {k} left ended h = rw ended (sym (left .same ∙ no-line k (contextOf c) job at h))
-
-pub badly-ended : (job : List ℕ) → wellEnded job ≡ false → answer 1 0 ≡ checkJob job
-unfolding checkJob
-badly-ended job e = rw e
+pub all-passed : {job : List ℕ} {c : Known} {at k : ℕ} → Left job c at k → length job ≤ at
+    → Examines job (record { answer = answer 0 0; header = c .header; recorded = c .recorded; lines = k })
+unfolding checkJob contextOf contextAfter pieces
+all-passed {job} {c} {at} {k} left h =
+    let nothing = drop-of-length-le job h in
+    let is : answer 0 0 ≡ checkJob job = rw (left .ended) (sym (left .same ∙ no-line (k + 1) (contextOf c) job at h)) in
+    let known : contextAfter noContext (lines job) ≡ contextOf c = left .after ∙ ap (λ (l : List ℕ). contextAfter (contextOf c) (lines l)) nothing in
+    record {
+      answers = is;
+      finds =
+          λ e.
+          record {
+            header = ap (λ (x : Context). x .header) (sym known) ∙ header-known job e;
+            recorded = ap (λ (x : Context). x .recorded) (sym known) ∙ recorded-counted job e;
+            lines-in = omega (arith, left .count, ap (λ (l : List ℕ). length (lines l)) nothing);
+          };
+    }

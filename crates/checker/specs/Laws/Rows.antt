@@ -10,10 +10,10 @@ use lib.Dec.{eqb, ltb}
 use lib.Bits.{bitXor, bitAnd, xor-lt, and-le-l, and-mask}
 use lib.Count.{ones}
 use lib.Pow.{pow-pos, field, mod-mod-pow, shr-mono}
-use Rattle.pauli.specs.Bits.{Bits, _⊕_, _∩_, _△_, parity, bit}
+use Rattle.pauli.specs.Bits.{_⊕_, _∩_, _△_, bit}
 use Rattle.pauli.specs.Pauli.{anticommutes}
 use Rattle.pauli.specs.Laws.Word.{one-shl, bit-is, bit-shr, bit-xor, bit-and}
-use Rattle.pauli.specs.Laws.Parts.{parity-sum, parity-word}
+use Rattle.pauli.specs.Laws.Parts.{parity-sum, parity-same, parity-word}
 use Rattle.job.specs.Clifford.{rowOver, every, generatorsAnticommute, isClifford}
 use Rattle.checker.specs.Rows.{rowWord, inWord, pairFits}
 
@@ -64,11 +64,6 @@ row-bit t k r j h = bit-low (t / 2 ^ (2 * k * r)) (2 * k) j h ∙ bit-shr t (2 *
 
 -- ---- anticommuting
 
-same-parity : (n : ℕ) (s t : Bits) → ((j : ℕ) → j < n → s j ≡ t j) → parity n s ≡ parity n t
-unfolding parity
-same-parity zero s t e = refl
-same-parity (suc n) s t e = ap₂ _⊕_ (e n (omega arith)) (same-parity n s t (λ j h. e j (omega arith)))
-
 -- the word of the qubits at which two rows clash
 module _ (a b k : ℕ) where
   clashes : ℕ
@@ -92,15 +87,15 @@ module _ (a b k : ℕ) where
   unfolding clashes anticommutes
   overlap-odd h =
       rw (one-shl k h, and-mask a k, and-mask (bitAnd (a / 2 ^ k) b) k)
-      (sym (parity-word k clashes clashes-small) ∙ same-parity k (bit clashes) _ clashes-at ∙ parity-sum k _ _)
+      (sym (parity-word k clashes clashes-small) ∙ parity-same k (bit clashes) _ clashes-at ∙ parity-sum k _ _)
 
 -- rows as words clash as the rows of the table do
 pub rows-clash : (k t r s : ℕ) → anticommutes k (inWord k (rowWord k t r)) (inWord k (rowWord k t s)) ≡ anticommutes k (rowOver k t r) (rowOver k t s)
 unfolding anticommutes inWord rowOver _∩_
 rows-clash k t r s =
     ap₂ _⊕_
-    (same-parity k _ _ (λ j h. ap₂ _&&_ (row-bit t k r j (omega arith)) (row-bit t k s (k + j) (omega arith))))
-    (same-parity k _ _ (λ j h. ap₂ _&&_ (row-bit t k r (k + j) (omega arith)) (row-bit t k s j (omega arith))))
+    (parity-same k _ _ (λ j h. ap₂ _&&_ (row-bit t k r j (omega arith)) (row-bit t k s (k + j) (omega arith))))
+    (parity-same k _ _ (λ j h. ap₂ _&&_ (row-bit t k r (k + j) (omega arith)) (row-bit t k s j (omega arith))))
 
 -- two rows that were read, by whether their generators are a pair
 module _ (k t r s : ℕ) {a : Bool} {x y : ℕ} (e : a ≡ anticommutes k (inWord k x) (inWord k y)) (p : x ≡ rowWord k t r) (q : y ≡ rowWord k t s) where

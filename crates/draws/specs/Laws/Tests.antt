@@ -2,11 +2,6 @@
 use mathlib.Core.Path.{_≡_, refl}
 use mathlib.Core.Bool.{Bool, true, false, _&&_, _||_}
 
-pub ||-swap : (a b c : Bool) → a || (b || c) ≡ b || (a || c)
-||-swap true true c = refl
-||-swap true false c = refl
-||-swap false b c = refl
-
 pub &&-first : (a b : Bool) → a && b ≡ true → a ≡ true
 &&-first true b e = refl
 &&-first false b e = e

@@ -30,7 +30,7 @@ hasMark ts =
     && cond (eqb (getD ts 0 0) 111) (ltb 3 (literals ts) && cond (eqb (getD ts 3 0) 110) (ltb 2 (literals (behind 5 ts))) true) true
 
 -- the mark of a line that has values by a template is the template's
-mark-same : (ts l : List ℕ) (v : List Value) → hasMark ts ≡ true → valuesOf ts l ≡ some v → markOf l ≡ markOf ts
+pub mark-same : (ts l : List ℕ) (v : List Value) → hasMark ts ≡ true → valuesOf ts l ≡ some v → markOf l ≡ markOf ts
 unfolding markOf hasMark behind
 mark-same ts l v h e =
     let parts = both (ltb 0 (literals ts)) _ h in

@@ -111,3 +111,19 @@ recorded-after k c (l ∷ ls) a =
     ∙ recorded-after (suc k) (next c (f .says)) ls (f .rest)
     ∙ counts-more k c l ls (f .says) (gathered (suc k) ls) (a .begun) (f .passing)
     ∙ ap (λ (o : Option Written). c .recorded + recordedIn (gather k l o (gathered (suc k) ls) .instructions)) (sym (f .reads))
+
+-- a good line behind the header keeps the header's numbers
+same-header : (c : Context) (ls : List (List ℕ)) (w : Written) → c .begun ≡ true → Passing c ls w → next c w .header ≡ c .header
+unfolding next headerFits
+same-header c ls (Written.header h) b t = absurd (true≢false (sym (t .header) ∙ rw b))
+same-header c ls (Written.line i) b t = refl
+same-header c ls (Written.noise n) b t = refl
+same-header c ls (Written.element w P) b t = refl
+
+pub header-after : (k : ℕ) (c : Context) (ls : List (List ℕ)) → Accepted k c ls → contextAfter c ls .header ≡ c .header
+header-after k c [] a = unfold contextAfter in refl
+header-after k c (l ∷ ls) a =
+    let f = accepted-first a in
+    ap (λ (d : Context). d .header) (after-first c l ls (f .says) (f .reads))
+    ∙ header-after (suc k) (next c (f .says)) ls (f .rest)
+    ∙ same-header c ls (f .says) (a .begun) (f .passing)

@@ -33,7 +33,8 @@ pub parity-empty : (n : ℕ) → parity n none ≡ false
 parity-empty zero = simp bitwise
 parity-empty (suc n) = simp (bitwise, parity-empty n)
 
-parity-same : (n : ℕ) (s t : Bits) → ((k : ℕ) → k < n → s k ≡ t k) → parity n s ≡ parity n t
+-- sets with the same members below n
+pub parity-same : (n : ℕ) (s t : Bits) → ((k : ℕ) → k < n → s k ≡ t k) → parity n s ≡ parity n t
 unfolding parity
 parity-same zero s t e = refl
 parity-same (suc n) s t e = ap₂ _⊕_ (e n (omega arith)) (parity-same n s t (λ k h. e k (omega arith)))

@@ -10,12 +10,12 @@ use borrow.Author.Tests.{eq-eqb, ne-eqb}
 use lib.Dec.{eqb}
 use lib.ListN.{length, getD, set, take, replicate, length-set, List·getD-eq-default}
 use lib.Seq.{getD-set-same, getD-set-other, take-suc}
-use lib.Bits.{bitXor}
+use lib.Bits.{bitXor, bitOr}
 use Rattle.pauli.specs.Bits.{Bits, _⊕_, _∩_, _∪_, _△_, none, replaced, added, outside, members, bit}
 use Rattle.pauli.specs.Fixed.{inSet}
 use Rattle.pauli.specs.Laws.F2.{f2}
 use Rattle.pauli.specs.Laws.Parity.{at-or-off, replaced-is, added-is}
-use Rattle.pauli.specs.Laws.Word.{bit-zero, bit-xor, bit-pow}
+use Rattle.pauli.specs.Laws.Word.{bit-zero, bit-xor, bit-or, bit-pow}
 
 -- ---- one number of a set
 
@@ -44,24 +44,44 @@ in-none n = fun-ext (λ i. go n (i / 64) (i % 64))
     go (suc n) zero j = bit-zero j
     go (suc n) (suc k) j = go n k j
 
--- the word of q, with the bit of q changed
+-- the word of q, with a power of two worked into it that changes the bit of q alone
+module _ (op : ℕ → ℕ → ℕ) (f : Bool → Bool → Bool) (bits : (a b k : ℕ) → bit (op a b) k ≡ f (bit a k) (bit b k)) (none-changed : (a : Bool) → f a false ≡ a)
+    (s : List ℕ) (q : ℕ) (h : q / 64 < length s) where
+  abbrev worked : List ℕ
+  worked = set s (q / 64) (op (getD s (q / 64) 0) (2 ^ (q % 64)))
+
+  in-worked : (i : ℕ) → inSet worked i ≡ cond (eqb i q) (f (inSet s i) true) (inSet s i)
+  unfolding inSet
+  in-worked i = go (ℕ-discrete (i / 64) (q / 64)) (ℕ-discrete i q)
+    where
+      go : Dec (i / 64 ≡ q / 64) → Dec (i ≡ q)
+          → bit (getD worked (i / 64) 0) (i % 64) ≡ cond (eqb i q) (f (bit (getD s (i / 64) 0) (i % 64)) true) (bit (getD s (i / 64) 0) (i % 64))
+      go (no w) (yes e) = absurd (w (ap (λ (n : ℕ). n / 64) e))
+      go (no w) (no e) = rw (getD-set-other s (q / 64) (i / 64) (op (getD s (q / 64) 0) (2 ^ (q % 64))) 0 w, ne-eqb i q e)
+      go (yes w) (yes e) =
+          let d : q % 64 ≡ i % 64 = omega arith in
+          rw (w, getD-set-same s (q / 64) (op (getD s (q / 64) 0) (2 ^ (q % 64))) 0 h, eq-eqb i q e)
+          (bits (getD s (q / 64) 0) (2 ^ (q % 64)) (i % 64) ∙ rw (bit-pow (q % 64) (i % 64), eq-eqb _ _ d))
+      go (yes w) (no e) =
+          let d : q % 64 ≡ i % 64 → ⊥ = λ (f : q % 64 ≡ i % 64). omega (arith, e) in
+          rw (w, getD-set-same s (q / 64) (op (getD s (q / 64) 0) (2 ^ (q % 64))) 0 h, ne-eqb i q e)
+          (bits (getD s (q / 64) 0) (2 ^ (q % 64)) (i % 64) ∙ rw (bit-pow (q % 64) (i % 64), ne-eqb _ _ d) (none-changed _))
+
 pub in-toggled : (s : List ℕ) (q : ℕ) → q / 64 < length s → inSet (set s (q / 64) (bitXor (getD s (q / 64) 0) (2 ^ (q % 64)))) ≡ added (inSet s) q true
-unfolding inSet added
-in-toggled s q h = fun-ext (λ i. go i (ℕ-discrete (i / 64) (q / 64)) (ℕ-discrete i q))
+unfolding added
+in-toggled s q h = fun-ext (in-worked bitXor _⊕_ bit-xor (λ a. simp f2) s q h)
+
+pub in-inserted : (s : List ℕ) (q : ℕ) → q / 64 < length s → inSet (set s (q / 64) (bitOr (getD s (q / 64) 0) (2 ^ (q % 64)))) ≡ replaced (inSet s) q true
+unfolding replaced
+in-inserted s q h = fun-ext (λ i. in-worked bitOr _||_ bit-or or-false s q h i ∙ ap (λ (b : Bool). cond (eqb i q) b (inSet s i)) (or-true (inSet s i)))
   where
-    go : (i : ℕ) → Dec (i / 64 ≡ q / 64) → Dec (i ≡ q)
-        → bit (getD (set s (q / 64) (bitXor (getD s (q / 64) 0) (2 ^ (q % 64)))) (i / 64) 0) (i % 64)
-        ≡ cond (eqb i q) (bit (getD s (i / 64) 0) (i % 64) ⊕ true) (bit (getD s (i / 64) 0) (i % 64))
-    go i (no w) (yes e) = absurd (w (ap (λ (n : ℕ). n / 64) e))
-    go i (no w) (no e) = rw (getD-set-other s (q / 64) (i / 64) (bitXor (getD s (q / 64) 0) (2 ^ (q % 64))) 0 w, ne-eqb i q e)
-    go i (yes w) (yes e) =
-        let d : q % 64 ≡ i % 64 = omega arith in
-        rw (w, getD-set-same s (q / 64) (bitXor (getD s (q / 64) 0) (2 ^ (q % 64))) 0 h, eq-eqb i q e)
-        (bit-xor (getD s (q / 64) 0) (2 ^ (q % 64)) (i % 64) ∙ rw (bit-pow (q % 64) (i % 64), eq-eqb _ _ d))
-    go i (yes w) (no e) =
-        let d : q % 64 ≡ i % 64 → ⊥ = λ (f : q % 64 ≡ i % 64). omega (arith, e) in
-        rw (w, getD-set-same s (q / 64) (bitXor (getD s (q / 64) 0) (2 ^ (q % 64))) 0 h, ne-eqb i q e)
-        (bit-xor (getD s (q / 64) 0) (2 ^ (q % 64)) (i % 64) ∙ rw (bit-pow (q % 64) (i % 64), ne-eqb _ _ d) (simp f2))
+    or-false : (a : Bool) → (a || false) ≡ a
+    or-false true = refl
+    or-false false = refl
+
+    or-true : (a : Bool) → (a || true) ≡ true
+    or-true true = refl
+    or-true false = refl
 
 -- to add false changes nothing
 pub added-false : (s : Bits) (q : ℕ) → s ≡ added s q false
@@ -75,13 +95,6 @@ added-false s q = fun-ext (λ i. go (s i) (eqb i q))
 -- a bit is put for another by adding what they differ by
 pub replaced-added : (s : Bits) (q : ℕ) (b : Bool) → replaced s q b ≡ added s q (s q ⊕ b)
 replaced-added s q b = replaced-is s q b ∙ sym (added-is s q (s q ⊕ b))
-
--- so a number is put in by no change where it is there, and else by one
-pub put-same : (s : Bits) (q : ℕ) → s q ≡ true → s ≡ replaced s q true
-put-same s q h = added-false s q ∙ sym (replaced-added s q true ∙ rw h (simp f2))
-
-pub put-new : (s : Bits) (q : ℕ) → s q ≡ false → added s q true ≡ replaced s q true
-put-new s q h = sym (replaced-added s q true ∙ rw h (simp f2))
 
 -- the code's test for two bits that differ is their sum
 pub differ-⊕ : (a b : Bool) → not (Bool·beq a b) ≡ a ⊕ b

@@ -1,6 +1,6 @@
 -- Laws of the bits of a word. Assumes nothing.
 use mathlib.Core.Path.{_≡_, refl, sym, ap, _∙_}
-use mathlib.Core.Bool.{Bool, true, false, true≢false, _&&_}
+use mathlib.Core.Bool.{Bool, true, false, true≢false, _&&_, _||_}
 use Prim.Native.Nat.{ℕ, zero, suc, _+_, _-_, _*_, _/_, _%_, _^_, _<_, _≤_}
 use native.Mathlib.Omega.{arith}
 use native.Mathlib.Nat.{one-mul, mod-eq-of-lt, zero-div, div-eq-of-lt, div-self, lt-of-lt-of-le, mul-mod-left, pow-suc}
@@ -9,7 +9,7 @@ use native.Mathlib.Decide.{decLt}
 use borrow.Author.Tests.{eq-eqb, ne-eqb}
 use lib.Dec.{eqb}
 use lib.Pow.{pow-lt, pow-pos, pow-add, pow-mono, shr-shr, shr-lt, shl-shr}
-use lib.Bits.{bitXor, bitAnd, xor-shr, xor-mod, and-shr, and-mod}
+use lib.Bits.{bitXor, bitAnd, bitOr, xor-shr, xor-mod, and-shr, and-mod, or-shr, or-mod}
 use Rattle.pauli.specs.Bits.{_⊕_, bit}
 
 -- 1 shifted to place k of a word
@@ -61,6 +61,9 @@ bit-xor = bit-op bitXor _⊕_ xor-shr xor-mod refl refl refl refl
 
 pub bit-and : (a b k : ℕ) → bit (bitAnd a b) k ≡ (bit a k && bit b k)
 bit-and = bit-op bitAnd _&&_ and-shr and-mod refl refl refl refl
+
+pub bit-or : (a b k : ℕ) → bit (bitOr a b) k ≡ (bit a k || bit b k)
+bit-or = bit-op bitOr _||_ or-shr or-mod refl refl refl refl
 
 -- ---- a word below a power of two
 

@@ -86,6 +86,11 @@ module _ (rows shots : ℕ) (bits : ℕ → ℕ → Bool) where
       let here : 64 * (s / 64) + s % 64 ≡ s = div-add-mod s 64 in
       rw (tabulated-at _ (rows * w) (r * w + s / 64) within, bit-word 64 _ (s % 64) (omega arith), row, word, here)
 
+  -- the same of a shot that was packed
+  pub pack-bit : (r s : ℕ) → r < rows → s < shots → bitIn (wordsPerRow shots) (pack rows shots bits) r s ≡ bits r s
+  unfolding column
+  pack-bit r s hr hs = bit-pack r s hr (omega arith) ∙ rw (lt-ltb s shots hs)
+
   -- Words that have these bits, and none past the last shot, are the packed ones.
   pub packed : (words : List ℕ) → 1 ≤ shots → length words ≡ rows * wordsPerRow shots → ((i : ℕ) → getD words i 0 < 2 ^ 64)
       → ((s r : ℕ) → s / 64 < wordsPerRow shots → r < rows → column (wordsPerRow shots) words s r ≡ bits r s)

@@ -1,19 +1,18 @@
 -- What is written reads back: digits, lists, lines by a template, and texts of lines. Laws. Assumes nothing.
 use Prim.Native.Nat.{ℕ, zero, suc, _+_, _-_, _*_, _/_, _%_, _^_, _≤_, _<_}
-use native.Mathlib.Nat.{zero-add}
 use native.Mathlib.Numerals.{add-one}
 use native.Mathlib.Omega.{arith}
 use mathlib.Core.Path.{_≡_, refl, sym, ap, _∙_}
-use mathlib.Core.Bool.{Bool, true, false, cond, not, _&&_, _||_, and-true, and-false, and-assoc, or-true, true≢false}
+use mathlib.Core.Bool.{Bool, true, false, cond, not, _&&_, _||_, and-true, and-false, and-assoc, or-true}
 use mathlib.Core.List.{List, [], _∷_, _++_, append-nil}
-use mathlib.Core.Option.{none, some}
+use mathlib.Core.Option.{some}
 use borrow.Author.Tests.{ltb-true, ltb-false, lt-ltb, le-ltb, le-leb, eqb-true, eqb-false, eq-eqb, ne-eqb, not-true}
-use lib.Dec.{eqb, ltb, leb}
+use lib.Dec.{eqb, ltb}
 use lib.ListN.{length, getD, take, drop, length-append, List·getD-append}
-use lib.Seq.{take-append-seam, drop-append-seam, drop-append-add, getD-append-add}
+use lib.Seq.{take-append-seam, drop-append-seam, drop-append-add}
 use Rattle.text.specs.Bytes.{LF, space, comma, until, extend, pieces, split, lines, unlines}
 use Rattle.text.specs.Number.{isDecimal, allDecimal, decimalFrom, proper, numberOf, hexDigit, allHex, hexFrom, hexOf, bitOf, decimalDigits, decimal, hexByte, hexDigits, hexadecimal}
-use Rattle.text.specs.List.{withFirst, numbersOf, listQ, isRising, onlyRising, isDash, listL, oneMember, listC, commas, listText}
+use Rattle.text.specs.List.{withFirst, numbersOf, listQ, onlyRising, isDash, listL, oneMember, listC, commas, listText}
 use Rattle.text.specs.Template.{Value, aNumber, aList, isLetter, valueOf, andThen, sameByte, atEnd, valuesOf, valueText, firstText, lineText}
 use Rattle.text.specs.Written.{Suits, FirstSuits, AllSuit, atSpace, ofOneLine, Free, AllFree}
 use Rattle.text.specs.Laws.Values.{both, Small}

@@ -4,9 +4,11 @@
 //! - [`read`]: bytes to a job, or the refusal by tests 1 to 12.
 //! - [`write`]: a job's data back to text.
 //! - [`calls`]: every call by its signature, so that implementations can be compared.
+//! - [`cases`]: jobs with their answers, worked out by hand.
 //! - [`plain`]: the calls in the plainest form, a shot at a time.
 
 pub mod calls;
+pub mod cases;
 mod form;
 pub mod job;
 pub mod plain;

@@ -22,7 +22,9 @@ fn engine(call: Call) -> Option<&'static dyn Calls> {
     crate::UNDER_TEST.1.contains(&call).then_some(crate::UNDER_TEST.0)
 }
 
-const ROUNDS: usize = 15;
+/// Rounds go on for this long, and there are at least so many.
+const LEAST_TIME: Duration = Duration::from_secs(1);
+const LEAST_ROUNDS: usize = 7;
 
 /// Measure the loads of a part, or of all; whether there is such a part.
 pub fn run(part: &str) -> bool {
@@ -49,7 +51,9 @@ impl Timed<'_> {
     fn report(mut self, name: &str, bytes: usize) {
         let longest = Duration::MAX;
         let (mut published, mut reading, mut engine) = (longest, longest, longest);
-        for _ in 0..ROUNDS {
+        let (start, mut rounds) = (Instant::now(), 0);
+        while rounds < LEAST_ROUNDS || start.elapsed() < LEAST_TIME {
+            rounds += 1;
             published = published.min(self.published.as_mut().map_or(longest, time));
             reading = reading.min(time(&mut self.with_reading));
             engine = engine.min(self.engine.as_mut().map_or(longest, time));

@@ -9,7 +9,7 @@ use std::io::Write;
 use std::process::{Command, Stdio};
 
 /// The calls that the library has so far. The others are made in document 01's plainest form.
-pub const CALLS: &[Call] = &[Call::Check];
+pub const CALLS: &[Call] = &[Call::Check, Call::Run, Call::Settle, Call::Walk, Call::Annotate, Call::Locations];
 
 /// `struct kundatrezo_answer`.
 #[repr(C)]
@@ -18,13 +18,64 @@ struct RawAnswer {
     line: u64,
 }
 
+/// `struct kundatrezo_text_answer` and `struct kundatrezo_count_answer`: an answer and the bytes of a text, or a count.
+#[repr(C)]
+struct RawFigure {
+    answer: RawAnswer,
+    figure: u64,
+}
+
 unsafe extern "C" {
     fn kundatrezo_check(job: *const u8, job_len: usize) -> RawAnswer;
+
+    fn kundatrezo_run(
+        job: *const u8,
+        job_len: usize,
+        x: *mut u64,
+        x_len: usize,
+        z: *mut u64,
+        z_len: usize,
+        deltas: *mut u64,
+        deltas_len: usize,
+        noiseless: *const u64,
+        noiseless_len: usize,
+        main: *const u64,
+        main_len: usize,
+        second: *const u64,
+        second_len: usize,
+        base: u64,
+    ) -> RawAnswer;
+
+    fn kundatrezo_settle(
+        job: *const u8,
+        job_len: usize,
+        noiseless: *const u64,
+        noiseless_len: usize,
+        main: *const u64,
+        main_len: usize,
+        second: *const u64,
+        second_len: usize,
+        base: u64,
+        out: *mut u8,
+        out_len: usize,
+    ) -> RawFigure;
+
+    fn kundatrezo_walk(job: *const u8, job_len: usize, shot: u64, set: *const u64, set_len: usize) -> RawFigure;
+
+    fn kundatrezo_annotate(job: *const u8, job_len: usize, p: u64, out: *mut u8, out_len: usize) -> RawFigure;
+
+    fn kundatrezo_locations(job: *const u8, job_len: usize) -> RawFigure;
 }
 
 impl From<RawAnswer> for Answer {
     fn from(raw: RawAnswer) -> Self {
         Answer { number: raw.number, line: raw.line, figure: 0 }
+    }
+}
+
+impl From<RawFigure> for Answer {
+    fn from(raw: RawFigure) -> Self {
+        Answer { figure: raw.figure, ..raw.answer.into() }
     }
 }
 
@@ -38,23 +89,57 @@ impl Calls for Linked {
     }
 
     fn run(&self, job: &[u8], draws: Draws<'_>, noiseless: &[u64], rows: Rows<'_>) -> Answer {
-        Plain.run(job, draws, noiseless, rows)
+        unsafe {
+            kundatrezo_run(
+                job.as_ptr(),
+                job.len(),
+                rows.frames_x.as_mut_ptr(),
+                rows.frames_x.len(),
+                rows.frames_z.as_mut_ptr(),
+                rows.frames_z.len(),
+                rows.deltas.as_mut_ptr(),
+                rows.deltas.len(),
+                noiseless.as_ptr(),
+                noiseless.len(),
+                draws.main.as_ptr(),
+                draws.main.len(),
+                draws.second.as_ptr(),
+                draws.second.len(),
+                draws.base,
+            )
+        }
+        .into()
     }
 
     fn settle(&self, job: &[u8], draws: Draws<'_>, noiseless: &[u64], out: &mut [u8]) -> Answer {
-        Plain.settle(job, draws, noiseless, out)
+        unsafe {
+            kundatrezo_settle(
+                job.as_ptr(),
+                job.len(),
+                noiseless.as_ptr(),
+                noiseless.len(),
+                draws.main.as_ptr(),
+                draws.main.len(),
+                draws.second.as_ptr(),
+                draws.second.len(),
+                draws.base,
+                out.as_mut_ptr(),
+                out.len(),
+            )
+        }
+        .into()
     }
 
     fn walk(&self, job: &[u8], shot: u64, set: &[u64]) -> Answer {
-        Plain.walk(job, shot, set)
+        unsafe { kundatrezo_walk(job.as_ptr(), job.len(), shot, set.as_ptr(), set.len()) }.into()
     }
 
     fn annotate(&self, job: &[u8], p: u64, out: &mut [u8]) -> Answer {
-        Plain.annotate(job, p, out)
+        unsafe { kundatrezo_annotate(job.as_ptr(), job.len(), p, out.as_mut_ptr(), out.len()) }.into()
     }
 
     fn locations(&self, job: &[u8]) -> Answer {
-        Plain.locations(job)
+        unsafe { kundatrezo_locations(job.as_ptr(), job.len()) }.into()
     }
 
     fn correlation(&self, job: &[u8]) -> Answer {

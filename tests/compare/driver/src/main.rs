@@ -8,6 +8,7 @@ mod differences;
 #[cfg(feature = "linked")]
 mod linked;
 mod minimise;
+mod replay;
 mod settled;
 mod stored;
 
@@ -24,6 +25,7 @@ usage: compare CALL N [SEED]      N random inputs of a call: check, run, settle,
        compare vectors            the stored vectors
        compare all N [SEED]       all of these
        compare write CALL N SEED  N vectors of a call, made by the reference, on standard output
+       compare replay CALL        the list of a replay program, on standard output: check
        compare bench [PART]       times beside the published Rust's and document 01's by hand; PART is checks, runs or around
 A difference is seen again by `compare CALL 1 SEED` with the seed that it prints.";
 
@@ -44,6 +46,7 @@ fn main() -> ExitCode {
         ["bench"] => bench::run("all") || usage(),
         ["bench", part] => bench::run(part) || usage(),
         ["write", call, count, seed] => write(call, count, seed),
+        ["replay", "check"] => replay::write_check(),
         [command, count] => counted(command, count, None),
         [command, count, seed] => counted(command, count, Some(seed)),
         _ => usage(),

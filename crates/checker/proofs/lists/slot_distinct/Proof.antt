@@ -3,42 +3,41 @@ use native.Mathlib.Omega.{arith}
 use mathlib.Core.Path.{refl, ap, _∙_}
 use Rattle.job.specs.Checks.{distinct as Checks·distinct}
 use Rattle.checker.specs.Laws.Slots.{slot-list}
-use borrow.Author.Needs.{needs}
 use Rattle.checker.proofs.lists.slot_distinct.Statement.{statement}
 use Rattle.checker.proofs.lists.slot_distinct.Tie as tie
 
 mul-a : tie.Need-mul-a
-mul-a c = search needs
+mul-a c = omega arith
 
 add-a : tie.Need-add-a
-add-a c = search needs
+add-a c = omega arith
 
 add-e : tie.Need-add-e
-add-e c = search needs
+add-e c = omega arith
 
 mul-e : tie.Need-mul-e
-mul-e c = search needs
+mul-e c = omega arith
 
 shared-slice-read-e : tie.Need-shared-slice-read-e
-shared-slice-read-e c = search needs
+shared-slice-read-e c = omega arith
 
 add-e-2 : tie.Need-add-e-2
-add-e-2 c = search needs
+add-e-2 c = omega arith
 
 mul-distinct : tie.Need-mul-distinct
-mul-distinct c = search needs
+mul-distinct c = omega arith
 
 sub-distinct : tie.Need-sub-distinct
-sub-distinct c = search needs
+sub-distinct c = omega arith
 
 part-distinct-start : tie.Need-part-distinct-start
-part-distinct-start c = search needs
+part-distinct-start c = omega arith
 
 part-distinct-end : tie.Need-part-distinct-end
-part-distinct-end c = search needs
+part-distinct-end c = omega arith
 
 distinct-requires : tie.Need-distinct-requires
-distinct-requires c κs = search needs
+distinct-requires c κs = omega arith
 
 returns : tie.Need-returns
 returns c = λ numbers lists vs h g. c .distinct .ensures ∙ ap Checks·distinct (slot-list _ _ h (omega arith) g (omega arith) refl)

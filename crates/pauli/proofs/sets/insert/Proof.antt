@@ -1,35 +1,30 @@
 -- `pauli::sets::insert` meets its contract.
-use mathlib.Core.Path.{refl, sym, _∙_}
-use Rattle.pauli.specs.Laws.Set.{put-same, put-new}
+use Prim.Native.Nat.{_%_}
+use native.Mathlib.Omega.{arith}
+use Rattle.pauli.specs.Laws.Word.{one-shl}
+use Rattle.pauli.specs.Laws.Set.{in-inserted}
 use borrow.Author.Needs.{needs}
 use Rattle.pauli.proofs.sets.insert.Statement.{statement}
 use Rattle.pauli.proofs.sets.insert.Tie as tie
 
-contains-requires : tie.Need-contains-requires
-contains-requires c κs = search needs
+shl-set : tie.Need-shl-set
+shl-set c = search needs
+
+mul-set : tie.Need-mul-set
+mul-set c = search needs
+
+slice-read-set : tie.Need-slice-read-set
+slice-read-set c = search needs
+
+slice-write-set : tie.Need-slice-write-set
+slice-write-set c = search needs
 
 same-length : tie.Need-same-length
 same-length c = search needs
 
 returns : tie.Need-returns
-returns c = (refl, put-same _ _ (sym (c .before .contains .ensures) ∙ c .if1 .taken))
-
-toggle-requires : tie.Need-toggle-requires
-toggle-requires c κs = search needs
-
-same-length-2 : tie.Need-same-length-2
-same-length-2 c = search needs
-
-returns-2 : tie.Need-returns-2
-returns-2 c = (c .before .before .toggle .ensures .0, c .before .before .toggle .ensures .1 ∙ put-new _ _ (sym (c .before .before .before .before .before .contains .ensures) ∙ c .before .before .before .before .if1 .left))
+returns c = (search needs, rw (one-shl (c .before .args .q % 64) (omega arith)) (in-inserted (c .before .args .set .now) (c .before .args .q) (c .before .pre)))
 
 pub insert-spec : {M : Type 1} → statement M
 insert-spec =
-    tie.close
-    (tie.spec
-    contains-requires
-    same-length
-    returns
-    toggle-requires
-    same-length-2
-    returns-2)
+    tie.close (tie.spec shl-set mul-set slice-read-set slice-write-set same-length returns)

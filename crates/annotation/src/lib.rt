@@ -1,0 +1,111 @@
+// Annotation of a job with depolarizing noise, and the count of its fault locations.
+ghost use mathlib.Core.Path.{_≡_};
+ghost use Rattle.text.specs.Bytes.{lines as Bytes·lines};
+ghost use Rattle.job.specs.Job.{checkJob};
+ghost use Rattle.circuit.specs.Annotate.{firstUnfit, locations as Annotate·locations};
+ghost use Rattle.circuit.specs.Replies.{annotateAnswer, annotateReply, locationsReply};
+ghost use Rattle.writer.specs.Reply.{textReply};
+ghost use Rattle.annotation.specs.Lines.{countOf};
+
+pub mod lines;
+pub mod qubits;
+
+use crate::lines::put_annotated;
+use crate::qubits::noise_qubits;
+use checker::check;
+use checker::floats::Checked;
+use checker::floats::probability;
+use instructions::next_line;
+use job::Answer;
+use writer::TextAnswer;
+use writer::refused;
+
+const MAX_BYTES: usize = 1048576;
+
+// What the count says, and the count.
+#[repr(C)]
+pub struct Counted {
+    pub answer: Answer,
+    pub count: u64,
+}
+
+// Annotates an accepted job. The text is measured first, over no bytes, since nothing is written with a refusal.
+fn annotate_accepted(job: &[u8], p: u64, out: &mut [u8]) -> TextAnswer
+    requires { ⌜ checkJob (now job) .number ≡ 0 ⌝ }
+    ensures { λ r. ⌜ textReply r (now (out .exit)) ≡ annotateAnswer (now (job .entry)) p (now (out .entry)) (firstUnfit 1 (Bytes·lines (now (job .entry)))) ⌝ }
+{
+    let r = put_annotated(&mut out[..0], job, p);
+    if r.unfit != 0 {
+        return refused(Answer {
+            number: 18,
+            line: r.unfit,
+        });
+    }
+    if out.len() < r.bytes {
+        return refused(Answer {
+            number: 15,
+            line: 0,
+        });
+    }
+    if MAX_BYTES < r.bytes {
+        return refused(Answer {
+            number: 15,
+            line: 0,
+        });
+    }
+    put_annotated(out, job, p);
+    TextAnswer {
+        answer: Answer { number: 0, line: 0 },
+        figure: r.bytes as u64,
+    }
+}
+
+// A line of depolarizing noise, with the probability of these bits, before each measurement and after each u, c, p, e, m and k.
+pub fn annotate(job: &[u8], p: u64, out: &mut [u8]) -> TextAnswer
+    ensures { λ r. ⌜ textReply r (now (out .exit)) ≡ annotateReply (now (job .entry)) p (now (out .entry)) ⌝ }
+{
+    let answer = check(job);
+    if answer.number != 0 {
+        return refused(answer);
+    }
+    let Checked::Accepted(_) = probability(p) else {
+        return refused(Answer {
+            number: 11,
+            line: 0,
+        });
+    };
+    annotate_accepted(job, p, out)
+}
+
+// The locations of an accepted job.
+fn count(job: &[u8]) -> u64
+    requires { ⌜ checkJob (now job) .number ≡ 0 ⌝ }
+    ensures { λ r. ⌜ r ≡ Annotate·locations (Bytes·lines (now (job .entry))) ⌝ }
+{
+    let mut fields = [0u64; 136];
+    let mut qubits = [0u64; 124];
+    let mut at = 0;
+    let mut total: u64 = 0;
+    while at < job.len() {
+        let line = next_line(job, at, &mut fields);
+        let form = line.form;
+        let n = noise_qubits(form, &fields, &mut qubits);
+        total += 2 * n as u64;
+        at = line.end + 1;
+    }
+    total
+}
+
+// How many fault locations a job has: twice the qubits of its lines' noise.
+pub fn locations(job: &[u8]) -> Counted
+    ensures { λ r. ⌜ countOf r ≡ locationsReply (now (job .entry)) ⌝ }
+{
+    let answer = check(job);
+    if answer.number != 0 {
+        return Counted { answer, count: 0 };
+    }
+    Counted {
+        answer: Answer { number: 0, line: 0 },
+        count: count(job),
+    }
+}

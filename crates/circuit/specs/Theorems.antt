@@ -1,0 +1,106 @@
+-- Theorems: the annotated text of an accepted job is a job of the annotated list. Their proofs stand in Laws. Assumes nothing.
+use mathlib.Core.Path.{_≡_, refl}
+use mathlib.Core.Bool.{true}
+use mathlib.Core.List.{List, [], _∷_}
+use mathlib.Core.Option.{none}
+use Prim.Native.Nat.{ℕ, _^_, _<_, _≤_}
+use lib.ListN.{length}
+use Rattle.text.specs.Bytes.{bytes, until, extend, pieces, lines, unlines}
+use Rattle.text.specs.List.{withFirst, numbersOf, listQ, risesFrom, isRising, onlyRising, listL, oneMember, listC, commas, listText}
+use Rattle.text.specs.Number.{allDecimal, decimalFrom, numberOf, allHex, hexFrom, hexOf, bitOf, decimalDigits, hexDigits}
+use Rattle.text.specs.Template.{aNumber, aList, valueOf, andThen, sameByte, atEnd, valuesOf, numbersIn, listsIn, valueText, firstText, lineText}
+use Rattle.pauli.specs.Gate.{gates, gateFrom, gateOf}
+use Rattle.job.specs.Grammar.{unitaryLine, optional, noiseLine, forms, said, orLater, readBy, readLine}
+use Rattle.job.specs.Rising.{including, rising}
+use Rattle.job.specs.Float.{float, isProbability}
+use Rattle.job.specs.Job.{accepted, jobOf, checkJob}
+use Rattle.job.specs.Reply.{writtenText, writtenBy}
+use Rattle.circuit.specs.Annotate.{noiseQubits, noiseBefore, noiseText, noiseLines, around, annotated, annotatedText, firstUnfit, locationsOf, locationsAt, locations}
+use Rattle.circuit.specs.Annotated.{annotatedList, instructionsOf}
+use Rattle.circuit.specs.Replies.{annotateReply}
+use Rattle.circuit.specs.Laws.Replies.{annotate-writes}
+use Rattle.circuit.specs.Laws.Annotated.{JobAnnotated, job-annotated}
+
+-- For an accepted job, a probability by its bits, and no line that 18 refuses:
+module _ (job : List ℕ) (passes : checkJob job .number ≡ 0) (p : ℕ) (small : p < 2 ^ 64) (probability : isProbability (float p) ≡ true)
+    (fits : firstUnfit 1 (lines job) ≡ none)
+  where
+    known : JobAnnotated p job
+    known = job-annotated p small probability job passes fits
+
+    -- The annotated text passes tests 1 to 12 where it is not too long.
+    pub annotated-accepted : length (annotatedText p job) ≤ 1048576 → checkJob (annotatedText p job) ≡ accepted
+    annotated-accepted few = known .accepted few
+
+    -- Its header is the job's, with its bytes.
+    pub annotated-header : (jobOf (annotatedText p job) .header ≡ jobOf job .header) × (jobOf (annotatedText p job) .text ≡ jobOf job .text)
+    annotated-header = (known .header, known .text)
+
+    -- Its instructions are those of the job, each with its noise.
+    pub annotated-instructions : instructionsOf (jobOf (annotatedText p job) .instructions) ≡ annotatedList p (instructionsOf (jobOf job .instructions))
+    annotated-instructions = known .instructions
+
+-- In the call: where annotation answers 0, what it wrote (`writtenBy` gives the first bytes of its output, as many as its figure says) is the annotated
+-- text, which passes tests 1 to 12 and has the annotated list for its instructions; no other byte is changed.
+module _ (job : List ℕ) (p : ℕ) (small : p < 2 ^ 64) (out : List ℕ) (done : annotateReply job p out .answered .number ≡ 0) where
+  pub annotates : annotateReply job p out ≡ writtenText (annotatedText p job) out
+  annotates = annotate-writes job p out done .reply
+
+  pub annotates-accepted : checkJob (writtenBy (annotateReply job p out)) ≡ accepted
+  annotates-accepted =
+      let w = annotate-writes job p out done in
+      rw (w .text) (annotated-accepted job (w .passes) p small (w .probability) (w .fits) (w .few))
+
+  pub annotates-instructions : instructionsOf (jobOf (writtenBy (annotateReply job p out)) .instructions)
+      ≡ annotatedList p (instructionsOf (jobOf job .instructions))
+  annotates-instructions =
+      let w = annotate-writes job p out done in
+      rw (w .text) (annotated-instructions job (w .passes) p small (w .probability) (w .fits))
+
+-- ---- a case of document 01, computed
+
+-- opens what lines are read and written with
+reading : Unit {0}
+unfolding bytes until extend pieces unlines withFirst numbersOf listQ risesFrom isRising onlyRising listL oneMember listC commas listText allDecimal decimalFrom numberOf allHex hexFrom hexOf bitOf decimalDigits hexDigits aNumber aList valueOf andThen sameByte atEnd valuesOf numbersIn listsIn valueText firstText lineText gates gateFrom gateOf unitaryLine optional noiseLine forms said orLater readBy readLine including rising
+reading = tt
+
+-- p = 2^-10: operands as written; a Y counts once and the support rises; control's support, then target's; none for the identity; before a measurement; none
+-- for a reset, and existing noise is copied with its elements.
+abbrev pub plainCase : List (List ℕ)
+plainCase =
+    bytes "op=job qubits=4 outcomes=1 shots=8"
+    ∷ bytes "op=u g=11 q=1,0"
+    ∷ bytes "op=p x=3 z=0,3"
+    ∷ bytes "op=k x=2 z=- u=- v=0,1"
+    ∷ bytes "op=e x=- z=-"
+    ∷ bytes "op=o x=- z=2 id=0"
+    ∷ bytes "op=z q=3"
+    ∷ bytes "op=n p=3fe0000000000000 corr=- cond=- parity=0 d=3 n=1"
+    ∷ bytes "x=1 z=-"
+    ∷ []
+
+abbrev pub annotatedCase : List (List ℕ)
+annotatedCase =
+    bytes "op=job qubits=4 outcomes=1 shots=8"
+    ∷ bytes "op=u g=11 q=1,0"
+    ∷ bytes "op=n p=3f50000000000000 corr=- cond=- parity=0 d=2 q=1,0"
+    ∷ bytes "op=p x=3 z=0,3"
+    ∷ bytes "op=n p=3f50000000000000 corr=- cond=- parity=0 d=2 q=0,3"
+    ∷ bytes "op=k x=2 z=- u=- v=0,1"
+    ∷ bytes "op=n p=3f50000000000000 corr=- cond=- parity=0 d=2 q=2,0,1"
+    ∷ bytes "op=e x=- z=-"
+    ∷ bytes "op=n p=3f50000000000000 corr=- cond=- parity=0 d=2 q=2"
+    ∷ bytes "op=o x=- z=2 id=0"
+    ∷ bytes "op=z q=3"
+    ∷ bytes "op=n p=3fe0000000000000 corr=- cond=- parity=0 d=3 n=1"
+    ∷ bytes "x=1 z=-"
+    ∷ []
+
+pub annotated-case : annotatedText 0x3f50_0000_0000_0000 (unlines plainCase) ≡ unlines annotatedCase
+unfolding annotatedText annotated around noiseBefore noiseQubits noiseLines noiseText reading
+annotated-case = refl
+
+-- its locations: twice 2, 2, 3 and 1 qubits
+pub located-case : locations (lines (unlines plainCase)) ≡ 16
+unfolding locations locationsAt locationsOf reading
+located-case = refl

@@ -1,0 +1,51 @@
+-- `correlations::look` meets its contract. Assumes nothing.
+use mathlib.Core.Path.{sym, _∙_}
+use borrow.Author.Tests.{not-true, not-false}
+use lib.ListN.{getD}
+use Rattle.correlations.specs.Laws.Tables.{until-within}
+use Rattle.correlations.specs.Laws.Loops.{look-absent, look-new, look-old}
+use borrow.Author.Needs.{needs}
+use native.Mathlib.Omega.{arith}
+use Rattle.correlations.proofs.look.Statement.{statement}
+use Rattle.correlations.proofs.look.Tie as tie
+
+is-correlated-requires : tie.Need-is-correlated-requires
+is-correlated-requires c κs = search needs
+
+returns : tie.Need-returns
+returns c = λ vs w s. look-absent s _ (sym (c .before .is-correlated .ensures vs w s) ∙ not-true _ (c .if1 .taken))
+
+shared-slice-read-correlation : tie.Need-shared-slice-read-correlation
+shared-slice-read-correlation c = search needs
+
+size-requires : tie.Need-size-requires
+size-requires c κs = search needs
+
+place-requires : tie.Need-place-requires
+place-requires c κs = search needs
+
+returns-2 : tie.Need-returns-2
+returns-2 c = λ vs w s. look-new s _ _ (sym (c .before .before .before .before .before .is-correlated .ensures vs w s) ∙ not-false _ (c .before .before .before .before .if1 .left)) (c .before .before .size .ensures) (c .before .place .ensures) (c .if2 .taken)
+
+mul-t12 : tie.Need-mul-t12
+mul-t12 c = omega (arith, until-within (getD (c .before .before .before .before .before .before .before .before .before .args .f .now) 12 0) (c .before .before .before .before .before .before .before .before .before .args .seen .now), c .before .place .ensures)
+
+shared-slice-read-t11 : tie.Need-shared-slice-read-t11
+shared-slice-read-t11 c = omega (arith, until-within (getD (c .before .before .before .before .before .before .before .before .before .before .args .f .now) 12 0) (c .before .before .before .before .before .before .before .before .before .before .args .seen .now), c .before .before .place .ensures, c .before .if2 .left, c .before .before .before .before .before .before .before .before .before .before .pre .2)
+
+returns-3 : tie.Need-returns-3
+returns-3 c = λ vs w s. look-old s _ _ (sym (c .before .before .before .before .before .before .is-correlated .ensures vs w s) ∙ not-false _ (c .before .before .before .before .before .if1 .left)) (c .before .before .before .size .ensures) (c .before .before .place .ensures) (c .before .before .before .before .before .before .before .before .before .before .pre .2) (c .before .if2 .left)
+
+pub look-spec : {M : Type 1} → statement M
+look-spec =
+    tie.close
+    (tie.spec
+    is-correlated-requires
+    returns
+    shared-slice-read-correlation
+    size-requires
+    place-requires
+    returns-2
+    mul-t12
+    shared-slice-read-t11
+    returns-3)

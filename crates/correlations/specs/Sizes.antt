@@ -1,0 +1,84 @@
+-- The correlation and the size that a line says. Definitions. Assumes nothing.
+use Prim.Native.Nat.{ℕ, _-_, _^_, _≤_}
+use mathlib.Core.Bool.{Bool, true, false, cond}
+use mathlib.Core.List.{List, [], _∷_, _++_}
+use mathlib.Core.Option.{Option, none, some}
+use lib.Dec.{eqb}
+use lib.ListN.{length}
+use Rattle.text.specs.Template.{Value}
+use Rattle.job.specs.Grammar.{Kind, Written}
+use Rattle.reader.specs.declared.Form.{Form}
+use Rattle.reader.specs.Parsed.{Said}
+use Rattle.circuit.specs.Correlation.{Seen}
+use Rattle.correlations.specs.declared.Looked.{Looked}
+
+-- the correlation of what a line says; only noise has one
+unfoldable pub correlationIn : Written → Option ℕ
+correlationIn (Written.header h) = none
+correlationIn (Written.line i) = none
+correlationIn (Written.noise n) = n .correlation
+correlationIn (Written.element w P) = none
+
+-- the size of a distribution by its kind: 1, 4^k - 1 or n
+unfoldable pub kindSize : Kind → ℕ
+kindSize (Kind.single P) = 1
+kindSize (Kind.depolarizing qs) = 4 ^ length qs - 1
+kindSize (Kind.uniform n) = n
+kindSize (Kind.weighted n) = n
+
+unfoldable pub sizeIn : Written → ℕ
+sizeIn (Written.header h) = 0
+sizeIn (Written.line i) = 0
+sizeIn (Written.noise n) = kindSize (n .kind)
+sizeIn (Written.element w P) = 0
+
+-- at most 31 operands
+unfoldable pub FewOperands : Kind → Type 0
+FewOperands (Kind.single P) = Unit {0}
+FewOperands (Kind.depolarizing qs) = length qs ≤ 31
+FewOperands (Kind.uniform n) = Unit {0}
+FewOperands (Kind.weighted n) = Unit {0}
+
+unfoldable pub Few : Written → Type 0
+Few (Written.header h) = Unit {0}
+Few (Written.line i) = Unit {0}
+Few (Written.noise n) = FewOperands (n .kind)
+Few (Written.element w P) = Unit {0}
+
+-- a line of an accepted job was read
+pub record FewRead (f : Form) (fields : List ℕ) : Type 0 where
+  pub written : Written
+  pub values : List Value
+  pub said : Said f fields values written
+  pub few : Few written
+
+-- whether there is a number
+unfoldable pub present : Option ℕ → Bool
+present none = false
+present (some c) = true
+
+-- ---- the table
+
+-- the correlations that were seen, each with the size of its first line
+unfoldable pub tableOf : List ℕ → List ℕ → List Seen
+tableOf [] sizes = []
+tableOf (c ∷ cs) [] = []
+tableOf (c ∷ cs) (s ∷ sizes) = record { correlation = c; size = s } ∷ tableOf cs sizes
+
+-- the size of a correlation, if it was seen
+unfoldable pub sizeFor : List Seen → ℕ → Option ℕ
+sizeFor [] c = none
+sizeFor (s ∷ seen) c = let later = sizeFor seen c in cond (eqb (s .correlation) c) (some (s .size)) later
+
+-- a correlation and a size, beside the size that was seen: whether they fit, and whether the correlation is new
+unfoldable pub lookFor : ℕ → ℕ → Option ℕ → Looked
+lookFor c size none = record { fits = true; fresh = true; correlation = c; size = size }
+lookFor c size (some t) = record { fits = eqb t size; fresh = false; correlation = c; size = size }
+
+unfoldable pub lookOf : List Seen → Option ℕ → ℕ → Looked
+lookOf seen none size = record { fits = true; fresh = false; correlation = 0; size = 0 }
+lookOf seen (some c) size = lookFor c size (sizeFor seen c)
+
+-- the table with what is new
+abbrev pub grown : List Seen → Looked → List Seen
+grown seen l = cond (l .fresh) (seen ++ record { correlation = l .correlation; size = l .size } ∷ []) seen

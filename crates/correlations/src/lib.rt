@@ -1,0 +1,288 @@
+// The correlation check: one size per corr. The correlations that were seen lie in a table of fixed size; where it is full, another round over the rest of
+// the job begins, with an empty table.
+ghost use mathlib.Core.Path.{_≡_};
+ghost use mathlib.Core.Bool.{_&&_, true};
+ghost use mathlib.Core.List.{List, []};
+ghost use Prim.Native.Nat.{_≤_, _<_, _^_};
+ghost use lib.Dec.{eqb};
+ghost use lib.ListN.{length};
+ghost use Rattle.text.specs.Bytes.{until};
+ghost use Rattle.text.specs.Template.{Value};
+ghost use Rattle.job.specs.Grammar.{NoiseLine, Written};
+ghost use Rattle.job.specs.Job.{checkJob, jobOf};
+ghost use Rattle.reader.specs.Parsed.{Said};
+ghost use Rattle.instructions.specs.Lines.{Left, numbered};
+ghost use Rattle.instructions.specs.Ahead.{instructionsAt};
+ghost use Rattle.circuit.specs.Correlation.{firstDiffering};
+ghost use Rattle.circuit.specs.Replies.{correlationReply};
+ghost use Rattle.correlations.specs.Sizes.{correlationIn, kindSize, sizeIn, FewRead, present, tableOf, lookOf};
+ghost use Rattle.correlations.specs.Rounds.{unlike, earliest, Remembers, Collects, RoundOf};
+use checker::check;
+use instructions::is_noise;
+use instructions::next_line;
+use job::Answer;
+use reader::Form;
+
+// How many correlations the table holds.
+const SEEN: usize = 256;
+
+// Whether a line is noise with a corr.
+fn is_correlated(form: Form, f: &[u64]) -> bool
+    requires { ⌜ 136 ≤ length (now f) ⌝ }
+    ensures { λ r. ⌜ ((vs : List Value) (w : Written) → Said form (now (f .entry)) vs w → r ≡ present (correlationIn w)) ⌝ }
+{
+    if !is_noise(form) {
+        return false;
+    }
+    f[4] != 0
+}
+
+fn power_of_four(k: u64) -> u64
+    requires { ⌜ k ≤ 31 ⌝ }
+    ensures { λ r. ⌜ r ≡ 4 ^ k ⌝ }
+{
+    let mut r: u64 = 1;
+    let mut i: u64 = 0;
+    while i < k {
+        r *= 4;
+        i += 1;
+    }
+    r
+}
+
+// How many elements the distribution of a noise line has.
+fn size(form: Form, f: &[u64]) -> u64
+    requires { ⌜ FewRead form (now f) × (136 ≤ length (now f)) ⌝ }
+    ensures { λ r. ⌜ ((vs : List Value) (n : NoiseLine) → Said form (now (f .entry)) vs (Written.noise n) → r ≡ kindSize (n .kind)) ⌝ }
+{
+    match form {
+        Form::Depolarizing => power_of_four(f[6]) - 1,
+        Form::Uniform => f[2],
+        Form::Weighted => f[2],
+        _ => 1,
+    }
+}
+
+// The place of a correlation among those that were seen, or their number where it is none of them.
+fn place(seen: &[u64], correlation: u64) -> usize
+    ensures { λ r. ⌜ r ≡ until correlation (now (seen .entry)) ⌝ }
+{
+    let mut i = 0;
+    while i < seen.len() {
+        if seen[i] == correlation {
+            return i;
+        }
+        i += 1;
+    }
+    i
+}
+
+// A line's correlation and size beside the table: whether they fit, and whether the correlation is new.
+struct Looked {
+    fits: bool,
+    fresh: bool,
+    correlation: u64,
+    size: u64,
+}
+
+fn look(form: Form, f: &[u64], seen: &[u64], sizes: &[u64]) -> Looked
+    requires { ⌜ FewRead form (now f) × (136 ≤ length (now f)) × (length (now seen) ≡ length (now sizes)) ⌝ }
+    ensures { λ r. ⌜ ((vs : List Value) (w : Written) → Said form (now (f .entry)) vs w → r ≡ lookOf (tableOf (now (seen .entry)) (now (sizes .entry))) (correlationIn w) (sizeIn w)) ⌝ }
+{
+    if !is_correlated(form, f) {
+        return Looked {
+            fits: true,
+            fresh: false,
+            correlation: 0,
+            size: 0,
+        };
+    }
+    let correlation = f[12];
+    let size = size(form, f);
+    let i = place(seen, correlation);
+    if i == seen.len() {
+        return Looked {
+            fits: true,
+            fresh: true,
+            correlation,
+            size,
+        };
+    }
+    Looked {
+        fits: sizes[i] == size,
+        fresh: false,
+        correlation,
+        size,
+    }
+}
+
+// Whether the table has no room for what is new.
+fn is_full(l: Looked, n: usize, room: usize) -> bool
+    ensures { λ r. ⌜ r ≡ (l .fresh && eqb n room) ⌝ }
+{
+    if !l.fresh {
+        return false;
+    }
+    n == room
+}
+
+// The table with what is new, and how many it holds.
+fn remember(l: Looked, n: usize, seen: &mut [u64], sizes: &mut [u64]) -> usize
+    requires { ⌜ (n ≤ length (now seen)) × (length (now seen) ≡ length (now sizes)) × (l .fresh ≡ true → n < length (now seen)) ⌝ }
+    ensures { λ r. ⌜ Remembers l n (now (seen .entry)) (now (sizes .entry)) r (now (seen .exit)) (now (sizes .exit)) ⌝ }
+{
+    if !l.fresh {
+        return n;
+    }
+    seen[n] = l.correlation;
+    sizes[n] = l.size;
+    n + 1
+}
+
+// How far the table went: a line that differs (0 for none); or how many correlations it holds, and the line that it has no room for, or the job's end.
+struct Collected {
+    differing: u64,
+    n: usize,
+    at: usize,
+    number: u64,
+}
+
+// The sizes of the correlations from a line on, up to a line that differs, or as far as the table has room.
+fn collect(job: &[u8], from: usize, number: u64, seen: &mut [u64], sizes: &mut [u64]) -> Collected
+    requires { ⌜ Left (now job) number from × (from < length (now job)) × (0 < length (now seen)) × (length (now seen) ≡ length (now sizes)) ⌝ }
+    ensures { λ r. ⌜ Collects (now (job .entry)) number from r (now (seen .exit)) (now (sizes .exit)) ⌝ }
+{
+    let mut fields = [0u64; 136];
+    let mut at = from;
+    let mut k = number;
+    let mut n = 0;
+    while at < job.len() {
+        let line = next_line(job, at, &mut fields);
+        let form = line.form;
+        let l = look(form, &fields, &seen[..n], &sizes[..n]);
+        if !l.fits {
+            return Collected {
+                differing: k,
+                n,
+                at,
+                number: k,
+            };
+        }
+        if is_full(l, n, seen.len()) {
+            return Collected {
+                differing: 0,
+                n,
+                at,
+                number: k,
+            };
+        }
+        n = remember(l, n, &mut *seen, &mut *sizes);
+        at = line.end + 1;
+        k += 1;
+    }
+    Collected {
+        differing: 0,
+        n,
+        at,
+        number: k,
+    }
+}
+
+// The first line from a line on that differs from the table.
+fn compare(job: &[u8], from: usize, number: u64, seen: &[u64], sizes: &[u64]) -> u64
+    requires { ⌜ Left (now job) number from × (length (now seen) ≡ length (now sizes)) ⌝ }
+    ensures { λ r. ⌜ numbered r ≡ unlike (tableOf (now (seen .entry)) (now (sizes .entry))) (instructionsAt (now (job .entry)) number from) ⌝ }
+{
+    let mut fields = [0u64; 136];
+    let mut at = from;
+    let mut k = number;
+    while at < job.len() {
+        let line = next_line(job, at, &mut fields);
+        let form = line.form;
+        let l = look(form, &fields, seen, sizes);
+        if !l.fits {
+            return k;
+        }
+        at = line.end + 1;
+        k += 1;
+    }
+    0
+}
+
+// A line that differs (0 for none), and where the next round begins.
+struct Found {
+    differing: u64,
+    at: usize,
+    number: u64,
+}
+
+fn round(job: &[u8], from: usize, number: u64) -> Found
+    requires { ⌜ Left (now job) number from × (from < length (now job)) ⌝ }
+    ensures { λ r. ⌜ RoundOf (now (job .entry)) number from r ⌝ }
+{
+    let mut seen = [0u64; SEEN];
+    let mut sizes = [0u64; SEEN];
+    let c = collect(job, from, number, &mut seen, &mut sizes);
+    if c.differing != 0 {
+        return Found {
+            differing: c.differing,
+            at: job.len(),
+            number: 0,
+        };
+    }
+    let n = c.n;
+    let differing = compare(job, c.at, c.number, &seen[..n], &sizes[..n]);
+    Found {
+        differing,
+        at: c.at,
+        number: c.number,
+    }
+}
+
+// The earlier of two lines, where 0 is none.
+fn earlier(a: u64, b: u64) -> u64
+    ensures { λ r. ⌜ numbered r ≡ earliest (numbered a) (numbered b) ⌝ }
+{
+    if a == 0 {
+        return b;
+    }
+    if b == 0 {
+        return a;
+    }
+    if a < b {
+        return a;
+    }
+    b
+}
+
+// The first line of an accepted job whose size is not that of the first line with its corr.
+fn first_differing(job: &[u8]) -> u64
+    requires { ⌜ checkJob (now job) .number ≡ 0 ⌝ }
+    ensures { λ r. ⌜ numbered r ≡ firstDiffering [] (jobOf (now (job .entry)) .instructions) ⌝ }
+{
+    let mut at = 0;
+    let mut k: u64 = 1;
+    let mut differing: u64 = 0;
+    while at < job.len() {
+        let r = round(job, at, k);
+        differing = earlier(differing, r.differing);
+        at = r.at;
+        k = r.number;
+    }
+    differing
+}
+
+// Tests 1 to 12, then 19.
+pub fn correlation(job: &[u8]) -> Answer
+    ensures { λ r. ⌜ r ≡ correlationReply (now (job .entry)) ⌝ }
+{
+    let answer = check(job);
+    if answer.number != 0 {
+        return answer;
+    }
+    let line = first_differing(job);
+    if line == 0 {
+        return Answer { number: 0, line: 0 };
+    }
+    Answer { number: 19, line }
+}

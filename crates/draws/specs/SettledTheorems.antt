@@ -1,0 +1,53 @@
+-- Theorems: the settled text of an accepted job is a job of the settled lines, which settles to itself. Their proofs stand in Laws. Assumes nothing.
+use mathlib.Core.Path.{_≡_, ap, _∙_}
+use mathlib.Core.Bool.{true}
+use mathlib.Core.List.{List}
+use Prim.Native.Nat.{ℕ, _≤_}
+use lib.ListN.{length}
+use Rattle.job.specs.Line.{Placed}
+use Rattle.job.specs.Job.{accepted, Job, jobOf, recordedIn, checkJob}
+use Rattle.job.specs.Sound.{LinesSound}
+use Rattle.job.specs.Laws.Passes.{lines-accepted}
+use Rattle.job.specs.Laws.Texts.{text-accepted, text-job}
+use Rattle.draws.specs.Draws.{Lent}
+use Rattle.draws.specs.Settle.{SettledLine, Settled, settle, settledList, settledText, numbered}
+use Rattle.draws.specs.Laws.Within.{noiseFree, copies}
+use Rattle.draws.specs.Laws.SettledText.{textsOf, told-sound, told-says, told-gathers, settle-numbered, JobSettles, job-settles, job-copied}
+
+-- An accepted job that settles to the lines ls, whatever is lent for its shots.
+module _ (job : List ℕ) (passes : checkJob job .number ≡ 0) (lent : Lent) (shots : lent .shots ≡ jobOf job .header .shots) (main : List ℕ) (ls : List SettledLine)
+    (settles : settle lent (jobOf job .instructions) main ≡ Settled.settled ls)
+  where
+    known : JobSettles job ls
+    known = job-settles job passes lent shots main ls settles
+
+    -- However long their text is, the settled lines are sound, in order, as the lines of an accepted job are.
+    pub settled-sound : LinesSound (jobOf job .header) 0 (settledList ls)
+    settled-sound = told-sound (jobOf job .header) 0 ls (known .lines .told)
+
+    -- The settled text passes tests 1 to 12 where it is not too long.
+    pub settled-accepted : length (settledText (jobOf job .text) ls) ≤ 1048576 → checkJob (settledText (jobOf job .text) ls) ≡ accepted
+    unfolding settledText
+    settled-accepted few =
+        text-accepted (jobOf job .header) (jobOf job .text) (textsOf ls) (known .says) (known .free) (known .range)
+        (lines-accepted (jobOf job .header) 0 2 (textsOf ls) (settledList ls) (told-says (jobOf job .header) 0 ls (known .lines .told)) settled-sound) few
+
+    -- Its header is the job's, with its bytes, and its instructions are the settled lines with their texts, one to a line, in order.
+    pub settled-job : jobOf (settledText (jobOf job .text) ls) ≡ record { header = jobOf job .header; text = jobOf job .text; instructions = numbered 2 ls }
+    unfolding settledText
+    settled-job =
+        text-job (jobOf job .header) (jobOf job .text) (textsOf ls) (known .says) (known .free)
+        ∙ ap (λ (is : List Placed). record { header = jobOf job .header; text = jobOf job .text; instructions = is }) (told-gathers (jobOf job .header) 0 2 ls (known .lines .told))
+
+    -- It records as many outcomes as the job.
+    pub settled-recorded : recordedIn (jobOf (settledText (jobOf job .text) ls) .instructions) ≡ recordedIn (jobOf job .instructions)
+    settled-recorded = ap (λ (j : Job). recordedIn (j .instructions)) settled-job ∙ known .lines .recorded 2
+
+    -- It settles to the same lines, and so to itself, whatever is lent then.
+    pub settled-again : (other : Lent) (words : List ℕ) → settle other (jobOf (settledText (jobOf job .text) ls) .instructions) words ≡ Settled.settled ls
+    settled-again other words = ap (λ (j : Job). settle other (j .instructions) words) settled-job ∙ settle-numbered other words 2 ls
+
+-- An accepted job without noise settles to itself, whatever is lent (`settle-copies` says that it settles to the copies of its lines).
+pub noiseless-settled : (job : List ℕ) → checkJob job .number ≡ 0 → noiseFree (jobOf job .instructions) ≡ true
+    → settledText (jobOf job .text) (copies (jobOf job .instructions)) ≡ job
+noiseless-settled job passes f = job-copied job passes f

@@ -1,0 +1,174 @@
+// Lines going back: each kind of line, as its fields hold it (crate reader), on the observable, the set of outcomes and the count.
+ghost use mathlib.Core.Path.{_≡_};
+ghost use mathlib.Core.Bool.{Bool, false};
+ghost use Prim.Native.Nat.{ℕ, _+_, _^_, _<_};
+ghost use lib.ListN.{length};
+ghost use Rattle.pauli.specs.Bits.{Bits};
+ghost use Rattle.pauli.specs.Fixed.{inSet};
+ghost use Rattle.pauli.specs.declared.Pauli.{Pauli as PauliWords};
+ghost use Rattle.reader.specs.declared.Form.the-variants as Forms;
+ghost use Rattle.backward.specs.Walk.{oneMore};
+ghost use Rattle.lines_back.specs.Back.{Ready, Back, Readable, LineBack};
+use lines::list;
+use pauli::OutcomeId;
+use pauli::Pauli;
+use pauli::QubitId;
+use reader::Form;
+
+// ---- Lines that change the observable alone
+
+fn unitary(f: &[u64], b: Pauli) -> Pauli
+    requires { ⌜ Ready Forms.Unitary (now f) ⌝ }
+    ensures { λ r. ⌜ ((shot : ℕ) (set : Bits) → Back Forms.Unitary (now (f .entry)) shot b set r set false) ⌝ }
+{
+    carry::unitary_back(b, f[0], list(f, 0))
+}
+
+fn clifford(f: &[u64], b: Pauli) -> Pauli
+    requires { ⌜ Ready Forms.Clifford (now f) ⌝ }
+    ensures { λ r. ⌜ ((shot : ℕ) (set : Bits) → Back Forms.Clifford (now (f .entry)) shot b set r set false) ⌝ }
+{
+    carry::clifford_back(b, list(f, 0), f[0])
+}
+
+fn exponential(f: &[u64], b: Pauli) -> Pauli
+    requires { ⌜ Ready Forms.Exponential (now f) ⌝ }
+    ensures { λ r. ⌜ ((shot : ℕ) (set : Bits) → Back Forms.Exponential (now (f .entry)) shot b set r set false) ⌝ }
+{
+    carry::exponential_back(b, list(f, 0), list(f, 1))
+}
+
+fn controlled(f: &[u64], b: Pauli) -> Pauli
+    requires { ⌜ Ready Forms.Controlled (now f) ⌝ }
+    ensures { λ r. ⌜ ((shot : ℕ) (set : Bits) → Back Forms.Controlled (now (f .entry)) shot b set r set false) ⌝ }
+{
+    carry::controlled_back(b, list(f, 0), list(f, 1), list(f, 2), list(f, 3))
+}
+
+fn permute(f: &[u64], b: Pauli) -> Pauli
+    requires { ⌜ Ready Forms.Permute (now f) ⌝ }
+    ensures { λ r. ⌜ ((shot : ℕ) (set : Bits) → Back Forms.Permute (now (f .entry)) shot b set r set false) ⌝ }
+{
+    carry::permute_back(b, list(f, 0), list(f, 1))
+}
+
+fn reset(f: &[u64], b: Pauli) -> Pauli
+    requires { ⌜ Ready Forms.Reset (now f) ⌝ }
+    ensures { λ r. ⌜ ((shot : ℕ) (set : Bits) → Back Forms.Reset (now (f .entry)) shot b set r set false) ⌝ }
+{
+    b.clear_qubit(QubitId(f[0] as usize))
+}
+
+fn measure(f: &[u64], b: Pauli, set: &[u64]) -> Pauli
+    requires { ⌜ Ready Forms.Measure (now f) ⌝ }
+    ensures { λ r. ⌜ ((shot : ℕ) → Back Forms.Measure (now (f .entry)) shot b (inSet (now (set .entry))) r (inSet (now (set .entry))) false) ⌝ }
+{
+    let id = OutcomeId(f[0] as usize);
+    carry::measure_back(b, set, list(f, 0), list(f, 1), id)
+}
+
+// ---- Conditionals, which change the set alone
+
+fn conditional(f: &[u64], b: Pauli, set: &mut [u64])
+    requires { ⌜ Ready Forms.Conditional (now f) × (length (now set) ≡ 16) ⌝ }
+    ensures { λ _. ⌜ (length (now (set .exit)) ≡ 16) × ((shot : ℕ) → Back Forms.Conditional (now (f .entry)) shot b (inSet (now (set .entry))) b (inSet (now (set .exit))) false) ⌝ }
+{
+    carry::conditional_back(set, b, list(f, 0), list(f, 1), list(f, 2));
+}
+
+// ---- Lines that are counted, or not
+
+// An injection in the shot, where it anticommutes with the observable.
+fn inject(f: &[u64], b: Pauli, shot: u64) -> bool
+    requires { ⌜ Ready Forms.Inject (now f) ⌝ }
+    ensures { λ r. ⌜ ((set : Bits) → Back Forms.Inject (now (f .entry)) shot b set b set r) ⌝ }
+{
+    if f[0] != shot {
+        return false;
+    }
+    carry::injection_counts(b, list(f, 0), list(f, 1))
+}
+
+// A flip in the shot, where its outcome is in the set.
+fn flip(f: &[u64], set: &[u64], shot: u64) -> bool
+    requires { ⌜ Ready Forms.Flip (now f) ⌝ }
+    ensures { λ r. ⌜ ((b : PauliWords) → Back Forms.Flip (now (f .entry)) shot b (inSet (now (set .entry))) b (inSet (now (set .entry))) r) ⌝ }
+{
+    if f[0] != shot {
+        return false;
+    }
+    pauli::has_outcome(set, OutcomeId(f[1] as usize))
+}
+
+// ---- Any line
+
+// The observable that is carried back, the count, and the line of the first noise so far, 0 where there was none. The set of outcomes is lent.
+pub struct Walk {
+    pub observable: Pauli,
+    pub count: u64,
+    pub noise: u64,
+}
+
+fn with_observable(w: Walk, observable: Pauli) -> Walk
+    ensures { λ r. ⌜ r ≡ record { observable = observable; count = w .count; noise = w .noise } ⌝ }
+{
+    Walk {
+        observable,
+        count: w.count,
+        noise: w.noise,
+    }
+}
+
+fn with_count(w: Walk, counted: bool) -> Walk
+    requires { ⌜ w .count + 1 < 2 ^ 64 ⌝ }
+    ensures { λ r. ⌜ r ≡ record { observable = w .observable; count = oneMore counted (w .count); noise = w .noise } ⌝ }
+{
+    if !counted {
+        return w;
+    }
+    let observable = w.observable;
+    Walk {
+        observable,
+        count: w.count + 1,
+        noise: w.noise,
+    }
+}
+
+fn with_noise(w: Walk, k: u64) -> Walk
+    ensures { λ r. ⌜ r ≡ record { observable = w .observable; count = w .count; noise = k } ⌝ }
+{
+    let observable = w.observable;
+    Walk {
+        observable,
+        count: w.count,
+        noise: k,
+    }
+}
+
+// One line back, of number k. Noise is remembered by its line; lines of the other forms that are not named do nothing.
+pub fn line_back(w: Walk, form: Form, f: &[u64], set: &mut [u64], shot: u64, k: u64) -> Walk
+    requires { ⌜ Readable form (now f) × (length (now set) ≡ 16) × (w .count + 1 < 2 ^ 64) ⌝ }
+    ensures { λ r. ⌜ LineBack form (now (f .entry)) shot k w r (now (set .entry)) (now (set .exit)) ⌝ }
+{
+    let b = w.observable;
+    match form {
+        Form::Unitary => with_observable(w, unitary(f, b)),
+        Form::Clifford => with_observable(w, clifford(f, b)),
+        Form::Exponential => with_observable(w, exponential(f, b)),
+        Form::Controlled => with_observable(w, controlled(f, b)),
+        Form::Permute => with_observable(w, permute(f, b)),
+        Form::Measure => with_observable(w, measure(f, b, set)),
+        Form::Conditional => {
+            conditional(f, b, set);
+            w
+        }
+        Form::Reset => with_observable(w, reset(f, b)),
+        Form::Inject => with_count(w, inject(f, b, shot)),
+        Form::Flip => with_count(w, flip(f, set, shot)),
+        Form::Single => with_noise(w, k),
+        Form::Depolarizing => with_noise(w, k),
+        Form::Uniform => with_noise(w, k),
+        Form::Weighted => with_noise(w, k),
+        _ => w,
+    }
+}

@@ -1,0 +1,4 @@
+-- Laws, for the proofs that cite them. Nothing here has to be believed.
+pub mod Lists
+pub mod Elements
+pub mod Injections

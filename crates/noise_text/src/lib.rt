@@ -1,0 +1,148 @@
+// The injections that stand for a noise line, put into lent bytes as lines.
+ghost use mathlib.Core.List.{List, [], _∷_, _++_};
+ghost use Prim.Native.Nat.{ℕ, _+_, _*_, _^_, _<_, _≤_};
+ghost use lib.ListN.{length, drop};
+ghost use Rattle.text.specs.Bytes.{LF};
+ghost use Rattle.job.specs.Line.{Instruction};
+ghost use Rattle.writer.specs.Placed.{Puts};
+ghost use Rattle.draws.specs.Draws.{depolarizingElement, drawShots};
+ghost use Rattle.draws.specs.Settle.{injectText, stepOf};
+ghost use Rattle.noise_text.specs.Elements.{keptElement, elementIn, Kept, ElementIn};
+ghost use Rattle.noise_text.specs.Injections.{StepPut, injected, Ready, ReadyOf};
+
+pub mod lists;
+
+use crate::lists::select;
+use noise::Correlation;
+use noise::PauliDistribution;
+use noise::choice::bound;
+use noise::choice::limit;
+use noise::shots::NextFault;
+use noise::shots::next_fault;
+use noise::words::part;
+use writer::lines::put_inject;
+
+// ---- An element
+
+// The injection of an element of a depolarizing distribution.
+fn put_depolarizing(out: &mut [u8], place: usize, shot: u64, qubits: &[u64], e: u64) -> usize
+    requires { ⌜ (place + 1342 < 2 ^ 64) × (length (now qubits) ≤ 31) × (e + 1 < 2 ^ 64) ⌝ }
+    ensures { λ r. ⌜ Puts place (injectText shot (depolarizingElement (now (qubits .entry)) e) ++ LF ∷ []) (now (out .entry)) (now (out .exit)) r ⌝ }
+{
+    let v = e + 1;
+    let mut x = [0u64; 32];
+    let mut z = [0u64; 32];
+    let m = select(&mut x, qubits, v);
+    let n = select(&mut z, qubits, v / 2);
+    put_inject(out, place, shot, &x[..m], &z[..n])
+}
+
+// The injection of an element that is kept whole.
+fn put_kept(out: &mut [u8], place: usize, shot: u64, elements: &[u64], e: usize) -> usize
+    requires { ⌜ (place + 1342 < 2 ^ 64) × Kept (now elements) e ⌝ }
+    ensures { λ r. ⌜ Puts place (injectText shot (keptElement (now (elements .entry)) e) ++ LF ∷ []) (now (out .entry)) (now (out .exit)) r ⌝ }
+{
+    let a = e * 64;
+    let x = a + 2;
+    let z = a + 33;
+    let m = x + elements[a] as usize;
+    let n = z + elements[a + 1] as usize;
+    put_inject(out, place, shot, &elements[x..m], &elements[z..n])
+}
+
+fn put_element(
+    out: &mut [u8],
+    place: usize,
+    shot: u64,
+    d: PauliDistribution,
+    elements: &[u64],
+    e: u64,
+) -> usize
+    requires { ⌜ (place + 1342 < 2 ^ 64) × ElementIn d (now elements) e ⌝ }
+    ensures { λ r. ⌜ Puts place (injectText shot (elementIn d (now (elements .entry)) e) ++ LF ∷ []) (now (out .entry)) (now (out .exit)) r ⌝ }
+{
+    match d {
+        PauliDistribution::Depolarizing(k) => {
+            let end = k as usize + 2;
+            put_depolarizing(out, place, shot, &elements[2..end], e)
+        }
+        _ => put_kept(out, place, shot, elements, e as usize),
+    }
+}
+
+// ---- A noise line
+
+// A word was needed past the end; or the places of the next word and of the next byte.
+pub enum Drawn {
+    Spent,
+    Done(usize, usize),
+}
+
+// The injections of the faults that the words bring.
+fn put_faults(
+    out: &mut [u8],
+    from: usize,
+    words: &[u64],
+    mask: &[u64],
+    shots: usize,
+    p: f64,
+    d: PauliDistribution,
+    sums: &[f64],
+    elements: &[u64],
+) -> Drawn
+    requires { ⌜ (from + 1342 * shots < 2 ^ 64) × Ready p d (now sums) (now mask) (now elements) shots ⌝ }
+    ensures { λ r. ⌜ ((q : Ready p d (now (sums .entry)) (now (mask .entry)) (now (elements .entry)) shots) → StepPut (now (words .entry)) from shots (now (out .entry)) (injected (q .noise .distribution) (drawShots (q .lent) (q .noise) shots 0 (now (words .entry)))) (now (out .exit)) r) ⌝ }
+{
+    let c = bound(d);
+    let rejected = limit(c);
+    let mut place = from;
+    let mut at = 0;
+    let mut shot = 0;
+    loop {
+        match next_fault(words, at, mask, shot, shots, p, d, c, rejected, sums) {
+            NextFault::Spent => {
+                return Drawn::Spent;
+            }
+            NextFault::Done(next) => {
+                return Drawn::Done(next, place);
+            }
+            NextFault::At(s, e, next) => {
+                place = put_element(&mut *out, place, s as u64, d, elements, e);
+                at = next;
+                shot = s + 1;
+            }
+        }
+    }
+}
+
+// The injections that stand for a noise line. Words of the main list are read from a position on, which is moved.
+pub fn put_noise<'a>(
+    out: &mut [u8],
+    place: usize,
+    p: f64,
+    d: PauliDistribution,
+    correlation: Correlation,
+    sums: &[f64],
+    mask: &[u64],
+    elements: &[u64],
+    shots: usize,
+    main: &'a [u64],
+    second: &'a [u64],
+    base: u64,
+    position: usize,
+) -> Drawn
+    requires { ⌜ (place + 1342 * shots < 2 ^ 64) × (position ≤ length (now main)) × ReadyOf p d (now sums) (now mask) (now elements) shots correlation (now second) base ⌝ }
+    ensures { λ r. ⌜ ((q : ReadyOf p d (now (sums .entry)) (now (mask .entry)) (now (elements .entry)) shots correlation (now (second .entry)) base) (text : List ℕ) → StepPut (now (main .entry)) place shots (now (out .entry)) (stepOf (q .ready .lent) (drop position (now (main .entry))) text (Instruction.noise (q .ready .noise))) (now (out .exit)) r) ⌝ }
+{
+    if p <= 0.0 {
+        return Drawn::Done(position, place);
+    }
+    let words = part(main, second, correlation, base, position);
+    match put_faults(out, place, words, mask, shots, p, d, sums, elements) {
+        Drawn::Spent => Drawn::Spent,
+        Drawn::Done(read, next) => match correlation {
+            Correlation::Uncorrelated => Drawn::Done(position + read, next),
+            Correlation::Shared(_) => Drawn::Done(position, next),
+        },
+    }
+}

@@ -1,0 +1,13 @@
+-- `settling::text_fits` meets its contract. Assumes nothing.
+use borrow.Author.Tests.{le-leb, lt-leb}
+use Rattle.settling.proofs.text_fits.Statement.{statement}
+use Rattle.settling.proofs.text_fits.Tie as tie
+
+returns : tie.Need-returns
+returns c = rw (lt-leb _ _ (c .if1 .taken))
+
+returns-2 : tie.Need-returns-2
+returns-2 c = rw (le-leb _ _ (c .if1 .left))
+
+pub text-fits-spec : {M : Type 1} → statement M
+text-fits-spec = tie.close (tie.spec returns returns-2)

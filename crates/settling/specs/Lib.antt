@@ -1,0 +1,3 @@
+-- Definitions that contracts cite: a pass over a job that puts its settled text. The laws are for the proofs.
+pub mod Pass
+pub mod Laws

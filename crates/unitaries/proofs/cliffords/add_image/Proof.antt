@@ -1,0 +1,80 @@
+-- `unitaries::cliffords::add_image` meets its contract: what is left of the row, from operand j on, comes to the whole.
+use Rattle.pauli.specs.Bits.{bit}
+use Prim.Native.Nat.{_+_, _*_, _-_}
+use Rattle.propagator.specs.Laws.Lists.{row-in}
+use mathlib.Core.Path.{_≡_, refl, _∙_}
+use Rattle.unitaries.specs.Laws.Images.{RowLeft, row-starts, row-turn, image-acts}
+use lib.ListN.{length}
+use native.Mathlib.Omega.{arith}
+use Rattle.job.specs.Laws.Lists.{below-at}
+use Rattle.unitaries.proofs.cliffords.add_image.Statement.{statement}
+use Rattle.unitaries.proofs.cliffords.add_image.Tie as tie
+
+abbrev Inv-loop : tie.InvT-loop
+Inv-loop x₀ z₀ w n qubits t r src i k j₀ x z j = RowLeft w (λ c. bit t (2 * length qubits * r + c)) qubits i src x₀ j x × RowLeft w (λ c. bit t (2 * length qubits * r + (length qubits + c))) qubits i src z₀ j z × (length x ≡ length x₀) × (length z ≡ length z₀)
+
+abbrev μ-loop : tie.MeasureT-loop
+μ-loop x₀ z₀ w n qubits t r src i k j₀ x z j = length qubits - j
+
+loop-holds : tie.Need-loop-holds Inv-loop μ-loop
+loop-holds c = (row-starts _ _ _ _ _ _, row-starts _ _ _ _ _ _, refl, refl)
+
+mul-q : tie.Need-mul-q Inv-loop μ-loop
+mul-q c = omega arith
+
+shared-slice-read-q : tie.Need-shared-slice-read-q Inv-loop μ-loop
+shared-slice-read-q c = omega arith
+
+table-bit-requires : tie.Need-table-bit-requires Inv-loop μ-loop
+table-bit-requires c κs = omega arith
+
+add-row-if-requires : tie.Need-add-row-if-requires Inv-loop μ-loop
+add-row-if-requires c κs = (row-in _ _ _ _ (c .before .before .before .before .loop .inv .2 ∙ c .before .before .before .before .before .before .before .before .before .pre .0) (below-at _ _ (c .before .before .before .before .before .before .before .before .before .pre .3) _ (c .before .before .before .loop-test .taken)), c .before .before .before .before .before .before .before .before .before .pre .5)
+
+add-table-bit : tie.Need-add-table-bit Inv-loop μ-loop
+add-table-bit c = omega arith
+
+table-bit-requires-2 : tie.Need-table-bit-requires-2 Inv-loop μ-loop
+table-bit-requires-2 c κs = omega arith
+
+add-row-if-requires-2 : tie.Need-add-row-if-requires-2 Inv-loop μ-loop
+add-row-if-requires-2 c κs = (row-in _ _ _ _ (c .before .before .before .before .before .before .before .before .before .loop .inv .3 ∙ c .before .before .before .before .before .before .before .before .before .before .before .before .before .before .pre .1) (below-at _ _ (c .before .before .before .before .before .before .before .before .before .before .before .before .before .before .pre .3) _ (c .before .before .before .before .before .before .before .before .loop-test .taken)), c .before .before .before .before .before .before .before .before .before .before .before .before .before .before .pre .5)
+
+add-j : tie.Need-add-j Inv-loop μ-loop
+add-j c = omega arith
+
+loop-less : tie.Need-loop-less Inv-loop μ-loop
+loop-less c = omega arith
+
+loop-again : tie.Need-loop-again Inv-loop μ-loop
+loop-again c = (row-turn _ _ _ _ _ _ _ _ _ _ (c .before .before .before .before .before .before .before .before .before .before .before .loop-test .taken) (c .before .before .before .before .before .before .before .before .table-bit .ensures) (c .before .before .before .before .before .before .before .add-row-if .ensures) (c .before .before .before .before .before .before .before .before .before .before .before .before .loop .inv .0), row-turn _ _ _ _ _ _ _ _ _ _ (c .before .before .before .before .before .before .before .before .before .before .before .loop-test .taken) (c .before .before .before .table-bit2 .ensures) (c .before .before .add-row-if2 .ensures) (c .before .before .before .before .before .before .before .before .before .before .before .before .loop .inv .1), c .before .before .before .before .before .before .before .add-row-if .kept .0 ∙ c .before .before .before .before .before .before .before .before .before .before .before .before .loop .inv .2, c .before .before .add-row-if2 .kept .0 ∙ c .before .before .before .before .before .before .before .before .before .before .before .before .loop .inv .3)
+
+same-length : tie.Need-same-length Inv-loop μ-loop
+same-length c = c .before .loop .inv .2
+
+same-length-2 : tie.Need-same-length-2 Inv-loop μ-loop
+same-length-2 c = c .before .loop .inv .3
+
+returns : tie.Need-returns Inv-loop μ-loop
+returns c = λ d. image-acts _ _ _ _ _ _ _ _ d _ _ _ (c .loop-test .left) (c .before .loop .inv .0) (c .before .loop .inv .1)
+
+pub add-image-spec : {M : Type 1} → statement M
+add-image-spec =
+    tie.close
+    (tie.spec
+    Inv-loop
+    μ-loop
+    loop-holds
+    mul-q
+    shared-slice-read-q
+    table-bit-requires
+    add-row-if-requires
+    add-table-bit
+    table-bit-requires-2
+    add-row-if-requires-2
+    add-j
+    loop-less
+    loop-again
+    same-length
+    same-length-2
+    returns)

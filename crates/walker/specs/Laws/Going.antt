@@ -1,0 +1,215 @@
+-- The walk line after line, from the last to the first. Laws. Assumes nothing.
+use Prim.Native.Nat.{ℕ, zero, suc, _+_, _-_, _≤_, _<_}
+use native.Mathlib.Omega.{arith}
+use mathlib.Core.Path.{_≡_, refl, sym, ap, ap₂, _∙_}
+use mathlib.Core.Bool.{Bool, true, false, _&&_}
+use borrow.Author.Tests.{eqb-true}
+use lib.Dec.{eqb, ltb, leb}
+use mathlib.Core.List.{List, [], _∷_, _++_, append-assoc, append-nil}
+use mathlib.Core.Option.{Option, some}
+use lib.ListN.{length, getD, take, length-append}
+use lib.Seq.{take-length}
+use Rattle.pauli.specs.Bits.{Bits}
+use Rattle.pauli.specs.Pauli.{identity}
+use Rattle.pauli.specs.Fixed.{inSet}
+use Rattle.text.specs.Bytes.{LF, pieces, lines}
+use Rattle.job.specs.declared.Header.{Header}
+use Rattle.job.specs.Line.{Line, Placed}
+use Rattle.job.specs.Grammar.{Written, readLine}
+use Rattle.text.specs.Laws.Values.{both}
+use Rattle.job.specs.Job.{maxBytes, wellEnded, checkJob, Gathered, gather, gathered, Job, jobOf}
+use Rattle.job.specs.Sound.{HeaderSound, LineSound}
+use Rattle.job.specs.Theorems.{checked-sound}
+use Rattle.job.specs.Laws.Begun.{job-begun}
+use Rattle.reader.specs.declared.Form.{Form}
+use Rattle.reader.specs.Parsed.{Parsed}
+use Rattle.instructions.specs.Reading.{lineAt}
+use Rattle.instructions.specs.Laws.Meaning.{read-says}
+use Rattle.frames.specs.Forward.{Setting, settingOf}
+use Rattle.backward.specs.Walk.{counts, Walk, oneMore, backward, walkBack, walk}
+use Rattle.backward.specs.Walking.{noiseFirst, firstNoise, lineFirst, plainLines}
+use Rattle.carry.specs.Full.{full}
+use Rattle.carry.specs.Laws.Same.{same-backward}
+use Rattle.lines_back.specs.declared.Walk.{Walk as WalkWords}
+use Rattle.lines_back.specs.Back.{Readable, walkOf, writtenBack, noiseBack, LineBack}
+use Rattle.walker.specs.Steps.{LineStart, LineBefore, Started, lineOrNone, WalkedBack, Known, OfJob, PassedOver, TextBack}
+use Rattle.walker.specs.Laws.Known.{job-known}
+
+-- ---- one line
+
+-- a line of an accepted job that was read
+pub readable : {text : List ℕ} {form : Form} {fields : List ℕ} → OfJob text → Parsed text form fields → 136 ≤ length fields → Readable form fields
+readable o parsed wide =
+    let (vs, said) = read-says parsed (o .known .reads) in
+    record { header = o .header; range = o .range; wide = wide; values = vs; written = o .known .written; said = said; sound = o .known .sound }
+
+-- by its form and its fields, and by its bytes
+pub read-back : {text : List ℕ} {form : Form} {fields : List ℕ} {shot k : ℕ} {w w′ : WalkWords} {set set′ : List ℕ} → Parsed text form fields → 136 ≤ length fields
+    → LineBack form fields shot k w w′ set set′ → TextBack text shot k w w′ set set′
+unfolding readable
+read-back parsed wide l = record { long = l .long; walks = λ o. l .walks (readable o parsed wide); noise = λ o. l .noise (readable o parsed wide) }
+
+-- a line that is passed over
+pub passed-back : {text : List ℕ} {shot k : ℕ} {w : WalkWords} {set : List ℕ} → ((v : Written) → readLine text ≡ some v → PassedOver shot v) → length set ≡ 16
+    → TextBack text shot k w w set set
+passed-back {k = k} {w = w} {set = set} p long =
+    record {
+      long = long;
+      walks = λ o. p (o .known .written) (o .known .reads) .walks (walkOf w set);
+      noise = λ o. p (o .known .written) (o .known .reads) .noise k (w .noise);
+    }
+
+-- over the job's own number of qubits
+same-written : (h : Header) → h .qubits ≤ 256 → (shot : ℕ) (v : Written) → ((l : Line) → v ≡ Written.line l → (r : ℕ) × (r ≤ h .outcomes) × LineSound h r l)
+    → (w : Walk) → writtenBack (full shot) v w ≡ writtenBack (settingOf h shot) v w
+unfolding writtenBack
+same-written h few shot (Written.header g) sound w = refl
+same-written h few shot (Written.line l) sound w = let (r, within, s) = sound l refl in sym (same-backward h few r l s shot w)
+same-written h few shot (Written.noise n) sound w = refl
+same-written h few shot (Written.element v P) sound w = refl
+
+-- a line in front of others, of which something was gathered
+module _ (c : Setting) (k : ℕ) (text : List ℕ) where
+  written-lines : (v : Written) (g : Gathered) (w : Walk)
+      → walkBack c (plainLines (gather k text (some v) g .instructions)) w ≡ writtenBack c v (walkBack c (plainLines (g .instructions)) w)
+  unfolding gather plainLines lineFirst walkBack writtenBack
+  written-lines (Written.header h) g w = refl
+  written-lines (Written.line l) g w = refl
+  written-lines (Written.noise n) g w = refl
+  written-lines (Written.element v P) g w = refl
+
+  written-noise : (v : Written) (g : Gathered) (before : ℕ) → 0 < k → lineOrNone before ≡ firstNoise (g .instructions)
+      → lineOrNone (noiseBack k v before) ≡ firstNoise (gather k text (some v) g .instructions)
+  unfolding gather firstNoise noiseFirst noiseBack
+  written-noise (Written.header h) g before positive e = e
+  written-noise (Written.line l) g before positive e = e
+  written-noise (Written.noise n) g before positive e = some-line k positive
+    where
+      some-line : (j : ℕ) → 0 < j → lineOrNone j ≡ some j
+      some-line zero h = absurd (omega arith)
+      some-line (suc j) h = unfold lineOrNone in refl
+  written-noise (Written.element v P) g before positive e = e
+
+-- a line counts at most one
+one-more : (b : Bool) (n : ℕ) → oneMore b n ≤ suc n
+one-more true n = omega arith
+one-more false n = omega arith
+
+written-counts : (c : Setting) (v : Written) (w : Walk) → writtenBack c v w .count ≤ suc (w .count)
+unfolding writtenBack backward
+written-counts c (Written.header h) w = omega arith
+written-counts c (Written.line l) w = one-more (counts c l (w .carried)) (w .count)
+written-counts c (Written.noise n) w = omega arith
+written-counts c (Written.element v P) w = omega arith
+
+-- ---- the loop
+
+-- the walk before any line
+unfoldable pub startWith : Bits → Walk
+startWith S = record { carried = record { observable = identity; set = S }; count = 0 }
+
+-- The lines from place e on were walked back over, those of `done`; the k lines before are left.
+pub record Going (job : List ℕ) (shot : ℕ) (S : Bits) (w : WalkWords) (set : List ℕ) (k e : ℕ) : Type 0 where
+  pub within : e ≤ length job
+  pub starts : LineStart job e
+  pub number : k ≡ length (lines (take e job))
+  pub long : length set ≡ 16
+  pub counted : w .count + e ≤ length job
+  pub done : List (List ℕ)
+  pub whole : lines job ≡ lines (take e job) ++ done
+  pub walked : walkOf w set ≡ walkBack (settingOf (jobOf job .header) shot) (plainLines (gathered (suc k) done .instructions)) (startWith S)
+  pub noise : lineOrNone (w .noise) ≡ firstNoise (gathered (suc k) done .instructions)
+
+-- the last byte of a job is LF
+job-ends : (job : List ℕ) → wellEnded job ≡ true → getD job (length job - 1) 0 ≡ LF
+unfolding wellEnded
+job-ends job e = eqb-true _ _ (both (ltb 0 (length job) && leb (length job) maxBytes) (eqb (getD job (length job - 1) 0) LF) e .1)
+
+module _ (job : List ℕ) (passes : checkJob job .number ≡ 0) where
+  range : HeaderSound (jobOf job .header)
+  range = checked-sound job passes .header
+
+  pub going-first : {shot : ℕ} {w : WalkWords} {set : List ℕ} {k : ℕ} → Started w → length set ≡ 16 → k ≡ length (lines job) → Going job shot (inSet set) w set k (length job)
+  unfolding gathered plainLines walkBack startWith firstNoise lineOrNone
+  going-first {set = set} s long number =
+      record {
+        within = omega arith;
+        starts = λ h. job-ends job (checked-sound job passes .ended);
+        number = number ∙ rw (take-length job);
+        long = long;
+        counted = omega (arith, s .count);
+        done = [];
+        whole = rw (take-length job) (sym (append-nil (lines job)));
+        walked = λ i. record { carried = record { observable = s .observable i; set = inSet set }; count = s .count i };
+        noise = rw (s .noise);
+      }
+
+  module _ {shot : ℕ} {S : Bits} {w : WalkWords} {set : List ℕ} {k e at : ℕ} (g : Going job shot S w set k e) (positive : 0 < e)
+      (b : LineBefore job (e - 1) at) where
+    abbrev text : List ℕ
+    text = lineAt job at (e - 1)
+
+    cut : lines (take e job) ≡ lines (take at job) ++ text ∷ []
+    cut = let p : e - 1 + 1 ≡ e = omega arith in rw p at (b .splits)
+
+    whole-more : lines job ≡ lines (take at job) ++ text ∷ g .done
+    whole-more = g .whole ∙ ap (λ (ls : List (List ℕ)). ls ++ g .done) cut ∙ append-assoc (lines (take at job)) (text ∷ []) (g .done)
+
+    known : Known (jobOf job .header) text
+    known = job-known job passes (lines (take at job)) text (g .done) whole-more
+
+    pub line-known : OfJob text
+    line-known = record { header = jobOf job .header; range = range; known = known }
+
+    -- some lines are left
+    pub line-left : 0 < k
+    line-left = omega (arith, g .number, ap length cut, length-append (lines (take at job)) (text ∷ []))
+
+    gathered-more : gathered (suc (k - 1)) (text ∷ g .done) ≡ gather k text (some (known .written)) (gathered (suc k) (g .done))
+    unfolding gathered
+    gathered-more =
+        let p : suc (k - 1) ≡ k = omega (arith, line-left) in
+        ap (λ (j : ℕ). gathered j (text ∷ g .done)) p ∙ ap (λ (o : Option Written). gather k text o (gathered (suc k) (g .done))) (known .reads)
+
+    pub going-on : (w′ : WalkWords) (set′ : List ℕ) → TextBack text shot k w w′ set set′ → Going job shot S w′ set′ (k - 1) at
+    unfolding line-known
+    going-on w′ set′ l =
+        let q = line-known in
+        let same = same-written (jobOf job .header) (range .few-qubits) shot (known .written) (known .sound) (walkOf w set) in
+        let count = ap (λ (x : Walk). x .count) (l .walks q) in
+        let lines-left = ap length cut ∙ length-append (lines (take at job)) (text ∷ []) in
+        record {
+          within = omega (arith, b .within, g .within);
+          starts = b .starts;
+          number = omega (arith, g .number, lines-left);
+          long = l .long;
+          counted = omega (arith, b .within, g .counted, count, written-counts (full shot) (known .written) (walkOf w set));
+          done = text ∷ g .done;
+          whole = whole-more;
+          walked =
+              l .walks q
+              ∙ same
+              ∙ ap (writtenBack (settingOf (jobOf job .header) shot) (known .written)) (g .walked)
+              ∙ sym (written-lines (settingOf (jobOf job .header) shot) k text (known .written) (gathered (suc k) (g .done)) (startWith S))
+              ∙ sym (ap (λ (x : Gathered). walkBack (settingOf (jobOf job .header) shot) (plainLines (x .instructions)) (startWith S)) gathered-more);
+          noise =
+              ap lineOrNone (l .noise q)
+              ∙ written-noise (settingOf (jobOf job .header) shot) k text (known .written) (gathered (suc k) (g .done)) (w .noise) line-left (g .noise)
+              ∙ sym (ap (λ (x : Gathered). firstNoise (x .instructions)) gathered-more);
+        }
+
+  pub going-done : {shot : ℕ} {S : Bits} {w : WalkWords} {set : List ℕ} {k e : ℕ} → Going job shot S w set k e → e ≡ 0 → WalkedBack job shot S w
+  unfolding walk startWith pieces gathered gather
+  going-done {shot} {S} {w} {set} {k} {e} g z =
+      let b = job-begun job passes in
+      let none-left : lines (take e job) ≡ [] = rw z in
+      let number : k ≡ 0 = g .number ∙ ap length none-left in
+      let done : g .done ≡ b .text ∷ b .rest = sym (g .whole ∙ ap (λ (ls : List (List ℕ)). ls ++ g .done) none-left) ∙ b .split in
+      let instructions : gathered (suc k) (g .done) .instructions ≡ jobOf job .instructions =
+      ap₂ (λ (j : ℕ) (ls : List (List ℕ)). gathered (suc j) ls .instructions) number done
+      ∙ ap (λ (o : Option Written). gather 1 (b .text) o (gathered 2 (b .rest)) .instructions) (b .reads)
+      ∙ ap (λ (j : Job). j .instructions) (sym (b .is)) in
+      record {
+        count = ap (λ (x : Walk). x .count) (g .walked) ∙ ap (λ (is : List Placed). walkBack (settingOf (jobOf job .header) shot) (plainLines is) (startWith S) .count) instructions;
+        noise = g .noise ∙ ap firstNoise instructions;
+      }

@@ -1,0 +1,135 @@
+// Text written into lent bytes. A byte whose place is past the end of the lent bytes is not written, but counted: over no bytes at all a text is only
+// measured.
+ghost use mathlib.Core.Path.{_≡_};
+ghost use mathlib.Core.List.{[], _∷_};
+ghost use Prim.Native.Nat.{_+_, _-_, _*_, _^_, _<_, min};
+ghost use lib.ListN.{length};
+ghost use Rattle.text.specs.Number.{decimal, hexByte, hexadecimal};
+ghost use Rattle.text.specs.List.{commas, listText};
+ghost use Rattle.writer.specs.Placed.{Puts};
+use job::Answer;
+
+pub mod lines;
+
+// What a call that writes text says: its answer, and its byte figure.
+#[repr(C)]
+pub struct TextAnswer {
+    pub answer: Answer,
+    pub figure: u64,
+}
+
+// A refusal with a figure of 0.
+pub fn refused(answer: Answer) -> TextAnswer
+    ensures { λ r. ⌜ r ≡ record { answer = answer; figure = 0 } ⌝ }
+{
+    TextAnswer { answer, figure: 0 }
+}
+
+pub fn put_byte(out: &mut [u8], at: usize, b: u8) -> usize
+    requires { ⌜ at + 1 < 2 ^ 64 ⌝ }
+    ensures { λ r. ⌜ Puts at (b ∷ []) (now (out .entry)) (now (out .exit)) r ⌝ }
+{
+    if out.len() <= at {
+        return at + 1;
+    }
+    out[at] = b;
+    at + 1
+}
+
+// How many of n bytes have a place from `at` on below `length`.
+fn room(length: usize, at: usize, n: usize) -> usize
+    ensures { λ r. ⌜ r ≡ min n («length» - at) ⌝ }
+{
+    if length <= at {
+        return 0;
+    }
+    let left = length - at;
+    if left < n {
+        return left;
+    }
+    n
+}
+
+pub fn put_bytes(out: &mut [u8], at: usize, s: &[u8]) -> usize
+    requires { ⌜ at + length (now s) < 2 ^ 64 ⌝ }
+    ensures { λ r. ⌜ Puts at (now (s .entry)) (now (out .entry)) (now (out .exit)) r ⌝ }
+{
+    let n = room(out.len(), at, s.len());
+    let mut i = 0;
+    while i < n {
+        out[at + i] = s[i];
+        i += 1;
+    }
+    at + s.len()
+}
+
+// In decimal.
+pub fn put_number(out: &mut [u8], at: usize, n: u64) -> usize
+    requires { ⌜ at + 20 < 2 ^ 64 ⌝ }
+    ensures { λ r. ⌜ Puts at (decimal n) (now (out .entry)) (now (out .exit)) r ⌝ }
+{
+    let mut digits = [0u8; 20];
+    let mut i = 20;
+    let mut rest = n;
+    while 9 < rest {
+        i -= 1;
+        digits[i] = 48 + (rest % 10) as u8;
+        rest /= 10;
+    }
+    i -= 1;
+    digits[i] = 48 + rest as u8;
+    put_bytes(out, at, &digits[i..])
+}
+
+fn hex_byte(d: u64) -> u8
+    requires { ⌜ d < 16 ⌝ }
+    ensures { λ r. ⌜ r ≡ hexByte d ⌝ }
+{
+    if d < 10 {
+        return 48 + d as u8;
+    }
+    87 + d as u8
+}
+
+// H: 16 hexadecimal digits.
+pub fn put_hex(out: &mut [u8], at: usize, n: u64) -> usize
+    requires { ⌜ at + 16 < 2 ^ 64 ⌝ }
+    ensures { λ r. ⌜ Puts at (hexadecimal n) (now (out .entry)) (now (out .exit)) r ⌝ }
+{
+    let mut digits = [0u8; 16];
+    let mut i = 16;
+    let mut rest = n;
+    while 0 < i {
+        i -= 1;
+        digits[i] = hex_byte(rest % 16);
+        rest /= 16;
+    }
+    put_bytes(out, at, &digits)
+}
+
+// Each number after a comma.
+fn put_commas(out: &mut [u8], at: usize, l: &[u64]) -> usize
+    requires { ⌜ at + 21 * length (now l) < 2 ^ 64 ⌝ }
+    ensures { λ r. ⌜ Puts at (commas (now (l .entry))) (now (out .entry)) (now (out .exit)) r ⌝ }
+{
+    let mut next = at;
+    let mut i = 0;
+    while i < l.len() {
+        next = put_byte(&mut *out, next, 44);
+        next = put_number(&mut *out, next, l[i]);
+        i += 1;
+    }
+    next
+}
+
+// A list with commas, `-` when empty.
+pub fn put_list(out: &mut [u8], at: usize, l: &[u64]) -> usize
+    requires { ⌜ at + (21 * length (now l) + 1) < 2 ^ 64 ⌝ }
+    ensures { λ r. ⌜ Puts at (listText (now (l .entry))) (now (out .entry)) (now (out .exit)) r ⌝ }
+{
+    if l.len() == 0 {
+        return put_byte(out, at, 45);
+    }
+    let next = put_number(&mut *out, at, l[0]);
+    put_commas(out, next, &l[1..])
+}

@@ -1,0 +1,135 @@
+//! Frames and deltas in memory of their own.
+
+use crate::{Answer, Draws, Header, Rows, run};
+
+/// The frames and outcome deltas that a run leaves, in memory of their own, which a further run uses again.
+///
+/// ```
+/// use kundatrezo::{Draws, Frames, bit};
+///
+/// // X on both qubits with probability 1, then a measurement of Z on qubit 1
+/// let job = b"op=job qubits=2 outcomes=1 shots=70
+/// op=n p=3ff0000000000000 corr=- cond=- parity=0 d=1 x=0,1 z=-
+/// op=o x=- z=1 id=0
+/// ";
+/// let words = [0; 70];
+/// let noiseless = [0; 2];
+/// let frames = Frames::of_run(job, &noiseless, Draws { main: &words, ..Draws::default() })?;
+/// assert_eq!(frames.delta_row(0), [u64::MAX, 0x3f]);
+/// assert!(bit(frames.x_row(0), 69) && !bit(frames.z_row(0), 69));
+/// # Ok::<(), kundatrezo::Refusal>(())
+/// ```
+#[derive(Debug, Clone, Default, PartialEq, Eq)]
+pub struct Frames {
+    header: Header,
+    x: Vec<u64>,
+    z: Vec<u64>,
+    deltas: Vec<u64>,
+}
+
+impl Frames {
+    /// Frames without rows, for a run to come.
+    #[must_use]
+    pub fn new() -> Self {
+        Self::default()
+    }
+
+    /// The frames and deltas of a run.
+    ///
+    /// # Errors
+    ///
+    /// The refusal by 1 to 12, 13 (too few noiseless words) or 14.
+    pub fn of_run(job: &[u8], noiseless: &[u64], draws: Draws<'_>) -> Answer<Self> {
+        let mut frames = Self::new();
+        frames.run(job, noiseless, draws)?;
+        Ok(frames)
+    }
+
+    /// Run a job in this memory, which grows as the job's header asks. After a refusal every row is zero.
+    ///
+    /// # Errors
+    ///
+    /// The refusal by 1 to 12, 13 (too few noiseless words) or 14.
+    pub fn run(&mut self, job: &[u8], noiseless: &[u64], draws: Draws<'_>) -> Answer {
+        // A job without a header gets no rows; the run refuses it.
+        self.header = Header::parse(job).unwrap_or_default();
+        for (list, need) in [
+            (&mut self.x, self.header.frame_words()),
+            (&mut self.z, self.header.frame_words()),
+            (&mut self.deltas, self.header.outcome_words()),
+        ] {
+            list.clear();
+            list.resize(need, 0);
+        }
+        run(job, Rows { x: &mut self.x, z: &mut self.z, deltas: &mut self.deltas }, noiseless, draws)
+    }
+
+    /// The numbers of the header that the rows lie by; all zero where the last job had none.
+    #[must_use]
+    pub fn header(&self) -> Header {
+        self.header
+    }
+
+    /// The X part of the frames, a row for each qubit.
+    #[must_use]
+    pub fn x(&self) -> &[u64] {
+        &self.x
+    }
+
+    /// The Z part of the frames, a row for each qubit.
+    #[must_use]
+    pub fn z(&self) -> &[u64] {
+        &self.z
+    }
+
+    /// The deltas, a row for each outcome of the header; rows of outcomes that no line records are zero.
+    #[must_use]
+    pub fn deltas(&self) -> &[u64] {
+        &self.deltas
+    }
+
+    /// The X row of a qubit.
+    ///
+    /// # Panics
+    ///
+    /// Panics if the qubit is not below the header's qubits.
+    #[must_use]
+    pub fn x_row(&self, qubit: usize) -> &[u64] {
+        self.row(&self.x, qubit)
+    }
+
+    /// The Z row of a qubit.
+    ///
+    /// # Panics
+    ///
+    /// Panics if the qubit is not below the header's qubits.
+    #[must_use]
+    pub fn z_row(&self, qubit: usize) -> &[u64] {
+        self.row(&self.z, qubit)
+    }
+
+    /// The delta row of an outcome.
+    ///
+    /// # Panics
+    ///
+    /// Panics if the outcome is not below the header's outcomes.
+    #[must_use]
+    pub fn delta_row(&self, id: usize) -> &[u64] {
+        self.row(&self.deltas, id)
+    }
+
+    fn row<'a>(&self, list: &'a [u64], place: usize) -> &'a [u64] {
+        let words = self.header.words_per_row();
+        &list[place * words..][..words]
+    }
+}
+
+/// The bit of a shot in a row.
+///
+/// # Panics
+///
+/// Panics if the row has no such bit.
+#[must_use]
+pub fn bit(row: &[u64], shot: usize) -> bool {
+    row[shot / 64] >> (shot % 64) & 1 == 1
+}

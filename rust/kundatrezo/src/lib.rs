@@ -1,0 +1,294 @@
+//! Safe calls of Kundatrezo, a Pauli-frame noise engine that is written and proved in Rattle, from its static library `libkundatrezo.a`.
+//!
+//! A *job* is a text: a header with the numbers of qubits, outcomes and shots, then a line for each instruction. Each call takes a job of arbitrary
+//! bytes and lists of any length, and gives the finished work or a [`Refusal`] with a number and a line.
+//!
+//! | call | gives |
+//! |---|---|
+//! | [`check`] | whether the job passes tests 1 to 12 |
+//! | [`run`] | the frames and the outcome deltas of all shots; [`Frames`] has memory of its own |
+//! | [`settle`] | the job with its noise replaced by the injections that the same words draw; [`settled`] as a `Vec` |
+//! | [`walk`] | for a set of outcomes and a shot, the count of faults that flip the set's parity |
+//! | [`annotate`] | the job with depolarizing noise at every location; [`annotated`] as a `Vec` |
+//! | [`locations`] | the number of fault locations |
+//! | [`correlation`] | whether correlated noise lines agree in size |
+//!
+//! # Rows
+//!
+//! A row has a bit for each shot: shot s is bit s mod 64 of word s / 64. The frames have an X row and a Z row for each qubit, deltas and noiseless bits a
+//! row for each outcome; rows lie in order, each of [`Header::words_per_row`] words. Bits past the last shot are zero in what a run leaves, and are not
+//! looked at in what it is lent. Words beyond those that the header asks for stay as they are.
+//!
+//! # Example
+//!
+//! ```
+//! use kundatrezo::{Draws, Frames, bit, settled, walk};
+//!
+//! let job = b"op=job qubits=2 outcomes=2 shots=3
+//! op=u g=4 q=0
+//! op=u g=11 q=0,1
+//! op=i shot=1 x=0 z=-
+//! op=o x=- z=0 id=0
+//! op=o x=- z=1 id=1
+//! op=t shot=2 id=1
+//! ";
+//! let noiseless = [0, 0];
+//! let frames = Frames::of_run(job, &noiseless, Draws::default())?;
+//! assert_eq!(frames.deltas(), [0b010, 0b100]);
+//!
+//! // in every shot the deltas of a set sum, modulo 2, to the count of the walk on the settled job
+//! let text = settled(job, &noiseless, Draws::default())?;
+//! for shot in 0..3 {
+//!     let sum = bit(frames.delta_row(0), shot) ^ bit(frames.delta_row(1), shot);
+//!     assert_eq!(walk(&text, shot as u64, &[0, 1])? % 2, u64::from(sum));
+//! }
+//! # Ok::<(), kundatrezo::Refusal>(())
+//! ```
+//!
+//! A caller who has no random words of their own can make them from a seed:
+//!
+//! ```
+//! use kundatrezo::{Draws, Frames, Header, Xorshift, annotated};
+//!
+//! let job = b"op=job qubits=2 outcomes=1 shots=4096\nop=u g=14 q=0,1\nop=o x=- z=0,1 id=0\n";
+//! let job = annotated(job, 0.01)?;
+//! let noiseless = vec![0; Header::parse(&job).unwrap().outcome_words()];
+//! let words: Vec<u64> = Xorshift::new(0x9e37_79b9_7f4a_7c15).unwrap().take(100_000).collect();
+//! let frames = Frames::of_run(&job, &noiseless, Draws { main: &words, ..Draws::default() })?;
+//! let flipped: u32 = frames.delta_row(0).iter().map(|word| word.count_ones()).sum();
+//! // of 15 Paulis on the two qubits 8 flip the outcome, and there are two such noise lines
+//! assert!((flipped as f64 / 4096.0 - 2.0 * 0.01 * 8.0 / 15.0).abs() < 0.005);
+//! # Ok::<(), kundatrezo::Refusal>(())
+//! ```
+//!
+//! # Linking
+//!
+//! The build script links the library from the folder in the environment variable `KUNDATREZO_LIB_DIR`, an absolute path. The library is for x86-64
+//! Linux, keeps no state and takes no memory but some of the stack, so calls may be made from several threads at the same time.
+
+mod draws;
+mod frames;
+mod header;
+mod refusal;
+mod sys;
+
+pub use draws::{Draws, Xorshift};
+pub use frames::{Frames, bit};
+pub use header::{Header, recorded};
+pub use refusal::{Answer, Number, Refusal};
+
+use refusal::answer_of;
+
+/// The longest job, and the longest text that a call writes, in bytes.
+pub const MAX_BYTES: usize = 1_048_576;
+/// Most qubits of a header.
+pub const MAX_QUBITS: usize = 256;
+/// Most outcomes of a header.
+pub const MAX_OUTCOMES: usize = 1_024;
+/// Most shots of a header.
+pub const MAX_SHOTS: usize = 4_096;
+
+/// The lent words that a run writes.
+#[derive(Debug)]
+pub struct Rows<'a> {
+    /// The X part of the frames: [`Header::frame_words`] words.
+    pub x: &'a mut [u64],
+    /// The Z part of the frames: [`Header::frame_words`] words.
+    pub z: &'a mut [u64],
+    /// The deltas: [`Header::outcome_words`] words.
+    pub deltas: &'a mut [u64],
+}
+
+/// Make tests 1 to 12 of a job.
+///
+/// # Errors
+///
+/// The refusal, at the first bad line and with its lowest number.
+///
+/// ```
+/// use kundatrezo::{Number, check};
+///
+/// assert_eq!(check(b"op=job qubits=1 outcomes=0 shots=1\nop=z q=0\n"), Ok(()));
+/// assert_eq!(check(b"").unwrap_err().number, Number::LENGTH);
+/// ```
+pub fn check(job: &[u8]) -> Answer {
+    answer_of(&sys::check(job), 0).map(drop)
+}
+
+/// Run a job to its end in all of its shots: the final frames and the outcome deltas are left in `rows`, whatever was there before.
+///
+/// `noiseless` has the noiseless outcomes, [`Header::outcome_words`] words, which the conditions of noise lines look at.
+///
+/// # Errors
+///
+/// The refusal by 1 to 12, 13 (a lent list is too short) or 14 (a draw lies past its list). 14 leaves the needed words of `rows` zero, the others
+/// leave all memory untouched.
+///
+/// ```
+/// use kundatrezo::{Draws, Rows, run};
+///
+/// let job = b"op=job qubits=1 outcomes=1 shots=2\nop=i shot=1 x=0 z=-\nop=o x=- z=0 id=0\n";
+/// let (mut x, mut z, mut deltas) = ([0], [0], [0]);
+/// run(job, Rows { x: &mut x, z: &mut z, deltas: &mut deltas }, &[0], Draws::default())?;
+/// assert_eq!((x, z, deltas), ([0b10], [0], [0b10]));
+/// # Ok::<(), kundatrezo::Refusal>(())
+/// ```
+pub fn run(job: &[u8], rows: Rows<'_>, noiseless: &[u64], draws: Draws<'_>) -> Answer {
+    answer_of(&sys::run(job, rows, noiseless, draws), 0).map(drop)
+}
+
+/// Write the settled job at the front of `out`, and say how many bytes it has: each noise line is replaced by the injections that a run with the same
+/// `noiseless` and `draws` would make.
+///
+/// # Errors
+///
+/// The refusal by 1 to 12, 13 (too few noiseless words), 14 or 15 (the text does not fit; [`Refusal::figure`] is then not below what it needs). Nothing
+/// is written then.
+///
+/// ```
+/// use kundatrezo::{Draws, Number, settle};
+///
+/// let header = "op=job qubits=1 outcomes=0 shots=2\n";
+/// let job = format!("{header}op=n p=3fe0000000000000 corr=- cond=- parity=0 d=1 x=0 z=-\n");
+/// // the second word is not below one half
+/// let draws = Draws { main: &[0, u64::MAX], ..Draws::default() };
+/// let mut out = [0; 100];
+/// let bytes = settle(job.as_bytes(), &[], draws, &mut out)?;
+/// assert_eq!(out[..bytes], *format!("{header}op=i shot=0 x=0 z=-\n").as_bytes());
+///
+/// let refusal = settle(job.as_bytes(), &[], draws, &mut []).unwrap_err();
+/// assert_eq!(refusal.number, Number::ROOM);
+/// assert!(refusal.figure >= bytes as u64);
+/// # Ok::<(), kundatrezo::Refusal>(())
+/// ```
+pub fn settle(job: &[u8], noiseless: &[u64], draws: Draws<'_>, out: &mut [u8]) -> Answer<usize> {
+    let said = sys::settle(job, noiseless, draws, out);
+    answer_of(&said.answer, said.figure).map(bytes)
+}
+
+/// The settled job, in memory of its own.
+///
+/// # Errors
+///
+/// As [`settle`]; 15 where the text is longer than [`MAX_BYTES`].
+///
+/// ```
+/// use kundatrezo::{Draws, settled};
+///
+/// let job = b"op=job qubits=1 outcomes=0 shots=1\nop=u g=4 q=0\n";
+/// assert_eq!(settled(job, &[], Draws::default())?, job);
+/// # Ok::<(), kundatrezo::Refusal>(())
+/// ```
+pub fn settled(job: &[u8], noiseless: &[u64], draws: Draws<'_>) -> Answer<Vec<u8>> {
+    text(|out| settle(job, noiseless, draws, out))
+}
+
+/// Walk a job without noise back from its last line, with the observable of a set of recorded outcomes, and count the faults of a shot that flip the
+/// set's parity: injections that anticommute with the observable at their line, and outcome flips that fall in the set there. `set` is strictly rising.
+///
+/// # Errors
+///
+/// The refusal by 1 to 12, 17 (shot or set) or 16 (noise).
+///
+/// ```
+/// use kundatrezo::walk;
+///
+/// let job = b"op=job qubits=1 outcomes=1 shots=2\nop=i shot=1 x=0 z=-\nop=o x=- z=0 id=0\n";
+/// assert_eq!((walk(job, 0, &[0])?, walk(job, 1, &[0])?), (0, 1));
+/// # Ok::<(), kundatrezo::Refusal>(())
+/// ```
+pub fn walk(job: &[u8], shot: u64, set: &[u64]) -> Answer<u64> {
+    let said = sys::walk(job, shot, set);
+    answer_of(&said.answer, said.count)
+}
+
+/// Write the job with depolarizing noise of probability `p` before each measurement and after each gate at the front of `out`, and say how many bytes
+/// it has.
+///
+/// # Errors
+///
+/// The refusal by 1 to 12 (11 with line 0 for `p` itself), 18 or 15. Nothing is written then.
+///
+/// ```
+/// use kundatrezo::annotate;
+///
+/// let job = "op=job qubits=1 outcomes=0 shots=1\nop=u g=4 q=0\n";
+/// let mut out = [0; 200];
+/// let bytes = annotate(job.as_bytes(), 0.5, &mut out)?;
+/// let noise = "op=n p=3fe0000000000000 corr=- cond=- parity=0 d=2 q=0\n";
+/// assert_eq!(out[..bytes], *format!("{job}{noise}").as_bytes());
+/// # Ok::<(), kundatrezo::Refusal>(())
+/// ```
+pub fn annotate(job: &[u8], p: f64, out: &mut [u8]) -> Answer<usize> {
+    let said = sys::annotate(job, p.to_bits(), out);
+    answer_of(&said.answer, said.figure).map(bytes)
+}
+
+/// The annotated job, in memory of its own.
+///
+/// # Errors
+///
+/// As [`annotate`]; 15 where the text is longer than [`MAX_BYTES`].
+///
+/// ```
+/// use kundatrezo::{annotated, locations};
+///
+/// let job = b"op=job qubits=2 outcomes=0 shots=1\nop=u g=11 q=0,1\n";
+/// let noisy = annotated(job, 0.001)?;
+/// assert!(noisy.starts_with(job));
+/// assert_eq!(locations(job)?, 4);
+/// # Ok::<(), kundatrezo::Refusal>(())
+/// ```
+pub fn annotated(job: &[u8], p: f64) -> Answer<Vec<u8>> {
+    text(|out| annotate(job, p, out))
+}
+
+/// Count fault locations: twice the qubits that annotation gives noise, summed over the job.
+///
+/// # Errors
+///
+/// The refusal by 1 to 12.
+///
+/// ```
+/// use kundatrezo::locations;
+///
+/// assert_eq!(locations(b"op=job qubits=2 outcomes=0 shots=1\nop=u g=11 q=0,1\nop=z q=0\n"), Ok(4));
+/// ```
+pub fn locations(job: &[u8]) -> Answer<u64> {
+    let said = sys::locations(job);
+    answer_of(&said.answer, said.count)
+}
+
+/// Check that noise lines of one correlation have distributions of one size: 1, 4^k - 1 over k qubits, or the number of elements.
+///
+/// # Errors
+///
+/// The refusal by 1 to 12, or 19 at the first line whose size is not that of its correlation's first line.
+///
+/// ```
+/// use kundatrezo::{Number, correlation};
+///
+/// let job = b"op=job qubits=2 outcomes=0 shots=1
+/// op=n p=3fe0000000000000 corr=7 cond=- parity=0 d=2 q=0
+/// op=n p=3fe0000000000000 corr=7 cond=- parity=0 d=2 q=0,1
+/// ";
+/// let refusal = correlation(job).unwrap_err();
+/// assert_eq!((refusal.number, refusal.line), (Number::SIZES, 3));
+/// ```
+pub fn correlation(job: &[u8]) -> Answer {
+    answer_of(&sys::correlation(job), 0).map(drop)
+}
+
+/// The text that a call writes, which is never longer than `MAX_BYTES`.
+fn text(call: impl FnOnce(&mut [u8]) -> Answer<usize>) -> Answer<Vec<u8>> {
+    let mut out = vec![0; MAX_BYTES];
+    let bytes = call(&mut out)?;
+    out.truncate(bytes);
+    out.shrink_to_fit();
+    Ok(out)
+}
+
+/// Bytes written, which are no more than were lent.
+fn bytes(figure: u64) -> usize {
+    usize::try_from(figure).expect("the library is for 64-bit processors")
+}

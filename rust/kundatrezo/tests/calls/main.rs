@@ -1,0 +1,5 @@
+//! The calls through the library.
+
+mod names;
+mod refusals;
+mod starred;

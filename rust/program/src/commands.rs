@@ -1,0 +1,224 @@
+//! The commands, a call of the engine each.
+
+use crate::arguments::{Arguments, Command, Flag};
+use crate::words::{self, Lent};
+use crate::{Failure, files, print};
+use kundatrezo::{Frames, Header, MAX_BYTES, Refusal, bit, recorded};
+use std::fmt::Write;
+
+const X: Flag = Flag { name: "--x", value: "FILE", text: "write the X rows of the frames to this file" };
+const Z: Flag = Flag { name: "--z", value: "FILE", text: "write the Z rows of the frames to this file" };
+const DELTAS: Flag =
+    Flag { name: "--deltas", value: "FILE", text: "write the rows of the deltas to this file, and do not print them" };
+const OUTPUT: Flag =
+    Flag { name: "--output", value: "FILE", text: "write the text to this file; without it, to standard output" };
+const ROOM: Flag =
+    Flag { name: "--room", value: "N", text: "lend N bytes for the text; without it 1048576, the most it may have" };
+const SHOT: Flag = Flag { name: "--shot", value: "N", text: "the shot, from 0" };
+const SET: Flag = Flag { name: "--set", value: "L", text: "the outcomes, rising, with commas between; - for none" };
+const P: Flag = Flag { name: "--p", value: "P", text: "the probability in decimal" };
+const P_BITS: Flag =
+    Flag { name: "--p-bits", value: "H", text: "the probability by the 16 hexadecimal digits of its binary64" };
+
+const ROWS: &str = "\
+A row has a bit for each shot: shot s is bit s mod 64 of word s / 64. A file has the rows, each of
+ceil(shots / 64) words, in their order.";
+
+/// Every command.
+pub const COMMANDS: &[Command] = &[
+    Command {
+        name: "check",
+        summary: "whether a job passes the checks",
+        details: &["Makes tests 1 to 12 of a job, and prints 'ok=1' and the numbers of its header."],
+        options: &[],
+        obey: check,
+    },
+    Command {
+        name: "run",
+        summary: "the frames and the outcome deltas of all shots",
+        details: &[
+            "\
+Runs a job in all of its shots. Prints 'ok=1' and the numbers of its header, then 'id=' and 'delta=' for
+each recorded outcome, with a digit for each shot, shot 0 first.",
+            ROWS,
+            words::DETAILS,
+        ],
+        options: &[
+            words::MAIN,
+            words::SEED,
+            words::SKIP,
+            words::SECOND,
+            words::SECOND_SEED,
+            words::BASE,
+            words::NOISELESS,
+            X,
+            Z,
+            DELTAS,
+        ],
+        obey: run,
+    },
+    Command {
+        name: "settle",
+        summary: "the job with its noise replaced by the injections that it draws",
+        details: &[
+            "Writes the job with each noise line replaced by the injections that a run with the same words makes.",
+            words::DETAILS,
+        ],
+        options: &[
+            words::MAIN,
+            words::SEED,
+            words::SKIP,
+            words::SECOND,
+            words::SECOND_SEED,
+            words::BASE,
+            words::NOISELESS,
+            OUTPUT,
+            ROOM,
+        ],
+        obey: settle,
+    },
+    Command {
+        name: "walk",
+        summary: "the count of faults that flip the parity of a set of outcomes",
+        details: &["\
+Carries the observable of a set of recorded outcomes back through a job without noise (settle another job
+first). Prints 'ok=1 count=' and the number of the shot's faults that flip the set's parity. --shot and
+--set are wanted."],
+        options: &[SHOT, SET],
+        obey: walk,
+    },
+    Command {
+        name: "annotate",
+        summary: "the job with depolarizing noise at every location",
+        details: &["\
+Writes the job with a line of depolarizing noise before each measurement and after each gate. Either --p
+or --p-bits is wanted."],
+        options: &[P, P_BITS, OUTPUT, ROOM],
+        obey: annotate,
+    },
+    Command {
+        name: "locations",
+        summary: "the number of fault locations",
+        details: &["Prints 'ok=1 locations=' and twice the qubits that annotation gives noise, summed over the job."],
+        options: &[],
+        obey: locations,
+    },
+    Command {
+        name: "correlation",
+        summary: "whether correlated noise lines agree in size",
+        details: &["Prints 'ok=1' if the noise lines of each correlation have distributions of one size."],
+        options: &[],
+        obey: correlation,
+    },
+];
+
+fn check(arguments: &Arguments) -> Result<(), Failure> {
+    let job = files::job(&arguments.job)?;
+    kundatrezo::check(&job).map_err(refused(&job))?;
+    print(format!("{}\n", numbers(Header::parse(&job).unwrap_or_default())))
+}
+
+fn run(arguments: &Arguments) -> Result<(), Failure> {
+    let job = files::job(&arguments.job)?;
+    let mut lent = Lent::read(arguments, &job)?;
+    let mut frames = Frames::new();
+    lent.call(&job, |noiseless, draws| frames.run(&job, noiseless, draws))?;
+    for (flag, words) in [(X, frames.x()), (Z, frames.z()), (DELTAS, frames.deltas())] {
+        if let Some(path) = arguments.value(flag.name) {
+            files::write_words(path, words)?;
+        }
+    }
+    let printed = if arguments.value(DELTAS.name).is_some() { 0 } else { recorded(&job) };
+    print(session(&frames, printed))
+}
+
+fn settle(arguments: &Arguments) -> Result<(), Failure> {
+    let job = files::job(&arguments.job)?;
+    let mut lent = Lent::read(arguments, &job)?;
+    let mut out = room(arguments)?;
+    let bytes = lent.call(&job, |noiseless, draws| kundatrezo::settle(&job, noiseless, draws, &mut out))?;
+    write_text(arguments, &out[..bytes])
+}
+
+fn walk(arguments: &Arguments) -> Result<(), Failure> {
+    let shot = arguments.number(SHOT.name)?;
+    let set = arguments.parsed(SET.name, "numbers with commas between, or -", list)?;
+    let (Some(shot), Some(set)) = (shot, set) else {
+        return Err(Failure::Other(format!("{} and {} are wanted", SHOT.name, SET.name)));
+    };
+    let job = files::job(&arguments.job)?;
+    let count = kundatrezo::walk(&job, shot, &set).map_err(refused(&job))?;
+    print(format!("ok=1 count={count}\n"))
+}
+
+fn annotate(arguments: &Arguments) -> Result<(), Failure> {
+    let decimal = arguments.parsed(P.name, "a number", |text| text.parse::<f64>().ok())?;
+    let bits = arguments.parsed(P_BITS.name, "16 hexadecimal digits", binary64)?;
+    let ((Some(p), None) | (None, Some(p))) = (decimal, bits) else {
+        return Err(Failure::Other(format!("either {} or {} is wanted", P.name, P_BITS.name)));
+    };
+    let job = files::job(&arguments.job)?;
+    let mut out = room(arguments)?;
+    let bytes = kundatrezo::annotate(&job, p, &mut out).map_err(refused(&job))?;
+    write_text(arguments, &out[..bytes])
+}
+
+fn locations(arguments: &Arguments) -> Result<(), Failure> {
+    let job = files::job(&arguments.job)?;
+    let count = kundatrezo::locations(&job).map_err(refused(&job))?;
+    print(format!("ok=1 locations={count}\n"))
+}
+
+fn correlation(arguments: &Arguments) -> Result<(), Failure> {
+    let job = files::job(&arguments.job)?;
+    kundatrezo::correlation(&job).map_err(refused(&job))?;
+    print("ok=1\n")
+}
+
+// ---- what commands share
+
+fn refused(job: &[u8]) -> impl FnOnce(Refusal) -> Failure {
+    move |refusal| Failure::refused(&refusal, job)
+}
+
+/// The header's numbers as document 01's session prints them.
+fn numbers(header: Header) -> String {
+    format!("ok=1 qubits={} outcomes={} shots={}", header.qubits, header.outcomes, header.shots)
+}
+
+/// Document 01's printed session: the header's numbers and the deltas of the first outcomes.
+fn session(frames: &Frames, outcomes: usize) -> String {
+    let mut text = numbers(frames.header());
+    for id in 0..outcomes {
+        write!(text, "\nid={id} delta=").expect("a string takes all");
+        let row = frames.delta_row(id);
+        text.extend((0..frames.header().shots).map(|shot| if bit(row, shot) { '1' } else { '0' }));
+    }
+    text.push('\n');
+    text
+}
+
+/// The bytes that are lent for a text.
+fn room(arguments: &Arguments) -> Result<Vec<u8>, Failure> {
+    // More than the longest text makes no difference.
+    let most = MAX_BYTES as u64;
+    let bytes = arguments.number(ROOM.name)?.map_or(most, |bytes| bytes.min(most));
+    Ok(vec![0; usize::try_from(bytes).expect("no more than the longest text")])
+}
+
+fn write_text(arguments: &Arguments, text: &[u8]) -> Result<(), Failure> {
+    match arguments.value(OUTPUT.name) {
+        Some(path) => files::write(path, text),
+        None => print(text),
+    }
+}
+
+/// Numbers with commas between, in any order; the walk judges them.
+fn list(text: &str) -> Option<Vec<u64>> {
+    if text == "-" { Some(Vec::new()) } else { text.split(',').map(|number| number.parse().ok()).collect() }
+}
+
+fn binary64(text: &str) -> Option<f64> {
+    let digits = text.len() == 16 && text.bytes().all(|byte| byte.is_ascii_hexdigit());
+    if digits { u64::from_str_radix(text, 16).ok().map(f64::from_bits) } else { None }
+}

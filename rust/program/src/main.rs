@@ -1,0 +1,113 @@
+//! Kundatrezo's calls on files. `kundatrezo --help` says how.
+
+mod arguments;
+mod commands;
+mod files;
+mod words;
+
+use arguments::{Arguments, Command};
+use commands::COMMANDS;
+use kundatrezo::{Number, Refusal};
+use std::ffi::OsString;
+use std::io::{self, Write};
+use std::process::ExitCode;
+
+/// Why a command did not do its work.
+enum Failure {
+    /// The call refused the job; the text says by what.
+    Refused(String),
+    /// Wrong arguments, or a file that can't be read or written.
+    Other(String),
+    /// Nobody reads the output any more.
+    Unread,
+}
+
+impl Failure {
+    /// The refusal of a job, with the text of its line.
+    fn refused(refusal: &Refusal, job: &[u8]) -> Self {
+        let line = refusal.line_of(job).map(|line| format!(": {}", shortened(line))).unwrap_or_default();
+        let need = match (refusal.number, refusal.figure) {
+            (Number::ROOM, 1..) => format!("; the text needs no more than {} bytes", refusal.figure),
+            _ => String::new(),
+        };
+        Self::Refused(format!("{refusal}{line}{need}"))
+    }
+}
+
+impl From<io::Error> for Failure {
+    fn from(error: io::Error) -> Self {
+        if error.kind() == io::ErrorKind::BrokenPipe { Self::Unread } else { Self::Other(error.to_string()) }
+    }
+}
+
+fn main() -> ExitCode {
+    let arguments: Vec<OsString> = std::env::args_os().skip(1).collect();
+    match obey(&arguments) {
+        Ok(()) => ExitCode::SUCCESS,
+        Err(Failure::Refused(text)) => {
+            eprintln!("{text}");
+            ExitCode::from(1)
+        }
+        Err(Failure::Other(text)) => {
+            eprintln!("kundatrezo: {text}");
+            ExitCode::from(2)
+        }
+        Err(Failure::Unread) => ExitCode::from(2),
+    }
+}
+
+fn obey(arguments: &[OsString]) -> Result<(), Failure> {
+    let Some((first, rest)) = arguments.split_first() else {
+        return Err(Failure::Other(format!("a command is missing\n\n{}", whole_help().trim_end())));
+    };
+    let name = first.to_string_lossy();
+    if name == "--help" || name == "-h" {
+        return print(whole_help());
+    }
+    if name == "--version" {
+        return print(concat!("kundatrezo ", env!("CARGO_PKG_VERSION"), "\n"));
+    }
+    let command = COMMANDS.iter().find(|command| command.name == name).ok_or_else(|| {
+        Failure::Other(format!("there is no command '{name}'; 'kundatrezo --help' names those that there are"))
+    })?;
+    match Arguments::read(command, rest) {
+        Ok(Some(arguments)) => (command.obey)(&arguments),
+        Ok(None) => print(command.help()),
+        Err(text) => Err(Failure::Other(format!("{text}; see 'kundatrezo {name} --help'"))),
+    }
+}
+
+/// Write to standard output.
+fn print(text: impl AsRef<[u8]>) -> Result<(), Failure> {
+    let mut out = io::stdout().lock();
+    out.write_all(text.as_ref())?;
+    Ok(out.flush()?)
+}
+
+/// The help of the whole program.
+fn whole_help() -> String {
+    let row = |command: &Command| format!("    {:<12} {}\n", command.name, command.summary);
+    let commands: String = COMMANDS.iter().map(row).collect();
+    format!(
+        "Kundatrezo: a Pauli-frame noise engine. Calls on jobs that lie in files.
+
+usage: kundatrezo COMMAND JOB [OPTION VALUE]..
+       kundatrezo COMMAND --help
+
+{commands}
+JOB is a file, or - for standard input. A file of words holds 64-bit words, eight bytes each, the lowest
+byte first.
+
+Exit status: 0, the work is done; 1, the call refused, and standard error says by which number and at
+which line; 2, the arguments or a file are at fault. Unless the status is 0 no file is written, but for
+those that were written before one could not be.
+"
+    )
+}
+
+/// A line of a job as printable text, cut where it is long.
+fn shortened(line: &[u8]) -> String {
+    const MOST: usize = 100;
+    let cut = if line.len() > MOST { ".." } else { "" };
+    format!("{}{cut}", line[..line.len().min(MOST)].escape_ascii())
+}

@@ -1,0 +1,84 @@
+//! The sessions of the documents: what a `$` line and its `>` lines say is run by the shell, and must print what stands below.
+
+use crate::common::{Done, finish, folder};
+use kundatrezo::Number;
+use std::fs;
+use std::path::{Path, PathBuf};
+use std::process::Command;
+
+/// A command of a document and what it prints, standard output and error together.
+struct Step {
+    command: String,
+    printed: String,
+}
+
+/// The steps of a text: indented lines, from a `$` line on.
+fn steps(text: &str) -> Vec<Step> {
+    let mut steps: Vec<Step> = Vec::new();
+    let mut in_session = false;
+    for line in text.lines() {
+        let Some(line) = line.strip_prefix("    ") else {
+            in_session = false;
+            continue;
+        };
+        if let Some(command) = line.strip_prefix("$ ") {
+            in_session = true;
+            steps.push(Step { command: format!("{command}\n"), printed: String::new() });
+        } else if let Some(step) = steps.last_mut().filter(|_| in_session) {
+            match line.strip_prefix("> ") {
+                Some(more) => step.command += &format!("{more}\n"),
+                None => step.printed += &format!("{line}\n"),
+            }
+        }
+    }
+    steps
+}
+
+/// Run a step in a folder, with the program in the shell's path, and see that it prints what it should.
+fn run(step: &Step, folder: &Path) -> Done {
+    let program = Path::new(env!("CARGO_BIN_EXE_kundatrezo"));
+    let mut path = program.parent().expect("the program lies in a folder").as_os_str().to_owned();
+    path.push(":");
+    path.push(std::env::var_os("PATH").unwrap_or_default());
+    let mut shell = Command::new("sh");
+    // standard error goes where standard output goes
+    let script = format!("exec 2>&1\n{}", step.command);
+    let done = finish(shell.arg("-c").arg(script).env("PATH", path).current_dir(folder), b"");
+    assert_eq!(String::from_utf8_lossy(&done.stdout), step.printed, "{}", step.command);
+    done
+}
+
+fn document(name: &str) -> String {
+    let path = PathBuf::from(env!("CARGO_MANIFEST_DIR")).join("../..").join(name);
+    fs::read_to_string(path).expect("the document is there")
+}
+
+#[test]
+fn refusals() {
+    let text = document("docs/REFUSALS.md");
+    let folder = folder("refusals");
+    let mut sections = text.split("\n## ").skip(1);
+    for number in Number::ALL {
+        let section = sections.next().expect("a section for each number");
+        let (heading, body) = section.split_once('\n').expect("a heading");
+        assert_eq!(heading, format!("{}: {}", number.get(), number.words()));
+        let steps = steps(body);
+        assert!(!steps.is_empty(), "{heading}");
+        for step in steps {
+            assert_eq!(run(&step, &folder).status, 1, "{}", step.command);
+            assert!(step.printed.starts_with(&format!("refused: {number}")), "{}", step.printed);
+        }
+    }
+    assert_eq!(sections.next(), None);
+}
+
+#[test]
+fn read_me() {
+    let text = document("rust/README.md");
+    let folder = folder("read_me");
+    let steps = steps(&text);
+    assert!(!steps.is_empty());
+    for step in &steps {
+        run(step, &folder);
+    }
+}

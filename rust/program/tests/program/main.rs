@@ -1,0 +1,5 @@
+//! The program, run.
+
+mod commands;
+mod common;
+mod documents;

@@ -1,0 +1,340 @@
+//! Jobs made for each sentence of tests 1 to 12, with their answers as worked out by hand: every limit and one past it, and the places where two
+//! numbers meet.
+
+/// A job, and the number and line that its check answers.
+#[derive(Debug, Clone, PartialEq, Eq)]
+#[allow(missing_docs)]
+pub struct Case {
+    pub job: Vec<u8>,
+    pub number: u64,
+    pub line: u64,
+}
+
+/// Every case.
+#[must_use]
+pub fn cases() -> Vec<Case> {
+    let mut cases = Cases(Vec::new());
+    cases.whole_jobs();
+    cases.headers();
+    cases.first_and_later_headers();
+    cases.largest_headers();
+    cases.lines_by_number();
+    cases.noise_lines();
+    cases.element_lines();
+    cases.weights();
+    cases.other_bytes();
+    cases.0
+}
+
+const HEADER: &str = "op=job qubits=40 outcomes=3 shots=65\n";
+const SMALLEST: &str = "op=job qubits=1 outcomes=0 shots=1\n";
+const LARGEST: &str = "op=job qubits=256 outcomes=1024 shots=4096\n";
+
+struct Cases(Vec<Case>);
+
+impl Cases {
+    fn job(&mut self, job: impl Into<Vec<u8>>, number: u64, line: u64) {
+        self.0.push(Case { job: job.into(), number, line });
+    }
+
+    /// Lines after the header and two recorded outcomes (lines 2 and 3), so that the first of `lines` is line 4.
+    fn lines(&mut self, lines: &str, number: u64, line: u64) {
+        self.job(format!("{HEADER}op=o x=- z=0 id=0\nop=r id=1 angle=1\n{lines}\n"), number, line);
+    }
+
+    /// One line there.
+    fn line(&mut self, line: &str, number: u64) {
+        self.lines(line, number, if number == 0 { 0 } else { 4 });
+    }
+
+    fn whole_jobs(&mut self) {
+        self.job("", 1, 0);
+        self.job("op=bad", 1, 0);
+        self.job("\n", 2, 1);
+        self.job(SMALLEST, 0, 0);
+        self.job(format!("{SMALLEST}\n"), 2, 2);
+        self.job(SMALLEST.replace('\n', "\r\n"), 2, 1);
+        let longest = filled(SMALLEST, 1_048_576);
+        self.job(&longest[..1_048_575], 1, 0);
+        self.job(longest, 0, 0);
+        self.job(filled(SMALLEST, 1_048_577), 1, 0);
+        // A line may be long.
+        self.job(format!("{SMALLEST}op=p x={} z=-\n", numbers(0..300)), 4, 2);
+        self.job(format!("{SMALLEST}op=z q={}\n", "9".repeat(1_000)), 2, 2);
+    }
+
+    fn headers(&mut self) {
+        let numbers = [
+            ("qubits=256 outcomes=1024 shots=4096", 0),
+            ("qubits=1 outcomes=0 shots=1", 0),
+            ("qubits=0 outcomes=0 shots=1", 3),
+            ("qubits=257 outcomes=0 shots=1", 3),
+            ("qubits=1 outcomes=1025 shots=1", 3),
+            ("qubits=1 outcomes=0 shots=0", 3),
+            ("qubits=1 outcomes=0 shots=4097", 3),
+            ("qubits=18446744073709551615 outcomes=0 shots=1", 3),
+            ("qubits=1 outcomes=18446744073709551615 shots=1", 3),
+            ("qubits=1 outcomes=0 shots=18446744073709551615", 3),
+            ("qubits=18446744073709551616 outcomes=0 shots=1", 2),
+            ("qubits=18446744073709551617 outcomes=0 shots=1", 2),
+            ("qubits=1 outcomes=18446744073709551616 shots=1", 2),
+            ("qubits=1 outcomes=0 shots=18446744073709551617", 2),
+            ("qubits=01 outcomes=0 shots=1", 2),
+            ("qubits=1 outcomes=00 shots=1", 2),
+            ("qubits=1 outcomes=0", 2),
+            ("qubits=1 shots=1 outcomes=0", 2),
+            ("qubits=1  outcomes=0 shots=1", 2),
+            ("qubits=1 outcomes=0 shots=1 ", 2),
+            ("edition=2 qubits=1 outcomes=0 shots=1", 2),
+        ];
+        for (numbers, number) in numbers {
+            self.job(format!("op=job {numbers}\n"), number, u64::from(number != 0));
+        }
+    }
+
+    fn first_and_later_headers(&mut self) {
+        self.job("op=u g=4 q=0\n", 3, 1);
+        self.job("op=u g=15 q=0\n", 2, 1);
+        self.job("x=- z=-\n", 2, 1);
+        self.line("op=job qubits=1 outcomes=0 shots=1", 3);
+        self.line("op=job qubits=0 outcomes=0 shots=1", 3);
+        self.line("op=job qubits=1 outcomes=0 shots=", 2);
+        // A noise line alone lacks its header and its element line: the lower number counts.
+        self.job("op=n p=0000000000000000 corr=- cond=- parity=0 d=3 n=1\n", 2, 1);
+    }
+
+    /// What the largest header lets pass: qubit 255, shot 4095 and outcome 1023.
+    fn largest_headers(&mut self) {
+        let mut line =
+            |line: &str, number: u64| self.job(format!("{LARGEST}{line}\n"), number, 2 * u64::from(number != 0));
+        line("op=z q=255", 0);
+        line("op=z q=256", 4);
+        line("op=u g=13 q=255,0", 0);
+        line("op=u g=13 q=0,256", 4);
+        line("op=i shot=4095 x=- z=255", 0);
+        line("op=i shot=4096 x=- z=255", 10);
+        let recorded: String = (0..1024).map(|id| format!("op=r id={id} angle=0\n")).collect();
+        self.job(format!("{LARGEST}{recorded}op=t shot=4095 id=1023\n"), 0, 0);
+        self.job(format!("{LARGEST}{recorded}op=t shot=4095 id=1023\nop=r id=1024 angle=0\n"), 8, 1027);
+    }
+
+    fn lines_by_number(&mut self) {
+        let long = &numbers(0..32);
+        let full = &numbers(0..31);
+        let table: [(String, u64); 77] = [
+            ("op=u g=14 q=0,39".into(), 0),
+            ("op=u g=15 q=99".into(), 2),
+            ("op=u g=04 q=0".into(), 2),
+            ("op=u g=18446744073709551615 q=0".into(), 2),
+            ("op=u g=4 q=-".into(), 2),
+            ("op=u g=4 q=40".into(), 4),
+            ("op=u g=4 q=0,40".into(), 4),
+            ("op=u g=4 q=0,1".into(), 5),
+            ("op=u g=10 q=0".into(), 0),
+            ("op=u g=10 q=0,1".into(), 5),
+            ("op=u g=11 q=0".into(), 5),
+            ("op=u g=11 q=0,1".into(), 0),
+            ("op=u g=11 q=3,3".into(), 5),
+            (format!("op=u g=4 q={long}"), 5),
+            (format!("op=p x={full} z={full}"), 0),
+            (format!("op=p x={long} z=-"), 5),
+            (format!("op=p x=- z={long}"), 5),
+            // A list is read to its end, however long.
+            (format!("op=p x={long},40 z=-"), 4),
+            (format!("op=p x={long},7 z=-"), 2),
+            (format!("op=p x={long},033 z=-"), 2),
+            (format!("op=p x={long},18446744073709551616 z=-"), 2),
+            (format!("op=p x={full},31 z=-"), 5),
+            (format!("op=p x={full},40 z=-"), 4),
+            ("op=p x=9,1 z=-".into(), 2),
+            ("op=p x=1,1 z=-".into(), 2),
+            ("op=p x=-,1 z=-".into(), 2),
+            ("op=p x=01 z=-".into(), 2),
+            ("op=p x= z=-".into(), 2),
+            ("op=p x=- z=- ".into(), 2),
+            ("op=e x=18446744073709551615 z=-".into(), 4),
+            ("op=e x=18446744073709551616 z=-".into(), 2),
+            ("op=e x=18446744073709551620 z=-".into(), 2),
+            ("op=e x=99999999999999999999 z=-".into(), 2),
+            ("op=e x=100000000000000000000 z=-".into(), 2),
+            (format!("op=k x={long} z=- u=- v=40"), 4),
+            (format!("op=k x={full} z={full} u={full} v={full}"), 0),
+            (format!("op=k x={full} z={full} u={full} v={long}"), 5),
+            ("op=c q=0 t=0000000000000009".into(), 0),
+            ("op=c q=0 t=0000000000000019".into(), 7),
+            ("op=c q=0 t=0000000000000001".into(), 7),
+            ("op=c q=0 t=000000000000000B".into(), 2),
+            ("op=c q=0 t=00000000000000009".into(), 2),
+            ("op=c q=0,1,2,3 t=8040201008040201".into(), 0),
+            // Of all pairs of images the last alone does not commute as its generators do.
+            ("op=c q=0,1,2,3 t=8440201008040201".into(), 7),
+            ("op=c q=0,1,2,3,4 t=0000000000000000".into(), 5),
+            ("op=c q=0,0 t=0000000000000000".into(), 5),
+            ("op=c q=0,1,2,3,40 t=0000000000000000".into(), 4),
+            ("op=m s=1,2,0 q=7,9,8".into(), 0),
+            ("op=m s=1,2 q=7,9,8".into(), 6),
+            ("op=m s=1,1,0 q=7,9,8".into(), 6),
+            ("op=m s=1,18446744073709551615,0 q=7,9,8".into(), 6),
+            ("op=m s=1,2,0 q=7,7,8".into(), 5),
+            (format!("op=m s={full} q={full}"), 0),
+            (format!("op=m s={long} q=0,1"), 5),
+            ("op=m s=- q=0".into(), 2),
+            ("op=o x=- z=- id=2".into(), 0),
+            ("op=o x=- z=- id=3".into(), 8),
+            ("op=o x=- z=40 id=3".into(), 4),
+            ("op=r id=2 angle=0\nop=o x=- z=- id=2".into(), 8),
+            ("op=r id=1 angle=0".into(), 8),
+            ("op=r id=2 angle=2".into(), 2),
+            ("op=f x=0 z=- id=0,1 parity=1".into(), 0),
+            ("op=f x=0 z=- id=- parity=1".into(), 0),
+            ("op=f x=0 z=- id=2 parity=1".into(), 9),
+            ("op=f x=0 z=- id=18446744073709551615 parity=0".into(), 9),
+            (format!("op=f x=0 z=- id={long} parity=0"), 5),
+            (format!("op=f x=0 z=- id={full} parity=0"), 9),
+            ("op=z q=39".into(), 0),
+            ("op=z q=40".into(), 4),
+            ("op=z q=0,1".into(), 2),
+            ("op=i shot=64 x=- z=-".into(), 0),
+            ("op=i shot=65 x=- z=-".into(), 10),
+            ("op=i shot=65 x=40 z=-".into(), 4),
+            ("op=t shot=64 id=1".into(), 0),
+            ("op=t shot=65 id=1".into(), 10),
+            ("op=t shot=65 id=2".into(), 9),
+            ("op=x q=0".into(), 2),
+        ];
+        for (lines, number) in table {
+            // The refused line is the last of its text.
+            let place = if number == 0 { 0 } else { 3 + lines.lines().count() as u64 };
+            self.lines(&lines, number, place);
+        }
+        self.line("x=- z=-", 2);
+    }
+
+    fn noise_lines(&mut self) {
+        let long = numbers(0..32);
+        let table = [
+            ("p=3ff0000000000000 corr=- cond=- parity=0 d=1 x=- z=-", 0),
+            ("p=3ff0000000000001 corr=- cond=- parity=0 d=1 x=- z=-", 11),
+            ("p=7ff0000000000000 corr=- cond=- parity=0 d=1 x=- z=-", 11),
+            ("p=7ff0000000000001 corr=- cond=- parity=0 d=1 x=- z=-", 11),
+            ("p=7ff8000000000000 corr=- cond=- parity=0 d=1 x=- z=-", 11),
+            ("p=fff8000000000000 corr=- cond=- parity=0 d=1 x=- z=-", 11),
+            ("p=ffffffffffffffff corr=- cond=- parity=0 d=1 x=- z=-", 11),
+            ("p=fff0000000000000 corr=- cond=- parity=0 d=1 x=- z=-", 0),
+            ("p=8000000000000000 corr=- cond=- parity=0 d=1 x=- z=-", 0),
+            ("p=0000000000000001 corr=- cond=- parity=0 d=1 x=- z=-", 0),
+            ("p=3FF0000000000000 corr=- cond=- parity=0 d=1 x=- z=-", 2),
+            ("p=8000000000000000 corr=18446744073709551615 cond=- parity=0 d=2 q=0", 0),
+            ("p=8000000000000000 corr=18446744073709551616 cond=- parity=0 d=2 q=0", 2),
+            ("p=8000000000000000 corr=00 cond=- parity=0 d=2 q=0", 2),
+            ("p=3ff0000000000001 corr=- cond=- parity=1 d=1 x=40 z=-", 2),
+            ("p=3ff0000000000001 corr=- cond=2 parity=1 d=1 x=40 z=-", 4),
+            ("p=3ff0000000000001 corr=- cond=2 parity=1 d=2 q=3,3", 5),
+            ("p=3ff0000000000001 corr=- cond=2 parity=1 d=2 q=3,4", 9),
+            ("p=3ff0000000000001 corr=- cond=1 parity=1 d=2 q=3,4", 11),
+            ("p=3ff0000000000000 corr=- cond=1 parity=1 d=5 q=3,4", 2),
+            ("p=3ff0000000000000 corr=- cond=1 parity=1 d=01 x=- z=-", 2),
+            ("p=3ff0000000000000 corr=- cond=1 parity=1 d=2 x=- z=-", 2),
+        ];
+        for (fields, number) in table {
+            self.line(&format!("op=n {fields}"), number);
+        }
+        self.line(&format!("op=n p=3ff0000000000001 corr=- cond={long} parity=0 d=2 q=3"), 5);
+        let depolarizing = |q: &str| format!("op=n p=3ff0000000000000 corr=- cond=- parity=0 d=2 q={q}");
+        self.line(&depolarizing(&numbers(0..31)), 0);
+        self.line(&depolarizing(&long), 5);
+    }
+
+    fn element_lines(&mut self) {
+        for n in [1, 2, 64] {
+            self.lines(&(noise(3, n) + &elements(n)), 0, 0);
+            self.lines(&(noise(4, n) + &weighted(&vec![ONE; n])), 0, 0);
+        }
+        // n of 0 misses no element line; an n above 64 on the job's last line does.
+        self.lines(noise(3, 0).trim_end(), 12, 4);
+        self.lines(noise(4, 0).trim_end(), 12, 4);
+        self.lines(&(noise(3, 65) + &elements(65)), 12, 4);
+        self.lines(&(noise(4, 65) + &weighted(&[ONE; 65])), 12, 4);
+        self.lines(noise(3, 65).trim_end(), 2, 4);
+        self.lines(noise(3, 1).trim_end(), 2, 4);
+        self.lines(&(noise(3, 2) + &elements(1)), 2, 5);
+        let largest = |n: &str| format!("op=n p=3ff0000000000000 corr=- cond=- parity=0 d=3 n={n}\nx=- z=-");
+        self.lines(&largest("18446744073709551615"), 12, 4);
+        self.lines(&largest("18446744073709551616"), 2, 4);
+        // A missing element line covers the last line's own faults, an earlier bad line comes first.
+        self.lines(&(noise(3, 2) + "x=40 z=-"), 2, 5);
+        self.lines(&(noise(3, 3) + "x=40 z=-\nx=- z=-"), 4, 5);
+        self.lines(&(noise(3, 1) + "op=z q=0"), 2, 5);
+        self.lines(&(noise(3, 1) + &weighted(&[ONE])), 2, 5);
+        self.lines(&(noise(4, 1) + "x=- z=-"), 2, 5);
+        self.lines(&(noise(3, 1) + "x=- z=-\nx=- z=-"), 2, 6);
+        self.lines(&(noise(3, 1) + HEADER.trim_end()), 2, 5);
+        self.lines(&(noise(3, 1) + &format!("x={} z=-", numbers(0..31))), 0, 0);
+        self.lines(&(noise(3, 1) + &format!("x={} z=-", numbers(0..32))), 5, 5);
+    }
+
+    fn weights(&mut self) {
+        let (zero, minus_zero) = ("0000000000000000", "8000000000000000");
+        let (least, most) = ("0000000000000001", "7fefffffffffffff");
+        let (infinity, nan, minus_nan) = ("7ff0000000000000", "7ff8000000000000", "fff8000000000000");
+        let table: [(&[&str], u64, u64); 14] = [
+            (&[zero, minus_zero, ONE], 0, 0),
+            (&[least], 0, 0),
+            (&[least, least, "000fffffffffffff"], 0, 0),
+            (&[minus_zero, least], 0, 0),
+            (&[zero], 12, 5),
+            (&[minus_zero], 12, 5),
+            (&[zero, minus_zero], 12, 6),
+            (&[ONE, "8000000000000001", ONE], 12, 6),
+            (&[infinity, ONE], 12, 5),
+            (&[nan, ONE], 12, 5),
+            (&[ONE, minus_nan], 12, 6),
+            (&[most], 0, 0),
+            // The sum leaves the finite numbers at the second element; its total is tested at the last.
+            (&[most, most, ONE, ONE], 12, 8),
+            (&[most, most], 12, 6),
+        ];
+        for (weights, number, line) in table {
+            self.lines(&(noise(4, weights.len()) + &weighted(weights)), number, line);
+        }
+        self.lines(&(noise(4, 1) + "w=7ff0000000000000 x=40 z=-"), 4, 5);
+    }
+
+    /// Bytes that no form has.
+    fn other_bytes(&mut self) {
+        self.job(b"\xff\x00\n".as_slice(), 2, 1);
+        self.job([SMALLEST.as_bytes(), b"op=z q=\xb0\n"].concat(), 2, 2);
+        self.job([SMALLEST.as_bytes(), b"op=z\xa0q=0\n"].concat(), 2, 2);
+    }
+}
+
+const ONE: &str = "3ff0000000000000";
+
+/// A noise line whose n element lines follow.
+fn noise(d: u8, n: usize) -> String {
+    format!("op=n p=3ff0000000000000 corr=- cond=- parity=0 d={d} n={n}\n")
+}
+
+/// Element lines without weights; the last without its LF.
+fn elements(n: usize) -> String {
+    vec!["x=- z=-"; n].join("\n")
+}
+
+/// Element lines with weights; the last without its LF.
+fn weighted(weights: &[&str]) -> String {
+    weights.iter().map(|weight| format!("w={weight} x=- z=-")).collect::<Vec<_>>().join("\n")
+}
+
+fn numbers(range: std::ops::Range<u64>) -> String {
+    range.map(|entry| entry.to_string()).collect::<Vec<_>>().join(",")
+}
+
+/// A header and lines of two lengths, which have no common divisor, up to a length.
+fn filled(header: &str, length: usize) -> String {
+    let (short, long) = ("op=z q=0\n", "op=u g=4 q=0\n");
+    let left = length - header.len();
+    let longer = (0..).find(|count| (left - count * long.len()).is_multiple_of(short.len()));
+    let longer = longer.expect("the lengths have no common divisor");
+    let shorter = (left - longer * long.len()) / short.len();
+    [header, &long.repeat(longer), &short.repeat(shorter)].concat()
+}
