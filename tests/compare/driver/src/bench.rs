@@ -120,8 +120,12 @@ fn runs() {
         measure_run(&format!("run, 500 lines of noise, {size}"), &loads::noise(header, 500, 0.001));
         measure_run(&format!("run, 2,000 mixed lines, {size}"), &loads::mixed(header, 2_000, 0.001));
         measure_settle(&format!("settle, 500 gates with noise, {size}"), &noisy);
-        measure_walk(&format!("walk, 10,000 gates, {size}"), &made);
+        measure_walk(&format!("walk, 10,000 gates, {size}"), &made.bytes());
     }
+    // The walk beside the check of the same job, which is its first pass.
+    let long = loads::cut(loads::gates(loads::header(256, 4096), 80_000), 1_000_000);
+    check("check, 1,000,000 bytes of gate lines", &long);
+    measure_walk("walk, 1,000,000 bytes of gate lines", &long);
 }
 
 /// A job with draws that suffice, and noiseless bits.
@@ -199,9 +203,8 @@ fn measure_settle(name: &str, made: &Made) {
     .report(name, load.bytes.len());
 }
 
-fn measure_walk(name: &str, made: &Made) {
-    let job = made.bytes();
-    let walk = |calls: &dyn Calls| assert_eq!(calls.walk(black_box(&job), 0, &[]).number, 0);
+fn measure_walk(name: &str, job: &[u8]) {
+    let walk = |calls: &dyn Calls| assert_eq!(calls.walk(black_box(job), 0, &[]).number, 0);
     Timed {
         published: None,
         with_reading: Box::new(|| walk(&Plain)),
