@@ -24,7 +24,7 @@ sub-line-start : tie.Need-sub-line-start Inv-loop μ-loop
 sub-line-start c = omega arith
 
 line-start-requires : tie.Need-line-start-requires Inv-loop μ-loop
-line-start-requires c κs = (omega (arith, c .before .loop .inv .0 .within), c .before .loop .inv .0 .starts (c .loop-test .taken))
+line-start-requires c κs = (omega (arith, c .before .loop .inv .0 .within), c .before .loop .inv .0 .starts (omega (arith, c .loop-test .taken)))
 
 sub-line : tie.Need-sub-line Inv-loop μ-loop
 sub-line c = omega (arith, c .line-start .ensures .within)
@@ -43,17 +43,17 @@ slice-aggregate-step-back c = omega (arith, c .before .before .before .before .l
 
 step-back-requires : tie.Need-step-back-requires Inv-loop μ-loop
 unfolding lineAt
-step-back-requires c κs = (line-known _ (c .before .before .before .before .before .before .before .before .before .pre .0) (c .before .before .before .before .before .loop .inv .0) (c .before .before .before .before .loop-test .taken) (c .before .before .before .line-start .ensures), omega (arith, c .before .before .before .before .before .loop .inv .1), c .before .before .before .before .before .loop .inv .0 .long, omega (arith, c .before .before .before .before .before .loop .inv .0 .counted, c .before .before .before .before .loop-test .taken))
+step-back-requires c κs = (line-known _ (c .before .before .before .before .before .before .before .before .before .pre .0) (c .before .before .before .before .before .loop .inv .0) (omega (arith, c .before .before .before .before .loop-test .taken)) (c .before .before .before .line-start .ensures), omega (arith, c .before .before .before .before .before .loop .inv .1), c .before .before .before .before .before .loop .inv .0 .long, omega (arith, c .before .before .before .before .before .loop .inv .0 .counted, c .before .before .before .before .loop-test .taken))
 
 sub-k : tie.Need-sub-k Inv-loop μ-loop
-sub-k c = line-left _ (c .before .before .before .before .before .before .before .before .before .before .before .before .before .pre .0) (c .before .before .before .before .before .before .before .before .before .loop .inv .0) (c .before .before .before .before .before .before .before .before .loop-test .taken) (c .before .before .before .before .before .before .before .line-start .ensures)
+sub-k c = line-left _ (c .before .before .before .before .before .before .before .before .before .before .before .before .before .pre .0) (c .before .before .before .before .before .before .before .before .before .loop .inv .0) (omega (arith, c .before .before .before .before .before .before .before .before .loop-test .taken)) (c .before .before .before .before .before .before .before .line-start .ensures)
 
 loop-less : tie.Need-loop-less Inv-loop μ-loop
 loop-less c = omega (arith, c .before .before .before .before .before .before .before .line-start .ensures .within, c .before .before .before .before .before .before .before .before .loop-test .taken)
 
 loop-again : tie.Need-loop-again Inv-loop μ-loop
 unfolding lineAt
-loop-again c = (going-on _ (c .before .before .before .before .before .before .before .before .before .before .before .before .before .pre .0) (c .before .before .before .before .before .before .before .before .before .loop .inv .0) (c .before .before .before .before .before .before .before .before .loop-test .taken) (c .before .before .before .before .before .before .before .line-start .ensures) _ _ (c .before .before .before .step-back .ensures), omega (arith, c .before .before .before .before .before .before .before .before .before .loop .inv .1, c .before .before .before .step-back .kept))
+loop-again c = (going-on _ (c .before .before .before .before .before .before .before .before .before .before .before .before .before .pre .0) (c .before .before .before .before .before .before .before .before .before .loop .inv .0) (omega (arith, c .before .before .before .before .before .before .before .before .loop-test .taken)) (c .before .before .before .before .before .before .before .line-start .ensures) _ _ (c .before .before .before .step-back .ensures), omega (arith, c .before .before .before .before .before .before .before .before .before .loop .inv .1, c .before .before .before .step-back .kept))
 
 same-length : tie.Need-same-length Inv-loop μ-loop
 same-length c = c .before .loop .inv .0 .long ∙ sym (c .before .before .before .before .before .pre .2)
