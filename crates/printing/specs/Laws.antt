@@ -1,0 +1,2 @@
+-- Laws about what is printed.
+pub mod Session
