@@ -1,0 +1,9 @@
+-- Laws, for the proofs that cite them. Nothing here has to be believed.
+-- Bits past the last shot.
+pub mod Padding
+-- From the states of shots to the reply.
+pub mod Replies
+-- A run over exactly the words that it needs.
+pub mod Needed
+-- A job that passed its tests, whose header was read.
+pub mod Passed

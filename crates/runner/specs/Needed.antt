@@ -1,0 +1,42 @@
+-- What a run leaves in the words that it needs, of which exactly so many are lent. Definitions. Assumes nothing.
+use mathlib.Core.Path.{_≡_}
+use mathlib.Core.List.{List}
+use Prim.Native.Nat.{ℕ, _≤_}
+use lib.ListN.{length, replicate}
+use Rattle.job.specs.declared.Header.{Header}
+use Rattle.job.specs.declared.Answer.{Answer}
+use Rattle.job.specs.Job.{answer, accepted}
+use Rattle.job.specs.Sound.{InstructionsSound}
+use Rattle.instructions.specs.Ahead.{instructionsAt, Ahead}
+use Rattle.draws.specs.Execute.{starts, Ended, execute}
+use Rattle.rows.specs.Words.{wordsPerRow, pack}
+use Rattle.run.specs.Run.{Source, RunReply, frameWords, outcomeWords, lentOf}
+
+-- zero words where draws were spent, else the packed states
+unfoldable pub neededReply : Header → Ended → RunReply
+neededReply h (Ended.spentAt k) =
+    record { answered = answer 14 k; x = replicate (frameWords h) 0; z = replicate (frameWords h) 0; deltas = replicate (outcomeWords h) 0 }
+neededReply h (Ended.ended states) =
+    record {
+      answered = accepted;
+      x = pack (h .qubits) (h .shots) (λ q s. states s .frame .x q);
+      z = pack (h .qubits) (h .shots) (λ q s. states s .frame .z q);
+      deltas = pack (h .outcomes) (h .shots) (λ id s. states s .deltas id);
+    }
+
+-- ---- a run over exactly the words that it needs
+
+-- the header was read, and the lines behind it begin at `from`; the words are rows for the job
+pub record NeededReady (job : List ℕ) (h : Header) (from w : ℕ) (x z d noiseless : List ℕ) : Type 0 where
+  pub ahead : Ahead job h 0 2 from
+  pub sound : InstructionsSound h 0 (instructionsAt job 2 from)
+  pub words : w ≡ wordsPerRow (h .shots)
+  pub of-x : length x ≡ frameWords h
+  pub of-z : length z ≡ frameWords h
+  pub of-deltas : length d ≡ outcomeWords h
+  pub of-noiseless : outcomeWords h ≤ length noiseless
+
+-- the answer and the words after it are the reply
+pub record NeededRun (job : List ℕ) (h : Header) (source : Source) (from : ℕ) (x z d : List ℕ) (r : Answer) : Type 0 where
+  pub is : neededReply h (execute h (lentOf h source) (instructionsAt job 2 from) (source .main) starts)
+      ≡ record { answered = r; x = x; z = z; deltas = d }
