@@ -1,2 +1,3 @@
 -- Laws about what is printed.
 pub mod Session
+pub mod Printed
