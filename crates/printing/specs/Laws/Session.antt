@@ -57,17 +57,24 @@ bits-length b (suc n) s = ap suc (bits-length b n (suc s))
 pub bits-next : (b : ℕ → Bool) (n : ℕ) {at : ℕ} {out after : List ℕ} {next : ℕ} → Puts at (bitText b n 0) out after next → next ≡ at + n
 bits-next b n p = omega (arith, p .place, bits-length b n 0)
 
-pub header-next : (h : Header) {out after : List ℕ} {next : ℕ} → Puts 0 (headerText h ++ LF ∷ []) out after next → next ≤ 90
+pub header-length : (h : Header) → length (headerText h ++ LF ∷ []) ≤ 90
 unfolding bytes
-header-next h p =
-    let place = simp length-append at (rw (header-line h) at (p .place)) in
-    omega (arith, place, decimal-length (h .qubits), decimal-length (h .outcomes), decimal-length (h .shots))
+header-length h =
+    let long = simp length-append at (ap length (header-line h)) in
+    omega (arith, long, length-append (headerText h) (LF ∷ []), decimal-length (h .qubits), decimal-length (h .outcomes), decimal-length (h .shots))
 
-pub delta-next : (shots : ℕ) (deltas : List ℕ) (id : ℕ) {at : ℕ} {out after : List ℕ} {next : ℕ} → Puts at (deltaText shots deltas id ++ LF ∷ []) out after next → next ≤ at + (shots + 31)
+pub header-next : (h : Header) {out after : List ℕ} {next : ℕ} → Puts 0 (headerText h ++ LF ∷ []) out after next → next ≤ 90
+header-next h p = omega (arith, p .place, header-length h)
+
+pub delta-length : (shots : ℕ) (deltas : List ℕ) (id : ℕ) → length (deltaText shots deltas id ++ LF ∷ []) ≤ shots + 31
 unfolding bytes
-delta-next shots deltas id {at} p =
-    let place = simp length-append at (rw (delta-line shots deltas id) at (p .place)) in
-    omega (arith, place, decimal-length id, bits-length (bitIn (wordsPerRow shots) deltas id) shots 0)
+delta-length shots deltas id =
+    let long = simp length-append at (ap length (delta-line shots deltas id)) in
+    omega (arith, long, length-append (deltaText shots deltas id) (LF ∷ []), decimal-length id, bits-length (bitIn (wordsPerRow shots) deltas id) shots 0)
+
+pub delta-next : (shots : ℕ) (deltas : List ℕ) (id : ℕ) {at : ℕ} {out after : List ℕ} {next : ℕ} → Puts at (deltaText shots deltas id ++ LF ∷ []) out after next
+    → next ≤ at + (shots + 31)
+delta-next shots deltas id p = omega (arith, p .place, delta-length shots deltas id)
 
 -- ---- the loops
 
