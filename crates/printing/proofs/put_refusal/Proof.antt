@@ -1,0 +1,51 @@
+-- `printing::put_refusal` meets its contract. Assumes nothing.
+use native.Mathlib.Omega.{arith}
+use Rattle.text.specs.Bytes.{bytes}
+use Rattle.writer.specs.Laws.Placing.{puts-more}
+use Rattle.writer.specs.Laws.Lists.{number-next}
+use Rattle.printing.specs.Laws.Session.{refusal-line}
+use borrow.Author.Needs.{needs}
+use Rattle.printing.proofs.put_refusal.Statement.{statement}
+use Rattle.printing.proofs.put_refusal.Tie as tie
+
+slice-aggregate-put-bytes : tie.Need-slice-aggregate-put-bytes
+slice-aggregate-put-bytes c = search needs
+
+put-bytes-requires : tie.Need-put-bytes-requires
+put-bytes-requires c κs = search needs
+
+put-number-requires : tie.Need-put-number-requires
+put-number-requires c κs = search needs
+
+slice-aggregate-put-bytes-2 : tie.Need-slice-aggregate-put-bytes-2
+slice-aggregate-put-bytes-2 c = search needs
+
+put-bytes-requires-2 : tie.Need-put-bytes-requires-2
+put-bytes-requires-2 c κs = omega (arith, c .before .before .before .before .before .before .before .before .put-bytes .ensures .place, number-next _ (c .before .before .before .before .put-number .ensures))
+
+put-number-requires-2 : tie.Need-put-number-requires-2
+put-number-requires-2 c κs = omega (arith, c .before .before .before .before .before .before .before .before .before .before .before .before .put-bytes .ensures .place, number-next _ (c .before .before .before .before .before .before .before .before .put-number .ensures), c .before .before .before .put-bytes2 .ensures .place)
+
+put-byte-requires : tie.Need-put-byte-requires
+put-byte-requires c κs = omega (arith, c .before .before .before .before .before .before .before .before .before .before .before .before .before .before .before .before .put-bytes .ensures .place, number-next _ (c .before .before .before .before .before .before .before .before .before .before .before .before .put-number .ensures), c .before .before .before .before .before .before .before .put-bytes2 .ensures .place, number-next _ (c .before .before .before .put-number2 .ensures))
+
+same-length : tie.Need-same-length
+same-length c = search needs
+
+returns : tie.Need-returns
+unfolding bytes
+returns c = rw refusal-line (puts-more (c .before .before .before .before .before .before .before .before .before .before .before .before .before .before .before .before .before .before .before .put-bytes .ensures) (puts-more (c .before .before .before .before .before .before .before .before .before .before .before .before .before .before .before .put-number .ensures) (puts-more (c .before .before .before .before .before .before .before .before .before .before .put-bytes2 .ensures) (puts-more (c .before .before .before .before .before .before .put-number2 .ensures) (c .before .before .put-byte .ensures)))))
+
+pub put-refusal-spec : {M : Type 1} → statement M
+put-refusal-spec =
+    tie.close
+    (tie.spec
+    slice-aggregate-put-bytes
+    put-bytes-requires
+    put-number-requires
+    slice-aggregate-put-bytes-2
+    put-bytes-requires-2
+    put-number-requires-2
+    put-byte-requires
+    same-length
+    returns)

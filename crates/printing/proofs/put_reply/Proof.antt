@@ -1,0 +1,69 @@
+-- `printing::put_reply` meets its contract. Assumes nothing.
+use mathlib.Core.Path.{sym}
+use native.Mathlib.Omega.{arith}
+use lib.Seq.{length-take-le}
+use Rattle.printing.specs.Laws.Printed.{shots-few, frame-few, outcomes-few, lends-zeros}
+use borrow.Author.Needs.{needs}
+use Rattle.printing.proofs.put_reply.Statement.{statement}
+use Rattle.printing.proofs.put_reply.Tie as tie
+
+add-w : tie.Need-add-w
+add-w c = omega (arith, shots-few (c .before .before .pre))
+
+mul-frame : tie.Need-mul-frame
+mul-frame c = omega (arith, frame-few (c .before .before .pre))
+
+mul-outcomes : tie.Need-mul-outcomes
+mul-outcomes c = omega (arith, outcomes-few (c .before .before .pre))
+
+array-borrow-prefix-x : tie.Need-array-borrow-prefix-x
+array-borrow-prefix-x c = omega (arith, frame-few (c .before .before .before .pre))
+
+slice-aggregate-put-run : tie.Need-slice-aggregate-put-run
+slice-aggregate-put-run c = sym (length-take-le _ _ (frame-few (c .before .before .before .before .pre)))
+
+array-borrow-prefix-z : tie.Need-array-borrow-prefix-z
+array-borrow-prefix-z c = omega (arith, frame-few (c .before .before .before .before .pre))
+
+slice-aggregate-put-run-2 : tie.Need-slice-aggregate-put-run-2
+slice-aggregate-put-run-2 c = sym (length-take-le _ _ (frame-few (c .before .before .before .before .before .pre)))
+
+array-borrow-prefix-deltas : tie.Need-array-borrow-prefix-deltas
+array-borrow-prefix-deltas c = omega (arith, outcomes-few (c .before .before .before .before .before .pre))
+
+slice-aggregate-put-run-3 : tie.Need-slice-aggregate-put-run-3
+slice-aggregate-put-run-3 c = sym (length-take-le _ _ (outcomes-few (c .before .before .before .before .before .before .pre)))
+
+array-share-prefix-noiseless : tie.Need-array-share-prefix-noiseless
+array-share-prefix-noiseless c = omega (arith, outcomes-few (c .before .before .before .before .before .before .pre))
+
+slice-aggregate-put-run-4 : tie.Need-slice-aggregate-put-run-4
+slice-aggregate-put-run-4 c = sym (length-take-le _ _ (outcomes-few (c .before .before .before .before .before .before .before .pre)))
+
+put-run-requires : tie.Need-put-run-requires
+put-run-requires c κs = (c .before .before .before .before .before .before .before .pre, lends-zeros (c .before .before .before .before .before .before .before .pre))
+
+same-length : tie.Need-same-length
+same-length c = search needs
+
+returns : tie.Need-returns
+returns c = search needs
+
+pub put-reply-spec : {M : Type 1} → statement M
+put-reply-spec =
+    tie.close
+    (tie.spec
+    add-w
+    mul-frame
+    mul-outcomes
+    array-borrow-prefix-x
+    slice-aggregate-put-run
+    array-borrow-prefix-z
+    slice-aggregate-put-run-2
+    array-borrow-prefix-deltas
+    slice-aggregate-put-run-3
+    array-share-prefix-noiseless
+    slice-aggregate-put-run-4
+    put-run-requires
+    same-length
+    returns)

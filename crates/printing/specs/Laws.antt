@@ -1,0 +1,4 @@
+-- Laws about what is printed.
+pub mod Session
+pub mod Printed
+pub mod Length

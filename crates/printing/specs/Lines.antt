@@ -1,0 +1,39 @@
+-- The lines of a printed session, each by itself, and what a run is lent. Definitions. Assumes nothing.
+use mathlib.Core.List.{List, [], _∷_, _++_}
+use Prim.Native.Nat.{ℕ}
+use mathlib.Core.Path.{_≡_}
+use mathlib.Core.Bool.{true}
+use lib.ListN.{replicate}
+use Rattle.text.specs.Bytes.{bytes, unlines}
+use Rattle.text.specs.Template.{Value, lineText}
+use Rattle.job.specs.declared.Header.{Header}
+use Rattle.job.specs.Job.{checkJob, jobOf, recordedIn}
+use Rattle.rows.specs.Words.{wordsPerRow, bitIn}
+use Rattle.session.specs.Session.{smallEnough, bitText, lentMemory, replyLines}
+use Rattle.run.specs.Run.{frameWords, outcomeWords, runReply}
+
+-- the header's numbers
+unfoldable pub headerText : Header → List ℕ
+headerText h = lineText (bytes "ok=1 qubits=N outcomes=N shots=N") (Value.number (h .qubits) ∷ Value.number (h .outcomes) ∷ Value.number (h .shots) ∷ [])
+
+-- the deltas of an outcome
+unfoldable pub deltaText : ℕ → List ℕ → ℕ → List ℕ
+deltaText shots deltas id = lineText (bytes "id=N delta=") (Value.number id ∷ []) ++ bitText (bitIn (wordsPerRow shots) deltas id) shots 0
+
+-- what a run of a job comes to, with the words that its header needs
+unfoldable pub ranText : List ℕ → List ℕ
+ranText job = unlines (replyLines (jobOf job) (runReply job (lentMemory (jobOf job .header))))
+
+-- an accepted job with this header, which is within the limits, and with so many recorded outcomes
+pub record RunsSmall (job : List ℕ) (h : Header) (n : ℕ) : Type 0 where
+  pub accepted : checkJob job .number ≡ 0
+  pub header : h ≡ jobOf job .header
+  pub recorded : n ≡ recordedIn (jobOf job .instructions)
+  pub small : smallEnough h ≡ true
+
+-- the words that a header needs, all 0
+pub record Lends (h : Header) (x z deltas noiseless : List ℕ) : Type 0 where
+  pub x-words : x ≡ replicate (frameWords h) 0
+  pub z-words : z ≡ replicate (frameWords h) 0
+  pub delta-words : deltas ≡ replicate (outcomeWords h) 0
+  pub noiseless-words : noiseless ≡ replicate (outcomeWords h) 0
