@@ -8,7 +8,7 @@ use std::io::Write;
 use std::process::{Command, Stdio};
 
 /// The calls that the library has.
-pub const CALLS: &[Call] = &[Call::Check, Call::Run, Call::Settle, Call::Walk, Call::Annotate, Call::Locations, Call::Correlation];
+pub const CALLS: &[Call] = &[Call::Check, Call::Run, Call::Settle, Call::Walk, Call::Annotate, Call::Locations, Call::Correlation, Call::Print];
 
 /// `struct kundatrezo_answer`.
 #[repr(C)]
