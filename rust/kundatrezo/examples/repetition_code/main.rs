@@ -22,6 +22,10 @@ const SEED: u64 = 0x9e37_79b9_7f4a_7c15;
 fn main() -> Result<(), Box<dyn Error>> {
     let mut arguments = std::env::args().skip(1);
     let path = arguments.next().unwrap_or_else(|| "repetition_code.svg".into());
+    if path.starts_with('-') {
+        println!("usage: repetition_code [SVG [JOBS [SEED]]]");
+        return Ok(());
+    }
     let jobs = arguments.next().map_or(Ok(JOBS), |text| text.parse())?;
     if jobs == 0 {
         return Err("a point needs a job".into());
