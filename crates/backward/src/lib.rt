@@ -1,2 +1,2 @@
-// So far this crate holds the definitions (specs/) of settling and of the backward walk.
+// The definitions of settling and of the backward walk, and the theorems on both (specs/). The code is in the crates settling and walker.
 pub fn nothing() {}

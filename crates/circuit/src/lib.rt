@@ -1,2 +1,2 @@
-// So far this crate holds the definitions (specs/) of annotation, locations and the correlation check.
+// The definitions of annotation, locations and the correlation check (specs/). The code is in the crates annotation and correlations.
 pub fn nothing() {}

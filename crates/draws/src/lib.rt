@@ -1,2 +1,2 @@
-// So far this crate holds the definitions (specs/) of draws, of settling on lists and of execution.
+// The definitions of draws, of settling on lists and of execution (specs/). The code is in the crates noise, faults and execution.
 pub fn nothing() {}

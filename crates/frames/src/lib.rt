@@ -1,2 +1,2 @@
-// So far this crate holds the definitions (specs/) of what lines do to a frame, and the theorems on conjugation.
+// The definitions of what lines do to a frame, and the theorems on conjugation (specs/). The code is in the crates propagator and unitaries.
 pub fn nothing() {}

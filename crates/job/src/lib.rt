@@ -1,4 +1,5 @@
-// The job: its lines, its instructions and tests 1 to 12. So far this crate holds the definitions (specs/) and the types that answers have.
+// The definitions of a job, of its lines, its instructions and tests 1 to 12 (specs/), and the types that answers have. The code is in the crates reader,
+// instructions and checker.
 
 // The header's numbers.
 pub struct Header {

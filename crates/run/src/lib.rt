@@ -1,2 +1,2 @@
-// So far this crate holds the definitions (specs/) of a run's reply.
+// The definition of a run's reply (specs/). The code is in the crate runner.
 pub fn nothing() {}

@@ -1,2 +1,2 @@
-// So far this crate holds the definition (specs/) of the printed session.
+// The definition of the printed session (specs/). The code is in the crate printing.
 pub fn nothing() {}
