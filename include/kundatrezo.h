@@ -83,11 +83,11 @@ struct kundatrezo_text_answer kundatrezo_settle(const uint8_t *job, size_t job_l
  * the set's outcomes rise strictly and are recorded by the job. Nothing is written. */
 struct kundatrezo_count_answer kundatrezo_walk(const uint8_t *job, size_t job_len, uint64_t shot, const uint64_t *set, size_t set_len);
 
-/* Annotation: the job with a depolarizing noise line at every fault location, before a measurement and after the other lines. p_bits is the
+/* Annotation: the job with a depolarizing noise line before each measurement and after each gate (u, c, p, e, k, m lines). p_bits is the
  * probability by the bits of its double; one that is NaN or above 1 is refused by KUNDATREZO_PROBABILITY with line 0. A refusal writes nothing. */
 struct kundatrezo_text_answer kundatrezo_annotate(const uint8_t *job, size_t job_len, uint64_t p_bits, uint8_t *out, size_t out_len);
 
-/* How many fault locations the job has. Nothing is written. */
+/* How many fault locations the job has: twice the qubits of the noise lines that annotation adds, summed. Nothing is written. */
 struct kundatrezo_count_answer kundatrezo_locations(const uint8_t *job, size_t job_len);
 
 /* The correlation check: whether noise lines of one correlation all have as many elements. Nothing is written. */

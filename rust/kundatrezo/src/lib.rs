@@ -9,7 +9,7 @@
 //! | [`run`] | the frames and the outcome deltas of all shots; [`Frames`] has memory of its own |
 //! | [`settle`] | the job with its noise replaced by the injections that the same words draw; [`settled`] as a `Vec` |
 //! | [`walk`] | for a set of outcomes and a shot, the count of faults that flip the set's parity |
-//! | [`annotate`] | the job with depolarizing noise at every location; [`annotated`] as a `Vec` |
+//! | [`annotate`] | the job with depolarizing noise before each measurement and after each gate; [`annotated`] as a `Vec` |
 //! | [`locations`] | the number of fault locations |
 //! | [`correlation`] | whether correlated noise lines agree in size |
 //!
@@ -142,7 +142,7 @@ pub fn run(job: &[u8], rows: Rows<'_>, noiseless: &[u64], draws: Draws<'_>) -> A
 ///
 /// # Errors
 ///
-/// The refusal by 1 to 12, 13 (too few noiseless words), 14 or 15 (the text does not fit; [`Refusal::figure`] is then not below what it needs). Nothing
+/// The refusal by 1 to 12, 13 (too few noiseless words), 14 or 15 (the text does not fit; [`Refusal::figure`] is then the bytes that it needs). Nothing
 /// is written then.
 ///
 /// ```
@@ -158,7 +158,7 @@ pub fn run(job: &[u8], rows: Rows<'_>, noiseless: &[u64], draws: Draws<'_>) -> A
 ///
 /// let refusal = settle(job.as_bytes(), &[], draws, &mut []).unwrap_err();
 /// assert_eq!(refusal.number, Number::ROOM);
-/// assert!(refusal.figure >= bytes as u64);
+/// assert_eq!(refusal.figure, bytes as u64);
 /// # Ok::<(), kundatrezo::Refusal>(())
 /// ```
 pub fn settle(job: &[u8], noiseless: &[u64], draws: Draws<'_>, out: &mut [u8]) -> Answer<usize> {

@@ -130,7 +130,7 @@ pub struct Refusal {
     pub number: Number,
     /// The line of the job, from 1; 0 where none fits.
     pub line: u64,
-    /// With [`Number::ROOM`] of settling, bytes that are not fewer than the settled text needs; else 0.
+    /// With [`Number::ROOM`] of settling, the bytes that the settled text needs; else 0.
     pub figure: u64,
 }
 

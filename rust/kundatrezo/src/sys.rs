@@ -22,7 +22,7 @@ pub struct TextAnswer {
     pub figure: u64,
 }
 
-/// `struct kundatrezo_count`.
+/// `struct kundatrezo_count_answer`.
 #[repr(C)]
 pub struct Count {
     pub answer: Answer,

@@ -89,7 +89,7 @@ first). Prints 'ok=1 count=' and the number of the shot's faults that flip the s
     },
     Command {
         name: "annotate",
-        summary: "the job with depolarizing noise at every location",
+        summary: "the job with depolarizing noise before each measurement and after each gate",
         details: &["\
 Writes the job with a line of depolarizing noise before each measurement and after each gate. Either --p
 or --p-bits is wanted."],

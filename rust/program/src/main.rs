@@ -27,7 +27,7 @@ impl Failure {
     fn refused(refusal: &Refusal, job: &[u8]) -> Self {
         let line = refusal.line_of(job).map(|line| format!(": {}", shortened(line))).unwrap_or_default();
         let need = match (refusal.number, refusal.figure) {
-            (Number::ROOM, 1..) => format!("; the text needs no more than {} bytes", refusal.figure),
+            (Number::ROOM, 1..) => format!("; the text needs {} bytes", refusal.figure),
             _ => String::new(),
         };
         Self::Refused(format!("{refusal}{line}{need}"))

@@ -143,7 +143,7 @@ fn refusals_are_said_in_words() {
     let noisy = format!("{header}op=n p=3ff0000000000000 corr=- cond=- parity=0 d=1 x=0 z=-\n");
     let room = "refused: 15 (the text is longer than the lent bytes or 1,048,576)";
     let done = call("settle - --room 10 --seed 9", &noisy);
-    assert!(done.stderr.starts_with(&format!("{room}; the text needs no more than ")), "{done:?}");
+    assert!(done.stderr.starts_with(&format!("{room}; the text needs ")), "{done:?}");
     refused("annotate - --p 0.5 --room 10", &gate.replace("q=7", "q=0"), room);
     // bytes that are no text, and a line that is cut
     let done = kundatrezo(["check", "-"], b"op=job qubits=1 outcomes=0 shots=1\nop=z q=\xff\x1b\n");
