@@ -6,8 +6,8 @@ ghost use lib.ListN.{length};
 use checker::check;
 use job::Answer;
 use libc::STDOUT_FILENO;
-use replay::gather;
 use numbers::pieces::find;
+use replay::gather;
 use template::read_all;
 
 struct Tally {

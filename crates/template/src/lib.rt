@@ -6,13 +6,13 @@ ghost use lib.ListN.{length};
 ghost use Rattle.text.specs.Template.{aNumber, aList, valueOf, isLetter};
 ghost use Rattle.numbers.specs.Read.{read, ListRead};
 ghost use Rattle.template.specs.Fields.{listBy, numberLetter, listLetter, PutAs, ReadOn, ReadAs};
+use numbers::Value;
+use numbers::bit;
+use numbers::hex16;
 use numbers::lists::Listed;
 use numbers::lists::list_c;
 use numbers::lists::list_l;
 use numbers::lists::list_q;
-use numbers::Value;
-use numbers::bit;
-use numbers::hex16;
 use numbers::number;
 use numbers::pieces::find;
 
