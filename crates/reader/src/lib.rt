@@ -1,4 +1,4 @@
-// What a line says: its form. Its values go into lent words, the fields of the line (crate text).
+// What a line says: its form. Its values go into lent words, the fields of the line (crate template).
 ghost use mathlib.Core.Path.{_≡_};
 ghost use Prim.Native.Nat.{_≤_, _<_};
 ghost use mathlib.Core.Bool.{_&&_};
