@@ -16,12 +16,12 @@ pub mod line;
 use crate::elements::gather;
 use crate::elements::keep_element;
 use crate::line::fault_of;
+use choice::running_sums;
+use choice::total;
 use instructions::element_lines;
 use instructions::has_weights;
 use noise::OutcomeCondition;
 use noise::PauliFault;
-use noise::choice::running_sums;
-use noise::choice::total;
 use noise::condition::condition_mask;
 use reader::Form;
 

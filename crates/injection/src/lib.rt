@@ -1,10 +1,10 @@
 // The faults of a noise line, injected in their shots.
+use choice::bound;
+use choice::limit;
 use noise::PauliDistribution;
-use noise::choice::bound;
-use noise::choice::limit;
-use noise::shots::NextFault;
-use noise::shots::next_fault;
 use pauli::Shot;
+use shots::NextFault;
+use shots::next_fault;
 ghost use mathlib.Core.Path.{_≡_};
 ghost use mathlib.Core.Bool.{true, cond};
 ghost use mathlib.Core.List.{List};

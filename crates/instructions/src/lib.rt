@@ -12,9 +12,9 @@ ghost use Rattle.job.specs.Job.{wellEnded};
 ghost use Rattle.reader.specs.Parsed.{formOf, Said};
 ghost use Rattle.instructions.specs.Reading.{NextLine, noiseForm};
 ghost use Rattle.instructions.specs.Ahead.{hasWeights};
+use numbers::pieces::find;
 use reader::Form;
 use reader::read_line;
-use text::pieces::find;
 
 // A line that was read: its form, and the place of the LF that ends it. The next line begins behind that.
 pub struct Next {

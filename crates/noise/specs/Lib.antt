@@ -1,7 +1,6 @@
--- Definitions that contracts cite: a noise line's parts as the code's values, a choice, a condition's mask, the shots.
+-- Definitions that contracts cite: a noise line's parts as the code's values, words that bring no fault, a condition's mask.
 pub mod Kinds
-pub mod Choice
+pub mod Words
 pub mod Condition
-pub mod Shots
 -- Laws of these definitions.
 pub mod Laws

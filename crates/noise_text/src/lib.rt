@@ -13,13 +13,13 @@ ghost use Rattle.noise_text.specs.Injections.{StepPut, injected, Ready, 
 pub mod lists;
 
 use crate::lists::select;
+use choice::bound;
+use choice::limit;
 use noise::Correlation;
 use noise::PauliDistribution;
-use noise::choice::bound;
-use noise::choice::limit;
-use noise::shots::NextFault;
-use noise::shots::next_fault;
 use noise::words::part;
+use shots::NextFault;
+use shots::next_fault;
 use writer::lines::put_inject;
 
 // ---- An element

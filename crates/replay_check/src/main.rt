@@ -6,9 +6,9 @@ ghost use lib.ListN.{length};
 use checker::check;
 use job::Answer;
 use libc::STDOUT_FILENO;
+use numbers::pieces::find;
 use replay::gather;
-use text::pieces::find;
-use text::template::read_all;
+use template::read_all;
 
 struct Tally {
     cases: u64,

@@ -1,6 +1,6 @@
 -- `injection::inject_faults` meets its contract. Assumes nothing.
 use Rattle.injection.specs.Laws.Faults.{Injecting, injecting-none, injecting-spent, injecting-done, element-ready, injecting-at}
-use Rattle.noise.specs.Laws.Next.{at-within, at-shot}
+use Rattle.shots.specs.Laws.Next.{at-within, at-shot}
 use Rattle.noise.specs.Kinds.{boundOf}
 use Rattle.draws.specs.Draws.{limitOf}
 use borrow.Author.Needs.{needs}

@@ -10,11 +10,11 @@ use Rattle.job.specs.Line.{Line, Noise}
 use Rattle.draws.specs.Draws.{elementAt, Lent}
 use Rattle.draws.specs.Execute.{States, forwardAll, injectShots}
 use Rattle.noise.specs.declared.PauliDistribution.{PauliDistribution}
-use Rattle.noise.specs.declared.shots.NextFault.{NextFault}
-use Rattle.noise.specs.declared.shots.NextFault.the-variants as next
-use Rattle.noise.specs.Shots.{FaultFound}
+use Rattle.shots.specs.declared.NextFault.{NextFault}
+use Rattle.shots.specs.declared.NextFault.the-variants as next
+use Rattle.shots.specs.Shots.{FaultFound}
 use Rattle.faults.specs.Laws.Drawn.{size-some}
-use Rattle.noise.specs.Laws.Next.{done-within, injects-spent, injects-done, injects-at, at-below}
+use Rattle.shots.specs.Laws.Next.{done-within, injects-spent, injects-done, injects-at, at-below}
 use Rattle.injection.specs.declared.Drawn.the-variants.{Done, Spent}
 use Rattle.injection.specs.Holds.{Holds}
 use Rattle.injection.specs.Injected.{ElementReady, ElementInjected, LineReady, FaultsReady, executedAs, placeOf, numbers, FaultsInjected}

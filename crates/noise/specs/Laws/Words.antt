@@ -11,7 +11,7 @@ use Rattle.draws.specs.Draws.{falls, Lent, partOf}
 use Rattle.noise.specs.declared.Correlation.{Correlation}
 use Rattle.noise.specs.declared.Correlation.the-variants.{Uncorrelated, Shared}
 use Rattle.noise.specs.Kinds.{correlationOf}
-use Rattle.noise.specs.Shots.{skipOf}
+use Rattle.noise.specs.Words.{skipOf}
 
 -- what a list holds from a place on, cut at its length
 pub tail-whole : (ws : List ℕ) (i : ℕ) → take (length ws - i) (drop i ws) ≡ drop i ws

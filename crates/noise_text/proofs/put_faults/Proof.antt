@@ -1,7 +1,7 @@
 -- `noise_text::put_faults` meets its contract. The invariant: the injections of some faults are put, and the others are drawn from here on. Assumes nothing.
 use Rattle.noise_text.specs.Laws.Injections.{element-inside, element-next, Putting, put-none, put-more, put-spent, put-done}
 use Rattle.noise_text.specs.Injections.{Ready}
-use Rattle.noise.specs.Laws.Next.{at-shot, at-within}
+use Rattle.shots.specs.Laws.Next.{at-shot, at-within}
 use lib.ListN.{length}
 use Prim.Native.Nat.{_+_, _-_, _*_, _≤_}
 use mathlib.Core.Path.{_≡_, refl, _∙_}

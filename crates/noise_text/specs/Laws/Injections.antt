@@ -20,11 +20,11 @@ use Rattle.draws.specs.Laws.SettledText.{element-sound}
 use Rattle.noise.specs.declared.PauliDistribution.{PauliDistribution}
 use Rattle.noise.specs.declared.Correlation.{Correlation}
 use Rattle.noise.specs.declared.Correlation.the-variants.{Uncorrelated, Shared}
-use Rattle.noise.specs.declared.shots.NextFault.{NextFault}
-use Rattle.noise.specs.declared.shots.NextFault.the-variants as next
+use Rattle.shots.specs.declared.NextFault.{NextFault}
+use Rattle.shots.specs.declared.NextFault.the-variants as next
 use Rattle.noise.specs.Kinds.{correlationOf}
-use Rattle.noise.specs.Shots.{FaultFound}
-use Rattle.noise.specs.Laws.Next.{draws-spent, draws-done, draws-at, done-within, at-below}
+use Rattle.shots.specs.Shots.{FaultFound}
+use Rattle.shots.specs.Laws.Next.{draws-spent, draws-done, draws-at, done-within, at-below}
 use Rattle.faults.specs.Laws.Drawn.{size-some}
 use Rattle.noise_text.specs.declared.Drawn.{Drawn}
 use Rattle.noise_text.specs.declared.Drawn.the-variants.{Spent, Done}

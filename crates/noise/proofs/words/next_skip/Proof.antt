@@ -5,7 +5,7 @@ use native.Mathlib.Omega.{arith}
 use lib.ListN.{length, drop}
 use borrow.Author.Needs.{needs}
 use native.Mathlib.Nat.{add-zero, sub-zero, zero-add}
-use Rattle.noise.specs.Shots.{skipOf}
+use Rattle.noise.specs.Words.{skipOf}
 use Rattle.noise.specs.Laws.Words.{skip-done, skip-ends, skip-stops, skip-more}
 use Rattle.noise.proofs.words.next_skip.Statement.{statement}
 use Rattle.noise.proofs.words.next_skip.Tie as tie

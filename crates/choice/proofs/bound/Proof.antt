@@ -1,0 +1,60 @@
+-- `choice::bound` meets its contract: a shift by 2k is 4 ^ k.
+use native.Mathlib.Omega.{arith}
+use Rattle.noise.specs.Kinds.{boundOf}
+use Rattle.choice.specs.Laws.Choice.{shifted, four-pos, small-qubits}
+use borrow.Author.Needs.{needs}
+use Rattle.choice.proofs.bound.Statement.{statement}
+use Rattle.choice.proofs.bound.Tie as tie
+
+enum-told : tie.Need-enum-told
+enum-told c = search needs
+
+enum-known-d : tie.Need-enum-known-d
+enum-known-d c = search needs
+
+mul-result : tie.Need-mul-result
+mul-result c = omega (arith, small-qubits _ (c .before .d .given .1) (c .before .before .before .pre))
+
+shl-result : tie.Need-shl-result
+shl-result c = omega (arith, small-qubits _ (c .before .d .given .1) (c .before .before .before .pre))
+
+sub-result : tie.Need-sub-result
+sub-result c = rw (shifted _ (small-qubits _ (c .before .d .given .1) (c .before .before .before .pre))) (four-pos _)
+
+enum-known-d-2 : tie.Need-enum-known-d-2
+enum-known-d-2 c = search needs
+
+enum-told-2 : tie.Need-enum-told-2
+enum-told-2 c = search needs
+
+returns : tie.Need-returns
+unfolding boundOf
+returns c = rw (c .enum-told .given .1)
+
+returns-2 : tie.Need-returns-2
+unfolding boundOf
+returns-2 c = rw (c .before .d .given .1, shifted _ (small-qubits _ (c .before .d .given .1) (c .before .before .before .pre)))
+
+returns-3 : tie.Need-returns-3
+unfolding boundOf
+returns-3 c = rw (c .before .d2 .given .1)
+
+returns-4 : tie.Need-returns-4
+unfolding boundOf
+returns-4 c = rw (c .enum-told2 .given .1)
+
+pub bound-spec : {M : Type 1} → statement M
+bound-spec =
+    tie.close
+    (tie.spec
+    enum-told
+    enum-known-d
+    mul-result
+    shl-result
+    sub-result
+    enum-known-d-2
+    enum-told-2
+    returns
+    returns-2
+    returns-3
+    returns-4)

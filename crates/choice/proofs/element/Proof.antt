@@ -1,0 +1,55 @@
+-- `choice::element` meets its contract: by the kind of distribution.
+use Rattle.choice.specs.Laws.Choice.{chosen-one, chosen-depolarizing, chosen-uniform, chosen-weighted}
+use native.Mathlib.Omega.{arith}
+use borrow.Author.Needs.{needs}
+use Rattle.choice.proofs.element.Statement.{statement}
+use Rattle.choice.proofs.element.Tie as tie
+
+enum-told : tie.Need-enum-told
+enum-told c = search needs
+
+enum-told-2 : tie.Need-enum-told-2
+enum-told-2 c = search needs
+
+choose-requires : tie.Need-choose-requires
+choose-requires c κs = search needs
+
+enum-told-3 : tie.Need-enum-told-3
+enum-told-3 c = search needs
+
+choose-requires-2 : tie.Need-choose-requires-2
+choose-requires-2 c κs = search needs
+
+enum-told-4 : tie.Need-enum-told-4
+enum-told-4 c = search needs
+
+weigh-requires : tie.Need-weigh-requires
+weigh-requires c κs = search needs
+
+returns : tie.Need-returns
+returns c = chosen-one _ (c .enum-told .given .1) (omega arith)
+
+returns-2 : tie.Need-returns-2
+returns-2 c = chosen-depolarizing _ _ _ (c .before .enum-told2 .given .1) (c .before .before .before .before .before .pre .1) (c .choose .ensures)
+
+returns-3 : tie.Need-returns-3
+returns-3 c = chosen-uniform _ _ _ (c .before .enum-told3 .given .1) (c .before .before .before .before .before .pre .1) (c .choose2 .ensures)
+
+returns-4 : tie.Need-returns-4
+returns-4 c = chosen-weighted _ _ (c .before .enum-told4 .given .1) (c .weigh .ensures)
+
+pub element-spec : {M : Type 1} → statement M
+element-spec =
+    tie.close
+    (tie.spec
+    enum-told
+    enum-told-2
+    choose-requires
+    enum-told-3
+    choose-requires-2
+    enum-told-4
+    weigh-requires
+    returns
+    returns-2
+    returns-3
+    returns-4)

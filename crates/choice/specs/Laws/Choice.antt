@@ -1,0 +1,121 @@
+-- The choice of an element, by the place of its words. Laws. Assumes nothing.
+use Prim.Native.Nat.{ℕ, zero, suc, _+_, _-_, _*_, _%_, _^_, _<_, _≤_}
+use native.Mathlib.Nat.{one-mul, mod-eq-of-lt, mod-zero}
+use native.Mathlib.Numerals.{add-one}
+use native.Mathlib.Omega.{arith}
+use mathlib.Core.Path.{_≡_, refl, sym, ap, _∙_, subst}
+use mathlib.Core.Bool.{true, false}
+use mathlib.Core.List.{List}
+use lib.Dec.{ltb}
+use lib.Pow.{pow-pos, pow-lt}
+use lib.ListN.{length, getD, drop, drop-of-length-le}
+use lib.Seq.{drop-cons}
+use lib.Ieee.{Float}
+use Rattle.job.specs.Line.{Distribution, sizeOf}
+use Rattle.draws.specs.Draws.{unitOf, Choice, limitOf, bounded, placeOf, byWeight, chooseFrom}
+use Rattle.draws.specs.Laws.Depolarizing.{four}
+use Rattle.noise.specs.declared.PauliDistribution.{PauliDistribution}
+use Rattle.noise.specs.declared.PauliDistribution.the-variants.{Single, Depolarizing, Uniform, Weighted}
+use Rattle.choice.specs.declared.Choice.{Choice as Answer}
+use Rattle.choice.specs.declared.Choice.the-variants.{Chosen, Spent}
+use Rattle.noise.specs.Kinds.{kindOf, boundOf, Small, Chooses}
+use Rattle.choice.specs.Choice.{choiceOf, nextOf, Chose, ElementChosen}
+
+-- ---- what is chosen
+
+module _ {words : List ℕ} {o : Choice} where
+  pub chose : (e next : ℕ) → o ≡ Choice.chosen e (drop next words) → next ≤ length words → Chose words o (Chosen e next)
+  unfolding choiceOf nextOf
+  chose e next q h = record { within = h; is = sym q }
+
+  pub chose-none : o ≡ Choice.spent → Chose words o Spent
+  unfolding choiceOf nextOf
+  chose-none q = record { within = omega arith; is = sym q }
+
+-- ---- by a bound
+
+-- of no elements none is chosen
+pub limit-none : 0 ≡ limitOf 0
+limit-none = sym (ap (λ (m : ℕ). 2 ^ 64 - 1 - m) (mod-zero (2 ^ 64 - 1)))
+
+pub below-limit : (c w limit : ℕ) → limit ≡ limitOf c → w < limit → 0 < c
+below-limit zero w limit e h = absurd (omega (arith, limit-none))
+below-limit (suc c) w limit e h = omega arith
+
+-- a word below the limit, one that is rejected, and no word
+module _ (c : ℕ) (ws : List ℕ) (i limit : ℕ) (e : limit ≡ limitOf c) where
+  pub choose-takes : i < length ws → ltb (getD ws i 0) limit ≡ true → bounded c (drop i ws) ≡ Choice.chosen (getD ws i 0 % c) (drop (i + 1) ws)
+  unfolding bounded
+  choose-takes h t = rw (add-one, drop-cons ws i 0, ← e, t)
+
+  pub choose-rejects : i < length ws → ltb (getD ws i 0) limit ≡ false → bounded c (drop i ws) ≡ bounded c (drop (i + 1) ws)
+  unfolding bounded
+  choose-rejects h t = rw (add-one, drop-cons ws i 0, ← e, t)
+
+pub choose-ends : (c : ℕ) (ws : List ℕ) (i : ℕ) → length ws ≤ i → bounded c (drop i ws) ≡ Choice.spent
+unfolding bounded
+choose-ends c ws i h = rw (drop-of-length-le ws h)
+
+-- ---- by weight
+
+pub weigh-takes : (sums : List Float) (ws : List ℕ) (i : ℕ) → i < length ws
+    → byWeight sums (drop i ws) ≡ Choice.chosen (placeOf (unitOf (getD ws i 0)) sums) (drop (i + 1) ws)
+unfolding byWeight
+weigh-takes sums ws i h = rw (add-one, drop-cons ws i 0)
+
+pub weigh-ends : (sums : List Float) (ws : List ℕ) (i : ℕ) → length ws ≤ i → byWeight sums (drop i ws) ≡ Choice.spent
+unfolding byWeight
+weigh-ends sums ws i h = rw (drop-of-length-le ws h)
+
+-- ---- the bound of a kind
+
+-- 4 ^ k by a shift
+pub shifted : (k : ℕ) → k < 32 → 1 * 2 ^ (2 * k) % 2 ^ 64 ≡ 4 ^ k
+shifted k h = let small : 2 * k < 64 = omega arith in rw (one-mul, mod-eq-of-lt (pow-lt small)) (four k)
+
+pub four-pos : (k : ℕ) → 1 ≤ 4 ^ k
+four-pos k = subst (λ (n : ℕ). 1 ≤ n) (four k) (pow-pos (2 * k))
+
+pub small-qubits : {d : PauliDistribution} (k : ℕ) → d ≡ Depolarizing k → Small d → k < 32
+unfolding Small
+small-qubits k e s = rw e at s
+
+-- ---- by the kind of a distribution
+
+-- what the words choose, by the kind alone
+unfoldable chosenBy : PauliDistribution → List Float → List ℕ → Choice
+unfolding boundOf
+chosenBy Single sums ws = Choice.chosen 0 ws
+chosenBy (Depolarizing k) sums ws = bounded (boundOf (Depolarizing k)) ws
+chosenBy (Uniform n) sums ws = bounded (boundOf (Uniform n)) ws
+chosenBy (Weighted t) sums ws = byWeight sums ws
+
+chosen-by : (D : Distribution) {d : PauliDistribution} {sums : List Float} → Chooses D d sums → (ws : List ℕ) → chooseFrom D ws ≡ chosenBy d sums ws
+unfolding chooseFrom chosenBy kindOf boundOf sizeOf
+chosen-by (Distribution.single P) r ws = rw (r .kind)
+chosen-by (Distribution.depolarizing qs) r ws = rw (r .kind)
+chosen-by (Distribution.uniform Ps) r ws = rw (r .kind)
+chosen-by (Distribution.weighted es) r ws = rw (r .kind, r .beside es refl)
+
+module _ {d : PauliDistribution} {sums : List Float} {words : List ℕ} (at : ℕ) where
+  pub chosen-one : d ≡ Single → at ≤ length words → ElementChosen words at d sums (Chosen 0 at)
+  unfolding chosenBy choiceOf nextOf
+  chosen-one e h = record { within = h; is = λ D r. sym (chosen-by D r (drop at words) ∙ rw e) }
+
+  -- a choice by what the kind comes to
+  chosen-as : {o : Choice} {a : Answer} → chosenBy d sums (drop at words) ≡ o → Chose words o a → ElementChosen words at d sums a
+  chosen-as e q = record { within = q .within; is = λ D r. q .is ∙ sym (chosen-by D r (drop at words) ∙ e) }
+
+  pub chosen-depolarizing : {a : Answer} (k c : ℕ) → d ≡ Depolarizing k → c ≡ boundOf d → Chose words (bounded c (drop at words)) a
+      → ElementChosen words at d sums a
+  unfolding chosenBy
+  chosen-depolarizing k c e b q = chosen-as (rw (b, e)) q
+
+  pub chosen-uniform : {a : Answer} (n c : ℕ) → d ≡ Uniform n → c ≡ boundOf d → Chose words (bounded c (drop at words)) a
+      → ElementChosen words at d sums a
+  unfolding chosenBy
+  chosen-uniform n c e b q = chosen-as (rw (b, e)) q
+
+  pub chosen-weighted : {a : Answer} (t : Float) → d ≡ Weighted t → Chose words (byWeight sums (drop at words)) a → ElementChosen words at d sums a
+  unfolding chosenBy
+  chosen-weighted t e q = chosen-as (rw e) q

@@ -1,0 +1,136 @@
+// The choice of an element. An element is known by its number, from 0.
+use noise::PauliDistribution;
+use noise::words::unit;
+ghost use mathlib.Core.Path.{_≡_};
+ghost use mathlib.Core.List.{List};
+ghost use Prim.Native.Nat.{_-_, _<_, _≤_};
+ghost use lib.ListN.{length, drop};
+ghost use Rattle.job.specs.Float.{nought, totalFrom};
+ghost use Rattle.draws.specs.Draws.{limitOf, bounded, runningSums, placeOf, byWeight};
+ghost use Rattle.noise.specs.Kinds.{boundOf, Small};
+ghost use Rattle.choice.specs.Choice.{Chose, ElementChosen};
+
+// An element, with the place of the next word; or a word was needed past the end.
+pub enum Choice {
+    Chosen(u64, usize),
+    Spent,
+}
+
+// ---- A choice in which each element is as likely as another
+
+// How many elements are chosen from so: none where the kind chooses otherwise.
+pub fn bound(d: PauliDistribution) -> u64
+    requires { ⌜ Small d ⌝ }
+    ensures { λ r. ⌜ r ≡ boundOf d ⌝ }
+{
+    match d {
+        PauliDistribution::Single => 0,
+        PauliDistribution::Depolarizing(k) => (1u64 << (2 * k)) - 1,
+        PauliDistribution::Uniform(n) => n,
+        PauliDistribution::Weighted(_) => 0,
+    }
+}
+
+// Words from this one up are rejected.
+pub fn limit(c: u64) -> u64
+    ensures { λ r. ⌜ r ≡ limitOf c ⌝ }
+{
+    if c == 0 {
+        return 0;
+    }
+    18446744073709551615 - 18446744073709551615 % c
+}
+
+// The first word that is not rejected, mod c. The limit is handed in, since it takes a division.
+pub fn choose(words: &[u64], at: usize, c: u64, limit: u64) -> Choice
+    requires { ⌜ limit ≡ limitOf c ⌝ }
+    ensures { λ r. ⌜ Chose (now (words .entry)) (bounded c (drop at (now (words .entry)))) r ⌝ }
+{
+    let mut i = at;
+    while i < words.len() {
+        let w = words[i];
+        i += 1;
+        if w < limit {
+            return Choice::Chosen(w % c, i);
+        }
+    }
+    Choice::Spent
+}
+
+// ---- A choice by weights
+
+// The weights summed from the left.
+pub fn total(weights: &[f64]) -> f64
+    ensures { λ r. ⌜ r ≡ totalFrom nought (now (weights .entry)) ⌝ }
+{
+    let mut sum = 0.0;
+    let mut i = 0;
+    while i < weights.len() {
+        sum = sum + weights[i];
+        i += 1;
+    }
+    sum
+}
+
+// The running sums of the weights, each adding w / total, and the last set to 1.0.
+pub fn running_sums(sums: &mut [f64], weights: &[f64], total: f64)
+    requires { ⌜ (0 < length (now weights)) × (length (now sums) ≡ length (now weights)) × (total ≡ totalFrom nought (now weights)) ⌝ }
+    ensures { λ _. ⌜ now (sums .exit) ≡ runningSums (now (weights .entry)) ⌝ }
+{
+    let mut sum = 0.0;
+    let mut i = 0;
+    while i < weights.len() {
+        sum = sum + weights[i] / total;
+        sums[i] = sum;
+        i += 1;
+    }
+    sums[weights.len() - 1] = 1.0;
+}
+
+// The first place whose running sum is not below u, else the last.
+fn place(sums: &[f64], u: f64) -> usize
+    ensures { λ r. ⌜ r ≡ placeOf u (now (sums .entry)) ⌝ }
+{
+    let mut i = 0;
+    while i + 1 < sums.len() {
+        if sums[i] < u {
+            i += 1;
+        } else {
+            return i;
+        }
+    }
+    i
+}
+
+// One word chooses a place by its running sum.
+pub fn weigh(words: &[u64], at: usize, sums: &[f64]) -> Choice
+    ensures { λ r. ⌜ Chose (now (words .entry)) (byWeight (now (sums .entry)) (drop at (now (words .entry)))) r ⌝ }
+{
+    if words.len() <= at {
+        return Choice::Spent;
+    }
+    let i = place(sums, unit(words[at]));
+    Choice::Chosen(i as u64, at + 1)
+}
+
+// ---- A choice by the kind of distribution
+
+// The element that the words from a place on choose. c is the bound of the kind, with its limit.
+pub fn element(
+    words: &[u64],
+    at: usize,
+    d: PauliDistribution,
+    c: u64,
+    limit: u64,
+    sums: &[f64],
+) -> Choice
+    requires { ⌜ (at ≤ length (now words)) × (c ≡ boundOf d) × (limit ≡ limitOf c) ⌝ }
+    ensures { λ r. ⌜ ElementChosen (now (words .entry)) at d (now (sums .entry)) r ⌝ }
+{
+    match d {
+        PauliDistribution::Single => Choice::Chosen(0, at),
+        PauliDistribution::Depolarizing(_) => choose(words, at, c, limit),
+        PauliDistribution::Uniform(_) => choose(words, at, c, limit),
+        PauliDistribution::Weighted(_) => weigh(words, at, sums),
+    }
+}

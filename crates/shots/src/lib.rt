@@ -1,0 +1,106 @@
+// What the shots of a noise line draw, one after the other.
+use choice::Choice;
+use choice::element;
+use noise::PauliDistribution;
+use noise::words::is_fault;
+use noise::words::next_skip;
+ghost use mathlib.Core.Path.{_≡_};
+ghost use Prim.Native.Nat.{_*_, _/_, _%_, _<_, _≤_};
+ghost use lib.ListN.{length, getD};
+ghost use Rattle.pauli.specs.Bits.{bit};
+ghost use Rattle.draws.specs.Draws.{limitOf};
+ghost use Rattle.noise.specs.Kinds.{boundOf};
+ghost use Rattle.shots.specs.Shots.{ShotDrawn, FaultFound};
+
+// What one shot draws: no fault, or an element, each with the place of the next word; or a word was needed past the end.
+pub enum ShotDraw {
+    Spent,
+    Quiet(usize),
+    Fault(u64, usize),
+}
+
+// One shot's draw. `satisfied` says whether the condition is, in that shot.
+pub fn draw_shot(
+    words: &[u64],
+    at: usize,
+    p: f64,
+    d: PauliDistribution,
+    c: u64,
+    limit: u64,
+    sums: &[f64],
+    satisfied: bool,
+) -> ShotDraw
+    requires { ⌜ (c ≡ boundOf d) × (limit ≡ limitOf c) ⌝ }
+    ensures { λ r. ⌜ ShotDrawn (now (words .entry)) at p d (now (sums .entry)) satisfied r ⌝ }
+{
+    if words.len() <= at {
+        return ShotDraw::Spent;
+    }
+    if !is_fault(words[at], p) {
+        return ShotDraw::Quiet(at + 1);
+    }
+    if !satisfied {
+        return ShotDraw::Quiet(at + 1);
+    }
+    match element(words, at + 1, d, c, limit, sums) {
+        Choice::Chosen(e, next) => ShotDraw::Fault(e, next),
+        Choice::Spent => ShotDraw::Spent,
+    }
+}
+
+// Whether a shot is in a mask.
+pub fn is_set(mask: &[u64], shot: usize) -> bool
+    requires { ⌜ shot < 64 * length (now mask) ⌝ }
+    ensures { λ r. ⌜ r ≡ bit (getD (now (mask .entry)) (shot / 64) 0) (shot % 64) ⌝ }
+{
+    (mask[shot / 64] >> (shot % 64)) % 2 == 1
+}
+
+// The next fault of a line: its shot, its element and the place of the next word. Or no shot that is left has one, with the place of the next
+// word; or a word was needed past the end.
+pub enum NextFault {
+    Spent,
+    Done(usize),
+    At(usize, u64, usize),
+}
+
+// The next fault in the shots from one on. The mask has the shots whose condition is satisfied.
+pub fn next_fault(
+    words: &[u64],
+    at: usize,
+    mask: &[u64],
+    shot: usize,
+    shots: usize,
+    p: f64,
+    d: PauliDistribution,
+    c: u64,
+    limit: u64,
+    sums: &[f64],
+) -> NextFault
+    requires { ⌜ (at ≤ length (now words)) × (shot ≤ shots) × (shots ≤ 64 * length (now mask)) × (c ≡ boundOf d) × (limit ≡ limitOf c) ⌝ }
+    ensures { λ r. ⌜ FaultFound (now (words .entry)) at (now (mask .entry)) shot shots p d (now (sums .entry)) r ⌝ }
+{
+    let mut i = at;
+    let mut s = shot;
+    while s < shots {
+        let skip = next_skip(words, i, shots - s, p);
+        i += skip;
+        s += skip;
+        if s == shots {
+            return NextFault::Done(i);
+        }
+        match draw_shot(words, i, p, d, c, limit, sums, is_set(mask, s)) {
+            ShotDraw::Spent => {
+                return NextFault::Spent;
+            }
+            ShotDraw::Quiet(next) => {
+                i = next;
+            }
+            ShotDraw::Fault(e, next) => {
+                return NextFault::At(s, e, next);
+            }
+        }
+        s += 1;
+    }
+    NextFault::Done(i)
+}
