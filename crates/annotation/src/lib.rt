@@ -13,10 +13,10 @@ pub mod qubits;
 use crate::lines::put_annotated;
 use crate::qubits::noise_qubits;
 use checker::check;
-use checker::floats::Checked;
-use checker::floats::probability;
 use instructions::next_line;
 use job::Answer;
+use value_tests::floats::Checked;
+use value_tests::floats::probability;
 use writer::TextAnswer;
 use writer::refused;
 

@@ -1,13 +1,5 @@
 -- Laws, for the proofs that cite them. Nothing here has to be believed.
--- The tests on lists, a list or a member at a time.
-pub mod Slots
--- Floats that passed their tests.
-pub mod Floats
--- The rows of a Clifford's table.
-pub mod Rows
--- The lowest number, and the tests of a line of each form.
-pub mod Tests
--- What a line says, by groups of forms.
-pub mod Forms
+-- The context after a line that passed.
+pub mod Contexts
 -- A job line by line.
 pub mod Job

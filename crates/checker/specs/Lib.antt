@@ -1,7 +1,3 @@
--- What the code says of the tests. Definitions, and laws that proofs cite.
-pub mod Slots
-pub mod Contexts
+-- What an examination says of a job. Definitions, and laws that proofs cite.
 pub mod Examines
-pub mod Floats
-pub mod Rows
 pub mod Laws

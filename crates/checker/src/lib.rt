@@ -3,17 +3,14 @@ ghost use mathlib.Core.Path.{_≡_};
 ghost use Rattle.job.specs.Job.{wellEnded, checkJob};
 ghost use Rattle.checker.specs.Examines.{Examines};
 
-pub mod clifford;
-pub mod floats;
-pub mod lists;
 pub mod tests;
 
 use crate::tests::next;
-use crate::tests::no_context;
 use crate::tests::refusal;
 use instructions::next_line;
 use job::Answer;
 use job::Header;
+use value_tests::context::no_context;
 
 const MAX_BYTES: usize = 1048576;
 

@@ -25,8 +25,8 @@ use Rattle.instructions.specs.Reading.{lineAt, NextLine}
 use Rattle.instructions.specs.Laws.Meaning.{said-by}
 use Rattle.checker.specs.declared.Examined.{Examined}
 use Rattle.checker.specs.Examines.{Examines}
-use Rattle.checker.specs.declared.tests.Context.{Context as Known}
-use Rattle.checker.specs.Contexts.{contextOf}
+use Rattle.value_tests.specs.declared.context.Context.{Context as Known}
+use Rattle.value_tests.specs.Contexts.{contextOf}
 
 -- ---- one line of those that are left
 

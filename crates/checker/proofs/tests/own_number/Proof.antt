@@ -1,8 +1,10 @@
 -- `checker::tests::own_number` meets its contract. Assumes nothing.
 use native.Mathlib.Omega.{arith}
 use mathlib.Core.Path.{_∙_}
-use Rattle.checker.specs.Laws.Tests.{unread-said, tests-header, tests-pauli, tests-exponential, tests-controlled, tests-allocate, tests-uniform, tests-weighted, tests-element}
-use Rattle.checker.specs.Laws.Forms.{no-weights, with-weights}
+use Rattle.noise_tests.specs.Laws.Elements.{unread-said}
+use Rattle.line_tests.specs.Laws.Lines.{tests-header, tests-pauli, tests-exponential, tests-controlled, tests-allocate}
+use Rattle.noise_tests.specs.Laws.Noise.{tests-uniform, tests-weighted, tests-element}
+use Rattle.noise_tests.specs.Laws.Elements.{no-weights, with-weights}
 use borrow.Author.Needs.{needs}
 use Rattle.checker.proofs.tests.own_number.Statement.{statement}
 use Rattle.checker.proofs.tests.own_number.Tie as tie

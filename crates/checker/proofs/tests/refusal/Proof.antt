@@ -3,8 +3,8 @@ use mathlib.Core.Path.{refl, sym, ap, _∙_}
 use borrow.Author.Tests.{not-true, not-false}
 use mathlib.Core.Bool.{not, true≢false}
 use Rattle.job.specs.Checks.{expected as Checks·expected, refusalOf}
-use Rattle.checker.specs.Contexts.{contextOf}
-use Rattle.checker.specs.Laws.Tests.{fails, passes, left-false, right-false, both-true}
+use Rattle.value_tests.specs.Contexts.{contextOf}
+use Rattle.value_tests.specs.Laws.Lowest.{fails, passes, left-false, right-false, both-true}
 use borrow.Author.Needs.{needs}
 use Rattle.checker.proofs.tests.refusal.Statement.{statement}
 use Rattle.checker.proofs.tests.refusal.Tie as tie

@@ -1,0 +1,74 @@
+-- The header's numbers and the outcomes recorded, after a line. Laws. Assumes nothing.
+use Prim.Native.Nat.{ℕ, _+_}
+use native.Mathlib.Numerals.{add-one}
+use native.Mathlib.Omega.{arith}
+use mathlib.Core.Path.{_≡_, refl, sym, ap, _∙_}
+use mathlib.Core.Bool.{not, _&&_}
+use mathlib.Core.List.{List}
+use mathlib.Core.Option.{some}
+use lib.ListN.{getD}
+use Rattle.text.specs.Bytes.{bytes}
+use Rattle.text.specs.Template.{Value}
+use Rattle.job.specs.Grammar.{Written, forms}
+use Rattle.job.specs.Checks.{Context, records, inRange, headerFits, next}
+use Rattle.reader.specs.declared.Form.{Form}
+use Rattle.reader.specs.declared.Form.the-variants as form
+use Rattle.reader.specs.Parsed.{placeOf, formOf, Said}
+use Rattle.value_tests.specs.declared.context.Context.{Context as Known}
+use Rattle.value_tests.specs.Contexts.{contextOf}
+use Rattle.instructions.specs.Laws.Meaning.{Meaning, some-same}
+
+module _ (c : Context) (f : Form) where
+  pub none-recorded : (f ≡ form.Header → ⊥) → (f ≡ form.Measure → ⊥) → (f ≡ form.Allocate → ⊥) → (w : Written) → Meaning f w → c .recorded ≡ next c w .recorded
+  unfolding next
+  none-recorded a b d w (Meaning.header h e) = absurd (a e)
+  none-recorded a b d w (Meaning.plain l e m) = rw e
+  none-recorded a b d w (Meaning.measure l e) = absurd (b e)
+  none-recorded a b d w (Meaning.allocate l e) = absurd (d e)
+  none-recorded a b d w (Meaning.alone n e k m) = refl
+  none-recorded a b d w (Meaning.uniform n e k) = refl
+  none-recorded a b d w (Meaning.weighted n e k) = refl
+  none-recorded a b d w (Meaning.element P e) = refl
+  none-recorded a b d w (Meaning.weighted-element v P e) = refl
+
+  -- a line that is no header asks for one before it, and keeps its numbers
+  pub header-before : (f ≡ form.Header → ⊥) → (w : Written) → Meaning f w → (c .begun ≡ headerFits c w) × (c .header ≡ next c w .header)
+  unfolding next headerFits
+  header-before a w (Meaning.header h e) = absurd (a e)
+  header-before a w (Meaning.plain l e m) = (refl, refl)
+  header-before a w (Meaning.measure l e) = (refl, refl)
+  header-before a w (Meaning.allocate l e) = (refl, refl)
+  header-before a w (Meaning.alone n e k m) = (refl, refl)
+  header-before a w (Meaning.uniform n e k) = (refl, refl)
+  header-before a w (Meaning.weighted n e k) = (refl, refl)
+  header-before a w (Meaning.element P e) = (refl, refl)
+  header-before a w (Meaning.weighted-element v P e) = (refl, refl)
+
+module _ (c : Known) {f : List ℕ} {vs : List Value} {w : Written} where
+  -- the header's numbers
+  pub fits-header : Said form.Header f vs w
+      → headerFits (contextOf c) w ≡ (not (c .begun) && inRange record { qubits = getD f 0 0; outcomes = getD f 1 0; shots = getD f 2 0 })
+  unfolding forms placeOf bytes headerFits contextOf
+  fits-header h =
+      rw (h .held .number 0 (omega arith), h .held .number 1 (omega arith), h .held .number 2 (omega arith))
+      (sym (ap (λ (x : Written). headerFits (contextOf c) x) (some-same (h .says))))
+
+  pub header-after : Said form.Header f vs w → record { qubits = getD f 0 0; outcomes = getD f 1 0; shots = getD f 2 0 } ≡ next (contextOf c) w .header
+  unfolding forms placeOf bytes next
+  header-after h =
+      rw (h .held .number 0 (omega arith), h .held .number 1 (omega arith), h .held .number 2 (omega arith))
+      (ap (λ (x : Written). next (contextOf c) x .header) (some-same (h .says)))
+
+-- o and r record an outcome
+module _ (c : Known) (vs : List Value) (w : Written) where
+  pub recorded-header : formOf form.Header .says vs ≡ some w → 0 ≡ next (contextOf c) w .recorded
+  unfolding forms placeOf bytes next
+  recorded-header e = ap (λ (x : Written). next (contextOf c) x .recorded) (some-same e)
+
+  pub recorded-measure : formOf form.Measure .says vs ≡ some w → c .recorded + 1 ≡ next (contextOf c) w .recorded
+  unfolding forms placeOf bytes next records contextOf
+  recorded-measure e = add-one (c .recorded) ∙ ap (λ (x : Written). next (contextOf c) x .recorded) (some-same e)
+
+  pub recorded-allocate : formOf form.Allocate .says vs ≡ some w → c .recorded + 1 ≡ next (contextOf c) w .recorded
+  unfolding forms placeOf bytes next records contextOf
+  recorded-allocate e = add-one (c .recorded) ∙ ap (λ (x : Written). next (contextOf c) x .recorded) (some-same e)

@@ -1,0 +1,2 @@
+-- Laws of the tests of lines other than noise, which proofs cite.
+pub mod Laws

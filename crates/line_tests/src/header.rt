@@ -1,0 +1,73 @@
+// The header: whether it stands where it has to and its numbers are in range, and what it leaves.
+ghost use mathlib.Core.Path.{_≡_};
+ghost use mathlib.Core.List.{List};
+ghost use Prim.Native.Nat.{_≤_};
+ghost use lib.ListN.{length, getD};
+ghost use Rattle.text.specs.Template.{Value};
+ghost use Rattle.job.specs.Grammar.{Written};
+ghost use Rattle.job.specs.Checks.{inRange, headerFits, next as Checks·next};
+ghost use Rattle.reader.specs.Parsed.{Said};
+ghost use Rattle.value_tests.specs.Contexts.{contextOf};
+use job::Header;
+use reader::Form;
+use value_tests::context::Context;
+
+const MAX_QUBITS: u64 = 256;
+
+const MAX_OUTCOMES: u64 = 1024;
+
+const MAX_SHOTS: u64 = 4096;
+
+fn header_in(f: &[u64]) -> Header
+    requires { ⌜ 136 ≤ length (now f) ⌝ }
+    ensures { λ r. ⌜ r ≡ record { qubits = getD (now (f .entry)) 0 0; outcomes = getD (now (f .entry)) 1 0; shots = getD (now (f .entry)) 2 0 } ⌝ }
+{
+    Header {
+        qubits: f[0],
+        outcomes: f[1],
+        shots: f[2],
+    }
+}
+
+fn in_range(h: Header) -> bool
+    ensures { λ r. ⌜ r ≡ inRange h ⌝ }
+{
+    if h.qubits == 0 {
+        return false;
+    }
+    if MAX_QUBITS < h.qubits {
+        return false;
+    }
+    if MAX_OUTCOMES < h.outcomes {
+        return false;
+    }
+    if h.shots == 0 {
+        return false;
+    }
+    h.shots <= MAX_SHOTS
+}
+
+pub fn header_fits(c: Context, form: Form, f: &[u64]) -> bool
+    requires { ⌜ 136 ≤ length (now f) ⌝ }
+    ensures { λ r. ⌜ ((vs : List Value) (w : Written) → Said form (now (f .entry)) vs w → r ≡ headerFits (contextOf c) w) ⌝ }
+{
+    match form {
+        Form::Header => {
+            if c.begun {
+                return false;
+            }
+            in_range(header_in(f))
+        }
+        _ => c.begun,
+    }
+}
+
+pub fn header_after(c: Context, form: Form, f: &[u64]) -> Header
+    requires { ⌜ 136 ≤ length (now f) ⌝ }
+    ensures { λ r. ⌜ ((vs : List Value) (w : Written) → Said form (now (f .entry)) vs w → r ≡ Checks·next (contextOf c) w .header) ⌝ }
+{
+    match form {
+        Form::Header => header_in(f),
+        _ => c.header,
+    }
+}

@@ -1,0 +1,186 @@
+// Tests of the header and of the lines other than noise.
+ghost use mathlib.Core.Path.{_≡_};
+ghost use mathlib.Core.List.{List, [], _∷_};
+ghost use mathlib.Core.Option.{some};
+ghost use Prim.Native.Nat.{_+_, _^_, _≤_, _<_};
+ghost use lib.ListN.{length};
+ghost use Rattle.pauli.specs.Gate.{Gate, gateOf, operandsOf};
+ghost use Rattle.text.specs.Template.{Value};
+ghost use Rattle.job.specs.Grammar.{Written};
+ghost use Rattle.job.specs.Checks.{idTest, lowest, ownTests, next as Checks·next};
+ghost use Rattle.reader.specs.declared.Form.the-variants as form;
+ghost use Rattle.reader.specs.Parsed.{formOf, Said};
+ghost use Rattle.value_tests.specs.Contexts.{contextOf};
+
+pub mod header;
+
+use reader::Form;
+use value_tests::clifford::is_clifford;
+use value_tests::context::Context;
+use value_tests::lists::below;
+use value_tests::lists::pauli_number;
+use value_tests::lists::short;
+use value_tests::lists::slot_distinct;
+
+const MAX_CLIFFORD_QUBITS: u64 = 4;
+
+fn operands_of(gate: u64) -> u64
+    ensures { λ r. ⌜ (r ≤ 2) × ((g : Gate) → gateOf gate ≡ some g → r ≡ operandsOf g) ⌝ }
+{
+    match gate {
+        0..=10 => 1,
+        _ => 2,
+    }
+}
+
+pub fn unitary_number(c: Context, f: &[u64]) -> u64
+    requires { ⌜ 136 ≤ length (now f) ⌝ }
+    ensures { λ r. ⌜ ((vs : List Value) (w : Written) → Said form.Unitary (now (f .entry)) vs w → r ≡ lowest (ownTests (contextOf c) w)) ⌝ }
+{
+    if !below(f, 0, 1, c.header.qubits) {
+        return 4;
+    }
+    let count = f[4];
+    if count != operands_of(f[0]) {
+        return 5;
+    }
+    if !slot_distinct(f, 0) {
+        return 5;
+    }
+    0
+}
+
+pub fn clifford_number(c: Context, f: &[u64]) -> u64
+    requires { ⌜ 136 ≤ length (now f) ⌝ }
+    ensures { λ r. ⌜ ((vs : List Value) (w : Written) → Said form.Clifford (now (f .entry)) vs w → r ≡ lowest (ownTests (contextOf c) w)) ⌝ }
+{
+    if !below(f, 0, 1, c.header.qubits) {
+        return 4;
+    }
+    let count = f[4];
+    if MAX_CLIFFORD_QUBITS < count {
+        return 5;
+    }
+    if !slot_distinct(f, 0) {
+        return 5;
+    }
+    if !is_clifford(f[0], count) {
+        return 7;
+    }
+    0
+}
+
+pub fn permute_number(c: Context, f: &[u64]) -> u64
+    requires { ⌜ 136 ≤ length (now f) ⌝ }
+    ensures { λ r. ⌜ ((vs : List Value) (w : Written) → Said form.Permute (now (f .entry)) vs w → r ≡ lowest (ownTests (contextOf c) w)) ⌝ }
+{
+    if !below(f, 1, 2, c.header.qubits) {
+        return 4;
+    }
+    if !short(f, 0, 2) {
+        return 5;
+    }
+    let count = f[5];
+    if !slot_distinct(f, 1) {
+        return 5;
+    }
+    if f[4] != count {
+        return 6;
+    }
+    if !below(f, 0, 1, count) {
+        return 6;
+    }
+    if !slot_distinct(f, 0) {
+        return 6;
+    }
+    0
+}
+
+// 8
+pub fn id_number(c: Context, id: u64) -> u64
+    ensures { λ r. ⌜ r ≡ lowest (idTest (contextOf c) id ∷ []) ⌝ }
+{
+    if id != c.recorded {
+        return 8;
+    }
+    if c.header.outcomes <= id {
+        return 8;
+    }
+    0
+}
+
+pub fn measure_number(c: Context, f: &[u64]) -> u64
+    requires { ⌜ 136 ≤ length (now f) ⌝ }
+    ensures { λ r. ⌜ ((vs : List Value) (w : Written) → Said form.Measure (now (f .entry)) vs w → r ≡ lowest (ownTests (contextOf c) w)) ⌝ }
+{
+    let n = pauli_number(f, 0, 2, c.header.qubits);
+    if n != 0 {
+        return n;
+    }
+    id_number(c, f[0])
+}
+
+pub fn conditional_number(c: Context, f: &[u64]) -> u64
+    requires { ⌜ 136 ≤ length (now f) ⌝ }
+    ensures { λ r. ⌜ ((vs : List Value) (w : Written) → Said form.Conditional (now (f .entry)) vs w → r ≡ lowest (ownTests (contextOf c) w)) ⌝ }
+{
+    if !below(f, 0, 2, c.header.qubits) {
+        return 4;
+    }
+    if !short(f, 0, 3) {
+        return 5;
+    }
+    if !below(f, 2, 3, c.recorded) {
+        return 9;
+    }
+    0
+}
+
+pub fn reset_number(c: Context, f: &[u64]) -> u64
+    requires { ⌜ 136 ≤ length (now f) ⌝ }
+    ensures { λ r. ⌜ ((vs : List Value) (w : Written) → Said form.Reset (now (f .entry)) vs w → r ≡ lowest (ownTests (contextOf c) w)) ⌝ }
+{
+    if c.header.qubits <= f[0] {
+        return 4;
+    }
+    0
+}
+
+pub fn inject_number(c: Context, f: &[u64]) -> u64
+    requires { ⌜ 136 ≤ length (now f) ⌝ }
+    ensures { λ r. ⌜ ((vs : List Value) (w : Written) → Said form.Inject (now (f .entry)) vs w → r ≡ lowest (ownTests (contextOf c) w)) ⌝ }
+{
+    let n = pauli_number(f, 0, 2, c.header.qubits);
+    if n != 0 {
+        return n;
+    }
+    if c.header.shots <= f[0] {
+        return 10;
+    }
+    0
+}
+
+pub fn flip_number(c: Context, f: &[u64]) -> u64
+    requires { ⌜ 136 ≤ length (now f) ⌝ }
+    ensures { λ r. ⌜ ((vs : List Value) (w : Written) → Said form.Flip (now (f .entry)) vs w → r ≡ lowest (ownTests (contextOf c) w)) ⌝ }
+{
+    if c.recorded <= f[1] {
+        return 9;
+    }
+    if c.header.shots <= f[0] {
+        return 10;
+    }
+    0
+}
+
+pub fn recorded_after(c: Context, form: Form) -> u64
+    requires { ⌜ c .recorded + 1 < 2 ^ 64 ⌝ }
+    ensures { λ r. ⌜ ((vs : List Value) (w : Written) → formOf form .says vs ≡ some w → r ≡ Checks·next (contextOf c) w .recorded) ⌝ }
+{
+    match form {
+        Form::Header => 0,
+        Form::Measure => c.recorded + 1,
+        Form::Allocate => c.recorded + 1,
+        _ => c.recorded,
+    }
+}

@@ -1,0 +1,3 @@
+-- What the tests of noise lines say. Definitions, and laws that proofs cite.
+pub mod Listed
+pub mod Laws

@@ -1,0 +1,9 @@
+-- Laws, for the proofs that cite them. Nothing here has to be believed.
+-- The tests on lists, a list or a member at a time.
+pub mod Slots
+-- Floats that passed their tests.
+pub mod Floats
+-- The rows of a Clifford's table.
+pub mod Rows
+-- The lowest number, test by test.
+pub mod Lowest
