@@ -5,6 +5,8 @@ pub mod Starts
 pub mod Known
 -- Lines that are passed over.
 pub mod Passed
+-- Gate lines.
+pub mod Gates
 -- Line after line.
 pub mod Going
 -- The tests of the call, and its reply.

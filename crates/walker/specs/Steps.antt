@@ -66,6 +66,11 @@ pub record PassedOver (shot : ℕ) (v : Written) : Type 0 where
   pub walks : (w : Walk) → w ≡ writtenBack (full shot) v w
   pub noise : (k before : ℕ) → before ≡ noiseBack k v before
 
+-- the bytes by which a line is known to be a gate line: `o`, and `u` behind `op=`
+pub record GateBytes (text : List ℕ) : Type 0 where
+  pub first : getD text 0 0 ≡ 111
+  pub letter : getD text 3 0 ≡ 117
+
 -- the walk after the line of number k is what that line makes of the walk before
 pub record TextBack (text : List ℕ) (shot k : ℕ) (w w′ : WalkWords) (set set′ : List ℕ) : Type 0 where
   pub long : length set′ ≡ 16

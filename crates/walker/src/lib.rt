@@ -2,7 +2,8 @@
 ghost use mathlib.Core.Path.{_≡_};
 ghost use mathlib.Core.Bool.{true};
 ghost use mathlib.Core.Option.{some};
-ghost use Prim.Native.Nat.{_+_, _^_, _<_, _≤_};
+ghost use mathlib.Core.List.{List};
+ghost use Prim.Native.Nat.{ℕ, _+_, _^_, _<_, _≤_};
 ghost use lib.ListN.{length, getD};
 ghost use Rattle.pauli.specs.Fixed.{inSet, AllBelow};
 ghost use Rattle.text.specs.Bytes.{lines as Bytes·lines};
@@ -11,13 +12,16 @@ ghost use Rattle.job.specs.Grammar.{Written, readLine};
 ghost use Rattle.job.specs.Checks.{allBelow};
 ghost use Rattle.job.specs.Job.{checkJob};
 ghost use Rattle.backward.specs.Walking.{walkReply};
-ghost use Rattle.walker.specs.Steps.{LineBefore, Started, WalkedBack, OfJob, PassedOver, TextBack};
+ghost use Rattle.walker.specs.Steps.{LineBefore, Started, WalkedBack, OfJob, PassedOver, GateBytes, TextBack};
 ghost use Rattle.walker.specs.Reply.{replied};
 use checker::examine;
+use gate_text::read_gate;
 use job::Answer;
 use lines_back::Walk;
 use lines_back::line_back;
+use lines_back::with_observable;
 use pauli::Pauli;
+use pauli::QubitId;
 use reader::read_line;
 use template::read_on;
 
@@ -78,8 +82,36 @@ fn passed_over(line: &[u8], shot: u64, fields: &mut [u64]) -> bool
     }
 }
 
-// One line of an accepted job, of number k.
-fn step_back(w: Walk, line: &[u8], fields: &mut [u64], set: &mut [u64], shot: u64, k: u64) -> Walk
+// Whether a line begins as a gate line does.
+fn is_gate(line: &[u8]) -> bool
+    ensures { λ r. ⌜ (r ≡ true → GateBytes (now (line .entry))) ⌝ }
+{
+    if line.len() < 4 {
+        return false;
+    }
+    if line[0] != 111 {
+        return false;
+    }
+    line[3] == 117
+}
+
+// A gate line of an accepted job, of which there are many: read without testing its form again.
+fn gate_back(w: Walk, line: &[u8]) -> Walk
+    requires { ⌜ OfJob (now line) × GateBytes (now line) ⌝ }
+    ensures { λ r. ⌜ ((shot k : ℕ) (set : List ℕ) → length set ≡ 16 → TextBack (now (line .entry)) shot k w r set set) ⌝ }
+{
+    let b = w.observable;
+    let g = read_gate(line);
+    let back = b.conjugate_back(
+        g.code,
+        QubitId(g.first as usize),
+        QubitId(g.second as usize),
+    );
+    with_observable(w, back)
+}
+
+// Any line of an accepted job, of number k, by its form and its fields.
+fn read_back(w: Walk, line: &[u8], fields: &mut [u64], set: &mut [u64], shot: u64, k: u64) -> Walk
     requires { ⌜ OfJob (now line) × (136 ≤ length (now fields)) × (length (now set) ≡ 16) × (w .count + 1 < 2 ^ 64) ⌝ }
     ensures { λ r. ⌜ TextBack (now (line .entry)) shot k w r (now (set .entry)) (now (set .exit)) ⌝ }
 {
@@ -88,6 +120,17 @@ fn step_back(w: Walk, line: &[u8], fields: &mut [u64], set: &mut [u64], shot: u6
     }
     let form = read_line(line, &mut *fields);
     line_back(w, form, fields, set, shot, k)
+}
+
+// One line of an accepted job, of number k.
+fn step_back(w: Walk, line: &[u8], fields: &mut [u64], set: &mut [u64], shot: u64, k: u64) -> Walk
+    requires { ⌜ OfJob (now line) × (136 ≤ length (now fields)) × (length (now set) ≡ 16) × (w .count + 1 < 2 ^ 64) ⌝ }
+    ensures { λ r. ⌜ TextBack (now (line .entry)) shot k w r (now (set .entry)) (now (set .exit)) ⌝ }
+{
+    if is_gate(line) {
+        return gate_back(w, line);
+    }
+    read_back(w, line, fields, set, shot, k)
 }
 
 fn start() -> Walk

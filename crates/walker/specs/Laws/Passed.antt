@@ -31,7 +31,7 @@ use Rattle.walker.specs.Steps.{PassedOver}
 -- ---- one form
 
 -- a line whose bytes 0 and 3 leave one form
-one-form : (l : List ℕ) (a c : ℕ) (f : Form) → opening 3 c (opening 0 a forms) ≡ formOf f ∷ [] → getD l 0 0 ≡ a → getD l 3 0 ≡ c → readLine l ≡ readAs (formOf f) l
+pub one-form : (l : List ℕ) (a c : ℕ) (f : Form) → opening 3 c (opening 0 a forms) ≡ formOf f ∷ [] → getD l 0 0 ≡ a → getD l 3 0 ≡ c → readLine l ≡ readAs (formOf f) l
 one-form l a c f left e g =
     read-by-bytes l
     ∙ ap (λ (b : ℕ). readBy (opening 3 (getD l 3 0) (opening 0 b forms)) l) e
@@ -40,7 +40,7 @@ one-form l a c f left e g =
     ∙ read-alone (formOf f) l
 
 -- what a line says by a form, it says by its values
-by-values : (f : TableForm) (l : List ℕ) (v : Written) → readAs f l ≡ some v → (vs : List Value) × (valuesOf (f .template) l ≡ some vs) × (f .says vs ≡ some v)
+pub by-values : (f : TableForm) (l : List ℕ) (v : Written) → readAs f l ≡ some v → (vs : List Value) × (valuesOf (f .template) l ≡ some vs) × (f .says vs ≡ some v)
 unfolding said
 by-values f l v e = go (valuesOf (f .template) l) refl e
   where

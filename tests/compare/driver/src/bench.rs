@@ -89,13 +89,13 @@ fn time(part: &mut impl FnMut()) -> Duration {
 fn checks() {
     let header = loads::header(256, 4096);
     for (size, bytes) in [("250,000", 250_000), ("500,000", 500_000), ("1,000,000", 1_000_000)] {
-        check(&format!("check, {size} bytes of gate lines"), &loads::cut(loads::gates(header, 80_000), bytes));
+        check(&format!("check, {size} bytes of gate lines"), &loads::cut(loads::gates(header, 80_000), bytes).bytes());
     }
     for (size, bytes) in [("250,000", 250_000), ("500,000", 500_000), ("1,000,000", 1_000_000)] {
-        check(&format!("check, {size} bytes of noise lines"), &loads::cut(loads::noise(header, 20_000, 0.001), bytes));
+        check(&format!("check, {size} bytes of noise lines"), &loads::cut(loads::noise(header, 20_000, 0.001), bytes).bytes());
     }
     let mixed = loads::mixed(header, 12_000, 0.001);
-    check("check, a mixed job of 1,000,000 bytes at most", &loads::cut(mixed, 1_000_000));
+    check("check, a mixed job of 1,000,000 bytes at most", &loads::cut(mixed, 1_000_000).bytes());
 }
 
 fn check(name: &str, job: &[u8]) {
@@ -120,11 +120,12 @@ fn runs() {
         measure_run(&format!("run, 500 lines of noise, {size}"), &loads::noise(header, 500, 0.001));
         measure_run(&format!("run, 2,000 mixed lines, {size}"), &loads::mixed(header, 2_000, 0.001));
         measure_settle(&format!("settle, 500 gates with noise, {size}"), &noisy);
-        measure_walk(&format!("walk, 10,000 gates, {size}"), &made.bytes());
+        measure_walk(&format!("walk, 10,000 gates, {size}"), &loads::measured(made));
     }
-    // The walk beside the check of the same job, which is its first pass.
-    let long = loads::cut(loads::gates(loads::header(256, 4096), 80_000), 1_000_000);
-    check("check, 1,000,000 bytes of gate lines", &long);
+    // The walk beside the check of the same job, which is its first pass. A measurement takes at most 22 bytes.
+    let header = loads::header(256, 4096);
+    let long = loads::measured(loads::cut(loads::gates(header, 80_000), 1_000_000 - 256 * 22));
+    check("check, 1,000,000 bytes of gate lines", &long.bytes());
     measure_walk("walk, 1,000,000 bytes of gate lines", &long);
 }
 
@@ -203,8 +204,12 @@ fn measure_settle(name: &str, made: &Made) {
     .report(name, load.bytes.len());
 }
 
-fn measure_walk(name: &str, job: &[u8]) {
-    let walk = |calls: &dyn Calls| assert_eq!(calls.walk(black_box(job), 0, &[]).number, 0);
+/// The walk of all outcomes of a job that measures every qubit at its end: the observable is Z on every qubit behind the last gate, and no gate takes
+/// it to the identity.
+fn measure_walk(name: &str, made: &Made) {
+    let job = &made.bytes();
+    let set = &(0..made.header.qubits).collect::<Vec<_>>();
+    let walk = |calls: &dyn Calls| assert_eq!(calls.walk(black_box(job), 0, set).number, 0);
     Timed {
         published: None,
         with_reading: Box::new(|| walk(&Plain)),

@@ -18,6 +18,17 @@ pub fn gates(header: Header, lines: usize) -> Made {
     Made { header, instructions }
 }
 
+/// A job with a measurement of Z on every qubit at its end, each outcome with its qubit's number.
+#[must_use]
+pub fn measured(mut made: Made) -> Made {
+    let measure = |qubit| Instruction::Measure {
+        observable: checker::job::Pauli { x: List::new(), z: [qubit].into_iter().collect() },
+        id: qubit,
+    };
+    made.instructions.extend((0..made.header.qubits).map(measure));
+    made
+}
+
 /// Gate lines, each with depolarizing noise on its qubits after it, and a measurement of every qubit at the end.
 #[must_use]
 pub fn noisy_gates(header: Header, gates: usize, p: f64) -> Made {
@@ -29,12 +40,7 @@ pub fn noisy_gates(header: Header, gates: usize, p: f64) -> Made {
         let noise = depolarizing(qubits.clone(), p);
         instructions.extend([gate, noise]);
     }
-    let measured = (0..header.qubits).map(|qubit| Instruction::Measure {
-        observable: checker::job::Pauli { x: List::new(), z: [qubit].into_iter().collect() },
-        id: qubit,
-    });
-    instructions.extend(measured);
-    Made { header, instructions }
+    measured(Made { header, instructions })
 }
 
 /// Noise lines alone.
@@ -63,15 +69,15 @@ pub fn mixed(header: Header, lines: u64, p: f64) -> Made {
     made
 }
 
-/// A job's bytes cut after the last whole instruction within a length.
+/// A job cut after the last whole instruction within a length in bytes.
 #[must_use]
-pub fn cut(mut made: Made, length: usize) -> Vec<u8> {
+pub fn cut(mut made: Made, length: usize) -> Made {
     loop {
-        let bytes = made.bytes();
-        if bytes.len() <= length {
-            return bytes;
+        let bytes = made.bytes().len();
+        if bytes <= length {
+            return made;
         }
-        let kept = made.instructions.len() * length / bytes.len();
+        let kept = made.instructions.len() * length / bytes;
         made.instructions.truncate(kept.min(made.instructions.len() - 1));
     }
 }

@@ -1,0 +1,79 @@
+// A gate line that is known to have its form, as each line of a job that passed the tests has: its code and its operands are read in one pass over
+// their bytes, and nothing of the form is tested again.
+ghost use mathlib.Core.Path.{_≡_};
+ghost use Rattle.gate_text.specs.Gate.{NumberThere, NumberRead, ListThere, OperandsRead, GateLine, GateRead};
+
+// A number, and the place behind its digits.
+struct Number {
+    value: u64,
+    behind: usize,
+}
+
+// The number that stands from a place up to a separator or the line's end.
+fn read_number(line: &[u8], from: usize, sep: u8) -> Number
+    requires { ⌜ NumberThere (now line) from sep ⌝ }
+    ensures { λ r. ⌜ NumberRead (now (line .entry)) from sep r ⌝ }
+{
+    let mut v: u64 = 0;
+    let mut i = from;
+    while i < line.len() {
+        let b = line[i];
+        if b == sep {
+            return Number {
+                value: v,
+                behind: i,
+            };
+        }
+        v = v * 10 + (b - 48) as u64;
+        i += 1;
+    }
+    Number {
+        value: v,
+        behind: i,
+    }
+}
+
+// The first two members of a list, the second 0 where there is none.
+struct Operands {
+    first: u64,
+    second: u64,
+}
+
+// The operands that stand from a place up to the line's end.
+fn read_operands(line: &[u8], from: usize) -> Operands
+    requires { ⌜ ListThere (now line) from ⌝ }
+    ensures { λ r. ⌜ OperandsRead (now (line .entry)) from r ⌝ }
+{
+    let first = read_number(line, from, 44);
+    if first.behind == line.len() {
+        return Operands {
+            first: first.value,
+            second: 0,
+        };
+    }
+    let second = read_number(line, first.behind + 1, 44);
+    Operands {
+        first: first.value,
+        second: second.value,
+    }
+}
+
+// What a gate line says: the gate's code and its first two operands, the second 0 where there is none.
+pub struct Gate {
+    pub code: u64,
+    pub first: u64,
+    pub second: u64,
+}
+
+pub fn read_gate(line: &[u8]) -> Gate
+    requires { ⌜ GateLine (now line) ⌝ }
+    ensures { λ r. ⌜ GateRead (now (line .entry)) r ⌝ }
+{
+    let code = read_number(line, 7, 32);
+    let qubits = read_operands(line, code.behind + 3);
+    Gate {
+        code: code.value,
+        first: qubits.first,
+        second: qubits.second,
+    }
+}
