@@ -1,0 +1,71 @@
+-- `agreement::delta_sum` meets its contract. Assumes nothing.
+use Prim.Native.Nat.{_-_, _≤_}
+use native.Mathlib.Omega.{arith}
+use mathlib.Core.Path.{_≡_}
+use lib.ListN.{length}
+use Rattle.pauli.specs.Bits.{sumOver}
+use Rattle.rows.specs.Column.{column}
+use Rattle.agreement.specs.Laws.Sums.{sumFrom, sum-starts, sum-turn, sum-ends}
+use Rattle.agreement.proofs.delta_sum.Statement.{statement}
+use Rattle.agreement.proofs.delta_sum.Tie as tie
+
+abbrev Inv-loop : tie.InvT-loop
+Inv-loop deltas w set shot place word₀ i₀ word i = (i ≤ length set) × (sumFrom w deltas shot set word i ≡ sumOver set (column w deltas shot))
+
+abbrev μ-loop : tie.MeasureT-loop
+μ-loop deltas w set shot place word₀ i₀ word i = length set - i
+
+loop-holds : tie.Need-loop-holds Inv-loop μ-loop
+loop-holds c = (omega arith, sum-starts _ _ _ _)
+
+mul-id : tie.Need-mul-id Inv-loop μ-loop
+mul-id c = omega arith
+
+shared-slice-read-id : tie.Need-shared-slice-read-id Inv-loop μ-loop
+shared-slice-read-id c = omega arith
+
+mul-word : tie.Need-mul-word Inv-loop μ-loop
+mul-word c = omega (arith, c .before .before .before .pre .0 .fits (c .before .before .loop .i) (c .before .loop-test .taken))
+
+add-word : tie.Need-add-word Inv-loop μ-loop
+add-word c = omega (arith, c .before .before .before .pre .0 .fits (c .before .before .loop .i) (c .before .loop-test .taken))
+
+mul-word-2 : tie.Need-mul-word-2 Inv-loop μ-loop
+mul-word-2 c = omega (arith, c .before .before .before .pre .0 .fits (c .before .before .loop .i) (c .before .loop-test .taken))
+
+shared-slice-read-word : tie.Need-shared-slice-read-word Inv-loop μ-loop
+shared-slice-read-word c = omega (arith, c .before .before .before .before .pre .0 .fits (c .before .before .before .loop .i) (c .before .before .loop-test .taken))
+
+add-i : tie.Need-add-i Inv-loop μ-loop
+add-i c = omega arith
+
+loop-less : tie.Need-loop-less Inv-loop μ-loop
+loop-less c = omega arith
+
+loop-again : tie.Need-loop-again Inv-loop μ-loop
+loop-again c = (omega arith, sum-turn _ _ _ _ _ _ (c .before .before .loop-test .taken) (c .before .before .before .loop .inv .1))
+
+shr-result : tie.Need-shr-result Inv-loop μ-loop
+shr-result c = omega arith
+
+returns : tie.Need-returns Inv-loop μ-loop
+returns c = sum-ends _ _ _ _ _ _ (c .loop-test .left) (c .before .loop .inv .1)
+
+pub delta-sum-spec : {M : Type 1} → statement M
+delta-sum-spec =
+    tie.close
+    (tie.spec
+    Inv-loop
+    μ-loop
+    loop-holds
+    mul-id
+    shared-slice-read-id
+    mul-word
+    add-word
+    mul-word-2
+    shared-slice-read-word
+    add-i
+    loop-less
+    loop-again
+    shr-result
+    returns)

@@ -1,0 +1,118 @@
+// A run, the settling of the same job and a walk back on the settled text, and whether they agree: the sum of a set's deltas in a shot equals modulo 2 the
+// count of the walk.
+ghost use mathlib.Core.Path.{_≡_};
+ghost use mathlib.Core.Bool.{true, false};
+ghost use Prim.Native.Nat.{_/_, _<_};
+ghost use Rattle.job.specs.Job.{jobOf, checkJob};
+ghost use Rattle.rows.specs.Words.{wordsPerRow};
+ghost use Rattle.rows.specs.Listed.{RowsIn};
+ghost use Rattle.run.specs.Run.{Source, Memory};
+ghost use Rattle.agreement.specs.Agree.{deltaSum, refusedBy, AgreeReply, agreeReply};
+use instructions::next_line;
+use job::Answer;
+use pauli::Shot;
+use runner::run;
+use settling::settle;
+use walker::walk;
+
+// The calls, in their order.
+pub enum Call {
+    Run,
+    Settle,
+    Walk,
+}
+
+// The last call that was made, which is the first that refused, if any did, and its answer. Where none refused: the sum modulo 2 of the set's deltas in the
+// shot, the walk's count, and whether these are equal modulo 2. The figure is the byte figure of settling.
+pub struct Agreement {
+    pub call: Call,
+    pub answer: Answer,
+    pub figure: u64,
+    pub sum: u64,
+    pub count: u64,
+    pub agrees: bool,
+}
+
+fn refused(call: Call, answer: Answer, figure: u64) -> Agreement
+    ensures { λ r. ⌜ r ≡ refusedBy call answer figure ⌝ }
+{
+    Agreement {
+        call,
+        answer,
+        figure,
+        sum: 0,
+        count: 0,
+        agrees: false,
+    }
+}
+
+// The words of a row, by the header of an accepted job.
+fn row_words(job: &[u8]) -> usize
+    requires { ⌜ checkJob (now job) .number ≡ 0 ⌝ }
+    ensures { λ r. ⌜ r ≡ wordsPerRow (jobOf (now (job .entry)) .header .shots) ⌝ }
+{
+    let mut fields = [0u64; 136];
+    next_line(job, 0, &mut fields);
+    (fields[2] as usize + 63) / 64
+}
+
+// The sum modulo 2 of the listed outcomes' deltas in a shot, where a row has w words. Whole words are added, and the shot's bit is taken at the end.
+fn delta_sum(deltas: &[u64], w: usize, shot: Shot, set: &[u64]) -> u64
+    requires { ⌜ RowsIn w (now set) (now deltas) × (shot .0 / 64 < w) ⌝ }
+    ensures { λ r. ⌜ r ≡ deltaSum w (now (deltas .entry)) (shot .0) (now (set .entry)) ⌝ }
+{
+    let s = shot.0;
+    let place = s / 64;
+    let mut word = 0u64;
+    let mut i = 0;
+    while i < set.len() {
+        let id = set[i] as usize;
+        word ^= deltas[id * w + place];
+        i += 1;
+    }
+    (word >> (s % 64)) % 2
+}
+
+// Runs a job, settles it with the same draws and noiseless bits, walks back on the settled text for a set of outcomes and a shot, and compares. The lent
+// words and bytes are left as the calls leave them; after a refusal no further call is made. Where none refuses the answer is always that they agree.
+pub fn agree<'a>(
+    job: &[u8],
+    x: &mut [u64],
+    z: &mut [u64],
+    deltas: &mut [u64],
+    noiseless: &[u64],
+    main: &'a [u64],
+    second: &'a [u64],
+    base: u64,
+    out: &mut [u8],
+    shot: u64,
+    set: &[u64],
+) -> Agreement
+    ensures { λ r. ⌜ (agreeReply (now (job .entry)) (record { x = now (x .entry); z = now (z .entry); deltas = now (deltas .entry); source = record { noiseless = now (noiseless .entry); main = now (main .entry); second = now (second .entry); base = base } }) (now (out .entry)) shot (now (set .entry)) ≡ record { agreement = r; x = now (x .exit); z = now (z .exit); deltas = now (deltas .exit); out = now (out .exit) }) × (r .answer .number ≡ 0 → r .agrees ≡ true) ⌝ }
+{
+    let ran = run(job, x, z, &mut *deltas, noiseless, main, second, base);
+    if ran.number != 0 {
+        return refused(Call::Run, ran, 0);
+    }
+    let settled = settle(job, noiseless, main, second, base, &mut *out);
+    let figure = settled.figure;
+    let written = settled.answer;
+    if written.number != 0 {
+        return refused(Call::Settle, written, figure);
+    }
+    let walked = walk(&out[..figure as usize], shot, set);
+    let answer = walked.answer;
+    if answer.number != 0 {
+        return refused(Call::Walk, answer, figure);
+    }
+    let sum = delta_sum(deltas, row_words(job), Shot(shot as usize), set);
+    let count = walked.count;
+    Agreement {
+        call: Call::Walk,
+        answer,
+        figure,
+        sum,
+        count,
+        agrees: sum == count % 2,
+    }
+}
