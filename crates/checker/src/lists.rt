@@ -6,7 +6,7 @@ ghost use Prim.Native.Nat.{ℕ, _+_, _-_, _≤_, _<_};
 ghost use lib.ListN.{length, getD};
 ghost use Rattle.pauli.specs.Bits.{members as among};
 ghost use Rattle.text.specs.Template.{Value, listAt};
-ghost use Rattle.text.specs.Fields.{Held};
+ghost use Rattle.template.specs.Fields.{Held};
 ghost use Rattle.job.specs.Checks.{allBelow, eachBelow, eachShort, distinct as Checks·distinct};
 ghost use Rattle.checker.specs.Slots.{listsFrom};
 

@@ -9,7 +9,7 @@ ghost use lib.Ieee.{Float};
 ghost use lib.ListN.{length, getD};
 ghost use Rattle.pauli.specs.Gate.{Gate, gateOf, operandsOf};
 ghost use Rattle.text.specs.Template.{Value, numberAt, listAt};
-ghost use Rattle.text.specs.Fields.{Held};
+ghost use Rattle.template.specs.Fields.{Held};
 ghost use Rattle.job.specs.Float.{float, isProbability};
 ghost use Rattle.job.specs.Grammar.{Written};
 ghost use Rattle.job.specs.Checks.{Context as Checks·Context, noContext, test, eachBelow, eachShort, idTest, outcomeTest, inRange, lowest, ownTests, expected as Checks·expected, headerFits, next as Checks·next, refusalOf};

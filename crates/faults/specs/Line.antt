@@ -5,7 +5,7 @@ use mathlib.Core.List.{List}
 use lib.ListN.{length, take}
 use lib.Ieee.{Float}
 use Rattle.text.specs.Template.{Value, numberAt, listAt}
-use Rattle.text.specs.Fields.{Held}
+use Rattle.template.specs.Fields.{Held}
 use Rattle.job.specs.Float.{float}
 use Rattle.job.specs.Grammar.{Kind, NoiseLine, Written, isOne, optional}
 use Rattle.reader.specs.declared.Form.{Form}

@@ -6,7 +6,7 @@ use mathlib.Core.List.{List, _∷_}
 use lib.ListN.{length, drop}
 use Rattle.text.specs.Bytes.{lines}
 use Rattle.text.specs.Template.{Value, numberAt}
-use Rattle.text.specs.Fields.{Held}
+use Rattle.template.specs.Fields.{Held}
 use Rattle.job.specs.declared.Header.{Header}
 use Rattle.job.specs.Line.{Line, WeightedPauli, Instruction, Placed}
 use Rattle.job.specs.Grammar.{Kind, NoiseLine, Written, pauliAt}

@@ -14,7 +14,7 @@ ghost use Rattle.instructions.specs.Reading.{NextLine, noiseForm};
 ghost use Rattle.instructions.specs.Ahead.{hasWeights};
 use reader::Form;
 use reader::read_line;
-use text::pieces::find;
+use numbers::pieces::find;
 
 // A line that was read: its form, and the place of the LF that ends it. The next line begins behind that.
 pub struct Next {

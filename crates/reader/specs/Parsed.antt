@@ -7,7 +7,7 @@ use mathlib.Core.List.{List, []}
 use mathlib.Core.Option.{none, some}
 use lib.ListN.{getD}
 use Rattle.text.specs.Template.{Value, valuesOf}
-use Rattle.text.specs.Fields.{numberLetters, listLetters, Held}
+use Rattle.template.specs.Fields.{numberLetters, listLetters, Held}
 use Rattle.job.specs.Grammar.{Written, Form as TableForm, forms, readLine}
 use Rattle.reader.specs.declared.Form.{Form}
 use Rattle.reader.specs.declared.Form.the-variants as form

@@ -7,8 +7,8 @@ use lib.Dec.{eqb}
 use lib.ListN.{length}
 use Rattle.text.specs.Bytes.{bytes}
 use Rattle.text.specs.Template.{Value, numberAt, listAt}
-use Rattle.text.specs.Fields.{ReadAs, Begins, ReadOn}
-use Rattle.text.specs.declared.template.Progress.{Progress}
+use Rattle.template.specs.Fields.{ReadAs, Begins, ReadOn}
+use Rattle.template.specs.declared.Progress.{Progress}
 use Rattle.job.specs.Grammar.{Form as TableForm, isOne, readBy, readLine}
 use Rattle.reader.specs.declared.Form.{Form}
 use Rattle.reader.specs.declared.Form.the-variants as form

@@ -8,9 +8,9 @@ ghost use Rattle.job.specs.Grammar.{isOne};
 ghost use Rattle.reader.specs.declared.Form.the-variants as Forms;
 ghost use Rattle.reader.specs.Parsed.{Parsed};
 ghost use Rattle.reader.specs.Tried.{Tried, FormBy, KindBy, NoiseBegun, only, noiseForms};
-use text::template::Progress;
-use text::template::read_all;
-use text::template::read_on;
+use template::Progress;
+use template::read_all;
+use template::read_on;
 
 // The forms of lines, in the order of document 01; `Unread` where a line has none.
 pub enum Form {

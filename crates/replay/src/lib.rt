@@ -4,8 +4,8 @@
 ghost use mathlib.Core.Path.{_≡_};
 ghost use Prim.Native.Nat.{_+_, _≤_};
 ghost use lib.ListN.{length};
-use text::pieces::find;
-use text::template::read_all;
+use numbers::pieces::find;
+use template::read_all;
 
 // How far a list was read: the place of the next record, and how many bytes of a case are held.
 pub struct Gathered {

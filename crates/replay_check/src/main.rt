@@ -7,8 +7,8 @@ use checker::check;
 use job::Answer;
 use libc::STDOUT_FILENO;
 use replay::gather;
-use text::pieces::find;
-use text::template::read_all;
+use numbers::pieces::find;
+use template::read_all;
 
 struct Tally {
     cases: u64,

@@ -17,7 +17,7 @@ use instructions::next_line;
 use job::Answer;
 use noise_text::Drawn;
 use noise_text::put_noise;
-use text::pieces::find;
+use numbers::pieces::find;
 use writer::TextAnswer;
 use writer::put_bytes;
 use writer::refused;

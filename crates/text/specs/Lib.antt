@@ -4,8 +4,6 @@ pub mod Bytes
 pub mod Number
 pub mod List
 pub mod Template
--- How the code's lent words hold the values of a line: definitions that the contracts cite.
-pub mod Fields
 -- Which values a template can write, and that they read back, for a reader.
 pub mod Written
 pub mod Theorems

@@ -19,7 +19,7 @@ use lines_back::Walk;
 use lines_back::line_back;
 use pauli::Pauli;
 use reader::read_line;
-use text::template::read_on;
+use template::read_on;
 
 // ---- The lines from last to first
 

@@ -11,9 +11,10 @@ use lib.ListN.{length, getD, take, drop, drop-of-length-le, length-drop}
 use lib.Seq.{take-length}
 use Rattle.pauli.specs.Bits.{outside, members}
 use Rattle.text.specs.Template.{Value, listAt}
-use Rattle.text.specs.Fields.{largestOf, Held}
+use Rattle.numbers.specs.Read.{largestOf}
+use Rattle.template.specs.Fields.{Held}
 use Rattle.text.specs.Laws.Pieces.{step}
-use Rattle.text.specs.Laws.Fields.{members-held}
+use Rattle.template.specs.Laws.Fields.{members-held}
 use Rattle.job.specs.Checks.{allBelow, eachBelow, eachShort, distinct}
 use Rattle.checker.specs.Slots.{listsFrom}
 

@@ -13,7 +13,7 @@ use Rattle.pauli.specs.Bits.{outside, members}
 use Rattle.pauli.specs.Gate.{Gate, I, X, Y, Z, Hadamard, SqrtZ, SqrtZInv, SqrtX, SqrtXInv, SqrtY, SqrtYInv, ControlledX, ControlledZ, Swap, PrepareBell, gates, gateFrom, gateOf, operandsOf}
 use Rattle.text.specs.Bytes.{bytes}
 use Rattle.text.specs.Template.{Value, numberAt, listAt}
-use Rattle.text.specs.Fields.{Held}
+use Rattle.template.specs.Fields.{Held}
 use Rattle.job.specs.Float.{float, isProbability, isWeight, isTotal}
 use Rattle.job.specs.Sound.{Every}
 use Rattle.job.specs.Clifford.{isClifford}

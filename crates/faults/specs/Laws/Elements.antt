@@ -7,7 +7,7 @@ use mathlib.Core.List.{List}
 use lib.ListN.{length, getD, take, drop, set, length-set, length-take, length-drop}
 use lib.Seq.{getD-set-same, getD-set-other, getD-take, getD-drop, ext-getD}
 use Rattle.text.specs.Template.{Value, listAt}
-use Rattle.text.specs.Fields.{Held}
+use Rattle.template.specs.Fields.{Held}
 use Rattle.job.specs.Line.{SparsePauli}
 use Rattle.job.specs.Grammar.{pauliAt}
 use Rattle.rows.specs.Overwrite.{copied}

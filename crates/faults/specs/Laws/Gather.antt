@@ -11,7 +11,7 @@ use lib.ListN.{length, getD, drop, set}
 use lib.Seq.{take-all, take-suc, take-suc-set, getD-drop}
 use lib.Ieee.{Float}
 use Rattle.text.specs.Template.{Value}
-use Rattle.text.specs.Fields.{Held}
+use Rattle.template.specs.Fields.{Held}
 use Rattle.job.specs.Line.{WeightedPauli}
 use Rattle.job.specs.Float.{float, nought, isWeight, totalFrom}
 use Rattle.job.specs.Sound.{weightsOf}

@@ -10,7 +10,7 @@ use lib.Ieee.{Float, nan, inf, fin, binary64, isNan, nanBits, lt}
 use lib.Ieee.Bits.{nanBits-is}
 use Rattle.text.specs.Bytes.{bytes}
 use Rattle.text.specs.Template.{Value, numberAt, listAt}
-use Rattle.text.specs.Fields.{Held}
+use Rattle.template.specs.Fields.{Held}
 use Rattle.job.specs.Float.{float, one, isProbability, isWeight}
 use Rattle.job.specs.Grammar.{Kind, NoiseLine, Written, pauliAt, isOne, optional, forms}
 use Rattle.reader.specs.declared.Form.{Form}

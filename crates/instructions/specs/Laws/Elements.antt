@@ -12,7 +12,7 @@ use lib.ListN.{length, drop, length-drop, drop-of-length-le}
 use lib.Seq.{drop-drop}
 use Rattle.text.specs.Bytes.{bytes, pieces, lines}
 use Rattle.text.specs.Template.{Value}
-use Rattle.text.specs.Fields.{Held}
+use Rattle.template.specs.Fields.{Held}
 use Rattle.job.specs.declared.Header.{Header}
 use Rattle.job.specs.Line.{SparsePauli, WeightedPauli, Placed}
 use Rattle.job.specs.Grammar.{Written, pauliAt, forms, readLine}

@@ -10,7 +10,7 @@ use mathlib.Core.Option.{some}
 use lib.ListN.{length, getD, drop, drop-of-length-le, length-map}
 use Rattle.text.specs.Bytes.{bytes, pieces, lines}
 use Rattle.text.specs.Template.{Value}
-use Rattle.text.specs.Fields.{Held}
+use Rattle.template.specs.Fields.{Held}
 use Rattle.job.specs.declared.Header.{Header}
 use Rattle.job.specs.Line.{Line, WeightedPauli, Instruction}
 use Rattle.job.specs.Grammar.{Kind, NoiseLine, Written, forms, readLine}

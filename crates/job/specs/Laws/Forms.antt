@@ -11,7 +11,7 @@ use lib.ListN.{length}
 use Rattle.pauli.specs.Gate.{Gate, gateOf}
 use Rattle.text.specs.Bytes.{bytes}
 use Rattle.text.specs.Template.{Value, valuesOf, numberAt, listAt}
-use Rattle.text.specs.Laws.Values.{FitL, FitQ, FitC, NumberFits, ListFits, numberLetters, listLetters, Fits, values-fit}
+use Rattle.text.specs.Laws.Values.{FitL, FitQ, FitC, NumberFits, ListFits, numberLettersIn, listLettersIn, Fits, values-fit}
 use Rattle.job.specs.Line.{SparsePauli, Line}
 use Rattle.job.specs.Sound.{SmallOption, Every}
 use Rattle.job.specs.Grammar.{Kind, NoiseLine, Written, pauliAt, isOne, unitaryLine, optional, noiseLine, Form, forms, said, orLater, readBy, readLine}
@@ -103,7 +103,7 @@ also a b = (a, b)
 
 -- in the order of the table
 forms-fit : Every FormFits forms
-unfolding FormFits forms bytes numberLetters listLetters NumberFits ListFits SaidFits WrittenFits LineFits KindFits SmallOption
+unfolding FormFits forms bytes numberLettersIn listLettersIn NumberFits ListFits SaidFits WrittenFits LineFits KindFits SmallOption
 forms-fit =
     also (λ v h. tt)
     (also (λ v h. gate-fits (gateOf (numberAt 0 v)) (listAt 0 v) (h .list 0))

@@ -10,8 +10,8 @@ use Rattle.pauli.specs.Gate.{Gate, gateOf}
 use Rattle.pauli.specs.Laws.Code.{gate-none}
 use Rattle.text.specs.Bytes.{bytes}
 use Rattle.text.specs.Template.{Value, numbersIn, listsIn, numberAt, listAt}
-use Rattle.text.specs.Fields.{Held}
-use Rattle.text.specs.Laws.Fields.{members-held}
+use Rattle.template.specs.Fields.{Held}
+use Rattle.template.specs.Laws.Fields.{members-held}
 use Rattle.job.specs.Line.{SparsePauli, Line}
 use Rattle.job.specs.Grammar.{Written, isOne, forms}
 use Rattle.job.specs.Sound.{LineSound}

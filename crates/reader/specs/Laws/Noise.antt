@@ -10,11 +10,12 @@ use lib.Dec.{eqb, ltb}
 use lib.ListN.{length, getD, drop, List·getD-append, List·getD-eq-default}
 use Rattle.text.specs.Bytes.{bytes}
 use Rattle.text.specs.Template.{Value, isLetter, valuesOf, numbersIn, listsIn, numberAt, listAt}
-use Rattle.text.specs.Fields.{Held, inFront, Begins}
+use Rattle.numbers.specs.Read.{inFront}
+use Rattle.template.specs.Fields.{Held, Begins}
 use Rattle.text.specs.Laws.Values.{none-some}
-use Rattle.text.specs.Laws.Fields.{nothing-held, numbers-append, lists-append}
-use Rattle.text.specs.Laws.Reading.{byte-over, byte-other, parts-read}
-use Rattle.text.specs.declared.template.Progress.{Progress}
+use Rattle.template.specs.Laws.Fields.{nothing-held, numbers-append, lists-append}
+use Rattle.template.specs.Laws.Reading.{byte-over, byte-other, parts-read}
+use Rattle.template.specs.declared.Progress.{Progress}
 use Rattle.job.specs.Grammar.{Kind, Written, noiseLine, pauliAt, Form as TableForm, isOne, forms, said, readBy}
 use Rattle.job.specs.Laws.Dispatch.{readAs}
 use Rattle.reader.specs.declared.Form.{Form}

@@ -12,7 +12,7 @@ use Rattle.pauli.specs.Gate.{Gate, gates, gateFrom, gateOf}
 use Rattle.pauli.specs.Laws.Code.{gate-none}
 use Rattle.text.specs.Bytes.{bytes}
 use Rattle.text.specs.Template.{Value, valuesOf, numberAt, listAt}
-use Rattle.text.specs.Fields.{numberLetters, listLetters, Room, HasForm, ReadAs}
+use Rattle.template.specs.Fields.{numberLetters, listLetters, Room, HasForm, ReadAs}
 use Rattle.text.specs.Laws.Values.{both}
 use Rattle.job.specs.Grammar.{Written, Form as TableForm, unitaryLine, forms, said, readBy, readLine}
 use Rattle.job.specs.Line.{Line}

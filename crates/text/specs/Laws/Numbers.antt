@@ -10,10 +10,7 @@ use mathlib.Core.Option.{none, some}
 use borrow.Author.Tests.{leb-true, leb-false, le-leb, lt-leb, lt-ltb, le-ltb, eq-eqb, ne-eqb}
 use lib.Dec.{ltb, leb, lit≤}
 use lib.ListN.{length, getD, drop, drop-of-length-le}
-use Rattle.text.specs.declared.numbers.Value.{Value}
-use Rattle.text.specs.declared.numbers.Value.the-variants.{Of, Bad}
 use Rattle.text.specs.Number.{allDecimal, decimalFrom, proper, numberOf, hexDigit, allHex, hexFrom, hexOf}
-use Rattle.text.specs.Fields.{read}
 use Rattle.text.specs.Laws.Pieces.{step}
 
 -- ---- decimal
@@ -118,13 +115,3 @@ hex-grows v d i h g = rw (add-one, pow-suc) (omega arith)
 
 pub hex-fits : (i v : ℕ) → i < 16 → v < 16 ^ (i + 1) → v < 2 ^ 64
 hex-fits i v h g = let k : i + 1 ≤ 16 = omega arith in le-trans g (pow-le-pow-right {n = 16} (lit≤ tt) k)
-
--- ---- what the code's enum says
-
-pub read-of : {v : Value} {n : ℕ} → v ≡ Of n → read v ≡ some n
-unfolding read
-read-of e = ap read e
-
-pub read-bad : {v : Value} → v ≡ Bad → read v ≡ none
-unfolding read
-read-bad e = ap read e

@@ -185,13 +185,13 @@ ListFits t l = cond (eqb t 76) (FitL l) (cond (eqb t 81) (FitQ l) (cond (eqb t 6
 abbrev pub isNumberLetter : ℕ → Bool
 isNumberLetter t = eqb t 78 || eqb t 72 || eqb t 66
 
-unfoldable pub numberLetters : List ℕ → List ℕ
-numberLetters [] = []
-numberLetters (t ∷ ts) = cond (isLetter t && isNumberLetter t) (t ∷ numberLetters ts) (numberLetters ts)
+unfoldable pub numberLettersIn : List ℕ → List ℕ
+numberLettersIn [] = []
+numberLettersIn (t ∷ ts) = cond (isLetter t && isNumberLetter t) (t ∷ numberLettersIn ts) (numberLettersIn ts)
 
-unfoldable pub listLetters : List ℕ → List ℕ
-listLetters [] = []
-listLetters (t ∷ ts) = cond (isLetter t && not (isNumberLetter t)) (t ∷ listLetters ts) (listLetters ts)
+unfoldable pub listLettersIn : List ℕ → List ℕ
+listLettersIn [] = []
+listLettersIn (t ∷ ts) = cond (isLetter t && not (isNumberLetter t)) (t ∷ listLettersIn ts) (listLettersIn ts)
 
 -- a value of a letter
 ValueFits : ℕ → Value → Type 0
@@ -231,19 +231,19 @@ value-fits t v d =
 
 -- The values of a line, by the letters of its template. Past the last value of either kind there is 0 or the empty list, of which nothing is claimed.
 pub record Fits (ts : List ℕ) (v : List Value) : Type 0 where
-  pub number : (i : ℕ) → NumberFits (getD (numberLetters ts) i 0) (numberAt i v)
-  pub list : (i : ℕ) → ListFits (getD (listLetters ts) i 0) (listAt i v)
+  pub number : (i : ℕ) → NumberFits (getD (numberLettersIn ts) i 0) (numberAt i v)
+  pub list : (i : ℕ) → ListFits (getD (listLettersIn ts) i 0) (listAt i v)
 
 fits-none : Fits [] []
-unfolding numberLetters listLetters numbersIn listsIn NumberFits ListFits
+unfolding numberLettersIn listLettersIn numbersIn listsIn NumberFits ListFits
 fits-none = record { number = λ i. omega arith; list = λ i. tt }
 
 fits-literal : (t : ℕ) (ts : List ℕ) (v : List Value) → isLetter t ≡ false → Fits ts v → Fits (t ∷ ts) v
-unfolding numberLetters listLetters
+unfolding numberLettersIn listLettersIn
 fits-literal t ts v e f = record { number = rw e (f .number); list = rw e (f .list) }
 
 fits-letter : (t : ℕ) (ts : List ℕ) (d : Value) (v : List Value) → isLetter t ≡ true → ValueFits t d → Fits ts v → Fits (t ∷ ts) (d ∷ v)
-unfolding numberLetters listLetters numbersIn listsIn ValueFits
+unfolding numberLettersIn listLettersIn numbersIn listsIn ValueFits
 fits-letter t ts (number n) v e g f =
     record { number = rw (e, g .0) (elim [ zero ↦ g .1 | suc i ↦ f .number i ]); list = rw (e, g .0) (f .list) }
 fits-letter t ts (list l) v e g f =

@@ -7,13 +7,14 @@ use mathlib.Core.List.{List, [], _∷_, _++_}
 use mathlib.Core.Option.{Option, none, some}
 use borrow.Author.Tests.{ne-eqb}
 use lib.ListN.{length, getD, List·getD-append}
-use Rattle.text.specs.declared.template.Progress.{Progress}
+use Rattle.template.specs.declared.Progress.{Progress}
 use Rattle.text.specs.Bytes.{bytes}
 use Rattle.text.specs.Template.{Value, valuesOf, numbersIn, numberAt}
-use Rattle.text.specs.Fields.{Held, inFront, Begins}
+use Rattle.numbers.specs.Read.{inFront}
+use Rattle.template.specs.Fields.{Held, Begins}
 use Rattle.text.specs.Laws.Values.{none-some}
 use Rattle.text.specs.Laws.Places.{literals}
-use Rattle.text.specs.Laws.Fields.{numbers-append, nothing-held}
+use Rattle.template.specs.Laws.Fields.{numbers-append, nothing-held}
 use Rattle.pauli.specs.Pauli.{anticommutes}
 use Rattle.job.specs.Line.{SparsePauli, pauliOf, Line}
 use Rattle.job.specs.Grammar.{Written, Form as TableForm, forms, said, readBy, readLine}

@@ -5,7 +5,7 @@ use mathlib.Core.List.{List}
 use Prim.Native.Nat.{ℕ, _-_, _≤_}
 use borrow.Author.Tests.{not-true, not-false}
 use Rattle.text.specs.Template.{Value}
-use Rattle.text.specs.Fields.{Held}
+use Rattle.template.specs.Fields.{Held}
 use Rattle.job.specs.Checks.{eachBelow}
 use Rattle.checker.specs.Slots.{listsFrom}
 use Rattle.checker.specs.Laws.Slots.{each-below, each-fails, each-next, each-end}

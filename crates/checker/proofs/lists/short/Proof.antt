@@ -8,7 +8,7 @@ use Prim.Native.Nat.{ℕ, _+_, _-_, _≤_, _<_}
 use borrow.Author.Tests.{lt-leb, le-leb}
 use lib.ListN.{length, getD}
 use Rattle.text.specs.Template.{Value, listAt}
-use Rattle.text.specs.Fields.{Held}
+use Rattle.template.specs.Fields.{Held}
 use Rattle.job.specs.Checks.{eachShort}
 use Rattle.checker.specs.Slots.{listsFrom}
 use Rattle.checker.proofs.lists.short.Statement.{statement}

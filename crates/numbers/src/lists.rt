@@ -1,0 +1,142 @@
+// Lists of numbers with commas. The members go into lent words, as many as there is room for; a list is read to its end, however long it is.
+ghost use mathlib.Core.Path.{_≡_};
+ghost use mathlib.Core.Bool.{_&&_, _||_};
+ghost use mathlib.Core.List.{List, [], _∷_, _++_};
+ghost use mathlib.Core.Option.{none, some};
+ghost use Prim.Native.Nat.{ℕ, _+_, _^_, _<_, max};
+ghost use lib.Dec.{eqb, ltb};
+ghost use lib.ListN.{set};
+ghost use Rattle.text.specs.List.{listQ, listL, listC, isDash};
+ghost use Rattle.numbers.specs.Read.{listedAs, ListRead};
+use crate::Value;
+use crate::number;
+use crate::pieces::find;
+
+// A list as it was read: whether each member is a number, how many there are, the largest (0 of none), and whether they rise strictly.
+pub struct Listed {
+    pub ok: bool,
+    pub count: usize,
+    pub largest: u64,
+    pub rising: bool,
+}
+
+fn larger(a: u64, b: u64) -> u64
+    ensures { λ r. ⌜ r ≡ max a b ⌝ }
+{
+    if a < b { b } else { a }
+}
+
+fn rises(l: Listed, n: u64) -> bool
+    ensures { λ r. ⌜ r ≡ (l .rising && (eqb (l .count) 0 || ltb (l .largest) n)) ⌝ }
+{
+    if !l.rising {
+        return false;
+    }
+    if l.count == 0 {
+        return true;
+    }
+    l.largest < n
+}
+
+// The list with one more member at its end.
+fn push(l: Listed, n: u64) -> Listed
+    requires { ⌜ l .count + 1 < 2 ^ 64 ⌝ }
+    ensures { λ r. ⌜ ((d : List ℕ) → l ≡ listedAs (some d) → r ≡ listedAs (some (d ++ n ∷ []))) ⌝ }
+{
+    Listed {
+        ok: l.ok,
+        count: l.count + 1,
+        largest: larger(l.largest, n),
+        rising: rises(l, n),
+    }
+}
+
+fn store(out: &mut [u64], at: usize, n: u64)
+    ensures { λ _. ⌜ now (out .exit) ≡ set (now (out .entry)) at n ⌝ }
+{
+    if at < out.len() {
+        out[at] = n;
+    }
+}
+
+pub fn no_list() -> Listed
+    ensures { λ r. ⌜ r ≡ listedAs none ⌝ }
+{
+    Listed {
+        ok: false,
+        count: 0,
+        largest: 0,
+        rising: true,
+    }
+}
+
+pub fn empty() -> Listed
+    ensures { λ r. ⌜ r ≡ listedAs (some []) ⌝ }
+{
+    Listed {
+        ok: true,
+        count: 0,
+        largest: 0,
+        rising: true,
+    }
+}
+
+// Q: a list in any order, never empty.
+pub fn list_q(s: &[u8], out: &mut [u64]) -> Listed
+    ensures { λ r. ⌜ ListRead (listQ (now (s .entry))) r (now (out .entry)) (now (out .exit)) ⌝ }
+{
+    let mut l = empty();
+    let mut at = 0;
+    loop {
+        let e = find(s, at, 44);
+        let Value::Of(n) = number(&s[at..e]) else {
+            return no_list();
+        };
+        store(&mut *out, l.count, n);
+        l = push(l, n);
+        if e == s.len() {
+            return l;
+        }
+        at = e + 1;
+    }
+}
+
+fn is_dash(s: &[u8]) -> bool
+    ensures { λ r. ⌜ r ≡ isDash (now (s .entry)) ⌝ }
+{
+    if s.len() != 1 {
+        return false;
+    }
+    s[0] == 45
+}
+
+// L: a strictly rising list, `-` when empty.
+pub fn list_l(s: &[u8], out: &mut [u64]) -> Listed
+    ensures { λ r. ⌜ ListRead (listL (now (s .entry))) r (now (out .entry)) (now (out .exit)) ⌝ }
+{
+    if is_dash(s) {
+        return empty();
+    }
+    let l = list_q(s, out);
+    if !l.ok {
+        return l;
+    }
+    if !l.rising {
+        return no_list();
+    }
+    l
+}
+
+// C: a number, or `-` for none.
+pub fn list_c(s: &[u8], out: &mut [u64]) -> Listed
+    ensures { λ r. ⌜ ListRead (listC (now (s .entry))) r (now (out .entry)) (now (out .exit)) ⌝ }
+{
+    if is_dash(s) {
+        return empty();
+    }
+    let Value::Of(n) = number(s) else {
+        return no_list();
+    };
+    store(out, 0, n);
+    push(empty(), n)
+}

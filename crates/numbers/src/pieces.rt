@@ -1,0 +1,21 @@
+// Bytes cut at a separator.
+ghost use mathlib.Core.Path.{_≡_};
+ghost use Prim.Native.Nat.{_+_, _≤_};
+ghost use lib.ListN.{length, drop};
+ghost use Rattle.text.specs.Bytes.{until};
+
+// The place of the first sep from at on, or the length where there is none.
+pub fn find(s: &[u8], at: usize, sep: u8) -> usize
+    requires { ⌜ at ≤ length (now s) ⌝ }
+    ensures { λ r. ⌜ r ≡ at + until sep (drop at (now (s .entry))) ⌝ }
+    ensures { λ r. ⌜ (at ≤ r) × (r ≤ length (now (s .entry))) ⌝ }
+{
+    let mut i = at;
+    while i < s.len() {
+        if s[i] == sep {
+            return i;
+        }
+        i += 1;
+    }
+    i
+}

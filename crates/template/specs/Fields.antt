@@ -1,0 +1,96 @@
+-- How lent words hold the values of a line, and what reading a line by its template says. Definitions. Assumes nothing.
+use Prim.Native.Nat.{ℕ, _+_, _*_, _≤_, _<_, max}
+use mathlib.Core.Path.{_≡_}
+use mathlib.Core.Bool.{Bool, true, false, cond, _||_}
+use mathlib.Core.List.{List, [], _∷_, _++_}
+use mathlib.Core.Option.{Option, none, some}
+use lib.Dec.{eqb}
+use lib.ListN.{length, getD, drop}
+use Rattle.text.specs.List.{listL, listQ, listC}
+use Rattle.text.specs.Template.{Value, valuesOf, numbersIn, listsIn, numberAt, listAt}
+use Rattle.numbers.specs.Read.{largestOf, inFront}
+use Rattle.template.specs.declared.Progress.{Progress}
+use Rattle.template.specs.declared.Put.{Put}
+
+-- a list by its letter: L, Q, else C
+unfoldable pub listBy : ℕ → List ℕ → Option (List ℕ)
+listBy t v = cond (eqb t 76) (listL v) (cond (eqb t 81) (listQ v) (listC v))
+
+-- ---- the values of a line
+
+-- whether a letter stands for a number (N, H, B), and whether it stands for a list (L, Q, C), as 1 or 0
+abbrev pub numberLetter : ℕ → ℕ
+numberLetter t = cond (eqb t 78 || (eqb t 72 || eqb t 66)) 1 0
+
+abbrev pub listLetter : ℕ → ℕ
+listLetter t = cond (eqb t 76 || (eqb t 81 || eqb t 67)) 1 0
+
+-- how many numbers and how many lists a line of a template has
+abbrev pub numberLetters : List ℕ → ℕ
+numberLetters [] = 0
+numberLetters (t ∷ ts) = numberLetter t + numberLetters ts
+
+abbrev pub listLetters : List ℕ → ℕ
+listLetters [] = 0
+listLetters (t ∷ ts) = listLetter t + listLetters ts
+
+-- Lent words hold the values of a line, so many numbers and so many lists, at most 4 of each. The i-th number stands at i; of the i-th list the count
+-- at 4 + i, the largest member at 8 + i, and the members, of which the first 31 are kept, from 12 + 31 i on.
+pub record Held (fields : List ℕ) (numbers lists : ℕ) (vs : List Value) : Type 0 where
+  pub few-numbers : numbers ≤ 4
+  pub few-lists : lists ≤ 4
+  pub numbers-in : length (numbersIn vs) ≡ numbers
+  pub lists-in : length (listsIn vs) ≡ lists
+  pub number : (i : ℕ) → i < numbers → getD fields i 0 ≡ numberAt i vs
+  pub count : (i : ℕ) → i < lists → getD fields (4 + i) 0 ≡ length (listAt i vs)
+  pub largest : (i : ℕ) → i < lists → getD fields (8 + i) 0 ≡ largestOf (listAt i vs)
+  pub member : (i j : ℕ) → i < lists → j < 31 → j < length (listAt i vs) → getD fields (12 + i * 31 + j) 0 ≡ getD (listAt i vs) j 0
+
+-- there is room for the values of a template after so many numbers and lists
+pub record Room (numbers lists : ℕ) (template : List ℕ) : Type 0 where
+  pub for-numbers : numbers + numberLetters template ≤ 4
+  pub for-lists : lists + listLetters template ≤ 4
+
+-- ---- a line read in parts
+
+-- From a place on a line begins as a template says: with some values, up to the place `p .at`. Whatever the template goes on with, the line's values are
+-- these and those that it has from there on. Lent words that held the values before now hold these after them.
+pub record Begins (line template : List ℕ) (from numbers lists : ℕ) (p : Progress) (before after : List ℕ) : Type 0 where
+  pub values : List Value
+  pub reads : (rest : List ℕ) → valuesOf (template ++ rest) (drop from line) ≡ inFront values (valuesOf rest (drop (p .at) line))
+  pub within : p .at ≤ length line
+  pub numbers-read : p .numbers ≡ numbers + numberLetters template
+  pub lists-read : p .lists ≡ lists + listLetters template
+  pub holds : (vs : List Value) → Held before numbers lists vs → Held after (p .numbers) (p .lists) (vs ++ values)
+
+-- what reading on by a template says: a refusal, that no template which begins so is the line's from that place on
+pub record ReadOn (line template : List ℕ) (from numbers lists : ℕ) (p : Progress) (before after : List ℕ) : Type 0 where
+  pub refused : p .ok ≡ false → Room numbers lists template → (rest : List ℕ) → valuesOf (template ++ rest) (drop from line) ≡ none
+  pub read : p .ok ≡ true → Begins line template from numbers lists p before after
+
+-- ---- a whole line
+
+-- the values of a line by a template, and lent words that hold them
+pub record HasForm (line template fields : List ℕ) : Type 0 where
+  pub values : List Value
+  pub reads : valuesOf template line ≡ some values
+  pub held : Held fields (numberLetters template) (listLetters template) values
+
+-- what reading a line by a template says
+pub record ReadAs (line template : List ℕ) (r : Bool) (fields : List ℕ) : Type 0 where
+  pub refused : r ≡ false → Room 0 0 template → valuesOf template line ≡ none
+  pub read : r ≡ true → HasForm line template fields
+
+-- ---- one value more, between the functions of the code
+
+-- the value `o` was put after n numbers and l lists; it is a numbers and b lists, where one of a and b is 1, the other 0
+pub record PutOne (a b : ℕ) (o : Option Value) (n l : ℕ) (p : Put) (before after : List ℕ) : Type 0 where
+  pub value : Value
+  pub reads : o ≡ some value
+  pub numbers-read : p .numbers ≡ n + a
+  pub lists-read : p .lists ≡ l + b
+  pub holds : (vs : List Value) → Held before n l vs → Held after (n + a) (l + b) (vs ++ value ∷ [])
+
+pub record PutAs (a b : ℕ) (o : Option Value) (n l : ℕ) (p : Put) (before after : List ℕ) : Type 0 where
+  pub refused : p .ok ≡ false → n + a ≤ 4 → l + b ≤ 4 → o ≡ none
+  pub put : p .ok ≡ true → PutOne a b o n l p before after

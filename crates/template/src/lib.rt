@@ -1,0 +1,201 @@
+// A line by its template: `op=i shot=N x=L z=L`. What is read goes into lent words, the fields of the line.
+ghost use mathlib.Core.Path.{_≡_};
+ghost use mathlib.Core.Bool.{false};
+ghost use Prim.Native.Nat.{_≤_};
+ghost use lib.ListN.{length};
+ghost use Rattle.text.specs.Template.{aNumber, aList, valueOf, isLetter};
+ghost use Rattle.numbers.specs.Read.{read, ListRead};
+ghost use Rattle.template.specs.Fields.{listBy, numberLetter, listLetter, PutAs, ReadOn, ReadAs};
+use numbers::lists::Listed;
+use numbers::lists::list_c;
+use numbers::lists::list_l;
+use numbers::lists::list_q;
+use numbers::Value;
+use numbers::bit;
+use numbers::hex16;
+use numbers::number;
+use numbers::pieces::find;
+
+// The fields of a line: its numbers, at most 4; of each of its lists, at most 4, how many members it has, the largest of them (0 of none), and the members,
+// of which the first 31 are kept.
+pub const NUMBERS: usize = 0;
+
+pub const COUNTS: usize = 4;
+
+pub const LARGEST: usize = 8;
+
+pub const MEMBERS: usize = 12;
+
+pub const KEPT: usize = 31;
+
+pub const FIELDS: usize = 136;
+
+// How far a line was read: whether it has its template's form so far, up to which place, and how many numbers and lists it had.
+pub struct Progress {
+    pub ok: bool,
+    pub at: usize,
+    pub numbers: usize,
+    pub lists: usize,
+}
+
+fn refused() -> Progress
+    ensures { λ r. ⌜ r .ok ≡ false ⌝ }
+{
+    Progress {
+        ok: false,
+        at: 0,
+        numbers: 0,
+        lists: 0,
+    }
+}
+
+// How many numbers and lists a line had, with one value more; or that it is none.
+struct Put {
+    ok: bool,
+    numbers: usize,
+    lists: usize,
+}
+
+fn not_put() -> Put
+    ensures { λ r. ⌜ r .ok ≡ false ⌝ }
+{
+    Put {
+        ok: false,
+        numbers: 0,
+        lists: 0,
+    }
+}
+
+fn put_number(v: Value, n: usize, l: usize, fields: &mut [u64]) -> Put
+    requires { ⌜ 136 ≤ length (now fields) ⌝ }
+    ensures { λ r. ⌜ PutAs 1 0 (aNumber (read v)) n l r (now (fields .entry)) (now (fields .exit)) ⌝ }
+{
+    let Value::Of(x) = v else {
+        return not_put();
+    };
+    if 4 <= n {
+        return not_put();
+    }
+    fields[n] = x;
+    Put {
+        ok: true,
+        numbers: n + 1,
+        lists: l,
+    }
+}
+
+// A list by its letter: L, Q or C.
+fn list(t: u8, s: &[u8], out: &mut [u64]) -> Listed
+    ensures { λ r. ⌜ ListRead (listBy t (now (s .entry))) r (now (out .entry)) (now (out .exit)) ⌝ }
+{
+    match t {
+        76 => list_l(s, out),
+        81 => list_q(s, out),
+        _ => list_c(s, out),
+    }
+}
+
+fn put_list(t: u8, s: &[u8], n: usize, l: usize, fields: &mut [u64]) -> Put
+    requires { ⌜ 136 ≤ length (now fields) ⌝ }
+    ensures { λ r. ⌜ PutAs 0 1 (aList (listBy t (now (s .entry)))) n l r (now (fields .entry)) (now (fields .exit)) ⌝ }
+{
+    if 4 <= l {
+        return not_put();
+    }
+    let a = MEMBERS + l * KEPT;
+    let b = a + KEPT;
+    let r = list(t, s, &mut fields[a..b]);
+    if !r.ok {
+        return not_put();
+    }
+    fields[COUNTS + l] = r.count as u64;
+    fields[LARGEST + l] = r.largest;
+    Put {
+        ok: true,
+        numbers: n,
+        lists: l + 1,
+    }
+}
+
+// One value more, which the bytes s are by the letter t of a template.
+fn put_value(t: u8, s: &[u8], n: usize, l: usize, fields: &mut [u64]) -> Put
+    requires { ⌜ 136 ≤ length (now fields) ⌝ }
+    ensures { λ r. ⌜ PutAs (numberLetter t) (listLetter t) (valueOf t (now (s .entry))) n l r (now (fields .entry)) (now (fields .exit)) ⌝ }
+{
+    match t {
+        78 => put_number(number(s), n, l, fields),
+        72 => put_number(hex16(s), n, l, fields),
+        66 => put_number(bit(s), n, l, fields),
+        76 => put_list(t, s, n, l, fields),
+        81 => put_list(t, s, n, l, fields),
+        67 => put_list(t, s, n, l, fields),
+        _ => not_put(),
+    }
+}
+
+fn is_letter(t: u8) -> bool
+    ensures { λ r. ⌜ r ≡ isLetter t ⌝ }
+{
+    if t < 65 {
+        return false;
+    }
+    t <= 90
+}
+
+// A line read on by a template, from a place up to which it had so many numbers and lists.
+pub fn read_on(
+    line: &[u8],
+    template: &[u8],
+    from: usize,
+    numbers: usize,
+    lists: usize,
+    fields: &mut [u64],
+) -> Progress
+    requires { ⌜ (from ≤ length (now line)) × (136 ≤ length (now fields)) ⌝ }
+    ensures { λ r. ⌜ ReadOn (now (line .entry)) (now (template .entry)) from numbers lists r (now (fields .entry)) (now (fields .exit)) ⌝ }
+{
+    let mut at = from;
+    let mut n = numbers;
+    let mut l = lists;
+    let mut i = 0;
+    while i < template.len() {
+        let t = template[i];
+        i += 1;
+        if !is_letter(t) {
+            if at == line.len() {
+                return refused();
+            }
+            if line[at] != t {
+                return refused();
+            }
+            at += 1;
+            continue;
+        }
+        let e = find(line, at, 32);
+        let p = put_value(t, &line[at..e], n, l, &mut *fields);
+        if !p.ok {
+            return refused();
+        }
+        n = p.numbers;
+        l = p.lists;
+        at = e;
+    }
+    Progress {
+        ok: true,
+        at,
+        numbers: n,
+        lists: l,
+    }
+}
+
+// A line read by a template to its end.
+pub fn read_all(line: &[u8], template: &[u8], fields: &mut [u64]) -> bool
+    requires { ⌜ 136 ≤ length (now fields) ⌝ }
+    ensures { λ r. ⌜ ReadAs (now (line .entry)) (now (template .entry)) r (now (fields .exit)) ⌝ }
+{
+    let p = read_on(line, template, 0, 0, 0, fields);
+    if !p.ok {
+        return false;
+    }
+    p.at == line.len()
+}
