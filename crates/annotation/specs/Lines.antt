@@ -5,7 +5,7 @@ use mathlib.Core.Bool.{Bool, false, cond}
 use mathlib.Core.List.{List, _++_}
 use Rattle.text.specs.Bytes.{lines}
 use Rattle.job.specs.Grammar.{Written}
-use Rattle.job.specs.Reply.{CountReply}
+use Rattle.job.specs.declared.CountReply.{CountReply}
 use Rattle.instructions.specs.Lines.{numbered}
 use Rattle.writer.specs.Placed.{Puts}
 use Rattle.circuit.specs.Annotate.{noiseBefore, annotatedText, firstUnfit}

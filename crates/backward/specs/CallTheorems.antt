@@ -11,7 +11,8 @@ use Rattle.pauli.specs.Bits.{sumOver, odd}
 use Rattle.text.specs.List.{isRising}
 use Rattle.job.specs.Checks.{allBelow}
 use Rattle.job.specs.Job.{answer, accepted, jobOf, recordedIn, checkJob}
-use Rattle.job.specs.Reply.{TextReply, textFits, writtenBy, writtenText, refusedText, CountReply, refusedCount}
+use Rattle.job.specs.declared.CountReply.{CountReply}
+use Rattle.job.specs.Reply.{TextReply, textFits, writtenBy, writtenText, refusedText, refusedCount}
 use Rattle.draws.specs.Settle.{SettledLine, Settled, settledList, settledText, numbered}
 use Rattle.rows.specs.Words.{wordsPerRow, bitIn}
 use Rattle.run.specs.Run.{Source, Memory, outcomeWords, enoughWords, lentOf, spentReply, runReply}

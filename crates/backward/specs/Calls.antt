@@ -1,4 +1,4 @@
--- What theorems about the calls together speak of. Definitions. Assumes nothing.
+-- Definitions. What theorems about the calls together speak of. Assumes nothing.
 use mathlib.Core.List.{List}
 use Prim.Native.Nat.{ℕ}
 use Rattle.pauli.specs.Bits.{members}

@@ -1,4 +1,4 @@
--- The whole reply of settling: its answer, its byte figure, and every lent byte. Assumes nothing.
+-- Definitions. The whole reply of settling: its answer, its byte figure, and every lent byte. Assumes nothing.
 use mathlib.Core.Bool.{cond}
 use mathlib.Core.List.{List}
 use Prim.Native.Nat.{ℕ}

@@ -1,7 +1,7 @@
 -- Theorems about a shot's run and its walk, for whole lists of lines (document 01, demand 3); those about the run alone stand in the frames crate.
 -- Assumes nothing.
 use mathlib.Core.Path.{_≡_, refl, sym, ap, _∙_}
-use mathlib.Core.Bool.{true, false, true≢false}
+use mathlib.Core.Bool.{Bool, true, false, true≢false}
 use mathlib.Core.List.{List, [], _∷_}
 use Prim.Native.Nat.{ℕ}
 use native.Mathlib.Omega.{arith}
@@ -18,8 +18,11 @@ use Rattle.job.specs.InRange.{AllInRange}
 use Rattle.job.specs.Sound.{JobSound}
 use Rattle.job.specs.Theorems.{checked-sound}
 use Rattle.job.specs.Laws.Lists.{below-more}
-use Rattle.frames.specs.Forward.{imageSum, transformed, Setting, settingOf, run, start}
+use Rattle.frames.specs.Forward.{controlledPauli, imageSum, transformed, Setting, settingOf, run, start}
+use Rattle.frames.specs.Conjugation.{same, controlledSum, Takes}
 use Rattle.frames.specs.Shots.{restricted, within}
+use Rattle.frames.specs.Theorems.{controlled-unitary, takes-unique}
+use Rattle.frames.specs.Laws.Controlled.{controlled-takes}
 use Rattle.draws.specs.Draws.{Lent}
 use Rattle.draws.specs.Settle.{SettledLine, Settled, settle, settledList}
 use Rattle.draws.specs.Execute.{States, starts, Ended, execute}
@@ -101,7 +104,24 @@ demand-3 job accepted lent main states ended = settles (settle lent (jobOf job .
           set rising below,
     )
 
--- ---- plausible and false, as document 01 has it: each is refuted by one frame and one observable
+-- ---- plausible and false, as document 01 has it: the first is refuted by one frame, each of the others by one frame and one observable
+
+-- The control added under its own mask, and the target under any mask: for the control Z on the first qubit, the target X on the second and the frame X
+-- on the first, which goes to X on both. So it is not what the unitary of a controlled Pauli, whose control and target commute, takes frames to.
+pub own-mask-fails : (mask : Pauli → Pauli → Pauli → Bool)
+    → ((C T F : Pauli) → anticommutes 2 C T ≡ false → Takes 2 (controlledSum 2 C T) F (F ∗ when (mask C T F) T ∗ when (anticommutes 2 F C) C)) → ⊥
+unfolding controlledPauli same anticommutes X-at Z-at only none _∗_ when given _△_ _∩_ _⊕_ parity
+own-mask-fails mask h = differ (mask (Z-at 0) (X-at 1) (X-at 0)) (h (Z-at 0) (X-at 1) (X-at 0) refl)
+  where
+    apart : (b : Bool) → same 2 (X-at 0 ∗ when b (X-at 1) ∗ when true (Z-at 0)) (controlledPauli 2 (Z-at 0) (X-at 1) (X-at 0)) ≡ true → ⊥
+    apart true e = true≢false (sym e)
+    apart false e = true≢false (sym e)
+
+    differ : (b : Bool) → Takes 2 (controlledSum 2 (Z-at 0) (X-at 1)) (X-at 0) (X-at 0 ∗ when b (X-at 1) ∗ when true (Z-at 0)) → ⊥
+    differ b t =
+        let one : same 2 (X-at 0 ∗ when b (X-at 1) ∗ when true (Z-at 0)) (controlledPauli 2 (Z-at 0) (X-at 1) (X-at 0)) ≡ true =
+        takes-unique 2 _ (controlled-unitary 2 (Z-at 0) (X-at 1) refl) (X-at 0) _ _ t (controlled-takes 2 (Z-at 0) (X-at 1) refl (X-at 0)) in
+        apart b one
 
 -- PrepareBell walked forwards: Z on the first, and Z on the second.
 pub bell-forwards-fails : ((F B : Pauli) → anticommutes 2 (prepareBell 0 1 F) B ≡ anticommutes 2 F (prepareBell 0 1 B)) → ⊥

@@ -1,5 +1,5 @@
--- The backward walk for one shot, as in document 01, "Settling and walking back". What is carried back, the observable and the set, does not hang
--- on the shot; the count does. Assumes nothing.
+-- Definitions. The backward walk for one shot, as in document 01, "Settling and walking back". What is carried back, the observable and the set,
+-- does not depend on the shot; the count does. Assumes nothing.
 use mathlib.Core.Bool.{Bool, cond, _&&_}
 use mathlib.Core.List.{List, [], _∷_}
 use Prim.Native.Nat.{ℕ, suc}

@@ -1,4 +1,4 @@
--- The whole reply of a walk: its answer and its count. Assumes nothing.
+-- Definitions. The whole reply of a walk: its answer and its count. Assumes nothing.
 use mathlib.Core.Bool.{Bool, cond, _&&_}
 use mathlib.Core.List.{List, [], _∷_}
 use mathlib.Core.Option.{Option, none, some}
@@ -9,7 +9,8 @@ use Rattle.pauli.specs.Bits.{members}
 use Rattle.job.specs.Line.{Line, Instruction, Placed}
 use Rattle.job.specs.Checks.{allBelow}
 use Rattle.job.specs.Job.{answer, accepted, Job, jobOf, recordedIn, checkJob}
-use Rattle.job.specs.Reply.{CountReply, refusedCount}
+use Rattle.job.specs.declared.CountReply.{CountReply}
+use Rattle.job.specs.Reply.{refusedCount}
 use Rattle.frames.specs.Forward.{settingOf}
 use Rattle.backward.specs.Walk.{walk}
 

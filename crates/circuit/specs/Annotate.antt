@@ -1,4 +1,4 @@
--- Depolarizing annotation and the count of fault locations, as in document 01, "Around the engine". Assumes nothing.
+-- Definitions. Depolarizing annotation and the count of fault locations, as in document 01, "Around the engine". Assumes nothing.
 use mathlib.Core.Bool.{Bool, true, false, cond, _&&_}
 use mathlib.Core.List.{List, [], _∷_, _++_}
 use mathlib.Core.Option.{Option, none, some}

@@ -1,4 +1,4 @@
--- Annotation of a list of instructions, as the annotated text is to say it. Definitions. Assumes nothing.
+-- Definitions. Annotation of a list of instructions, as the annotated text is to say it. Assumes nothing.
 use mathlib.Core.Bool.{false, cond}
 use mathlib.Core.List.{List, [], _∷_, _++_, map}
 use mathlib.Core.Option.{none}

@@ -1,4 +1,4 @@
--- The correlation check: one size per corr. Assumes nothing.
+-- Definitions. The correlation check: one size per corr. Assumes nothing.
 use mathlib.Core.Bool.{Bool, true, cond}
 use mathlib.Core.List.{List, [], _∷_, _++_}
 use mathlib.Core.Option.{Option, none, some}

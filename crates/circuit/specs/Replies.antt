@@ -1,4 +1,4 @@
--- The whole replies of annotation, of the location count and of the correlation check. Assumes nothing.
+-- Definitions. The whole replies of annotation, of the location count and of the correlation check. Assumes nothing.
 use mathlib.Core.Bool.{cond}
 use mathlib.Core.List.{List, []}
 use mathlib.Core.Option.{Option, none, some}
@@ -8,7 +8,8 @@ use Rattle.text.specs.Bytes.{lines}
 use Rattle.job.specs.declared.Answer.{Answer}
 use Rattle.job.specs.Float.{float, isProbability}
 use Rattle.job.specs.Job.{answer, accepted, jobOf, checkJob}
-use Rattle.job.specs.Reply.{TextReply, refusedText, textFits, writtenText, CountReply, refusedCount}
+use Rattle.job.specs.declared.CountReply.{CountReply}
+use Rattle.job.specs.Reply.{TextReply, refusedText, textFits, writtenText, refusedCount}
 use Rattle.circuit.specs.Annotate.{annotatedText, firstUnfit, locations}
 use Rattle.circuit.specs.Correlation.{firstDiffering}
 

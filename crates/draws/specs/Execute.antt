@@ -1,5 +1,5 @@
--- Execution with the noise in place, over all shots at once: an element that falls in a shot is injected before the next shot's words are read.
--- Assumes nothing.
+-- Definitions. Execution with the noise in place, over all shots at once: an element that falls in a shot is injected before the next shot's words
+-- are read. Assumes nothing.
 use mathlib.Core.Bool.{cond}
 use mathlib.Core.List.{List, [], _∷_}
 use mathlib.Core.Option.{Option, none, some}

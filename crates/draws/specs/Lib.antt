@@ -2,6 +2,8 @@
 pub mod Draws
 pub mod Settle
 pub mod Execute
+-- Definitions that the theorems on them use.
+pub mod Known
 -- Laws of these definitions.
 pub mod Laws
 -- Theorems on them.

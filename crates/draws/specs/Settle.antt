@@ -1,4 +1,5 @@
--- Settling: each noise instruction is replaced by `op=i` lines, shots rising, identities included, and the rest is copied. Assumes nothing.
+-- Definitions. Settling: each noise instruction is replaced by `op=i` lines, shots rising, identities included, and the rest is copied. Assumes
+-- nothing.
 use mathlib.Core.List.{List, [], _∷_, _++_, map}
 use Prim.Native.Nat.{ℕ, suc}
 use Rattle.text.specs.Bytes.{unlines}

@@ -27,7 +27,8 @@ use Rattle.frames.specs.Shots.{within}
 use Rattle.draws.specs.Draws.{unitOf, falls, elementAt, selected, depolarizingElement, noPauli, Choice, limitOf, bounded, runningFrom, runningSums, belowUnit, byWeight, chooseFrom, isSatisfied, faultOf, drawShot, Lent, Fault, Draws, alsoFault, thenShots, drawShots, drawLine, partOf, mainAfter}
 use Rattle.draws.specs.Settle.{SettledLine, injectText, injection, Step, noiseStep, stepOf, Settled, prefixed, settleThen, settle, settledList}
 use Rattle.draws.specs.Execute.{States, Ended, execute}
-use Rattle.draws.specs.Laws.Settling.{runAll, onSettled, execute-settle}
+use Rattle.draws.specs.Known.{runAll, onSettled, SpentAt, lengthened, shotsOf, elementsOf, Writable, Injections, allOwnBelow, noiseFree, copies}
+use Rattle.draws.specs.Laws.Settling.{execute-settle}
 use Rattle.draws.specs.Laws.Words as words
 use Rattle.draws.specs.Laws.Enough as enough
 use Rattle.draws.specs.Laws.Spent as spent
@@ -97,23 +98,23 @@ module _ (lent : Lent) (main text : List ℕ) (ls : List SettledLine) (left : Li
 
 -- A job's draws are spent at line k exactly where its instructions begin with some that settle, and then noise in line k is spent, in its part of
 -- the second list or of what those before it left of the main one.
-pub job-spent : (lent : Lent) (main : List ℕ) (is : List Placed) (k : ℕ) → settle lent is main ≡ Settled.spentAt k ↔ spent.SpentAt lent main is k
+pub job-spent : (lent : Lent) (main : List ℕ) (is : List Placed) (k : ℕ) → settle lent is main ≡ Settled.spentAt k ↔ SpentAt lent main is k
 job-spent lent main is k = (spent.spent-at lent main is k, spent.at-spent)
 
 -- Where a job settles, more words in both lists change nothing.
 pub job-more : (lent : Lent) (us main vs : List ℕ) (is : List Placed) (ls : List SettledLine)
-    → settle lent is main ≡ Settled.settled ls → settle (spent.lengthened us lent) is (main ++ vs) ≡ Settled.settled ls
+    → settle lent is main ≡ Settled.settled ls → settle (lengthened us lent) is (main ++ vs) ≡ Settled.settled ls
 job-more lent us main vs is ls e = spent.settled-more lent us main vs is e
 
 -- ---- faults
 
 module _ (lent : Lent) (n : Noise) (ws : List ℕ) (fs : List Fault) (left : List ℕ) (e : drawLine lent n ws ≡ Draws.drawn fs left) where
   -- The shots of a line's faults are strictly rising, and shots of the job.
-  pub fault-shots : (isRising (faults.shotsOf fs) ≡ true) × (allBelow (lent .shots) (faults.shotsOf fs) ≡ true)
+  pub fault-shots : (isRising (shotsOf fs) ≡ true) × (allBelow (lent .shots) (shotsOf fs) ≡ true)
   fault-shots = (faults.shots-rising lent n ws fs left e, faults.shots-below lent n ws fs left e)
 
   -- Their elements are elements of the distribution, where it has any.
-  pub fault-elements : 0 < sizeOf (n .distribution) → allBelow (sizeOf (n .distribution)) (faults.elementsOf fs) ≡ true
+  pub fault-elements : 0 < sizeOf (n .distribution) → allBelow (sizeOf (n .distribution)) (elementsOf fs) ≡ true
   fault-elements h = faults.elements-below lent n ws fs left h e
 
 -- d=2 over at least one qubit has elements; d=1 has one, d=3 and d=4 have as many as their lists.
@@ -158,7 +159,7 @@ module _ (qs : List ℕ) (d : distinct qs ≡ true) (e : ℕ) where
 
 -- An element's lists are as a line may hold them: strictly rising, below n where the qubits are, and not longer than the list of qubits.
 pub depolarizing-written : (qs : List ℕ) (e n : ℕ) → allBelow n qs ≡ true
-    → elements.Writable n (length qs) (depolarizingElement qs e .x) × elements.Writable n (length qs) (depolarizingElement qs e .z)
+    → Writable n (length qs) (depolarizingElement qs e .x) × Writable n (length qs) (depolarizingElement qs e .z)
 unfolding depolarizingElement
 depolarizing-written qs e n b = (elements.selected-writable n (e + 1) qs b, elements.selected-writable n ((e + 1) / 2) qs b)
 
@@ -180,17 +181,17 @@ module _ (qs : List ℕ) where
 
 -- Noise comes to injections in shots of the job.
 pub noise-injects : (lent : Lent) (main text : List ℕ) (n : Noise) (ls : List SettledLine) (left : List ℕ)
-    → stepOf lent main text (Instruction.noise n) ≡ Step.lines ls left → settled.Injections lent n ls
+    → stepOf lent main text (Instruction.noise n) ≡ Step.lines ls left → Injections lent n ls
 noise-injects lent main text n ls left e = settled.noise-injects lent main text n ls left e
 
 -- Where a job's own injections and flips are in its shots, as test 10 wants it, so are those of the settled list: a shot past the last has none.
-pub settle-within : (lent : Lent) (main : List ℕ) (is : List Placed) (ls : List SettledLine) → settled.allOwnBelow (lent .shots) is ≡ true
+pub settle-within : (lent : Lent) (main : List ℕ) (is : List Placed) (ls : List SettledLine) → allOwnBelow (lent .shots) is ≡ true
     → settle lent is main ≡ Settled.settled ls → within (λ shot. ltb shot (lent .shots)) (settledList ls) ≡ true
 settle-within lent main is ls b e = settled.settle-within lent main is ls b e
 
 -- A job without noise settles to itself, with its texts, whatever is lent.
-pub settle-copies : (lent : Lent) (main : List ℕ) (is : List Placed) → settled.noiseFree is ≡ true
-    → settle lent is main ≡ Settled.settled (settled.copies is)
+pub settle-copies : (lent : Lent) (main : List ℕ) (is : List Placed) → noiseFree is ≡ true
+    → settle lent is main ≡ Settled.settled (copies is)
 settle-copies lent main is f = settled.settle-copies lent main is f
 
 -- ---- cases of document 01, computed

@@ -1,5 +1,5 @@
--- Conjugation, as in document 01, "Frames and lines": a unitary is given, up to a factor, as a sum of Paulis with coefficients a + bi, a and b
--- whole, or by its images, extended to products. Assumes nothing.
+-- Definitions. Conjugation, as in document 01, "Frames and lines": a unitary is given, up to a factor, as a sum of Paulis with coefficients a + bi,
+-- a and b whole, or by its images, extended to products. Assumes nothing.
 use mathlib.Core.Path.{_≡_}
 use mathlib.Core.Bool.{Bool, true, false, not, _&&_, cond}
 use mathlib.Core.List.{List, [], _∷_, _++_, map}
@@ -10,9 +10,11 @@ use lib.ListN.{length, getD}
 use Rattle.pauli.specs.Bits.{_⊕_, outside, bit}
 use Rattle.pauli.specs.Pauli.{Pauli, identity, X-at, Y-at, Z-at, _∗_, anticommutes}
 use Rattle.pauli.specs.Gate.{Gate, operandsOf}
-use Rattle.job.specs.Line.{pauliOf, Line}
+use Rattle.job.specs.declared.Header.{Header}
+use Rattle.job.specs.Line.{pauliOf, Line, Instruction}
 use Rattle.job.specs.Clifford.{isClifford}
 use Rattle.job.specs.Checks.{allBelow, distinct, isPermutation}
+use Rattle.frames.specs.Forward.{State, settingOf, forward}
 
 -- ---- a + bi
 
@@ -230,3 +232,31 @@ Conjugates n (Line.conditional P ids par) Q Q′ = ⊥
 Conjugates n (Line.reset qs) Q Q′ = ⊥
 Conjugates n (Line.inject shot P) Q Q′ = ⊥
 Conjugates n (Line.flip shot id) Q Q′ = ⊥
+
+-- Which lines of an accepted job are unitaries: u, c, p, e and m, and k if control and target commute; the tests see to the rest.
+unfoldable pub isUnitaryKind : ℕ → Line → Bool
+isUnitaryKind n (Line.unitary g qs) = true
+isUnitaryKind n (Line.clifford qs t) = true
+isUnitaryKind n (Line.pauli P) = true
+isUnitaryKind n (Line.exponential P) = true
+isUnitaryKind n (Line.controlled C T) = not (anticommutes n (pauliOf C) (pauliOf T))
+isUnitaryKind n (Line.permute s qs) = true
+isUnitaryKind n (Line.measure P id) = false
+isUnitaryKind n (Line.allocate id angle) = false
+isUnitaryKind n (Line.conditional P ids par) = false
+isUnitaryKind n (Line.reset qs) = false
+isUnitaryKind n (Line.inject shot P) = false
+isUnitaryKind n (Line.flip shot id) = false
+
+-- Q′ is Q conjugated by the line's unitary, phases dropped: the unitary takes Q to Q′, and on the n qubits to no other Pauli.
+pub record IsConjugate (n : ℕ) (l : Line) (Q Q′ : Pauli) : Type 0 where
+  pub takes : Conjugates n l Q Q′
+  pub alone : (R : Pauli) → Conjugates n l Q R → same n Q′ R ≡ true
+
+-- An instruction of a job with this header, if it is a unitary, takes every frame on the job's qubits, in every shot, to its conjugate by the unitary,
+-- and the deltas stay. Of noise nothing is claimed.
+unfoldable pub ConjugatesFrames : Header → Instruction → Type 0
+ConjugatesFrames h (Instruction.line l) =
+    isUnitaryKind (h .qubits) l ≡ true → (shot : ℕ) (s : State) → Within (h .qubits) (s .frame)
+    → IsConjugate (h .qubits) l (s .frame) (forward (settingOf h shot) l s .frame) × (forward (settingOf h shot) l s .deltas ≡ s .deltas)
+ConjugatesFrames h (Instruction.noise n) = Unit {0}

@@ -1,4 +1,4 @@
--- What the lines do to the frame and the deltas of one shot, as in document 01, "Frames and lines". Assumes nothing.
+-- Definitions. What the lines do to the frame and the deltas of one shot, as in document 01, "Frames and lines". Assumes nothing.
 use mathlib.Core.Bool.{Bool}
 use mathlib.Core.List.{List, [], _∷_}
 use Prim.Native.Nat.{ℕ, suc, _+_}

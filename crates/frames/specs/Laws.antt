@@ -19,8 +19,9 @@ pub mod Images
 pub mod Commutation
 pub mod Clifford
 pub mod Permutation
--- What the tests of a line say of its operands.
+-- What the tests of a line say of its operands; frames on the qubits of a job.
 pub mod Lines
+pub mod Within
 -- Linearity of the lines without a fault, and the faults of other shots.
 pub mod Linear
 pub mod RunShots

@@ -3,19 +3,22 @@
 use mathlib.Core.Path.{_≡_, refl, sym, ap₂, _∙_}
 use mathlib.Core.Bool.{true, false, _&&_, true≢false}
 use mathlib.Core.Logic.{_↔_}
-use mathlib.Core.List.{List}
-use Prim.Native.Nat.{ℕ, _*_, _^_, _<_}
+use mathlib.Core.List.{List, [], _∷_}
+use Prim.Native.Nat.{ℕ, _+_, _*_, _^_, _<_}
 use lib.ListN.{length, getD}
 use borrow.Author.Tests.{not-true, eq-eqb}
 use Rattle.pauli.specs.Pauli.{Pauli, X-at, Z-at, _∗_, anticommutes}
 use Rattle.pauli.specs.Gate.{Gate, operandsOf}
 use Rattle.pauli.specs.Laws.Pairing.{anti-comm}
-use Rattle.job.specs.Line.{pauliOf, Line}
+use Rattle.job.specs.declared.Header.{Header}
+use Rattle.job.specs.Line.{pauliOf, Line, Instruction, Placed}
 use Rattle.job.specs.Clifford.{isClifford}
 use Rattle.job.specs.Checks.{allBelow, distinct, isPermutation}
-use Rattle.job.specs.Sound.{UnitarySound, CliffordSound, PermuteSound}
-use Rattle.frames.specs.Forward.{imagesOf, placesOf, transformed, State, Setting, forward}
-use Rattle.frames.specs.Conjugation.{Sum, same, pauliSum, exponentialSum, controlledSum, gateSum, Takes, IsUnitary, ExtendsTable, ExtendsPlaces, Within, KeepsCommutation, isUnitaryLine, Conjugates}
+use Rattle.job.specs.Job.{jobOf, recordedBy, checkJob}
+use Rattle.job.specs.Sound.{UnitarySound, CliffordSound, PermuteSound, Every, LineSound, InstructionSound, InstructionsSound}
+use Rattle.job.specs.Theorems.{checked-sound}
+use Rattle.frames.specs.Forward.{imagesOf, placesOf, transformed, State, Setting, settingOf, forward}
+use Rattle.frames.specs.Conjugation.{Sum, same, pauliSum, exponentialSum, controlledSum, gateSum, Takes, IsUnitary, ExtendsTable, ExtendsPlaces, Within, KeepsCommutation, isUnitaryLine, Conjugates, isUnitaryKind, IsConjugate, ConjugatesFrames}
 use Rattle.frames.specs.Laws.Takes as Takings
 use Rattle.frames.specs.Laws.Unitary as Unitary
 use Rattle.frames.specs.Laws.Roots as Roots
@@ -26,6 +29,7 @@ use Rattle.frames.specs.Laws.Commutation.{generators-keep, keeps-generat
 use Rattle.frames.specs.Laws.Clifford as Clifford
 use Rattle.frames.specs.Laws.Permutation as Permutation
 use Rattle.frames.specs.Laws.Lines.{tested, operands}
+use Rattle.frames.specs.Laws.Within.{line-within}
 
 -- ---- lines
 
@@ -175,3 +179,54 @@ conjugation-commutes n (Line.conditional R ids par) u P P′ Q Q′ w w′ a b =
 conjugation-commutes n (Line.reset qs) u P P′ Q Q′ w w′ a b = absurd a
 conjugation-commutes n (Line.inject shot R) u P P′ Q Q′ w w′ a b = absurd a
 conjugation-commutes n (Line.flip shot id) u P P′ Q Q′ w w′ a b = absurd a
+
+-- ---- accepted jobs
+
+-- A sound line of a unitary kind is a unitary line.
+pub sound-unitary : (h : Header) (r : ℕ) (l : Line) → LineSound h r l → isUnitaryKind (h .qubits) l ≡ true → isUnitaryLine (h .qubits) l ≡ true
+unfolding LineSound isUnitaryKind isUnitaryLine
+sound-unitary h r (Line.unitary g qs) o u = sound-gate (h .qubits) g qs o
+sound-unitary h r (Line.clifford qs t) o u = sound-clifford (h .qubits) qs t o
+sound-unitary h r (Line.pauli P) o u = refl
+sound-unitary h r (Line.exponential P) o u = refl
+sound-unitary h r (Line.controlled C T) o u = u
+sound-unitary h r (Line.permute s qs) o u = sound-permutation (h .qubits) s qs o
+sound-unitary h r (Line.measure P id) o u = u
+sound-unitary h r (Line.allocate id angle) o u = u
+sound-unitary h r (Line.conditional P ids par) o u = u
+sound-unitary h r (Line.reset qs) o u = u
+sound-unitary h r (Line.inject shot P) o u = u
+sound-unitary h r (Line.flip shot id) o u = u
+
+-- What a sound line makes of a frame on the job's qubits is a frame on them,
+pub sound-within : (h : Header) (r : ℕ) (l : Line) → LineSound h r l → (shot : ℕ) (s : State) → Within (h .qubits) (s .frame)
+    → Within (h .qubits) (forward (settingOf h shot) l s .frame)
+sound-within h r l o shot s w = line-within h r shot l o s w
+
+-- and, where the line is of a unitary kind, it is the frame's conjugate by the line's unitary.
+pub sound-conjugates : (h : Header) (r : ℕ) (l : Line) → LineSound h r l → isUnitaryKind (h .qubits) l ≡ true
+    → (shot : ℕ) (s : State) → Within (h .qubits) (s .frame) → IsConjugate (h .qubits) l (s .frame) (forward (settingOf h shot) l s .frame)
+sound-conjugates h r l o kind shot s w =
+    let u = sound-unitary h r l o kind in
+    let c = forward-conjugates (settingOf h shot) l u s .0 in
+    record { takes = c; alone = λ R k. conjugation-unique (h .qubits) l u (s .frame) _ R w c k }
+
+-- of an instruction
+instruction-conjugates : (h : Header) (r : ℕ) (i : Instruction) → InstructionSound h r i → ConjugatesFrames h i
+unfolding InstructionSound ConjugatesFrames
+instruction-conjugates h r (Instruction.line l) o =
+    λ kind shot s w. (sound-conjugates h r l o kind shot s w, forward-conjugates (settingOf h shot) l (sound-unitary h r l o kind) s .1)
+instruction-conjugates h r (Instruction.noise n) o = tt
+
+instructions-conjugate : (h : Header) (r : ℕ) (is : List Placed) → InstructionsSound h r is → Every (λ (i : Placed). ConjugatesFrames h (i .instruction)) is
+unfolding InstructionsSound
+instructions-conjugate h r [] o = tt
+instructions-conjugate h r (i ∷ is) o =
+    (instruction-conjugates h r (i .instruction) (o .0), instructions-conjugate h (r + recordedBy (i .instruction)) is (o .1))
+
+-- Demand 2: for every job that passes the checks, each unitary line's effect on a frame is conjugation, phases dropped. Each of its instructions that is
+-- u, c, p, e or m, or k with a control and a target that commute, takes every frame on the job's qubits to its conjugate by the line's unitary.
+-- (`frames-within` of crate draws: every frame of a run is one on the job's qubits.)
+pub job-conjugates : (job : List ℕ) → checkJob job .number ≡ 0
+    → Every (λ (i : Placed). ConjugatesFrames (jobOf job .header) (i .instruction)) (jobOf job .instructions)
+job-conjugates job passes = instructions-conjugate (jobOf job .header) 0 (jobOf job .instructions) (checked-sound job passes .instructions)

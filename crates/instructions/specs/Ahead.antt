@@ -12,9 +12,8 @@ use Rattle.job.specs.Line.{Line, WeightedPauli, Instruction, Placed}
 use Rattle.job.specs.Grammar.{Kind, NoiseLine, Written, pauliAt}
 use Rattle.job.specs.Checks.{Context, elementLines, firstTotal}
 use Rattle.job.specs.Job.{wellEnded, noiseOf, placedAt, gathered, jobOf, recordedBy}
-use Rattle.job.specs.Sound.{PauliSound, LineSound, NoiseSound, HeaderSound}
-use Rattle.job.specs.Laws.Accepted.{between, Accepted}
-use Rattle.job.specs.Laws.Gather.{WeightSound}
+use Rattle.job.specs.Sound.{PauliSound, LineSound, NoiseSound, HeaderSound, WeightSound}
+use Rattle.job.specs.Contexts.{between, Accepted}
 use Rattle.reader.specs.Parsed.{Said}
 use Rattle.instructions.specs.declared.Next.{Next}
 use Rattle.instructions.specs.Reading.{lineAt, elementForm, hasTotal}

@@ -1,4 +1,4 @@
--- The table of a Clifford on k qubits, for any k, by the places of its operands (test 7). Assumes nothing.
+-- Definitions. The table of a Clifford on k qubits, for any k, by the places of its operands (test 7). Assumes nothing.
 use mathlib.Core.Bool.{Bool, true, not, _&&_, _||_}
 use Prim.Native.Nat.{ℕ, zero, suc, _+_, _*_, _^_}
 use lib.Dec.{eqb, ltb}

@@ -1,4 +1,4 @@
--- p and w are binary64 bits: what the tests ask of them, and sums of weights. Assumes nothing.
+-- Definitions. p and w are binary64 bits: what the tests ask of them, and sums of weights. Assumes nothing.
 use Prim.Native.Nat.{ℕ}
 use mathlib.Core.Bool.{Bool, true, false, not, _&&_}
 use mathlib.Core.List.{List, [], _∷_}

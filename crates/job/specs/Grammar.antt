@@ -1,4 +1,4 @@
--- The forms of the lines: the table of document 01, "The job", with a template for each kind of line. Assumes nothing.
+-- Definitions. The forms of the lines: the table of document 01, "The job", with a template for each kind of line. Assumes nothing.
 use Prim.Native.Nat.{ℕ}
 use Prim.Native.String.{String}
 use mathlib.Core.Bool.{Bool, cond, _&&_}

@@ -1,5 +1,5 @@
--- What theorems about lists of lines ask of a line: operands are qubits of the job, and the ids of measurements and flips its outcomes. Tests 4, 8 and
--- 9 see to it. Assumes nothing.
+-- Definitions. What theorems about lists of lines ask of a line: operands are qubits of the job, and the ids of measurements and flips its
+-- outcomes. Tests 4, 8 and 9 see to it. Assumes nothing.
 use mathlib.Core.Path.{_≡_}
 use mathlib.Core.Bool.{true}
 use mathlib.Core.List.{List, [], _∷_}

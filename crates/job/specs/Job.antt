@@ -1,4 +1,4 @@
--- A job of bytes: its refusal by tests 1 to 12, and the instructions of one that passes. Assumes nothing.
+-- Definitions. A job of bytes: its refusal by tests 1 to 12, and the instructions of one that passes. Assumes nothing.
 use Prim.Native.Nat.{ℕ, suc, _+_, _-_}
 use mathlib.Core.Bool.{Bool, true, false, cond, _&&_}
 use mathlib.Core.List.{List, [], _∷_, map}

@@ -9,8 +9,10 @@ pub mod Checks
 pub mod Job
 pub mod Reply
 pub mod InRange
--- What an accepted job is known for.
+-- What an accepted job is known for; and, for theorems, the marks of lines and the contexts between lines.
 pub mod Sound
+pub mod Marks
+pub mod Contexts
 -- Laws of these definitions.
 pub mod Laws
 -- What a reader wants to know of the tests.

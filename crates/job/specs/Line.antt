@@ -1,4 +1,4 @@
--- The lines of a job and its instructions, as document 01, "The job", lists them. Lists are kept as they are written. Assumes nothing.
+-- Definitions. The lines of a job and its instructions, as document 01, "The job", lists them. Lists are kept as they are written. Assumes nothing.
 use mathlib.Core.Bool.{Bool}
 use mathlib.Core.List.{List}
 use mathlib.Core.Option.{Option}

@@ -1,10 +1,11 @@
--- What the calls that write text, or that count, reply. Assumes nothing.
+-- Definitions: what the calls that write text, or that count, reply. Assumes nothing.
 use mathlib.Core.Bool.{Bool, _&&_}
 use mathlib.Core.List.{List, _++_}
 use Prim.Native.Nat.{ℕ}
 use lib.Dec.{leb}
 use lib.ListN.{length, take, drop}
 use Rattle.job.specs.declared.Answer.{Answer}
+use Rattle.job.specs.declared.CountReply.{CountReply}
 use Rattle.job.specs.Job.{maxBytes, accepted}
 
 -- a lent list after its first words or bytes were written over
@@ -33,10 +34,6 @@ writtenText text out = record { answered = accepted; figure = length text; out =
 abbrev pub writtenBy : TextReply → List ℕ
 writtenBy r = take (r .figure) (r .out)
 
--- the answer and the count
-pub record CountReply : Type 0 where
-  pub answered : Answer
-  pub count : ℕ
-
+-- a refusal with a count of 0; what calls that count reply is the declared struct of the answer and the count
 abbrev pub refusedCount : Answer → CountReply
 refusedCount a = record { answered = a; count = 0 }

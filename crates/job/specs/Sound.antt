@@ -1,4 +1,4 @@
--- What an accepted job is known for: definitions of the hypotheses that theorems and contracts use. The limits are document 01's, written out, so that
+-- Definitions: what an accepted job is known for, the hypotheses that theorems and contracts use. The limits are document 01's, written out, so that
 -- they do not depend on the tests' own. `checked-sound` (Theorems) proves all of it of a job that passes tests 1 to 12. Assumes nothing.
 use Prim.Native.Nat.{ℕ, zero, suc, _+_, _^_, _≤_, _<_}
 use mathlib.Core.Path.{_≡_}
@@ -110,7 +110,12 @@ unfoldable pub SmallOption : Option ℕ → Type 0
 SmallOption none = Unit {0}
 SmallOption (some c) = c < 2 ^ 64
 
--- an element with its weight: not below zero, and finite
+-- a weight: not below zero, and finite
+pub record WeightSound (e : WeightedPauli) : Type 0 where
+  pub weight : isWeight (float (e .weight)) ≡ true
+  pub small : e .weight < 2 ^ 64
+
+-- an element with its weight
 pub record ElementSound (n : ℕ) (e : WeightedPauli) : Type 0 where
   pub pauli : PauliSound n (e .pauli)
   pub weight : isWeight (float (e .weight)) ≡ true
@@ -169,6 +174,13 @@ pub record NoiseSaid (text : List ℕ) (i : Noise) : Type 0 where
 unfoldable pub SaidBy : List ℕ → Instruction → Type 0
 SaidBy text (Instruction.line l) = readLine text ≡ some (Written.line l)
 SaidBy text (Instruction.noise i) = NoiseSaid text i
+
+-- texts that say lines, one to a line
+unfoldable pub ReadAs : List (List ℕ) → List Line → Type 0
+ReadAs [] [] = Unit {0}
+ReadAs [] (l ∷ ls) = ⊥
+ReadAs (t ∷ ts) [] = ⊥
+ReadAs (t ∷ ts) (l ∷ ls) = (readLine t ≡ some (Written.line l)) × ReadAs ts ls
 
 -- lines in order, for jobs without noise
 unfoldable pub LinesSound : Header → ℕ → List Line → Type 0

@@ -12,15 +12,16 @@ use Rattle.job.specs.Line.{Line}
 use Rattle.job.specs.Grammar.{Written, readLine}
 use Rattle.job.specs.Checks.{Context, noContext, next, Test, tests, refusalOf}
 use Rattle.job.specs.Job.{accepted, wellEnded, checkJob, gathered, Job, jobOf, recordedIn}
-use Rattle.job.specs.Sound.{Every, InstructionsSound, LinesSound, HeaderSound, JobSound}
+use Rattle.job.specs.Marks.{markOf, readAs, formByMark}
+use Rattle.job.specs.Contexts.{contextAfter, between}
+use Rattle.job.specs.Sound.{Every, InstructionsSound, ReadAs, LinesSound, HeaderSound, JobSound}
 use Rattle.job.specs.Laws.Lines.{header-sound}
-use Rattle.job.specs.Laws.Accepted.{between}
 use Rattle.job.specs.Laws.Begun.{ended-parts, job-passes, Begun, job-begun}
 use Rattle.job.specs.Laws.Gather.{gathered-sound, gathered-said}
-use Rattle.job.specs.Laws.Recorded.{recorded-within, ids-count, contextAfter, after-first, recorded-after, header-after}
+use Rattle.job.specs.Laws.Recorded.{recorded-within, ids-count, after-first, recorded-after, header-after}
 use Rattle.job.specs.Laws.Tests.{tests-rise, lowest-least}
-use Rattle.job.specs.Laws.Passes.{ReadAs, lines-accepted, header-accepted}
-use Rattle.job.specs.Laws.Dispatch.{markOf, readAs, formOf, read-by-mark}
+use Rattle.job.specs.Laws.Passes.{lines-accepted, header-accepted}
+use Rattle.job.specs.Laws.Dispatch.{read-by-mark}
 
 -- what stands behind the header is sound
 behind-header : {job : List ℕ} (b : Begun job) → InstructionsSound (b .header) 0 (gathered 2 (b .rest) .instructions)
@@ -85,5 +86,5 @@ header-known job e =
     ∙ ap (λ (j : Job). j .header) (sym (b .is))
 
 -- A line has one form at most, which its mark names: it says what it says by that form.
-pub one-form : (l : List ℕ) → readLine l ≡ readAs (formOf (markOf l)) l
+pub one-form : (l : List ℕ) → readLine l ≡ readAs (formByMark (markOf l)) l
 one-form = read-by-mark

@@ -15,6 +15,9 @@ pub struct Answer {
     pub line: u64,
 }
 
-pub fn accepted() -> Answer {
-    Answer { number: 0, line: 0 }
+// What a call that counts says: its answer, and the count, 0 where it refuses. Calls hand it to C as it is.
+#[repr(C)]
+pub struct CountReply {
+    pub answered: Answer,
+    pub count: u64,
 }

@@ -1,5 +1,5 @@
 -- What a call that counts says, as the definitions have it. Definitions. Assumes nothing.
-use Rattle.job.specs.Reply.{CountReply}
+use Rattle.job.specs.declared.CountReply.{CountReply}
 use Rattle.kundatrezo.specs.declared.CountAnswer.{CountAnswer}
 
 abbrev pub countReply : CountAnswer → CountReply

@@ -18,7 +18,7 @@ cleared at n l = overwrite at n (λ j. 0) l
 unfoldable pub copied : ℕ → ℕ → ℕ → List ℕ → List ℕ → List ℕ
 copied at from n src l = overwrite at n (λ j. getD src (from + j) 0) l
 
--- the n words of l from `at` on, each xor its fellow among those of src from `from` on
+-- the n words of l from `at` on, each xor the corresponding word of src from `from` on
 unfoldable pub xored : ℕ → ℕ → ℕ → List ℕ → List ℕ → List ℕ
 xored at from n src l = overwrite at n (λ j. bitXor (getD l (at + j) 0) (getD src (from + j) 0)) l
 

@@ -1,6 +1,6 @@
 // Rows of 64-bit words: the loops that Pauli frames are made of.
 // A matrix of bits lies in a slice, w words a row, rows in order. Bit s of row r is bit s mod 64 of word r * w + s / 64.
-// Loops go word by word, so that they are vectorized; no row is copied that need not be.
+// Loops go word by word, so that they are vectorised; no row is copied that need not be.
 ghost use mathlib.Core.Path.{_≡_};
 ghost use Prim.Native.Nat.{_+_, _*_, _<_, _≤_};
 ghost use lib.ListN.{length};

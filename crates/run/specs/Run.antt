@@ -1,4 +1,4 @@
--- The whole reply of a run: its answer and every lent word that it may write. Assumes nothing.
+-- Definitions. The whole reply of a run: its answer and every lent word that it may write. Assumes nothing.
 use mathlib.Core.Bool.{Bool, cond, _&&_}
 use mathlib.Core.List.{List}
 use Prim.Native.Nat.{ℕ, _*_}

@@ -1,4 +1,4 @@
--- What the printing program prints of a job on its standard input, as in document 01, "Printed session". Assumes nothing.
+-- Definitions. What the printing program prints of a job on its standard input, as in document 01, "Printed session". Assumes nothing.
 use mathlib.Core.Bool.{Bool, cond, _&&_}
 use mathlib.Core.List.{List, [], _∷_, _++_}
 use Prim.Native.Nat.{ℕ, zero, suc}

@@ -1,5 +1,5 @@
--- The ten starred cases of document 01, "Printed session", as one table of inputs and values, from the bytes of a job to the bytes or the count that
--- comes of it. Assumes nothing.
+-- Definitions. The ten starred cases of document 01, "Printed session", as one table of inputs and values, from the bytes of a job to the bytes or
+-- the count that comes of it. Assumes nothing.
 use mathlib.Core.Bool.{Bool, true, false, _&&_}
 use mathlib.Core.List.{List, [], _∷_}
 use Prim.Native.Nat.{ℕ, _-_, _^_}
@@ -9,7 +9,8 @@ use lib.ListN.{take, replicate}
 use Rattle.text.specs.Bytes.{bytes}
 use Rattle.job.specs.declared.Answer.{Answer}
 use Rattle.job.specs.Job.{checkJob}
-use Rattle.job.specs.Reply.{TextReply, CountReply}
+use Rattle.job.specs.declared.CountReply.{CountReply}
+use Rattle.job.specs.Reply.{TextReply}
 use Rattle.backward.specs.Settling.{settleReply}
 use Rattle.backward.specs.Walking.{walkReply}
 use Rattle.session.specs.Session.{printed}
@@ -114,4 +115,13 @@ cases =
     ∷ Case.walks undone 0 (1 ∷ []) 0
     -- also: p 3ff0000000000001 is 11
     ∷ Case.refuses "op=job qubits=1 outcomes=0 shots=64\nop=n p=3ff0000000000001 corr=- cond=- parity=0 d=2 q=0\n" 11 2
+    -- a refusal's line is printed; so is that of spent draws, since none are lent
+    ∷ Case.prints "op=job qubits=1 outcomes=0 shots=1\nop=u g=4 q=1\n" "ok=0 refusal=4 line=2\n"
+    ∷ Case.prints noisy "ok=0 refusal=14 line=2\n"
+    -- the limits of the printing program, and one past each: a larger header is refused after the other tests
+    ∷ Case.prints "op=job qubits=64 outcomes=256 shots=64\n" "ok=1 qubits=64 outcomes=256 shots=64\n"
+    ∷ Case.prints "op=job qubits=65 outcomes=256 shots=64\n" "ok=0 refusal=13 line=0\n"
+    ∷ Case.prints "op=job qubits=64 outcomes=257 shots=64\n" "ok=0 refusal=13 line=0\n"
+    ∷ Case.prints "op=job qubits=64 outcomes=256 shots=65\n" "ok=0 refusal=13 line=0\n"
+    ∷ Case.prints "op=job qubits=65 outcomes=0 shots=1\nop=z q=65\n" "ok=0 refusal=4 line=2\n"
     ∷ []

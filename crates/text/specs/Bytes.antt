@@ -1,4 +1,4 @@
--- Texts as lists of bytes, and bytes cut at a separator. Assumes nothing.
+-- Definitions. Texts as lists of bytes, and bytes cut at a separator. Assumes nothing.
 use Prim.Native.Nat.{ℕ, zero, suc}
 use Prim.Native.Char.{code}
 use Prim.Native.String.{String, [] as empty, _∷_ as _then_}
@@ -25,6 +25,12 @@ comma = 44
 unfoldable pub until : ℕ → List ℕ → ℕ
 until sep [] = zero
 until sep (b ∷ l) = cond (eqb b sep) zero (suc (until sep l))
+
+-- what stands behind the first n spaces, nothing where there are fewer
+unfoldable pub behind : ℕ → List ℕ → List ℕ
+behind zero l = l
+behind (suc n) [] = []
+behind (suc n) (b ∷ l) = cond (eqb b space) (behind n l) (behind (suc n) l)
 
 -- `b` put in front of the first piece
 unfoldable pub extend : ℕ → List (List ℕ) → List (List ℕ)

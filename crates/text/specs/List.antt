@@ -1,5 +1,5 @@
--- Lists of numbers with commas. L is strictly rising, `-` when empty. Q is in any order and never empty, and so is the s of a permutation.
--- Every list is read to its end, however long it is. Assumes nothing.
+-- Definitions. Lists of numbers with commas. L is strictly rising, `-` when empty. Q is in any order and never empty, and so is the s of a
+-- permutation. Every list is read to its end, however long it is. Assumes nothing.
 use Prim.Native.Nat.{ℕ}
 use mathlib.Core.Bool.{Bool, true, cond, _&&_}
 use mathlib.Core.List.{List, [], _∷_, _++_}

@@ -1,5 +1,5 @@
--- A number is written in decimal, below 2^64, without leading zeros; H is 16 lower-case hexadecimal digits; B is 0 or 1.
--- Assumes nothing.
+-- Definitions. A number is written in decimal, below 2^64, without leading zeros; H is 16 lower-case hexadecimal digits; B is 0 or 1. Assumes
+-- nothing.
 use Prim.Native.Nat.{ℕ, zero, suc, _+_, _-_, _*_, _/_, _%_, _^_}
 use mathlib.Core.Bool.{Bool, true, cond, not, _&&_, _||_}
 use mathlib.Core.List.{List, [], _∷_, _++_}

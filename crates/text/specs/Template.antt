@@ -1,4 +1,4 @@
--- A line by its template. A template is the line as document 01 writes it, with a letter for each value:
+-- Definitions. A line by its template. A template is the line as document 01 writes it, with a letter for each value:
 --
 --     N a number    H 16 hexadecimal digits    B 0 or 1    L a strictly rising list    Q a list in any order    C a number, or - for none
 --

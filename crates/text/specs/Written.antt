@@ -1,13 +1,32 @@
--- The values that can be written by a template: what `Theorems` asks of them. Definitions. Assumes nothing.
-use Prim.Native.Nat.{ℕ, _^_, _<_}
+-- Definitions: the values that can be written by a template, what `Theorems` asks of them. Assumes nothing.
+use Prim.Native.Nat.{ℕ, _^_, _≤_, _<_}
 use mathlib.Core.Path.{_≡_}
 use mathlib.Core.Bool.{Bool, true, cond, not, _&&_, _||_}
 use mathlib.Core.List.{List, [], _∷_}
 use lib.Dec.{eqb}
-use lib.ListN.{length}
+use lib.ListN.{length, getD}
 use Rattle.text.specs.Bytes.{LF, space, until}
+use Rattle.text.specs.List.{isRising}
 use Rattle.text.specs.Template.{Value, isLetter}
-use Rattle.text.specs.Laws.Values.{FitL, FitQ, FitC}
+
+-- every member is below 2^64; past the end getD gives 0
+abbrev pub Small : List ℕ → Type 0
+Small l = (i : ℕ) → getD l i 0 < 2 ^ 64
+
+-- L is strictly rising
+pub record FitL (l : List ℕ) : Type 0 where
+  pub rising : isRising l ≡ true
+  pub small : Small l
+
+-- Q is never empty
+pub record FitQ (l : List ℕ) : Type 0 where
+  pub filled : 0 < length l
+  pub small : Small l
+
+-- C has at most one member
+pub record FitC (l : List ℕ) : Type 0 where
+  pub single : length l ≤ 1
+  pub small : Small l
 
 -- What may stand for each letter: for N and H a number below 2^64, for B 0 or 1, and lists of numbers below 2^64: for L a strictly rising one, for Q one
 -- that is not empty, for C one of at most one member.

@@ -1,5 +1,5 @@
 -- The code's reply as the definitions have it. Definitions. Assumes nothing.
-use Rattle.job.specs.Reply.{CountReply}
+use Rattle.job.specs.declared.CountReply.{CountReply}
 use Rattle.walker.specs.declared.Counted.{Counted}
 
 abbrev pub replied : Counted → CountReply

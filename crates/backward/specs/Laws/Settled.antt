@@ -14,7 +14,8 @@ use Rattle.draws.specs.Draws.{Lent, Fault}
 use Rattle.draws.specs.Settle.{SettledLine, injection, Step, stepOf, Settled, prefixed, settleThen, settle, settledList}
 use Rattle.draws.specs.Execute.{States, Ended}
 use Rattle.draws.specs.Laws.Settling.{settledList-append}
-use Rattle.draws.specs.Laws.Within.{injected, Injections, noise-injects}
+use Rattle.draws.specs.Known.{Injections}
+use Rattle.draws.specs.Laws.Within.{injected, noise-injects}
 
 append-in-range : (n m : ℕ) (ls ms : List Line) → AllInRange n m ls → AllInRange n m ms → AllInRange n m (ls ++ ms)
 append-in-range n m [] ms a b = b

@@ -1,4 +1,4 @@
--- A shot's walk does not notice the faults (injections and flips) of other shots; what is carried back does not hang on the shot. Assumes nothing.
+-- A shot's walk does not notice the faults (injections and flips) of other shots; what is carried back does not depend on the shot. Assumes nothing.
 use mathlib.Core.Path.{_≡_, refl, sym, ap, ap₂, _∙_}
 use mathlib.Core.Bool.{Bool, true, false, _&&_, and-eq-true-iff}
 use mathlib.Core.List.{List, [], _∷_}
@@ -60,7 +60,7 @@ module _ (c : Setting) (shots : Bits) (off : shots (c .shot) ≡ false) where
 
 -- ---- what is carried back
 
--- The observable and the set hang on the number of qubits, not on the shot, nor on the count.
+-- The observable and the set depend on the number of qubits, not on the shot, nor on the count.
 pub same-carried : (c d : Setting) → c .qubits ≡ d .qubits → (ls : List Line) (v w : Walk) → v .carried ≡ w .carried
     → (walkBack c ls v) .carried ≡ (walkBack d ls w) .carried
 unfolding walkBack backward
@@ -71,7 +71,7 @@ carry-other : (n : ℕ) (shots : Bits) (l : Line) → concerns shots l ≡ false
 unfolding carry
 carry-other n shots l h w = other shots (λ k. w ≡ carry n k w) (λ shot P k. refl) (λ shot id k. refl) l h
 
--- Nor do they hang on any fault.
+-- Nor do they depend on any fault.
 pub carried-restricted : (c : Setting) (shots : Bits) (ls : List Line) (w : Walk)
     → (walkBack c (restricted shots ls) w) .carried ≡ (walkBack c ls w) .carried
 unfolding walkBack restricted backward

@@ -17,7 +17,8 @@ use Rattle.job.specs.Grammar.{Written, readLine}
 use Rattle.job.specs.Checks.{Context, noContext, records, next, refusalOf}
 use Rattle.job.specs.Job.{answer, accepted, wellEnded, isLast, nextOf, checkLines, checkJob}
 use Rattle.job.specs.Theorems.{recorded-counted, header-known}
-use Rattle.job.specs.Laws.Recorded.{contextAfter, after-first}
+use Rattle.job.specs.Contexts.{contextAfter}
+use Rattle.job.specs.Laws.Recorded.{after-first}
 use Rattle.reader.specs.Parsed.{isUnread, Said}
 use Rattle.instructions.specs.Laws.Places.{last-line}
 use Rattle.instructions.specs.declared.Next.{Next as Line}

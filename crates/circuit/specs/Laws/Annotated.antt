@@ -23,7 +23,8 @@ use Rattle.job.specs.Job.{answer, isLast, distributionOf, noiseOf, weightOf, ga
 use Rattle.job.specs.Sound.{PauliSound, SmallOption, LineSound, DistributionSound, NoiseSound, HeaderSound}
 use Rattle.job.specs.Laws.Lists.{below-first}
 use Rattle.job.specs.Laws.Rising.{rising-below}
-use Rattle.job.specs.Laws.Accepted.{passes-anywhere, Passing, between, Accepted, accepted-first, accepted-more}
+use Rattle.job.specs.Contexts.{between, Accepted}
+use Rattle.job.specs.Laws.Accepted.{passes-anywhere, Passing, accepted-first, accepted-more}
 use Rattle.job.specs.Laws.Lines.{header-sound}
 use Rattle.job.specs.Laws.Begun.{Begun, job-begun}
 use Rattle.job.specs.Laws.Gather.{recorded-more}

@@ -19,7 +19,8 @@ use Rattle.job.specs.declared.Answer.{Answer}
 use Rattle.job.specs.Job.{answer, accepted, distributionOf, noiseOf, gather, gathered, Job, checkJob, jobOf}
 use Rattle.job.specs.Laws.Tests.{AllPass}
 use Rattle.job.specs.Laws.Lines.{first-short}
-use Rattle.job.specs.Laws.Accepted.{passes-first, Passing, passing, Accepted, accepted-first}
+use Rattle.job.specs.Contexts.{Accepted}
+use Rattle.job.specs.Laws.Accepted.{passes-first, Passing, passing, accepted-first}
 use Rattle.job.specs.Laws.Begun.{job-begun}
 use Rattle.job.specs.Laws.Gather.{gathered-sound}
 use Rattle.reader.specs.declared.Form.{Form}

@@ -16,12 +16,7 @@ use Rattle.job.specs.Line.{SparsePauli, WeightedPauli, Distribution, sizeOf, No
 use Rattle.job.specs.Float.{float, nought, one, totalFrom}
 use Rattle.job.specs.Checks.{allBelow}
 use Rattle.draws.specs.Draws.{falls, noPauli, elementAt, Choice, limitOf, bounded, runningFrom, runningSums, byWeight, chooseFrom, isSatisfied, ShotDraw, faultOf, drawShot, Lent, Fault, Draws, alsoFault, thenShots, drawShots, drawLine}
-
-abbrev pub shotsOf : List Fault → List ℕ
-shotsOf = map (λ (f : Fault). f .shot)
-
-abbrev pub elementsOf : List Fault → List ℕ
-elementsOf = map (λ (f : Fault). f .element)
+use Rattle.draws.specs.Known.{shotsOf, elementsOf}
 
 -- ---- shots
 

@@ -19,20 +19,19 @@ use Rattle.job.specs.Line.{SparsePauli, Line, WeightedPauli, Distribution, Nois
 use Rattle.job.specs.Grammar.{Written, injectTemplate, readLine}
 use Rattle.job.specs.Checks.{allBelow, records}
 use Rattle.job.specs.Job.{wellEnded, placedAt, gather, gathered, Job, jobOf, recordedBy, recordedIn, checkJob}
-use Rattle.job.specs.Sound.{RisingBelow, Every, PauliSound, LineSound, ElementSound, DistributionSound, InstructionSound, InstructionsSound, SaidBy, LinesSound, HeaderSound}
+use Rattle.job.specs.Sound.{RisingBelow, Every, PauliSound, LineSound, ElementSound, DistributionSound, InstructionSound, InstructionsSound, SaidBy, LinesSound, HeaderSound, ReadAs}
 use Rattle.job.specs.Theorems.{checked-sound}
 use Rattle.job.specs.Laws.Lists.{below-first}
 use Rattle.job.specs.Laws.Forms.{PauliFits}
-use Rattle.job.specs.Laws.Accepted.{between, Accepted}
+use Rattle.job.specs.Contexts.{between, Accepted}
 use Rattle.job.specs.Laws.Begun.{job-passes, job-begun}
 use Rattle.job.specs.Laws.Instructions.{FirstInstruction, first-instruction}
-use Rattle.job.specs.Laws.Passes.{ReadAs}
 use Rattle.job.specs.Laws.Texts.{small-below, inject-one-line, inject-says, gathered-free}
 use Rattle.draws.specs.Draws.{Lent, depolarizingElement, noPauli, elementAt, Fault}
 use Rattle.draws.specs.Settle.{SettledLine, injectText, injection, Step, stepOf, Settled, prefixed, settleThen, settle, settledList, settledText, numbered}
-use Rattle.draws.specs.Laws.Elements.{Writable, selected-writable}
-use Rattle.draws.specs.Laws.Faults.{shotsOf}
-use Rattle.draws.specs.Laws.Within.{Injections, noise-injects, isLine, noiseFree, copyOf, copies, settle-copies}
+use Rattle.draws.specs.Laws.Elements.{selected-writable}
+use Rattle.draws.specs.Known.{shotsOf, Injections, isLine, noiseFree, copyOf, copies, Writable}
+use Rattle.draws.specs.Laws.Within.{noise-injects, settle-copies}
 
 -- ---- what is injected
 

@@ -12,6 +12,7 @@ use Rattle.frames.specs.Forward.{Setting, State, settingOf, forward, run}
 use Rattle.draws.specs.Draws.{Lent, Fault, ShotDraw, Draws, drawShot, alsoFault, thenShots, drawShots, drawLine, partOf}
 use Rattle.draws.specs.Settle.{SettledLine, injection, Step, noiseStep, stepOf, Settled, prefixed, settleThen, settle, settledList}
 use Rattle.draws.specs.Execute.{States, forwardAll, Executed, thenInPlace, injectShots, injectNoise, onMain, executeOne, Ended, executeThen, execute}
+use Rattle.draws.specs.Known.{runAll, onSettled}
 
 -- ---- one list of lines after another
 
@@ -26,10 +27,6 @@ settledList-append (l ∷ ls) ms = ap (λ (ks : List Line). l .line ∷ ks) (set
 
 -- ---- what faults, the lines of an instruction and a settled list do
 
--- a list of lines in all shots
-unfoldable pub runAll : Header → List Line → States → States
-runAll h ls states s = run (settingOf h s) ls (states s)
-
 runAll-append : (h : Header) (ls ms : List Line) (states : States) → runAll h (ls ++ ms) states ≡ runAll h ms (runAll h ls states)
 unfolding runAll
 runAll-append h ls ms states = fun-ext (λ s. run-append (settingOf h s) ls ms (states s))
@@ -41,10 +38,6 @@ onDraws h d states (Draws.drawn fs left) = Executed.went (runAll h (settledList 
 unfoldable pub onStep : Header → States → Step → Executed
 onStep h states Step.spent = Executed.spent
 onStep h states (Step.lines ls left) = Executed.went (runAll h (settledList ls) states) left
-
-unfoldable pub onSettled : Header → States → Settled → Ended
-onSettled h states (Settled.spentAt k) = Ended.spentAt k
-onSettled h states (Settled.settled ls) = Ended.ended (runAll h (settledList ls) states)
 
 -- ---- a noise line
 

@@ -12,18 +12,10 @@ use Rattle.job.specs.Line.{Noise, Instruction, Placed}
 use Rattle.job.specs.Float.{float, nought}
 use Rattle.draws.specs.Draws.{ShotDraw, drawShot, Lent, Draws, thenShots, drawShots, drawLine, partOf, mainAfter}
 use Rattle.draws.specs.Settle.{SettledLine, injection, Step, stepOf, Settled, prefixed, settleThen, settle}
+use Rattle.draws.specs.Known.{leftBy, mainLeft, SpentAt, lengthened}
 use Rattle.draws.specs.Laws.Words.{took-more, DrawsTook, line-took, step-drawn, step-spent, StepTook, step-took}
 
 -- ---- how far the main list is read
-
--- what is left of the main list after an instruction, and after some instructions; where draws are spent, what was there
-unfoldable pub leftBy : List ℕ → Step → List ℕ
-leftBy main Step.spent = main
-leftBy main (Step.lines ls left) = left
-
-unfoldable pub mainLeft : Lent → List ℕ → List Placed → List ℕ
-mainLeft lent main [] = main
-mainLeft lent main (i ∷ is) = mainLeft lent (leftBy main (stepOf lent main (i .text) (i .instruction))) is
 
 -- the words with which the main list began, before what is left of it
 pub record Suffix (main left : List ℕ) : Type 0 where
@@ -82,19 +74,6 @@ settle-append lent main (i ∷ is) js = go (stepOf lent main (i .text) (i .instr
         (ap (prefixed ls) (ih mid) ∙ prefixed-followed ls (settle lent is mid) (settle lent js (mainLeft lent mid is)))
 
 -- ---- the line at which draws are spent
-
--- The instructions before it settle; it is noise, in line k, and needs a word past its part of the lists.
-pub record SpentAt (lent : Lent) (main : List ℕ) (is : List Placed) (k : ℕ) : Type 0 where
-  pub before : List Placed
-  pub here : Placed
-  pub after : List Placed
-  pub noise : Noise
-  pub lines : List SettledLine
-  pub list : is ≡ before ++ (here ∷ after)
-  pub line : here .line ≡ k
-  pub is-noise : here .instruction ≡ Instruction.noise noise
-  pub settles : settle lent before main ≡ Settled.settled lines
-  pub spent : drawLine lent noise (partOf lent (noise .correlation) (mainLeft lent main before)) ≡ Draws.spent
 
 settle-stops : (lent : Lent) (main : List ℕ) (i : Placed) (is : List Placed) → stepOf lent main (i .text) (i .instruction) ≡ Step.spent
     → settle lent (i ∷ is) main ≡ Settled.spentAt (i .line)
@@ -181,9 +160,6 @@ spent-at lent main (i ∷ is) k e = go (stepOf lent main (i .text) (i .instructi
         }
 
 -- ---- more words after both lists change nothing that was settled
-
-abbrev pub lengthened : List ℕ → Lent → Lent
-lengthened us lent = record { noiseless = lent .noiseless; second = lent .second ++ us; base = lent .base; shots = lent .shots }
 
 drop-append : (k : ℕ) (xs ys : List ℕ) → drop k (xs ++ ys) ≡ drop k xs ++ drop (k - length xs) ys
 drop-append zero [] ys = refl

@@ -1,6 +1,6 @@
 -- Laws: the lines that stand for noise, and settling a job without noise. Assumes nothing.
 use mathlib.Core.Path.{_≡_, refl, sym, ap, _∙_, subst}
-use mathlib.Core.Bool.{Bool, true, false, _&&_, and-assoc}
+use mathlib.Core.Bool.{Bool, true, _&&_, and-assoc}
 use mathlib.Core.List.{List, [], _∷_, _++_, map}
 use Prim.Native.Nat.{ℕ, _<_, _≤_}
 use native.Mathlib.Omega.{arith}
@@ -13,10 +13,11 @@ use Rattle.frames.specs.Forward.{Setting, State, forward, run}
 use Rattle.frames.specs.Shots.{concerns, within}
 use Rattle.draws.specs.Draws.{Lent, elementAt, Fault, Draws, drawLine, partOf}
 use Rattle.draws.specs.Settle.{SettledLine, injection, Step, stepOf, Settled, prefixed, settleThen, settle, settledList}
+use Rattle.draws.specs.Known.{shotsOf, Injections, ownBelow, allOwnBelow, isLine, noiseFree, copyOf, copies}
 use Rattle.draws.specs.Laws.Tests.{&&-first, &&-second}
 use Rattle.draws.specs.Laws.Words.{step-drawn, step-spent}
 use Rattle.draws.specs.Laws.Settling.{settledList-append}
-use Rattle.draws.specs.Laws.Faults.{shotsOf, shots-below}
+use Rattle.draws.specs.Laws.Faults.{shots-below}
 
 -- ---- lines of one shot
 
@@ -46,12 +47,6 @@ injected-past c shots d (f ∷ fs) s b h =
     let rest : allBelow shots (shotsOf fs) ≡ true = unfold allBelow in &&-second (ltb (f .shot) shots) (allBelow shots (shotsOf fs)) b in
     ap (run c (injected d fs)) (inject-elsewhere c (f .shot) (elementAt d (f .element)) s (λ e. omega arith)) ∙ injected-past c shots d fs s rest h
 
--- Noise comes to injections in shots of the job.
-pub record Injections (lent : Lent) (n : Noise) (ls : List SettledLine) : Type 0 where
-  pub faults : List Fault
-  pub are : ls ≡ map (injection (n .distribution)) faults
-  pub below : allBelow (lent .shots) (shotsOf faults) ≡ true
-
 pub noise-injects : (lent : Lent) (main text : List ℕ) (n : Noise) (ls : List SettledLine) (left : List ℕ)
     → stepOf lent main text (Instruction.noise n) ≡ Step.lines ls left → Injections lent n ls
 noise-injects lent main text n ls left e = go (drawLine lent n (partOf lent (n .correlation) main)) refl
@@ -73,15 +68,6 @@ below-append shots [] ms = refl
 below-append shots (l ∷ ls) ms =
     ap (λ (b : Bool). concerns (λ shot. ltb shot shots) l && b) (below-append shots ls ms)
     ∙ sym (and-assoc (concerns (λ shot. ltb shot shots) l) (within (λ shot. ltb shot shots) ls) (within (λ shot. ltb shot shots) ms))
-
--- whether a job's own lines act in shots below so many, as test 10 wants it
-unfoldable pub ownBelow : ℕ → Instruction → Bool
-ownBelow shots (Instruction.line l) = concerns (λ shot. ltb shot shots) l
-ownBelow shots (Instruction.noise n) = true
-
-unfoldable pub allOwnBelow : ℕ → List Placed → Bool
-allOwnBelow shots [] = true
-allOwnBelow shots (i ∷ is) = ownBelow shots (i .instruction) && allOwnBelow shots is
 
 step-within : (lent : Lent) (main text : List ℕ) (i : Instruction) (ls : List SettledLine) (left : List ℕ) → ownBelow (lent .shots) i ≡ true
     → stepOf lent main text i ≡ Step.lines ls left → within (λ shot. ltb shot (lent .shots)) (settledList ls) ≡ true
@@ -133,23 +119,6 @@ unfolding SettledBelow
 settle-within lent main is ls b e = subst (SettledBelow (lent .shots)) e (settle-below lent main is b)
 
 -- ---- a job without noise
-
-unfoldable pub isLine : Instruction → Bool
-isLine (Instruction.line l) = true
-isLine (Instruction.noise n) = false
-
-unfoldable pub noiseFree : List Placed → Bool
-noiseFree [] = true
-noiseFree (i ∷ is) = isLine (i .instruction) && noiseFree is
-
--- its lines with their texts
-unfoldable pub copyOf : List ℕ → Instruction → List SettledLine → List SettledLine
-copyOf text (Instruction.line l) later = record { line = l; text = text } ∷ later
-copyOf text (Instruction.noise n) later = later
-
-unfoldable pub copies : List Placed → List SettledLine
-copies [] = []
-copies (i ∷ is) = copyOf (i .text) (i .instruction) (copies is)
 
 -- it settles to itself, whatever is lent
 pub settle-copies : (lent : Lent) (main : List ℕ) (is : List Placed) → noiseFree is ≡ true → settle lent is main ≡ Settled.settled (copies is)

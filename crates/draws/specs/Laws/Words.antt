@@ -13,10 +13,10 @@ use lib.ListN.{length, take, drop, length-append, take-append-drop}
 use lib.Seq.{drop-append-seam, take-append-seam, take-append-le}
 use lib.Ieee.{Float, le}
 use Rattle.pauli.specs.Bits.{Bits}
-use Rattle.job.specs.Line.{Line, Distribution, sizeOf, Noise, Instruction, Placed}
+use Rattle.job.specs.Line.{Line, Distribution, sizeOf, Noise, Instruction}
 use Rattle.job.specs.Float.{float, nought}
 use Rattle.draws.specs.Draws.{falls, Choice, limitOf, bounded, byWeight, chooseFrom, isSatisfied, ShotDraw, faultOf, drawShot, Lent, Fault, Draws, alsoFault, thenShots, drawShots, drawLine, partOf, mainAfter}
-use Rattle.draws.specs.Settle.{SettledLine, injection, Step, noiseStep, stepOf, Settled, prefixed, settleThen, settle}
+use Rattle.draws.specs.Settle.{SettledLine, injection, Step, noiseStep, stepOf}
 
 -- ---- a beginning of the list is read
 
@@ -27,9 +27,6 @@ pub record Took {O : Type 0} (f done : List ℕ → O) (ws left : List ℕ) : Ty
   pub alone : (vs : List ℕ) → f (used ++ vs) ≡ done vs
 
 module _ {O : Type 0} {f done : List ℕ → O} {ws left : List ℕ} (t : Took f done ws left) where
-  pub took-here : f ws ≡ done left
-  took-here = ap f (t .whole) ∙ t .alone left
-
   -- more words change nothing
   pub took-more : (vs : List ℕ) → f (ws ++ vs) ≡ done (left ++ vs)
   took-more vs = ap (λ (l : List ℕ). f (l ++ vs)) (t .whole) ∙ ap f (append-assoc (t .used) left vs) ∙ t .alone (left ++ vs)
@@ -290,36 +287,3 @@ pub line-kept : (lent : Lent) (main text : List ℕ) (l : Line) (ls : List Settl
     → stepOf lent main text (Instruction.line l) ≡ Step.lines ls left → left ≡ main
 unfolding stepOf
 line-kept lent main text l ls left e = cc
-
--- ---- a job
-
-unfoldable pub SettledTook : (List ℕ → Settled) → List ℕ → Settled → Type 0
-SettledTook f ws (Settled.spentAt k) = Unit
-SettledTook f ws (Settled.settled ls) = (left : List ℕ) × Took f (λ rest. Settled.settled ls) ws left
-
-then-lines : (k : ℕ) (later : List ℕ → Settled) {o : Step} {ls : List SettledLine} {left : List ℕ} → o ≡ Step.lines ls left
-    → settleThen k o later ≡ prefixed ls (later left)
-unfolding settleThen
-then-lines k later e = rw e
-
-pub settle-took : (lent : Lent) (main : List ℕ) (is : List Placed) → SettledTook (settle lent is) main (settle lent is main)
-unfolding settle SettledTook
-settle-took lent main [] = (main, took-none main (λ vs. refl))
-settle-took lent main (i ∷ is) = go (step main) (step-took lent main (i .text) (i .instruction)) (λ left. settle-took lent left is)
-  where
-    step : List ℕ → Step
-    step m = stepOf lent m (i .text) (i .instruction)
-
-    later : List ℕ → Settled
-    later left = settle lent is left
-
-    more : (ls : List SettledLine) (mid : List ℕ) → Took step (Step.lines ls) main mid → (o : Settled) → SettledTook later mid o
-        → SettledTook (λ m. settleThen (i .line) (step m) later) main (prefixed ls o)
-    more ls mid t (Settled.spentAt k) u = unfold prefixed in tt
-    more ls mid t (Settled.settled ms) u =
-        unfold prefixed SettledTook in (u .0, took-then (prefixed ls) (λ us rest e. then-lines (i .line) later e) t (u .1))
-
-    go : (o : Step) → StepTook step main o → ((left : List ℕ) → SettledTook later left (later left))
-        → SettledTook (λ m. settleThen (i .line) (step m) later) main (settleThen (i .line) o later)
-    go Step.spent t ih = unfold settleThen in tt
-    go (Step.lines ls mid) t ih = unfold settleThen StepTook in more ls mid t (later mid) (ih mid)

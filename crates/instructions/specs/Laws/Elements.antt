@@ -18,9 +18,10 @@ use Rattle.job.specs.Line.{SparsePauli, WeightedPauli, Placed}
 use Rattle.job.specs.Grammar.{Written, pauliAt, forms, readLine}
 use Rattle.job.specs.Checks.{sameWeight, nextTotal, next as nextContext}
 use Rattle.job.specs.Job.{isLast, weightOf, Gathered, gather, gathered}
-use Rattle.job.specs.Sound.{Every, PauliSound}
-use Rattle.job.specs.Laws.Accepted.{Accepted, accepted-first}
-use Rattle.job.specs.Laws.Gather.{WeightSound, WeightsSound, PartSound, gathered-sound}
+use Rattle.job.specs.Sound.{Every, PauliSound, WeightSound}
+use Rattle.job.specs.Contexts.{Accepted}
+use Rattle.job.specs.Laws.Accepted.{accepted-first}
+use Rattle.job.specs.Laws.Gather.{WeightsSound, PartSound, gathered-sound}
 use Rattle.job.specs.Laws.Instructions.{accepted-between, due-says}
 use Rattle.reader.specs.declared.Form.{Form}
 use Rattle.reader.specs.Parsed.{placeOf, Said}

@@ -18,7 +18,8 @@ use Rattle.job.specs.Checks.{elementLines, next as nextContext}
 use Rattle.job.specs.Job.{checkJob, distributionOf, noiseOf, placedAt, gather, gathered, Job, jobOf}
 use Rattle.job.specs.Sound.{DistributionSound, NoiseSound, InstructionSound, InstructionsSound}
 use Rattle.job.specs.Laws.Lines.{header-sound}
-use Rattle.job.specs.Laws.Accepted.{between, Accepted, accepted-first}
+use Rattle.job.specs.Contexts.{between, Accepted}
+use Rattle.job.specs.Laws.Accepted.{accepted-first}
 use Rattle.job.specs.Laws.Begun.{job-passes, job-begun}
 use Rattle.job.specs.Laws.Gather.{gathered-sound}
 use Rattle.job.specs.Laws.Recorded.{instruction-within}

@@ -8,11 +8,11 @@ use native.Mathlib.Omega.{arith}
 use borrow.Author.Tests.{eqb-true, eqb-false, eq-eqb, ne-eqb, not-true, not-false}
 use lib.Dec.{eqb, ltb}
 use Rattle.text.specs.Laws.Values.{both}
-use Rattle.job.specs.declared.Header.{Header}
 use Rattle.job.specs.declared.Answer.{Answer}
 use Rattle.job.specs.Grammar.{Written, readLine}
 use Rattle.job.specs.Checks.{Context, next, expected, headerFits, ownTests, tests, refusalOf}
 use Rattle.job.specs.Job.{answer, accepted, isLast, nextOf, checkLines}
+use Rattle.job.specs.Contexts.{Accepted}
 use Rattle.job.specs.Laws.Tests.{AllPass, refusal-passes, passes-lowest}
 use Rattle.job.specs.Laws.Forms.{WrittenFits, SaidFits, line-fits}
 
@@ -54,7 +54,7 @@ zero-passes k c (l ∷ ls) z = go (eqb (numberAfter c l ls) 0) refl z (zero-pass
     go true e z ih = ih z
     go false e z ih = absurd (eqb-false (numberAfter c l ls) 0 e z)
 
--- whether lines are accepted does not hang on the number of the first
+-- whether lines are accepted does not depend on the number of the first
 pub passes-anywhere : (k m : ℕ) (c : Context) (ls : List (List ℕ)) → checkLines k c ls ≡ accepted → checkLines m c ls ≡ accepted
 passes-anywhere k m c [] p = unfold checkLines in refl
 passes-anywhere k m c (l ∷ ls) p =
@@ -91,16 +91,6 @@ good-says c last none f e = absurd (omega arith)
 good-says c last (some w) f e = (w, refl, f)
 
 -- ---- lines behind the header
-
--- The context between two instructions of a job with this header, where so many outcomes are recorded.
-unfoldable pub between : Header → ℕ → Context
-between h r = record { begun = true; header = h; recorded = r; due = 0; total = none }
-
--- Lines that are accepted in a context behind the header; where there are none, no elements are due.
-pub record Accepted (k : ℕ) (c : Context) (ls : List (List ℕ)) : Type 0 where
-  pub begun : c .begun ≡ true
-  pub ends : (isLast ls && ltb 0 (c .due)) ≡ false
-  pub passes : checkLines k c ls ≡ accepted
 
 -- the first of such lines, and the others
 pub record First (k : ℕ) (c : Context) (l : List ℕ) (ls : List (List ℕ)) : Type 0 where

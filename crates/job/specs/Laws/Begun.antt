@@ -14,8 +14,9 @@ use Rattle.job.specs.declared.Header.{Header}
 use Rattle.job.specs.Grammar.{Written, readLine}
 use Rattle.job.specs.Checks.{noContext, inRange, next, headerFits}
 use Rattle.job.specs.Job.{answer, accepted, isLast, nextOf, wellEnded, checkLines, checkJob, gathered, headerOf, jobOfLines, jobOf}
+use Rattle.job.specs.Contexts.{between, Accepted}
 use Rattle.job.specs.Laws.Forms.{line-fits}
-use Rattle.job.specs.Laws.Accepted.{passes-first, zero-passes, good-says, Passing, passing, between, Accepted}
+use Rattle.job.specs.Laws.Accepted.{passes-first, zero-passes, good-says, Passing, passing}
 
 -- the parts of test 1
 pub ended-parts : (job : List ℕ) → wellEnded job ≡ true → (0 < length job) × (length job ≤ 1048576)

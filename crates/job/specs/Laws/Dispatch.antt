@@ -7,21 +7,14 @@ use mathlib.Core.Option.{Option, none, some}
 use borrow.Author.Tests.{ltb-true, eqb-true, eqb-false, not-true}
 use lib.Dec.{eqb, ltb}
 use lib.ListN.{getD}
-use Rattle.text.specs.Bytes.{bytes}
+use Rattle.text.specs.Bytes.{bytes, behind}
 use Rattle.text.specs.Template.{Value, valuesOf, listAt}
 use Rattle.text.specs.Laws.Values.{both}
-use Rattle.text.specs.Laws.Places.{behind, literals, same-place}
+use Rattle.text.specs.Laws.Places.{literals, same-place}
 use Rattle.job.specs.Grammar.{Kind, Written, noiseLine, Form, forms, said, orLater, readBy, readLine}
+use Rattle.job.specs.Marks.{markOf, readAs, formFrom, formByMark}
 
 -- ---- marks
-
--- The mark of a line: its first byte where that is no `o` (element lines); else byte 3, the letter after `op=`, where that is no `n`; else, of a noise
--- line, the digit of d, which is byte 2 of the field behind the fifth space. A byte that the line has not is 0.
-unfoldable pub markOf : List ℕ → ℕ
-markOf l =
-    cond (eqb (getD l 0 0) 111)
-    (cond (eqb (getD l 3 0) 110) (getD (behind 5 l) 2 0) (getD l 3 0))
-    (getD l 0 0)
 
 -- whether a template says which mark its lines have: the bytes that the mark looks at stand for themselves
 unfoldable pub hasMark : List ℕ → Bool
@@ -50,18 +43,6 @@ mark-same ts l v h e =
     first false q = refl
 
 -- ---- the form of a mark
-
--- what a line says by one form
-abbrev pub readAs : Form → List ℕ → Option Written
-readAs f l = said (f .says) (valuesOf (f .template) l)
-
--- the first of these forms with that mark, and a form that says nothing where none has it
-unfoldable pub formFrom : ℕ → List Form → Form
-formFrom k [] = record { template = []; says = λ v. none }
-formFrom k (f ∷ fs) = let later = formFrom k fs in cond (eqb k (markOf (f .template))) f later
-
-abbrev pub formOf : ℕ → Form
-formOf k = formFrom k forms
 
 -- no form has the mark
 unfoldable pub without : ℕ → List Form → Bool
@@ -118,14 +99,9 @@ read-marked (f ∷ fs) l m =
     go false e h w m ih = rw (other-mark f l h e) ih
 
 -- A line says what it says by the one form of its mark.
-pub read-by-mark : (l : List ℕ) → readLine l ≡ readAs (formOf (markOf l)) l
+pub read-by-mark : (l : List ℕ) → readLine l ≡ readAs (formByMark (markOf l)) l
 unfolding readLine
 read-by-mark l = read-marked forms l forms-marked
-
--- A line whose mark no form has says nothing.
-pub read-unmarked : (l : List ℕ) → without (markOf l) forms ≡ true → readLine l ≡ none
-unfolding readLine
-read-unmarked l = no-form forms l forms-marked
 
 -- an example: at a known mark the form computes
 depolarizing-read : (l : List ℕ) → markOf l ≡ 50

@@ -11,7 +11,8 @@ use lib.ListN.{length}
 use Rattle.pauli.specs.Gate.{Gate, gateOf}
 use Rattle.text.specs.Bytes.{bytes}
 use Rattle.text.specs.Template.{Value, valuesOf, numberAt, listAt}
-use Rattle.text.specs.Laws.Values.{FitL, FitQ, FitC, NumberFits, ListFits, numberLettersIn, listLettersIn, Fits, values-fit}
+use Rattle.text.specs.Written.{FitL, FitQ, FitC}
+use Rattle.text.specs.Laws.Values.{NumberFits, ListFits, numberLettersIn, listLettersIn, Fits, values-fit}
 use Rattle.job.specs.Line.{SparsePauli, Line}
 use Rattle.job.specs.Sound.{SmallOption, Every}
 use Rattle.job.specs.Grammar.{Kind, NoiseLine, Written, pauliAt, isOne, unitaryLine, optional, noiseLine, Form, forms, said, orLater, readBy, readLine}

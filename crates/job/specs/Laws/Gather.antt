@@ -1,5 +1,5 @@
 -- The instructions of accepted lines are sound: laws, by induction over the lines. Assumes nothing.
-use Prim.Native.Nat.{ℕ, suc, _+_, _-_, _^_, _≤_, _<_}
+use Prim.Native.Nat.{ℕ, suc, _+_, _-_, _≤_, _<_}
 use native.Mathlib.Nat.{add-zero}
 use native.Mathlib.Numerals.{add-one}
 use native.Mathlib.Omega.{arith}
@@ -17,17 +17,14 @@ use Rattle.job.specs.Float.{float, totalFrom, isWeight, isTotal}
 use Rattle.job.specs.Grammar.{Kind, NoiseLine, Written, readLine}
 use Rattle.job.specs.Checks.{Context, elementLines, firstTotal, nextTotal, records, next, noiseTests, kindQubits, kindDistinct, elementsFit, eachBelow, eachShort, sameWeight, expected, headerFits, weightFits, totalFits, ownTests}
 use Rattle.job.specs.Job.{distributionOf, noiseOf, weightOf, Gathered, placedAt, gather, gathered, recordedBy}
-use Rattle.job.specs.Sound.{Every, PauliSound, SmallOption, ElementSound, weightsOf, DistributionSound, NoiseSound, InstructionSound, InstructionsSound, SaidBy}
+use Rattle.job.specs.Contexts.{Accepted}
+use Rattle.job.specs.Sound.{Every, PauliSound, SmallOption, WeightSound, ElementSound, weightsOf, DistributionSound, NoiseSound, InstructionSound, InstructionsSound, SaidBy}
 use Rattle.job.specs.Laws.Tests.{AllPass}
 use Rattle.job.specs.Laws.Forms.{KindFits, NoiseFits, WrittenFits}
 use Rattle.job.specs.Laws.Lines.{pauli-sound, operands-sound, first-short, line-sound}
-use Rattle.job.specs.Laws.Accepted.{Passing, Accepted, accepted-first}
+use Rattle.job.specs.Laws.Accepted.{Passing, accepted-first}
 
 -- ---- elements
-
-pub record WeightSound (e : WeightedPauli) : Type 0 where
-  pub weight : isWeight (float (e .weight)) ≡ true
-  pub small : e .weight < 2 ^ 64
 
 -- the elements that are due where the weights so far have this sum: of elements without weights nothing is claimed
 unfoldable pub WeightsSound : Option Float → List WeightedPauli → Type 0

@@ -17,8 +17,9 @@ use Rattle.job.specs.Line.{SparsePauli, Line, WeightedPauli, Noise, Inst
 use Rattle.job.specs.Grammar.{NoiseLine, Written, readLine}
 use Rattle.job.specs.Checks.{Context, elementLines, records, next, lineTests, noiseTests, sameWeight, expected, headerFits, ownTests, lowest, refusalOf}
 use Rattle.job.specs.Job.{answer, isLast, nextOf, checkLines, noiseOf, weightOf, placedAt, gather, gathered, recordedBy}
+use Rattle.job.specs.Contexts.{between, Accepted}
 use Rattle.job.specs.Sound.{LineSound, NoiseSound, InstructionSound, InstructionsSound}
-use Rattle.job.specs.Laws.Accepted.{numberAfter, checks-bad, checks-good, Passing, passing, between, Accepted, accepted-first}
+use Rattle.job.specs.Laws.Accepted.{numberAfter, checks-bad, checks-good, Passing, passing, accepted-first}
 use Rattle.job.specs.Laws.Gather.{recorded-more, gathered-sound}
 
 -- ---- between instructions the sum of weights is of no account

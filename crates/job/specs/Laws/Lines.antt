@@ -6,7 +6,8 @@ use mathlib.Core.List.{List, [], _∷_, _++_}
 use borrow.Author.Tests.{ltb-true, leb-true, eqb-true, not-false}
 use lib.Dec.{eqb, ltb, leb}
 use lib.ListN.{length}
-use Rattle.text.specs.Laws.Values.{both, FitQ}
+use Rattle.text.specs.Written.{FitQ}
+use Rattle.text.specs.Laws.Values.{both}
 use Rattle.job.specs.declared.Header.{Header}
 use Rattle.job.specs.Line.{SparsePauli, Line}
 use Rattle.job.specs.Checks.{Context, allBelow, eachBelow, eachShort, distinct, lineTests, inRange, listsOf}

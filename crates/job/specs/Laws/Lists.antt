@@ -100,14 +100,6 @@ rises-above a (b ∷ l) e zero h = rises-first a b l e .0
 rises-above a (b ∷ l) e (suc i) h =
     let parts = rises-first a b l e in omega (arith, parts .0, rises-above b l (parts .1) i (omega arith))
 
--- a later place of a rising list holds a higher number
-pub rising-at : (l : List ℕ) → isRising l ≡ true → (i j : ℕ) → i < j → j < length l → getD l i 0 < getD l j 0
-unfolding isRising
-rising-at [] e i j h k = absurd (omega arith)
-rising-at (a ∷ l) e i zero h k = absurd (omega arith)
-rising-at (a ∷ l) e zero (suc j) h k = rises-above a l e j (omega arith)
-rising-at (a ∷ l) e (suc i) (suc j) h k = rising-at l (rising-rest a l e) i j (omega arith) (omega arith)
-
 -- what rises from a has no member a
 rises-apart : (a : ℕ) (l : List ℕ) → risesFrom a l ≡ true → members l a ≡ false
 rises-apart a l e = go (members l a) refl

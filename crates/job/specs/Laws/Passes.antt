@@ -13,10 +13,11 @@ use Rattle.job.specs.Line.{SparsePauli, Line, WeightedPauli, Instruction
 use Rattle.job.specs.Grammar.{Kind, NoiseLine, Written, readLine}
 use Rattle.job.specs.Checks.{Context, noContext, elementLines, next, allBelow, eachBelow, eachShort, expected, inRange, headerFits, listsOf, lineTests, kindQubits, kindDistinct, elementsFit, noiseTests, ownTests, refusalOf}
 use Rattle.job.specs.Job.{accepted, isLast, nextOf, checkLines, distributionOf, noiseOf, recordedBy}
-use Rattle.job.specs.Sound.{PauliSound, NextOutcome, LineSound, DistributionSound, NoiseSound, LinesSound, HeaderSound}
+use Rattle.job.specs.Contexts.{between, Accepted}
+use Rattle.job.specs.Sound.{PauliSound, NextOutcome, LineSound, DistributionSound, NoiseSound, ReadAs, LinesSound, HeaderSound}
 use Rattle.job.specs.Laws.Permutation.{permutation-parts}
 use Rattle.job.specs.Laws.Tests.{AllPass}
-use Rattle.job.specs.Laws.Accepted.{checks-good, Passing, passing-good, between, Accepted, accepted-more}
+use Rattle.job.specs.Laws.Accepted.{checks-good, Passing, passing-good, accepted-more}
 use Rattle.job.specs.Laws.Instructions.{between-accepted, next-between}
 
 -- a test that passes, and those after it
@@ -146,13 +147,6 @@ noise-more h r k t ts n reads none-due s a =
     (between-accepted (suc k) (next (between h r) (Written.noise n)) ts refl none-due a)
 
 -- ---- a job without noise
-
--- texts that say lines
-unfoldable pub ReadAs : List (List ℕ) → List Line → Type 0
-ReadAs [] [] = Unit {0}
-ReadAs [] (l ∷ ls) = ⊥
-ReadAs (t ∷ ts) [] = ⊥
-ReadAs (t ∷ ts) (l ∷ ls) = (readLine t ≡ some (Written.line l)) × ReadAs ts ls
 
 -- texts of sound lines are accepted
 pub lines-accepted : (h : Header) (r k : ℕ) (ts : List (List ℕ)) (ls : List Line) → ReadAs ts ls → LinesSound h r ls → Accepted k (between h r) ts

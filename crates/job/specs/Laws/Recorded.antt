@@ -13,8 +13,9 @@ use Rattle.job.specs.Line.{Line, Instruction, Placed}
 use Rattle.job.specs.Grammar.{Written, readLine}
 use Rattle.job.specs.Checks.{Context, records, next, headerFits}
 use Rattle.job.specs.Job.{nextOf, Gathered, gather, gathered, recordedBy, recordedIn}
+use Rattle.job.specs.Contexts.{contextAfter, Accepted}
 use Rattle.job.specs.Sound.{NextOutcome, LineSound, InstructionSound, InstructionsSound, idsOf, idsIn, countUp}
-use Rattle.job.specs.Laws.Accepted.{Passing, Accepted, accepted-first}
+use Rattle.job.specs.Laws.Accepted.{Passing, accepted-first}
 use Rattle.job.specs.Laws.Gather.{recorded-more}
 
 -- what an instruction records where r outcomes are recorded before it: none, or the next one
@@ -81,11 +82,6 @@ ids-count h r (i ∷ is) s =
     ∙ records-count (instruction-records h r (i .instruction) (s .0)) (recordedIn is)
 
 -- ---- as the context counts
-
--- the context behind some lines
-unfoldable pub contextAfter : Context → List (List ℕ) → Context
-contextAfter c [] = c
-contextAfter c (l ∷ ls) = contextAfter (nextOf c (readLine l)) ls
 
 -- one line adds to the context what it adds to the instructions
 counts-more : (k : ℕ) (c : Context) (l : List ℕ) (ls : List (List ℕ)) (w : Written) (g : Gathered) → c .begun ≡ true → Passing c ls w

@@ -8,31 +8,31 @@ use mathlib.Core.Option.{Option, none, some}
 use borrow.Author.Tests.{lt-ltb, le-leb, eq-eqb}
 use lib.ListN.{length, getD, length-append}
 use lib.Seq.{getD-append-add}
-use Rattle.text.specs.Bytes.{bytes, LF, unlines}
+use Rattle.text.specs.Bytes.{bytes, LF, behind, unlines}
 use Rattle.text.specs.List.{isRising}
 use Rattle.text.specs.Template.{Value, valuesOf, numbersIn, listsIn, lineText}
-use Rattle.text.specs.Written.{Suits, AllSuit, atSpace, ofOneLine, Free, AllFree}
+use Rattle.text.specs.Written.{Small, FitL, FitQ, FitC, Suits, AllSuit, atSpace, ofOneLine, Free, AllFree}
 use Rattle.text.specs.Theorems.{written-reads, lines-unlines}
-use Rattle.text.specs.Laws.Values.{Small, FitL, FitQ, FitC}
-use Rattle.text.specs.Laws.Places.{behind, literals}
+use Rattle.text.specs.Laws.Places.{literals}
 use Rattle.job.specs.declared.Header.{Header}
 use Rattle.job.specs.Line.{SparsePauli, Line, Placed}
 use Rattle.job.specs.Grammar.{Kind, NoiseLine, Written, Form, forms, injectTemplate, depolarizingTemplate, optional, noiseLine, said, readLine}
 use Rattle.job.specs.Checks.{allBelow}
 use Rattle.job.specs.Job.{accepted, wellEnded, checkJob, gather, gathered, headerOf, jobOfLines, jobOf}
+use Rattle.job.specs.Marks.{markOf, formFrom, formByMark}
+use Rattle.job.specs.Contexts.{between, Accepted}
 use Rattle.job.specs.Sound.{Every, HeaderSound}
 use Rattle.job.specs.Laws.Lists.{below-first}
 use Rattle.job.specs.Laws.Forms.{PauliFits}
-use Rattle.job.specs.Laws.Accepted.{between, Accepted}
 use Rattle.job.specs.Laws.Passes.{header-accepted}
-use Rattle.job.specs.Laws.Dispatch.{markOf, hasMark, mark-same, formFrom, formOf, read-by-mark}
+use Rattle.job.specs.Laws.Dispatch.{hasMark, mark-same, read-by-mark}
 
 -- ---- lines by a form
 
 -- the mark of its template leads back to the form, and its lines are one line each
 pub record Marked (f : Form) : Type 0 where
   pub mark : hasMark (f .template) ≡ true
-  pub back : formOf (markOf (f .template)) ≡ f
+  pub back : formByMark (markOf (f .template)) ≡ f
   pub one : ofOneLine (f .template) ≡ true
 
 -- what is written by the template says what the form says
@@ -42,7 +42,7 @@ form-written f m ds s =
     let l = lineText (f .template) ds in
     let reads = written-reads (f .template) (m .one) ds s in
     read-by-mark l
-    ∙ ap (λ (k : ℕ). said (formOf k .says) (valuesOf (formOf k .template) l)) (mark-same (f .template) l ds (m .mark) reads)
+    ∙ ap (λ (k : ℕ). said (formByMark k .says) (valuesOf (formByMark k .template) l)) (mark-same (f .template) l ds (m .mark) reads)
     ∙ ap (λ (g : Form). said (g .says) (valuesOf (g .template) l)) (m .back)
     ∙ ap (said (f .says)) reads
 
@@ -79,13 +79,13 @@ pub inject-says : (shot : ℕ) (P : SparsePauli) → shot < 2 ^ 64 → PauliFits
     → readLine (lineText injectTemplate (injectValues shot P)) ≡ some (Written.line (Line.inject shot P))
 unfolding marks numbersIn listsIn
 inject-says shot P h f =
-    form-written (formOf 105) record { mark = refl; back = refl; one = refl } (injectValues shot P) (Suits.N h, (Suits.L (f .x), (Suits.L (f .z), tt)))
+    form-written (formByMark 105) record { mark = refl; back = refl; one = refl } (injectValues shot P) (Suits.N h, (Suits.L (f .x), (Suits.L (f .z), tt)))
 
 pub depolarizing-says : (p : ℕ) (qs : List ℕ) → p < 2 ^ 64 → FitQ qs
     → readLine (lineText depolarizingTemplate (noiseValues p qs)) ≡ some (Written.noise (depolarizingLine p qs))
 unfolding marks numbersIn listsIn noiseLine optional isRising
 depolarizing-says p qs h f =
-    form-written (formOf 50) record { mark = refl; back = refl; one = refl } (noiseValues p qs)
+    form-written (formByMark 50) record { mark = refl; back = refl; one = refl } (noiseValues p qs)
     (Suits.H h, (Suits.C no-correlation, (Suits.L no-condition, (Suits.B (omega arith), (Suits.Q f, tt)))))
   where
     no-correlation : FitC []

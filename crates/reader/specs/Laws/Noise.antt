@@ -17,7 +17,7 @@ use Rattle.template.specs.Laws.Fields.{nothing-held, numbers-append, lists-appe
 use Rattle.template.specs.Laws.Reading.{byte-over, byte-other, parts-read}
 use Rattle.template.specs.declared.Progress.{Progress}
 use Rattle.job.specs.Grammar.{Kind, Written, noiseLine, pauliAt, Form as TableForm, isOne, forms, said, readBy}
-use Rattle.job.specs.Laws.Dispatch.{readAs}
+use Rattle.job.specs.Marks.{readAs}
 use Rattle.reader.specs.declared.Form.{Form}
 use Rattle.reader.specs.declared.Form.the-variants as form
 use Rattle.reader.specs.Parsed.{placeOf, formOf, isUnread}

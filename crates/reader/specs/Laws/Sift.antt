@@ -8,12 +8,12 @@ use mathlib.Core.Option.{Option, none, some}
 use borrow.Author.Tests.{ltb-true, leb-false, eqb-true, eqb-false, ne-eqb}
 use lib.Dec.{eqb, ltb, leb}
 use lib.ListN.{length, getD, take, drop, length-drop}
-use Rattle.text.specs.Bytes.{space, until}
+use Rattle.text.specs.Bytes.{space, until, behind}
 use Rattle.text.specs.Template.{Value, isLetter, valueOf, andThen, sameByte, valuesOf}
 use Rattle.text.specs.Laws.Values.{both, none-some}
-use Rattle.text.specs.Laws.Places.{behind, literals, other-place}
+use Rattle.text.specs.Laws.Places.{literals, other-place}
 use Rattle.job.specs.Grammar.{Written, Form, forms, said, orLater, readBy, readLine}
-use Rattle.job.specs.Laws.Dispatch.{readAs}
+use Rattle.job.specs.Marks.{readAs}
 
 -- ---- sifting
 

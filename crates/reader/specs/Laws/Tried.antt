@@ -16,7 +16,7 @@ use Rattle.template.specs.Fields.{numberLetters, listLetters, Room, HasForm, Re
 use Rattle.text.specs.Laws.Values.{both}
 use Rattle.job.specs.Grammar.{Written, Form as TableForm, unitaryLine, forms, said, readBy, readLine}
 use Rattle.job.specs.Line.{Line}
-use Rattle.job.specs.Laws.Dispatch.{readAs}
+use Rattle.job.specs.Marks.{readAs}
 use Rattle.reader.specs.declared.Form.{Form}
 use Rattle.reader.specs.declared.Form.the-variants as form
 use Rattle.reader.specs.Parsed.{placeOf, noForm, formOf, isUnread, Parsed}

@@ -8,7 +8,6 @@ use lib.ListN.{length, getD, drop, drop-of-length-le}
 use lib.Seq.{drop-cons}
 use Rattle.rows.specs.Overwrite.{copied}
 use Rattle.rows.specs.Listed.{RowsIn, overList, collected}
-use Rattle.rows.specs.Laws.Overwrite.{length-copied}
 
 pub rows-tail : (w q : ℕ) (qs words : List ℕ) → RowsIn w (q ∷ qs) words → RowsIn w qs words
 rows-tail w q qs words r = record { fits = λ i h. r .fits (suc i) (omega arith) }
@@ -42,9 +41,3 @@ module _ (w : ℕ) (src list : List ℕ) (i : ℕ) (l whole : List ℕ) where
   pub collected-end : length list ≤ i → collected w src i (drop i list) l ≡ whole → l ≡ whole
   unfolding collected
   collected-end h inv = rw (drop-of-length-le list h) at inv
-
-pub length-collected : (w : ℕ) (src : List ℕ) (r : ℕ) (list l : List ℕ) → length (collected w src r list l) ≡ length l
-unfolding collected
-length-collected w src r [] l = refl
-length-collected w src r (q ∷ qs) l =
-    length-collected w src (suc r) qs (copied (r * w) (q * w) w src l) ∙ length-copied (r * w) (q * w) w src l

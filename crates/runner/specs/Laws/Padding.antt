@@ -15,8 +15,9 @@ use Rattle.frames.specs.ShotTheorems.{padding}
 use Rattle.draws.specs.Draws.{Lent}
 use Rattle.draws.specs.Settle.{Settled, settle, settledList}
 use Rattle.draws.specs.Execute.{States, starts, Ended, execute}
-use Rattle.draws.specs.Laws.Settling.{runAll, onSettled, execute-settle}
-use Rattle.draws.specs.Laws.Within.{ownBelow, allOwnBelow, settle-within}
+use Rattle.draws.specs.Laws.Settling.{execute-settle}
+use Rattle.draws.specs.Known.{ownBelow, allOwnBelow, runAll, onSettled}
+use Rattle.draws.specs.Laws.Within.{settle-within}
 
 -- ---- the injections and flips of an accepted job are in its shots
 

@@ -2,7 +2,7 @@
 use Prim.Native.Nat.{ℕ, suc, _+_, _-_, _≤_, _<_}
 use native.Mathlib.Numerals.{add-one}
 use native.Mathlib.Omega.{arith}
-use mathlib.Core.Bool.{Bool, true, false, cond}
+use mathlib.Core.Bool.{Bool, true, false}
 use mathlib.Core.Path.{_≡_, refl, ap, _∙_}
 use mathlib.Core.List.{List, [], _∷_}
 use borrow.Author.Tests.{eq-eqb, ne-eqb}
@@ -27,15 +27,6 @@ module _ (sep : ℕ) (s : List ℕ) (i : ℕ) where
   pub until-end : length s ≤ i → until sep (drop i s) ≡ 0
   unfolding until
   until-end h = ap (until sep) (drop-of-length-le s h)
-
-pub until-le : (sep : ℕ) (l : List ℕ) → until sep l ≤ length l
-unfolding until
-until-le sep [] = omega arith
-until-le sep (b ∷ l) = go (eqb b sep) (until-le sep l)
-  where
-    go : (t : Bool) → until sep l ≤ length l → cond t 0 (suc (until sep l)) ≤ suc (length l)
-    go true h = omega arith
-    go false h = omega arith
 
 -- up to the first separator, where there is one
 abbrev pub First : List (List ℕ) → ℕ → List ℕ → Type 0

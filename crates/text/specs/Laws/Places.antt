@@ -1,7 +1,6 @@
 -- The bytes that a line has from its template, and what follows where it has others: laws. Assumes nothing.
-use Prim.Native.Nat.{ℕ, zero, suc, _+_, _<_}
+use Prim.Native.Nat.{ℕ, zero, suc, _<_}
 use native.Mathlib.Omega.{arith}
-use native.Mathlib.Numerals.{add-one}
 use mathlib.Core.Path.{_≡_, refl, sym, ap, _∙_}
 use mathlib.Core.Bool.{Bool, true, false, cond, true≢false}
 use mathlib.Core.List.{List, [], _∷_}
@@ -9,37 +8,14 @@ use mathlib.Core.Option.{Option, none, some}
 use borrow.Author.Tests.{eqb-true, ne-eqb}
 use lib.Dec.{eqb}
 use lib.ListN.{getD, take, drop}
-use Rattle.text.specs.Bytes.{space, until}
+use Rattle.text.specs.Bytes.{space, until, behind}
 use Rattle.text.specs.Template.{Value, isLetter, valueOf, andThen, sameByte, valuesOf}
 use Rattle.text.specs.Laws.Values.{none-some}
-
--- what stands behind the first n spaces, nothing where there are fewer
-unfoldable pub behind : ℕ → List ℕ → List ℕ
-behind zero l = l
-behind (suc n) [] = []
-behind (suc n) (b ∷ l) = cond (eqb b space) (behind n l) (behind (suc n) l)
 
 -- how many bytes stand before the first letter for a value
 unfoldable pub literals : List ℕ → ℕ
 literals [] = 0
 literals (t ∷ ts) = cond (isLetter t) 0 (suc (literals ts))
-
-pub behind-none : (n : ℕ) → behind n [] ≡ []
-unfolding behind
-behind-none zero = refl
-behind-none (suc n) = refl
-
--- behind one space more: past the first, then behind n
-pub behind-next : (n : ℕ) (l : List ℕ) → behind (suc n) l ≡ behind n (drop (until space l + 1) l)
-unfolding behind until
-behind-next zero [] = refl
-behind-next (suc n) [] = refl
-behind-next n (b ∷ l) = rw add-one (go (eqb b space) (behind-next n l))
-  where
-    go : (t : Bool) → behind (suc n) l ≡ behind n (drop (until space l + 1) l)
-        → cond t (behind n l) (behind (suc n) l) ≡ behind n (drop (cond t 0 (suc (until space l))) l)
-    go true ih = refl
-    go false ih = rw add-one at ih
 
 -- the bytes before the first space are passed over
 behind-value : (n : ℕ) (l : List ℕ) → behind (suc n) (drop (until space l) l) ≡ behind (suc n) l

@@ -6,13 +6,14 @@ use mathlib.Core.Path.{_≡_, refl, sym, subst}
 use mathlib.Core.Bool.{Bool, true, false, cond, not, _&&_, _||_, true≢false}
 use mathlib.Core.List.{List, [], _∷_}
 use mathlib.Core.Option.{Option, none, some}
-use borrow.Author.Tests.{ltb-true, lt-ltb, eqb-true, ne-eqb}
+use borrow.Author.Tests.{ltb-true, eqb-true}
 use lib.Dec.{eqb, ltb}
 use lib.ListN.{length, getD, take, drop}
 use Rattle.text.specs.Bytes.{comma, space, until, extend, pieces, split}
 use Rattle.text.specs.Number.{whenever, proper, allDecimal, decimalFrom, numberOf, hexDigit, allHex, hexFrom, hexOf, bitOf}
 use Rattle.text.specs.List.{withFirst, numbersOf, listQ, isRising, onlyRising, isDash, listL, oneMember, listC}
 use Rattle.text.specs.Template.{Value, number, list, aNumber, aList, isLetter, valueOf, andThen, sameByte, atEnd, valuesOf, numbersIn, listsIn, numberAt, listAt}
+use Rattle.text.specs.Written.{Small, FitL, FitQ, FitC}
 
 -- ---- Booleans and options
 
@@ -36,14 +37,6 @@ number-small v n e =
     let good = whenever-some _ (decimalFrom 0 v) n e in
     let tests = both (proper v && allDecimal v) _ (good .0) in
     omega (arith, good .1, ltb-true (decimalFrom 0 v) (2 ^ 64) (tests .1))
-
--- no number has a 0 in front of other bytes
-pub leading-zero : (b : ℕ) (l : List ℕ) → numberOf (48 ∷ b ∷ l) ≡ none
-unfolding numberOf
-leading-zero b l =
-    let some-bytes : ltb 0 (suc (suc (length l))) ≡ true = lt-ltb 0 (suc (suc (length l))) (omega arith) in
-    let others : eqb (suc (suc (length l))) 1 ≡ false = ne-eqb (suc (suc (length l))) 1 (λ e. omega arith) in
-    rw (some-bytes, others)
 
 -- so many hexadecimal digits more, so many times the bound
 hex-bound : (k v : ℕ) (l : List ℕ) → allHex l ≡ true → v < 16 ^ k → hexFrom v l < 16 ^ (k + length l)
@@ -82,10 +75,6 @@ bit-small v n e =
 
 -- ---- lists
 
--- every member is below 2^64; past the end getD gives 0
-abbrev pub Small : List ℕ → Type 0
-Small l = (i : ℕ) → getD l i 0 < 2 ^ 64
-
 small-more : (n : ℕ) (l : List ℕ) → n < 2 ^ 64 → Small l → Small (n ∷ l)
 small-more n l h s zero = h
 small-more n l h s (suc i) = s i
@@ -123,20 +112,10 @@ split-some sep (b ∷ v) = go (eqb b sep) (split sep v) (split-some sep v)
     go false [] h = omega arith
     go false (p ∷ ps) h = omega arith
 
--- Q is never empty
-pub record FitQ (l : List ℕ) : Type 0 where
-  pub filled : 0 < length l
-  pub small : Small l
-
 pub listQ-fits : (v l : List ℕ) → listQ v ≡ some l → FitQ l
 unfolding listQ
 listQ-fits v l e =
     record { filled = omega (arith, numbers-length (split comma v) l e, split-some comma v); small = numbers-small (split comma v) l e }
-
--- L is strictly rising
-pub record FitL (l : List ℕ) : Type 0 where
-  pub rising : isRising l ≡ true
-  pub small : Small l
 
 rising-fits : (o : Option (List ℕ)) (l : List ℕ) → ((k : List ℕ) → o ≡ some k → Small k) → onlyRising o ≡ some l → FitL l
 unfolding onlyRising
@@ -154,11 +133,6 @@ listL-fits v l e = go (isDash v) e
     go : (b : Bool) → cond b (some []) (onlyRising (listQ v)) ≡ some l → FitL l
     go true e = let same : [] ≡ l = cc in subst FitL same (record { rising = refl; small = λ i. omega arith })
     go false e = rising-fits (listQ v) l (λ k q. listQ-fits v k q .small) e
-
--- C has at most one member
-pub record FitC (l : List ℕ) : Type 0 where
-  pub single : length l ≤ 1
-  pub small : Small l
 
 pub listC-fits : (v l : List ℕ) → listC v ≡ some l → FitC l
 unfolding listC oneMember

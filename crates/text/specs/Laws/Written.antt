@@ -14,8 +14,8 @@ use Rattle.text.specs.Bytes.{LF, space, comma, until, extend, pieces, sp
 use Rattle.text.specs.Number.{isDecimal, allDecimal, decimalFrom, proper, numberOf, hexDigit, allHex, hexFrom, hexOf, bitOf, decimalDigits, decimal, hexByte, hexDigits, hexadecimal}
 use Rattle.text.specs.List.{withFirst, numbersOf, listQ, onlyRising, isDash, listL, oneMember, listC, commas, listText}
 use Rattle.text.specs.Template.{Value, aNumber, aList, isLetter, valueOf, andThen, sameByte, atEnd, valuesOf, valueText, firstText, lineText}
-use Rattle.text.specs.Written.{Suits, FirstSuits, AllSuit, atSpace, ofOneLine, Free, AllFree}
-use Rattle.text.specs.Laws.Values.{both, Small}
+use Rattle.text.specs.Written.{Small, Suits, FirstSuits, AllSuit, atSpace, ofOneLine, Free, AllFree}
+use Rattle.text.specs.Laws.Values.{both}
 use Rattle.text.specs.Laws.Pieces.{first-piece, only-piece}
 use Rattle.text.specs.Laws.Numbers.{number-good, hex-good}
 

@@ -14,7 +14,8 @@ use Rattle.job.specs.Job.{checkJob, recordedBy, Job, jobOf}
 use Rattle.job.specs.Sound.{LineSound, InstructionSound}
 use Rattle.job.specs.Laws.Forms.{WrittenFits}
 use Rattle.job.specs.Laws.Lines.{line-sound}
-use Rattle.job.specs.Laws.Accepted.{Passing, between, Accepted, accepted-first}
+use Rattle.job.specs.Contexts.{between, Accepted}
+use Rattle.job.specs.Laws.Accepted.{Passing, accepted-first}
 use Rattle.job.specs.Laws.Begun.{Begun, job-begun}
 use Rattle.job.specs.Laws.Gather.{recorded-more}
 use Rattle.job.specs.Laws.Recorded.{instruction-within}

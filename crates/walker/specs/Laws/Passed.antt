@@ -18,7 +18,7 @@ use Rattle.template.specs.Laws.Fields.{numbers-append, nothing-held}
 use Rattle.pauli.specs.Pauli.{anticommutes}
 use Rattle.job.specs.Line.{SparsePauli, pauliOf, Line}
 use Rattle.job.specs.Grammar.{Written, Form as TableForm, forms, said, readBy, readLine}
-use Rattle.job.specs.Laws.Dispatch.{readAs}
+use Rattle.job.specs.Marks.{readAs}
 use Rattle.reader.specs.declared.Form.{Form}
 use Rattle.reader.specs.declared.Form.the-variants as form
 use Rattle.reader.specs.Parsed.{placeOf, formOf}

@@ -1,0 +1,26 @@
+-- Definitions that theorems and laws about the tests use: the context behind some lines, and lines that are accepted in one. Assumes nothing.
+use Prim.Native.Nat.{ℕ}
+use mathlib.Core.Path.{_≡_}
+use mathlib.Core.Bool.{true, false, _&&_}
+use mathlib.Core.List.{List, [], _∷_}
+use mathlib.Core.Option.{none}
+use lib.Dec.{ltb}
+use Rattle.job.specs.declared.Header.{Header}
+use Rattle.job.specs.Grammar.{readLine}
+use Rattle.job.specs.Checks.{Context}
+use Rattle.job.specs.Job.{accepted, isLast, nextOf, checkLines}
+
+-- the context behind some lines
+unfoldable pub contextAfter : Context → List (List ℕ) → Context
+contextAfter c [] = c
+contextAfter c (l ∷ ls) = contextAfter (nextOf c (readLine l)) ls
+
+-- The context between two instructions of a job with this header, where so many outcomes are recorded.
+unfoldable pub between : Header → ℕ → Context
+between h r = record { begun = true; header = h; recorded = r; due = 0; total = none }
+
+-- Lines that are accepted in a context behind the header; where there are none, no elements are due.
+pub record Accepted (k : ℕ) (c : Context) (ls : List (List ℕ)) : Type 0 where
+  pub begun : c .begun ≡ true
+  pub ends : (isLast ls && ltb 0 (c .due)) ≡ false
+  pub passes : checkLines k c ls ≡ accepted
