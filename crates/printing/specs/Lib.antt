@@ -1,3 +1,3 @@
--- Definitions: the lines of a printed session, each by itself. Laws.
-pub mod Lines
+-- Definitions: what a run of a job prints. Laws.
+pub mod Ran
 pub mod Laws

@@ -1,21 +1,14 @@
 // The printed session of a job: its refusal, or its header's numbers and the deltas of its recorded outcomes.
 ghost use mathlib.Core.Path.{_≡_};
-ghost use mathlib.Core.Bool.{cond};
-ghost use mathlib.Core.List.{[], _∷_, _++_};
-ghost use Prim.Native.Nat.{_+_, _*_, _/_, _^_, _<_, _≤_};
-ghost use lib.ListN.{length};
-ghost use Rattle.text.specs.Bytes.{LF, unlines};
-ghost use Rattle.rows.specs.Words.{wordsPerRow, bitIn};
-ghost use Rattle.session.specs.Session.{smallEnough, refusalLines, bitText, deltaLines, printed};
+ghost use Rattle.session.specs.Session.{smallEnough, printed};
 ghost use Rattle.writer.specs.Placed.{Puts};
-ghost use Rattle.printing.specs.Lines.{headerText, deltaText, ranText, RunsSmall, Lends};
+ghost use Rattle.printing.specs.Ran.{ranText, RunsSmall, Lends};
 use checker::examine;
 use job::Answer;
 use job::Header;
 use runner::run;
-use writer::put_byte;
-use writer::put_bytes;
-use writer::put_number;
+use session_text::put_refusal;
+use session_text::put_session;
 
 // The program's limits.
 const MAX_BYTES: usize = 65536;
@@ -25,92 +18,6 @@ const MAX_QUBITS: u64 = 64;
 const MAX_OUTCOMES: u64 = 256;
 
 const MAX_SHOTS: u64 = 64;
-
-// `ok=0 refusal=N line=N`
-fn put_refusal(out: &mut [u8], a: Answer) -> usize
-    ensures { λ r. ⌜ Puts 0 (unlines (refusalLines a)) (now (out .entry)) (now (out .exit)) r ⌝ }
-{
-    let number = put_bytes(&mut *out, 0, b"ok=0 refusal=");
-    let b = put_number(&mut *out, number, a.number);
-    let line = put_bytes(&mut *out, b, b" line=");
-    let d = put_number(&mut *out, line, a.line);
-    put_byte(out, d, 10)
-}
-
-// `ok=1 qubits=N outcomes=N shots=N`
-fn put_header(out: &mut [u8], h: Header) -> usize
-    ensures { λ r. ⌜ Puts 0 (headerText h ++ LF ∷ []) (now (out .entry)) (now (out .exit)) r ⌝ }
-{
-    let qubits = put_bytes(&mut *out, 0, b"ok=1 qubits=");
-    let b = put_number(&mut *out, qubits, h.qubits);
-    let outcomes = put_bytes(&mut *out, b, b" outcomes=");
-    let d = put_number(&mut *out, outcomes, h.outcomes);
-    let shots = put_bytes(&mut *out, d, b" shots=");
-    let f = put_number(&mut *out, shots, h.shots);
-    put_byte(out, f, 10)
-}
-
-// The delta of an outcome in a shot, as 0 or 1, where a row has w words.
-fn delta_byte(deltas: &[u64], w: usize, id: usize, shot: usize) -> u8
-    requires { ⌜ (id * w + w ≤ length (now deltas)) × (shot / 64 < w) ⌝ }
-    ensures { λ r. ⌜ r ≡ cond (bitIn w (now (deltas .entry)) id shot) 49 48 ⌝ }
-{
-    if (deltas[id * w + shot / 64] >> (shot % 64)) % 2 == 1 {
-        return 49;
-    }
-    48
-}
-
-// The deltas of an outcome, shot 0 first.
-fn put_bits(out: &mut [u8], at: usize, deltas: &[u64], id: usize, shots: usize) -> usize
-    requires { ⌜ (shots ≤ 64) × (at + shots < 2 ^ 64) × (id * wordsPerRow shots + wordsPerRow shots ≤ length (now deltas)) ⌝ }
-    ensures { λ r. ⌜ Puts at (bitText (bitIn (wordsPerRow shots) (now (deltas .entry)) id) shots 0) (now (out .entry)) (now (out .exit)) r ⌝ }
-{
-    let w = (shots + 63) / 64;
-    let mut next = at;
-    let mut s = 0;
-    while s < shots {
-        let b = delta_byte(deltas, w, id, s);
-        next = put_byte(&mut *out, next, b);
-        s += 1;
-    }
-    next
-}
-
-// `id=N delta=`, and the bits
-fn put_delta(out: &mut [u8], at: usize, deltas: &[u64], id: usize, shots: usize) -> usize
-    requires { ⌜ (shots ≤ 64) × (at + 104 < 2 ^ 64) × (id * wordsPerRow shots + wordsPerRow shots ≤ length (now deltas)) ⌝ }
-    ensures { λ r. ⌜ Puts at (deltaText shots (now (deltas .entry)) id ++ LF ∷ []) (now (out .entry)) (now (out .exit)) r ⌝ }
-{
-    let a = put_bytes(&mut *out, at, b"id=");
-    let b = put_number(&mut *out, a, id as u64);
-    let c = put_bytes(&mut *out, b, b" delta=");
-    let d = put_bits(&mut *out, c, deltas, id, shots);
-    put_byte(out, d, 10)
-}
-
-// The deltas of so many outcomes, a line each.
-fn put_deltas(out: &mut [u8], at: usize, h: Header, deltas: &[u64], n: usize) -> usize
-    requires { ⌜ (h .shots ≤ 64) × (at + 104 * n < 2 ^ 64) × (n * wordsPerRow (h .shots) ≤ length (now deltas)) ⌝ }
-    ensures { λ r. ⌜ Puts at (unlines (deltaLines h (now (deltas .entry)) n 0)) (now (out .entry)) (now (out .exit)) r ⌝ }
-{
-    let mut next = at;
-    let mut id = 0;
-    while id < n {
-        next = put_delta(&mut *out, next, deltas, id, h.shots as usize);
-        id += 1;
-    }
-    next
-}
-
-// The session of a job that was run: its header, and its recorded outcomes.
-fn put_session(out: &mut [u8], h: Header, deltas: &[u64], n: usize) -> usize
-    requires { ⌜ (h .shots ≤ 64) × (n ≤ 256) × (n * wordsPerRow (h .shots) ≤ length (now deltas)) ⌝ }
-    ensures { λ r. ⌜ Puts 0 (unlines (headerText h ∷ deltaLines h (now (deltas .entry)) n 0)) (now (out .entry)) (now (out .exit)) r ⌝ }
-{
-    let next = put_header(&mut *out, h);
-    put_deltas(out, next, h, deltas, n)
-}
 
 // Whether a header is within the program's limits.
 fn is_small(h: Header) -> bool

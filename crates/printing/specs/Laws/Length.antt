@@ -15,8 +15,9 @@ use Rattle.run.specs.Run.{RunReply, runReply}
 use Rattle.session.specs.Session.{smallEnough, lentMemory, refusalLines, deltaLines, printed}
 use Rattle.writer.specs.Placed.{Puts}
 use Rattle.writer.specs.Laws.Lists.{decimal-length}
-use Rattle.printing.specs.Lines.{headerText, deltaText, ranText, RunsSmall}
-use Rattle.printing.specs.Laws.Session.{refusal-line, header-length, delta-length}
+use Rattle.session_text.specs.Lines.{headerText, deltaText}
+use Rattle.printing.specs.Ran.{ranText, RunsSmall}
+use Rattle.session_text.specs.Laws.Lines.{refusal-line, header-length, delta-length}
 use Rattle.printing.specs.Laws.Printed.{printed-long, printed-refused, printed-large, printed-small, small-parts, recorded-few, ran-refused, ran-printed}
 
 refusal-short : (a : Answer) → length (unlines (refusalLines a)) ≤ 24410

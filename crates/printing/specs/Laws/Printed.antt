@@ -20,7 +20,8 @@ use Rattle.session.specs.Session.{smallEnough, lentMemory, refusalLines, sessio
 use Rattle.checker.specs.declared.Examined.{Examined}
 use Rattle.checker.specs.Examines.{Examines}
 use Rattle.writer.specs.Placed.{Puts}
-use Rattle.printing.specs.Lines.{headerText, ranText, RunsSmall, Lends}
+use Rattle.session_text.specs.Lines.{headerText}
+use Rattle.printing.specs.Ran.{ranText, RunsSmall, Lends}
 
 -- ---- the tests
 

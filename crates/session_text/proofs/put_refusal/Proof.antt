@@ -1,12 +1,12 @@
--- `printing::put_refusal` meets its contract. Assumes nothing.
+-- `session_text::put_refusal` meets its contract. Assumes nothing.
 use native.Mathlib.Omega.{arith}
 use Rattle.text.specs.Bytes.{bytes}
 use Rattle.writer.specs.Laws.Placing.{puts-more}
 use Rattle.writer.specs.Laws.Lists.{number-next}
-use Rattle.printing.specs.Laws.Session.{refusal-line}
+use Rattle.session_text.specs.Laws.Lines.{refusal-line}
 use borrow.Author.Needs.{needs}
-use Rattle.printing.proofs.put_refusal.Statement.{statement}
-use Rattle.printing.proofs.put_refusal.Tie as tie
+use Rattle.session_text.proofs.put_refusal.Statement.{statement}
+use Rattle.session_text.proofs.put_refusal.Tie as tie
 
 slice-aggregate-put-bytes : tie.Need-slice-aggregate-put-bytes
 slice-aggregate-put-bytes c = search needs

@@ -1,10 +1,10 @@
--- `printing::delta_byte` meets its contract. Assumes nothing.
+-- `session_text::delta_byte` meets its contract. Assumes nothing.
 use borrow.Author.Tests.{eq-eqb, ne-eqb}
 use Rattle.pauli.specs.Bits.{bit}
 use Rattle.rows.specs.Words.{bitIn}
 use borrow.Author.Needs.{needs}
-use Rattle.printing.proofs.delta_byte.Statement.{statement}
-use Rattle.printing.proofs.delta_byte.Tie as tie
+use Rattle.session_text.proofs.delta_byte.Statement.{statement}
+use Rattle.session_text.proofs.delta_byte.Tie as tie
 
 mul-if1 : tie.Need-mul-if1
 mul-if1 c = search needs

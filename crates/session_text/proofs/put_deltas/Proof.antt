@@ -1,10 +1,10 @@
--- `printing::put_deltas` meets its contract. Assumes nothing.
+-- `session_text::put_deltas` meets its contract. Assumes nothing.
 use Prim.Native.Nat.{_-_}
 use native.Mathlib.Omega.{arith}
 use Rattle.writer.specs.Laws.Placing.{rest-length}
-use Rattle.printing.specs.Laws.Session.{Deltas, deltas-none, deltas-more, deltas-all, row-below}
-use Rattle.printing.proofs.put_deltas.Statement.{statement}
-use Rattle.printing.proofs.put_deltas.Tie as tie
+use Rattle.session_text.specs.Laws.Lines.{Deltas, deltas-none, deltas-more, deltas-all, row-below}
+use Rattle.session_text.proofs.put_deltas.Statement.{statement}
+use Rattle.session_text.proofs.put_deltas.Tie as tie
 
 abbrev Inv-loop : tie.InvT-loop
 Inv-loop out₀ at h deltas n next₀ id₀ out next id = Deltas at h deltas n out₀ id next out

@@ -1,11 +1,11 @@
--- `printing::put_bits` meets its contract. Assumes nothing.
+-- `session_text::put_bits` meets its contract. Assumes nothing.
 use Prim.Native.Nat.{_-_}
 use native.Mathlib.Omega.{arith}
 use Rattle.rows.specs.Words.{wordsPerRow, bitIn}
 use Rattle.writer.specs.Laws.Placing.{rest-length}
-use Rattle.printing.specs.Laws.Session.{Bits, bits-none, bits-more, bits-all}
-use Rattle.printing.proofs.put_bits.Statement.{statement}
-use Rattle.printing.proofs.put_bits.Tie as tie
+use Rattle.session_text.specs.Laws.Lines.{Bits, bits-none, bits-more, bits-all}
+use Rattle.session_text.proofs.put_bits.Statement.{statement}
+use Rattle.session_text.proofs.put_bits.Tie as tie
 
 abbrev Inv-loop : tie.InvT-loop
 Inv-loop out₀ at deltas id shots w next₀ s₀ out next s = Bits at (bitIn (wordsPerRow shots) deltas id) shots out₀ s next out

@@ -1,10 +1,10 @@
--- `printing::put_session` meets its contract. Assumes nothing.
+-- `session_text::put_session` meets its contract. Assumes nothing.
 use native.Mathlib.Omega.{arith}
 use Rattle.writer.specs.Laws.Placing.{puts-more}
-use Rattle.printing.specs.Laws.Session.{header-next, session-lines}
+use Rattle.session_text.specs.Laws.Lines.{header-next, session-lines}
 use borrow.Author.Needs.{needs}
-use Rattle.printing.proofs.put_session.Statement.{statement}
-use Rattle.printing.proofs.put_session.Tie as tie
+use Rattle.session_text.proofs.put_session.Statement.{statement}
+use Rattle.session_text.proofs.put_session.Tie as tie
 
 put-header-requires : tie.Need-put-header-requires
 put-header-requires c κs = search needs

@@ -1,24 +1,14 @@
--- The lines of a printed session, each by itself, and what a run is lent. Definitions. Assumes nothing.
-use mathlib.Core.List.{List, [], _∷_, _++_}
+-- What a run of a job prints, and what it is lent. Definitions. Assumes nothing.
+use mathlib.Core.List.{List}
 use Prim.Native.Nat.{ℕ}
 use mathlib.Core.Path.{_≡_}
 use mathlib.Core.Bool.{true}
 use lib.ListN.{replicate}
-use Rattle.text.specs.Bytes.{bytes, unlines}
-use Rattle.text.specs.Template.{Value, lineText}
+use Rattle.text.specs.Bytes.{unlines}
 use Rattle.job.specs.declared.Header.{Header}
 use Rattle.job.specs.Job.{checkJob, jobOf, recordedIn}
-use Rattle.rows.specs.Words.{wordsPerRow, bitIn}
-use Rattle.session.specs.Session.{smallEnough, bitText, lentMemory, replyLines}
+use Rattle.session.specs.Session.{smallEnough, lentMemory, replyLines}
 use Rattle.run.specs.Run.{frameWords, outcomeWords, runReply}
-
--- the header's numbers
-unfoldable pub headerText : Header → List ℕ
-headerText h = lineText (bytes "ok=1 qubits=N outcomes=N shots=N") (Value.number (h .qubits) ∷ Value.number (h .outcomes) ∷ Value.number (h .shots) ∷ [])
-
--- the deltas of an outcome
-unfoldable pub deltaText : ℕ → List ℕ → ℕ → List ℕ
-deltaText shots deltas id = lineText (bytes "id=N delta=") (Value.number id ∷ []) ++ bitText (bitIn (wordsPerRow shots) deltas id) shots 0
 
 -- what a run of a job comes to, with the words that its header needs
 unfoldable pub ranText : List ℕ → List ℕ

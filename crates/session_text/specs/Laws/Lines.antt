@@ -18,7 +18,7 @@ use Rattle.session.specs.Session.{refusalLines, bitText, deltaLines}
 use Rattle.writer.specs.Placed.{Puts}
 use Rattle.writer.specs.Laws.Placing.{Rest, rest-all, rest-more, rest-none}
 use Rattle.writer.specs.Laws.Lists.{decimal-length}
-use Rattle.printing.specs.Lines.{headerText, deltaText}
+use Rattle.session_text.specs.Lines.{headerText, deltaText}
 
 -- ---- the lines as bytes
 

@@ -1,0 +1,2 @@
+-- Laws about the text of a session.
+pub mod Lines
