@@ -5,7 +5,7 @@ ghost use mathlib.Core.Path.{_≡_};
 ghost use mathlib.Core.List.{List};
 ghost use Prim.Native.Nat.{_-_, _<_, _≤_};
 ghost use lib.ListN.{length, drop};
-ghost use Rattle.job.specs.Float.{nought, totalFrom};
+ghost use Rattle.job.specs.Float.{zeroFloat, totalFrom};
 ghost use Rattle.draws.specs.Draws.{limitOf, bounded, runningSums, placeOf, byWeight};
 ghost use Rattle.noise.specs.Kinds.{boundOf, Small};
 ghost use Rattle.choice.specs.Choice.{Chose, ElementChosen};
@@ -61,7 +61,7 @@ pub fn choose(words: &[u64], at: usize, c: u64, limit: u64) -> Choice
 
 // The weights summed from the left.
 pub fn total(weights: &[f64]) -> f64
-    ensures { λ r. ⌜ r ≡ totalFrom nought (now (weights .entry)) ⌝ }
+    ensures { λ r. ⌜ r ≡ totalFrom zeroFloat (now (weights .entry)) ⌝ }
 {
     let mut sum = 0.0;
     let mut i = 0;
@@ -74,7 +74,7 @@ pub fn total(weights: &[f64]) -> f64
 
 // The running sums of the weights, each adding w / total, and the last set to 1.0.
 pub fn running_sums(sums: &mut [f64], weights: &[f64], total: f64)
-    requires { ⌜ (0 < length (now weights)) × (length (now sums) ≡ length (now weights)) × (total ≡ totalFrom nought (now weights)) ⌝ }
+    requires { ⌜ (0 < length (now weights)) × (length (now sums) ≡ length (now weights)) × (total ≡ totalFrom zeroFloat (now weights)) ⌝ }
     ensures { λ _. ⌜ now (sums .exit) ≡ runningSums (now (weights .entry)) ⌝ }
 {
     let mut sum = 0.0;

@@ -11,7 +11,7 @@ use lib.Ieee.{Float, binary64, ofInt, add, div, lt, le}
 use Rattle.pauli.specs.Bits.{Bits, _⊕_, sumOver}
 use Rattle.job.specs.Line.{SparsePauli, WeightedPauli, Distribution, sizeOf, OutcomeCondition, Noise}
 use Rattle.job.specs.Rising.{rising}
-use Rattle.job.specs.Float.{float, nought, one, totalFrom}
+use Rattle.job.specs.Float.{float, zeroFloat, one, totalFrom}
 
 -- ---- a fault
 
@@ -67,7 +67,7 @@ runningFrom total s (w ∷ ws) = let t = add binary64 s (div binary64 w total) i
 
 -- and the last is set to 1.0
 abbrev pub runningSums : List Float → List Float
-runningSums ws = set (runningFrom (totalFrom nought ws) nought ws) (length ws - 1) one
+runningSums ws = set (runningFrom (totalFrom zeroFloat ws) zeroFloat ws) (length ws - 1) one
 
 -- how many running sums, from the first on, are below u
 unfoldable pub belowUnit : Float → List Float → ℕ
@@ -147,7 +147,7 @@ drawShots lent n (suc left) shot ws = thenShots shot (drawShot n (λ id. lent .n
 
 -- With p at or below zero no word is read.
 unfoldable pub drawLine : Lent → Noise → List ℕ → Draws
-drawLine lent n ws = let all = drawShots lent n (lent .shots) 0 ws in cond (le (float (n .probability)) nought) (Draws.drawn [] ws) all
+drawLine lent n ws = let all = drawShots lent n (lent .shots) 0 ws in cond (le (float (n .probability)) zeroFloat) (Draws.drawn [] ws) all
 
 -- The part of one of the two lists that a noise line reads from: the main list, read on, or for corr c the second from place base + c, wrapping at
 -- 2^64, afresh at each line.

@@ -7,7 +7,7 @@ use Prim.Native.Nat.{ℕ, zero, suc}
 use lib.Ieee.{le}
 use Rattle.job.specs.declared.Header.{Header}
 use Rattle.job.specs.Line.{Line, Noise, Instruction, Placed}
-use Rattle.job.specs.Float.{float, nought}
+use Rattle.job.specs.Float.{float, zeroFloat}
 use Rattle.frames.specs.Forward.{State, settingOf, forward, start}
 use Rattle.draws.specs.Draws.{Lent, elementAt, ShotDraw, drawShot, partOf, mainAfter}
 
@@ -46,7 +46,7 @@ injectShots h lent n (suc left) shot ws states =
 unfoldable pub injectNoise : Header → Lent → Noise → List ℕ → States → Executed
 injectNoise h lent n ws states =
     let all = injectShots h lent n (lent .shots) 0 ws states in
-    cond (le (float (n .probability)) nought) (Executed.went states ws) all
+    cond (le (float (n .probability)) zeroFloat) (Executed.went states ws) all
 
 -- ---- a job
 

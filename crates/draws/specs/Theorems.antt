@@ -19,7 +19,7 @@ use Rattle.pauli.specs.Bits.{_⊕_, members, sumOver, bit}
 use Rattle.pauli.specs.Pauli.{Pauli, identity}
 use Rattle.job.specs.declared.Header.{Header}
 use Rattle.job.specs.Line.{SparsePauli, pauliOf, Line, WeightedPauli, Distribution, sizeOf, Noise, Instruction, Placed}
-use Rattle.job.specs.Float.{float, nought, one, totalFrom}
+use Rattle.job.specs.Float.{float, zeroFloat, one, totalFrom}
 use Rattle.job.specs.Rising.{including, rising}
 use Rattle.job.specs.Checks.{allBelow, distinct}
 use Rattle.frames.specs.Forward.{settingOf, run}
@@ -257,7 +257,7 @@ at-p = (refl, refl, refl, refl, refl)
 -- ---- weights
 
 -- 0.1 and 0.2: their sum is 0.30000000000000004, and 0.1 over it is a third
-pub tenths : (totalFrom nought (float 0x3fb9_9999_9999_999a ∷ float 0x3fc9_9999_9999_999a ∷ []) ≡ float 0x3fd3_3333_3333_3334)
+pub tenths : (totalFrom zeroFloat (float 0x3fb9_9999_9999_999a ∷ float 0x3fc9_9999_9999_999a ∷ []) ≡ float 0x3fd3_3333_3333_3334)
     × (runningSums (float 0x3fb9_9999_9999_999a ∷ float 0x3fc9_9999_9999_999a ∷ []) ≡ float 0x3fd5_5555_5555_5555 ∷ one ∷ [])
 unfolding totalFrom runningFrom add div ofBits
 tenths = (refl, refl)

@@ -8,7 +8,7 @@ use lib.Ieee.{Float}
 use Rattle.text.specs.Template.{Value}
 use Rattle.job.specs.declared.Header.{Header}
 use Rattle.job.specs.Line.{WeightedPauli, Noise, Placed}
-use Rattle.job.specs.Float.{nought, totalFrom}
+use Rattle.job.specs.Float.{zeroFloat, totalFrom}
 use Rattle.job.specs.Grammar.{NoiseLine, Written}
 use Rattle.job.specs.Checks.{elementLines}
 use Rattle.job.specs.Job.{noiseOf}
@@ -48,7 +48,7 @@ pub record ElementsKept {job : List ℕ} {at n : ℕ} {weighted : Bool} (q : Ele
     : Type 0 where
   pub among : Among job (q .header) (q .recorded) weighted (q .elements) (q .rest) (q .line) (r .next) n
   pub held : (e : ℕ) → e < n → ElementHeld elements e (getD (q .elements) e (record { weight = 0; pauli = noPauli }) .pauli)
-  pub total : r .total ≡ totalFrom nought (weightsOf (q .elements))
+  pub total : r .total ≡ totalFrom zeroFloat (weightsOf (q .elements))
   pub running : weighted ≡ true → sums ≡ runningSums (weightsOf (q .elements))
 
 -- ---- a noise line

@@ -4,7 +4,7 @@ ghost use mathlib.Core.Path.{_≡_};
 ghost use mathlib.Core.Bool.{Bool, true, cond};
 ghost use Prim.Native.Nat.{_+_, _*_, _≤_, _<_};
 ghost use lib.ListN.{length};
-ghost use Rattle.job.specs.Float.{float, nought, isWeight};
+ghost use Rattle.job.specs.Float.{float, zeroFloat, isWeight};
 ghost use Rattle.faults.specs.Elements.{kept};
 ghost use Rattle.faults.specs.Prepared.{ElementLines, Gathered};
 use instructions::next_line;
@@ -24,7 +24,7 @@ pub fn keep_element(elements: &mut [u64], e: usize, f: &[u64], first: usize)
 // The weight of an element by its bits: 0 where elements have none.
 fn weight_of(weighted: bool, bits: u64) -> f64
     requires { ⌜ (weighted ≡ true → isWeight (float bits) ≡ true) ⌝ }
-    ensures { λ r. ⌜ r ≡ cond weighted (float bits) nought ⌝ }
+    ensures { λ r. ⌜ r ≡ cond weighted (float bits) zeroFloat ⌝ }
 {
     if !weighted {
         return 0.0;

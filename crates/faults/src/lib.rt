@@ -3,7 +3,7 @@ ghost use mathlib.Core.Path.{_≡_};
 ghost use mathlib.Core.Bool.{true};
 ghost use Prim.Native.Nat.{_*_, _≤_, _<_};
 ghost use lib.ListN.{length, take};
-ghost use Rattle.job.specs.Float.{nought, totalFrom};
+ghost use Rattle.job.specs.Float.{zeroFloat, totalFrom};
 ghost use Rattle.draws.specs.Draws.{runningSums};
 ghost use Rattle.rows.specs.Words.{bitIn};
 ghost use Rattle.rows.specs.Listed.{RowsIn};
@@ -41,7 +41,7 @@ pub struct ElementsRead {
 // The total of the weights. Where elements have weights, the running sums too.
 fn sum_weights(weighted: bool, sums: &mut [f64], weights: &[f64]) -> f64
     requires { ⌜ (weighted ≡ true → 0 < length (now weights)) × (length (now sums) ≡ length (now weights)) ⌝ }
-    ensures { λ r. ⌜ (r ≡ totalFrom nought (now (weights .entry))) × (weighted ≡ true → now (sums .exit) ≡ runningSums (now (weights .entry))) ⌝ }
+    ensures { λ r. ⌜ (r ≡ totalFrom zeroFloat (now (weights .entry))) × (weighted ≡ true → now (sums .exit) ≡ runningSums (now (weights .entry))) ⌝ }
 {
     let t = total(weights);
     if !weighted {

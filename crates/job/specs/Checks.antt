@@ -11,7 +11,7 @@ use Rattle.pauli.specs.Bits.{members}
 use Rattle.pauli.specs.Gate.{operandsOf}
 use Rattle.job.specs.declared.Header.{Header}
 use Rattle.job.specs.Line.{SparsePauli, Line}
-use Rattle.job.specs.Float.{float, nought, isProbability, isWeight, isTotal}
+use Rattle.job.specs.Float.{float, zeroFloat, isProbability, isWeight, isTotal}
 use Rattle.job.specs.Clifford.{isClifford}
 use Rattle.job.specs.Grammar.{Kind, NoiseLine, Written}
 
@@ -66,7 +66,7 @@ unfoldable pub firstTotal : Kind → Option Float
 firstTotal (Kind.single P) = none
 firstTotal (Kind.depolarizing qs) = none
 firstTotal (Kind.uniform n) = none
-firstTotal (Kind.weighted n) = some nought
+firstTotal (Kind.weighted n) = some zeroFloat
 
 -- weights are summed from the left in binary64
 unfoldable pub nextTotal : Option Float → Option ℕ → Option Float

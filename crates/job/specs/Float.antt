@@ -9,8 +9,8 @@ abbrev pub float : ℕ → Float
 float bits = ofBits binary64 bits
 
 -- 0.0 and 1.0
-abbrev pub nought : Float
-nought = float 0
+abbrev pub zeroFloat : Float
+zeroFloat = float 0
 
 abbrev pub one : Float
 one = float 0x3ff0_0000_0000_0000
@@ -31,8 +31,8 @@ isProbability p = not (isNan p) && not (lt one p)
 
 -- a weight: not below zero, and finite (-0 passes)
 unfoldable pub isWeight : Float → Bool
-isWeight w = not (lt w nought) && isFinite w
+isWeight w = not (lt w zeroFloat) && isFinite w
 
 -- a total: above zero, and finite
 unfoldable pub isTotal : Float → Bool
-isTotal t = lt nought t && isFinite t
+isTotal t = lt zeroFloat t && isFinite t

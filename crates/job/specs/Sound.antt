@@ -12,7 +12,7 @@ use Rattle.text.specs.List.{isRising}
 use Rattle.pauli.specs.Gate.{Gate, operandsOf}
 use Rattle.job.specs.declared.Header.{Header}
 use Rattle.job.specs.Line.{SparsePauli, Line, WeightedPauli, Distribution, Noise, Instruction, Placed}
-use Rattle.job.specs.Float.{float, nought, totalFrom, isProbability, isWeight, isTotal}
+use Rattle.job.specs.Float.{float, zeroFloat, totalFrom, isProbability, isWeight, isTotal}
 use Rattle.job.specs.Clifford.{isClifford}
 use Rattle.job.specs.Grammar.{NoiseLine, Written, readLine}
 use Rattle.job.specs.Checks.{elementLines, allBelow, distinct, isPermutation}
@@ -134,7 +134,7 @@ pub record WeightedSound (n : ℕ) (es : List WeightedPauli) : Type 0 where
   pub few : length es ≤ 64
   pub each : Every (ElementSound n) es
   -- the total is above zero, and finite
-  pub total : isTotal (totalFrom nought (weightsOf es)) ≡ true
+  pub total : isTotal (totalFrom zeroFloat (weightsOf es)) ≡ true
 
 unfoldable pub DistributionSound : ℕ → Distribution → Type 0
 DistributionSound n (Distribution.single P) = PauliSound n P

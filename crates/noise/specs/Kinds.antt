@@ -6,7 +6,7 @@ use mathlib.Core.Option.{Option, none, some}
 use lib.ListN.{length}
 use lib.Ieee.{Float}
 use Rattle.job.specs.Line.{WeightedPauli, Distribution, Noise}
-use Rattle.job.specs.Float.{float, nought, totalFrom}
+use Rattle.job.specs.Float.{float, zeroFloat, totalFrom}
 use Rattle.job.specs.Sound.{weightsOf}
 use Rattle.draws.specs.Draws.{runningSums}
 use Rattle.noise.specs.declared.PauliDistribution.{PauliDistribution}
@@ -26,7 +26,7 @@ unfoldable pub kindOf : Distribution → PauliDistribution
 kindOf (Distribution.single P) = Single
 kindOf (Distribution.depolarizing qs) = Depolarizing (length qs)
 kindOf (Distribution.uniform Ps) = Uniform (length Ps)
-kindOf (Distribution.weighted es) = Weighted (totalFrom nought (weightsOf es))
+kindOf (Distribution.weighted es) = Weighted (totalFrom zeroFloat (weightsOf es))
 
 -- the elements that are chosen from by a bound: none where the kind chooses otherwise
 unfoldable pub boundOf : PauliDistribution → ℕ

@@ -5,14 +5,14 @@ use native.Mathlib.Omega.{arith}
 use lib.ListN.{length, take, drop, length-set}
 use borrow.Author.Needs.{needs}
 use mathlib.Core.List.{_++_}
-use Rattle.job.specs.Float.{nought}
+use Rattle.job.specs.Float.{zeroFloat}
 use Rattle.draws.specs.Draws.{runningFrom}
 use Rattle.choice.specs.Laws.Sums.{running-step, running-end}
 use Rattle.choice.proofs.running_sums.Statement.{statement}
 use Rattle.choice.proofs.running_sums.Tie as tie
 
 abbrev Inv-loop : tie.InvT-loop
-Inv-loop sums₀ weights total sum₀ i₀ sums sum i = (length sums ≡ length weights) × (i ≤ length weights) × (take i sums ++ runningFrom total sum (drop i weights) ≡ runningFrom total nought weights)
+Inv-loop sums₀ weights total sum₀ i₀ sums sum i = (length sums ≡ length weights) × (i ≤ length weights) × (take i sums ++ runningFrom total sum (drop i weights) ≡ runningFrom total zeroFloat weights)
 
 abbrev μ-loop : tie.MeasureT-loop
 μ-loop sums₀ weights total sum₀ i₀ sums sum i = length weights - i

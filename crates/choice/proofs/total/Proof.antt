@@ -4,13 +4,13 @@ use Prim.Native.Nat.{_-_, _≤_}
 use native.Mathlib.Omega.{arith}
 use lib.ListN.{length, drop}
 use borrow.Author.Needs.{needs}
-use Rattle.job.specs.Float.{nought, totalFrom}
+use Rattle.job.specs.Float.{zeroFloat, totalFrom}
 use Rattle.choice.specs.Laws.Sums.{total-step, total-end}
 use Rattle.choice.proofs.total.Statement.{statement}
 use Rattle.choice.proofs.total.Tie as tie
 
 abbrev Inv-loop : tie.InvT-loop
-Inv-loop weights sum₀ i₀ sum i = (i ≤ length weights) × (totalFrom sum (drop i weights) ≡ totalFrom nought weights)
+Inv-loop weights sum₀ i₀ sum i = (i ≤ length weights) × (totalFrom sum (drop i weights) ≡ totalFrom zeroFloat weights)
 
 abbrev μ-loop : tie.MeasureT-loop
 μ-loop weights sum₀ i₀ sum i = length weights - i

@@ -8,7 +8,7 @@ use mathlib.Core.List.{List, _++_, append-assoc, append-nil}
 use lib.ListN.{length, getD, take, drop, set, drop-of-length-le}
 use lib.Seq.{drop-cons, take-all, take-suc-set}
 use lib.Ieee.{Float, nan, binary64, add, div, lt}
-use Rattle.job.specs.Float.{nought, one, totalFrom}
+use Rattle.job.specs.Float.{zeroFloat, one, totalFrom}
 use Rattle.draws.specs.Draws.{runningFrom, runningSums, belowUnit}
 
 -- ---- the total
@@ -34,13 +34,13 @@ unfolding runningFrom
 running-step t s ws sums i h k = rw (add-one, take-suc-set, append-assoc, drop-cons ws i nan)
 
 -- with no weight left, the stored sums are all of them, and the last is set to 1.0
-pub running-end : (t s : Float) (ws sums : List Float) (i : ℕ) → length sums ≡ length ws → length ws ≤ i → t ≡ totalFrom nought ws
-    → take i sums ++ runningFrom t s (drop i ws) ≡ runningFrom t nought ws → set sums (length ws - 1) one ≡ runningSums ws
+pub running-end : (t s : Float) (ws sums : List Float) (i : ℕ) → length sums ≡ length ws → length ws ≤ i → t ≡ totalFrom zeroFloat ws
+    → take i sums ++ runningFrom t s (drop i ws) ≡ runningFrom t zeroFloat ws → set sums (length ws - 1) one ≡ runningSums ws
 unfolding runningFrom
 running-end t s ws sums i l h total e =
     let stored : take i sums ≡ sums = take-all i sums (omega arith) in
-    let whole : sums ≡ runningFrom t nought ws = sym stored ∙ sym (append-nil (take i sums)) ∙ (rw (drop-of-length-le ws h) at e) in
-    ap (λ (x : List Float). set x (length ws - 1) one) (whole ∙ ap (λ (x : Float). runningFrom x nought ws) total)
+    let whole : sums ≡ runningFrom t zeroFloat ws = sym stored ∙ sym (append-nil (take i sums)) ∙ (rw (drop-of-length-le ws h) at e) in
+    ap (λ (x : List Float). set x (length ws - 1) one) (whole ∙ ap (λ (x : Float). runningFrom x zeroFloat ws) total)
 
 -- ---- running sums below u
 

@@ -12,7 +12,7 @@ use lib.Ieee.{Float, le}
 use borrow.Author.Tests.{lt-ltb}
 use Rattle.pauli.specs.Bits.{Bits}
 use Rattle.job.specs.Line.{Distribution, sizeOf, Noise}
-use Rattle.job.specs.Float.{float, nought}
+use Rattle.job.specs.Float.{float, zeroFloat}
 use Rattle.draws.specs.Draws.{falls, Choice, limitOf, bounded, byWeight, chooseFrom, isSatisfied, ShotDraw, faultOf, drawShot, Lent, Fault, Draws, alsoFault, thenShots, drawShots, drawLine}
 
 -- a list that ends in so many zeros
@@ -120,7 +120,7 @@ module _ (lent : Lent) (n : Noise) (p : 0 < sizeOf (n .distribution)) (h : sizeO
   -- with two zeros a shot after any list the line is drawn
   pub line-enough : (ws : List ℕ) → Enough (drawLine lent n (ws ++ replicate (lent .shots + lent .shots) 0))
   unfolding drawLine
-  line-enough ws = go (le (float (n .probability)) nought) (shots-enough (lent .shots) 0 longer record { before = ws; whole = refl })
+  line-enough ws = go (le (float (n .probability)) zeroFloat) (shots-enough (lent .shots) 0 longer record { before = ws; whole = refl })
     where
       longer : List ℕ
       longer = ws ++ replicate (lent .shots + lent .shots) 0

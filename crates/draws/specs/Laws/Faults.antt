@@ -13,7 +13,7 @@ use borrow.Author.Tests.{lt-ltb}
 use Rattle.text.specs.List.{risesFrom, isRising}
 use Rattle.pauli.specs.Bits.{Bits}
 use Rattle.job.specs.Line.{SparsePauli, WeightedPauli, Distribution, sizeOf, Noise}
-use Rattle.job.specs.Float.{float, nought, one, totalFrom}
+use Rattle.job.specs.Float.{float, zeroFloat, one, totalFrom}
 use Rattle.job.specs.Checks.{allBelow}
 use Rattle.draws.specs.Draws.{falls, noPauli, elementAt, Choice, limitOf, bounded, runningFrom, runningSums, byWeight, chooseFrom, isSatisfied, ShotDraw, faultOf, drawShot, Lent, Fault, Draws, alsoFault, thenShots, drawShots, drawLine}
 use Rattle.draws.specs.Known.{shotsOf, elementsOf}
@@ -74,7 +74,7 @@ shots-within lent n (suc count) shot high ws h =
 
 line-within : (lent : Lent) (n : Noise) (ws : List ℕ) → DrawsWithin 0 (lent .shots) (drawLine lent n ws)
 unfolding drawLine DrawsWithin RisesWithin
-line-within lent n ws = go (le (float (n .probability)) nought) (shots-within lent n (lent .shots) 0 (lent .shots) ws (omega arith))
+line-within lent n ws = go (le (float (n .probability)) zeroFloat) (shots-within lent n (lent .shots) 0 (lent .shots) ws (omega arith))
   where
     go : (b : Bool) → DrawsWithin 0 (lent .shots) (drawShots lent n (lent .shots) 0 ws)
         → DrawsWithin 0 (lent .shots) (cond b (Draws.drawn [] ws) (drawShots lent n (lent .shots) 0 ws))
@@ -122,8 +122,8 @@ running-length total s (w ∷ ws) = ap suc (running-length total _ ws)
 
 sums-length : (ws : List Float) → length (runningSums ws) ≡ length ws
 sums-length ws =
-    let running = runningFrom (totalFrom nought ws) nought ws in
-    length-set running (length ws - 1) one ∙ running-length (totalFrom nought ws) nought ws
+    let running = runningFrom (totalFrom zeroFloat ws) zeroFloat ws in
+    length-set running (length ws - 1) one ∙ running-length (totalFrom zeroFloat ws) zeroFloat ws
 
 weight-below : (ws : List Float) (vs : List ℕ) → 0 < length ws → ChoiceBelow (length ws) (byWeight (runningSums ws) vs)
 unfolding byWeight ChoiceBelow
@@ -185,7 +185,7 @@ elements-within lent n h (suc count) shot ws =
 
 line-below : (lent : Lent) (n : Noise) (ws : List ℕ) → 0 < sizeOf (n .distribution) → DrawsBelow (sizeOf (n .distribution)) (drawLine lent n ws)
 unfolding drawLine DrawsBelow
-line-below lent n ws h = go (le (float (n .probability)) nought) (elements-within lent n h (lent .shots) 0 ws)
+line-below lent n ws h = go (le (float (n .probability)) zeroFloat) (elements-within lent n h (lent .shots) 0 ws)
   where
     go : (b : Bool) → DrawsBelow (sizeOf (n .distribution)) (drawShots lent n (lent .shots) 0 ws)
         → DrawsBelow (sizeOf (n .distribution)) (cond b (Draws.drawn [] ws) (drawShots lent n (lent .shots) 0 ws))

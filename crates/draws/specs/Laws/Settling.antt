@@ -7,7 +7,7 @@ use Prim.Native.Nat.{ℕ, zero, suc}
 use lib.Ieee.{le}
 use Rattle.job.specs.declared.Header.{Header}
 use Rattle.job.specs.Line.{Line, Distribution, Noise, Instruction, Placed}
-use Rattle.job.specs.Float.{float, nought}
+use Rattle.job.specs.Float.{float, zeroFloat}
 use Rattle.frames.specs.Forward.{Setting, State, settingOf, forward, run}
 use Rattle.draws.specs.Draws.{Lent, Fault, ShotDraw, Draws, drawShot, alsoFault, thenShots, drawShots, drawLine, partOf}
 use Rattle.draws.specs.Settle.{SettledLine, injection, Step, noiseStep, stepOf, Settled, prefixed, settleThen, settle, settledList}
@@ -67,7 +67,7 @@ shots-settled h lent n (suc left) shot ws states = go (drawShot n (λ id. lent .
 line-settled : (h : Header) (lent : Lent) (n : Noise) (ws : List ℕ) (states : States)
     → injectNoise h lent n ws states ≡ onDraws h (n .distribution) states (drawLine lent n ws)
 unfolding injectNoise drawLine onDraws runAll run forwardAll
-line-settled h lent n ws states = go (le (float (n .probability)) nought)
+line-settled h lent n ws states = go (le (float (n .probability)) zeroFloat)
   where
     go : (b : Bool)
         → cond b (Executed.went states ws) (injectShots h lent n (lent .shots) 0 ws states)

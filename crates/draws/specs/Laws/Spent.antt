@@ -9,7 +9,7 @@ use native.Mathlib.Omega.{arith}
 use lib.ListN.{length, drop}
 use lib.Ieee.{le}
 use Rattle.job.specs.Line.{Noise, Instruction, Placed}
-use Rattle.job.specs.Float.{float, nought}
+use Rattle.job.specs.Float.{float, zeroFloat}
 use Rattle.draws.specs.Draws.{ShotDraw, drawShot, Lent, Draws, thenShots, drawShots, drawLine, partOf, mainAfter}
 use Rattle.draws.specs.Settle.{SettledLine, injection, Step, stepOf, Settled, prefixed, settleThen, settle}
 use Rattle.draws.specs.Known.{leftBy, mainLeft, SpentAt, lengthened}
@@ -195,7 +195,7 @@ shots-same lent us n (suc count) shot ws = go (drawShot n (λ id. lent .noiseles
 
 line-same : (lent : Lent) (us : List ℕ) (n : Noise) (ws : List ℕ) → drawLine (lengthened us lent) n ws ≡ drawLine lent n ws
 unfolding drawLine
-line-same lent us n ws = ap (cond (le (float (n .probability)) nought) (Draws.drawn [] ws)) (shots-same lent us n (lent .shots) 0 ws)
+line-same lent us n ws = ap (cond (le (float (n .probability)) zeroFloat) (Draws.drawn [] ws)) (shots-same lent us n (lent .shots) 0 ws)
 
 -- more words left
 unfoldable leaving : List ℕ → Step → Step

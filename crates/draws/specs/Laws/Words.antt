@@ -14,7 +14,7 @@ use lib.Seq.{drop-append-seam, take-append-seam, take-append-le}
 use lib.Ieee.{Float, le}
 use Rattle.pauli.specs.Bits.{Bits}
 use Rattle.job.specs.Line.{Line, Distribution, sizeOf, Noise, Instruction}
-use Rattle.job.specs.Float.{float, nought}
+use Rattle.job.specs.Float.{float, zeroFloat}
 use Rattle.draws.specs.Draws.{falls, Choice, limitOf, bounded, byWeight, chooseFrom, isSatisfied, ShotDraw, faultOf, drawShot, Lent, Fault, Draws, alsoFault, thenShots, drawShots, drawLine, partOf, mainAfter}
 use Rattle.draws.specs.Settle.{SettledLine, injection, Step, noiseStep, stepOf}
 
@@ -181,7 +181,7 @@ shots-took lent n (suc count) shot ws = go (first ws) (shot-took n (λ id. lent 
 
 pub line-took : (lent : Lent) (n : Noise) (ws : List ℕ) → DrawsTook (drawLine lent n) ws (drawLine lent n ws)
 unfolding drawLine DrawsTook
-line-took lent n ws = go (le (float (n .probability)) nought) (shots-took lent n (lent .shots) 0 ws)
+line-took lent n ws = go (le (float (n .probability)) zeroFloat) (shots-took lent n (lent .shots) 0 ws)
   where
     all : List ℕ → Draws
     all = drawShots lent n (lent .shots) 0

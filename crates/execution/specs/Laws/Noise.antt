@@ -10,7 +10,7 @@ use lib.ListN.{length, take, drop, length-drop}
 use lib.Seq.{drop-drop}
 use Rattle.job.specs.declared.Header.{Header}
 use Rattle.job.specs.Line.{Noise, Instruction, Placed}
-use Rattle.job.specs.Float.{float, nought}
+use Rattle.job.specs.Float.{float, zeroFloat}
 use Rattle.job.specs.Job.{noiseOf, placedAt}
 use Rattle.reader.specs.declared.Form.{Form}
 use Rattle.instructions.specs.Ahead.{instructionsAt}
@@ -67,11 +67,11 @@ module _ (h : Header) (lent : Lent) (main : List ℕ) (n : Noise) (corr : Correl
     abbrev one : Executed
     one = executeOne h lent (drop position main) (Instruction.noise n) states
 
-    one-quiet : le (float (n .probability)) nought ≡ true → one ≡ Executed.went states (drop position main)
+    one-quiet : le (float (n .probability)) zeroFloat ≡ true → one ≡ Executed.went states (drop position main)
     unfolding executeOne injectNoise onMain
     one-quiet e = rw (← same, e) (ap (Executed.went states) (main-stays corr lent main position))
 
-    module _ (some-words : le (float (n .probability)) nought ≡ false) (words : List ℕ) (part : words ≡ partOf lent (correlationOf corr) (drop position main)) where
+    module _ (some-words : le (float (n .probability)) zeroFloat ≡ false) (words : List ℕ) (part : words ≡ partOf lent (correlationOf corr) (drop position main)) where
       one-drawn : one ≡ onMain (correlationOf corr) (drop position main) (injectShots h lent n (lent .shots) 0 words states)
       unfolding executeOne injectNoise
       one-drawn = rw (← same, some-words, part)
@@ -177,7 +177,7 @@ module _ {job : List ℕ} {at : ℕ} {form : Form} {fields noiseless : List ℕ}
     abbrev Done : List ℕ → List ℕ → List ℕ → List ℕ → Moved → Type 0
     Done x z x′ z′ moved = NoiseDone job at form fields h noiseless main second base position w x z x′ z′ moved
 
-    pub noise-quiet : (x z : List ℕ) → le (r .fault .probability) nought ≡ true → Done x z x z (To (r .next) position (r .lines + 1))
+    pub noise-quiet : (x z : List ℕ) → le (r .fault .probability) zeroFloat ≡ true → Done x z x z (To (r .next) position (r .lines + 1))
     noise-quiet x z quiet =
         record {
           by = λ q same k line text deltas states holds.
@@ -187,7 +187,7 @@ module _ {job : List ℕ} {at : ℕ} {form : Form} {fields noiseless : List ℕ}
         }
 
     module _ (words : List ℕ) (part : words ≡ partOf lent (correlationOf (r .fault .correlation)) (drop position main))
-        (some-words : le (r .fault .probability) nought ≡ false) (x z x′ z′ : List ℕ) {d : Drawn}
+        (some-words : le (r .fault .probability) zeroFloat ≡ false) (x z x′ z′ : List ℕ) {d : Drawn}
         (injected : FaultsInjected (h .qubits) (h .shots) w (r .fault .probability) (r .fault .distribution) (take (r .lines) sums) elements mask words x z x′ z′ d)
       where
         left : (q : NoiseLines job at form fields noiseless w) → q .header ≡ h → (deltas : List ℕ) (states : States) → Holds w x z deltas states

@@ -13,7 +13,7 @@ use lib.Ieee.{Float}
 use Rattle.text.specs.Template.{Value}
 use Rattle.template.specs.Fields.{Held}
 use Rattle.job.specs.Line.{WeightedPauli}
-use Rattle.job.specs.Float.{float, nought, isWeight, totalFrom}
+use Rattle.job.specs.Float.{float, zeroFloat, isWeight, totalFrom}
 use Rattle.job.specs.Sound.{weightsOf}
 use Rattle.draws.specs.Draws.{noPauli, runningSums}
 use Rattle.instructions.specs.declared.Next.{Next}
@@ -39,7 +39,7 @@ element-at es i x later e =
 
 -- the weight that its fields give
 weight-given : (weighted : Bool) {f : List ℕ} {vs : List Value} → Held f (cond weighted 1 0) 2 vs
-    → cond weighted (float (getD f 0 0)) nought ≡ float (elementBy weighted vs .weight)
+    → cond weighted (float (getD f 0 0)) zeroFloat ≡ float (elementBy weighted vs .weight)
 weight-given true h = ap float (h .number 0 (omega arith))
 weight-given false h = refl
 
@@ -56,7 +56,7 @@ module _ {job : List ℕ} {at n : ℕ} {weighted : Bool} (q : ElementLines job a
         let held : Held f 1 2 (read .values) = subst (λ (b : Bool). Held f (cond b 1 0) 2 (read .values)) e (read .held) in
         rw (held .number 0 (omega arith)) (read .weight e .weight)
 
-    pub gathered-more : n * 64 ≤ length elements → length weights ≡ n → (w : Float) → w ≡ cond weighted (float (getD f 0 0)) nought
+    pub gathered-more : n * 64 ≤ length elements → length weights ≡ n → (w : Float) → w ≡ cond weighted (float (getD f 0 0)) zeroFloat
         → Gathered q (kept i 0 f elements) (set weights i w) (next .end + 1) (i + 1)
     gathered-more fits size w e =
         let is : getD (q .elements) i noElement ≡ elementBy weighted (read .values) = element-at (q .elements) i _ _ (read .element) in
@@ -82,7 +82,7 @@ gathered-none q elements weights = record { among = q .among; weighed = refl; he
 
 -- all of them, with their weights summed up
 pub kept-all : {job : List ℕ} {at n : ℕ} {weighted : Bool} (q : ElementLines job at n weighted) {elements : List ℕ} {weights : List Float} {next : ℕ} {t : Float}
-    {sums : List Float} → Gathered q elements weights next n → length weights ≡ n → t ≡ totalFrom nought weights
+    {sums : List Float} → Gathered q elements weights next n → length weights ≡ n → t ≡ totalFrom zeroFloat weights
     → (weighted ≡ true → sums ≡ runningSums weights) → ElementsKept q elements sums (record { next = next; total = t })
 kept-all {n = n} q {weights = weights} g size total running =
     let all : weights ≡ weightsOf (q .elements) =
@@ -90,6 +90,6 @@ kept-all {n = n} q {weights = weights} g size total running =
     record {
       among = g .among;
       held = g .held;
-      total = total ∙ ap (totalFrom nought) all;
+      total = total ∙ ap (totalFrom zeroFloat) all;
       running = λ e. running e ∙ ap runningSums all;
     }

@@ -10,7 +10,7 @@ use Rattle.text.specs.Bytes.{bytes}
 use Rattle.text.specs.Template.{Value}
 use Rattle.job.specs.declared.Header.{Header}
 use Rattle.job.specs.Line.{WeightedPauli, Distribution, OutcomeCondition}
-use Rattle.job.specs.Float.{float, nought, isProbability, totalFrom}
+use Rattle.job.specs.Float.{float, zeroFloat, isProbability, totalFrom}
 use Rattle.job.specs.Grammar.{Kind, NoiseLine, Written, forms}
 use Rattle.job.specs.Checks.{elementLines, firstTotal}
 use Rattle.job.specs.Job.{distributionOf, noiseOf}
@@ -61,7 +61,7 @@ noise-lines {job} {h} {r} {k} {at} {next} m noiseless w fits =
 
 -- ---- the kind, as the struct has it
 
-kind-same : (k : Kind) (es : List WeightedPauli) (t : Float) → length es ≡ elementLines k → t ≡ totalFrom nought (weightsOf es)
+kind-same : (k : Kind) (es : List WeightedPauli) (t : Float) → length es ≡ elementLines k → t ≡ totalFrom zeroFloat (weightsOf es)
     → kindBy k t ≡ kindOf (distributionOf k es)
 unfolding kindBy kindOf distributionOf elementLines
 kind-same (Kind.single P) es t count e = refl
@@ -162,7 +162,7 @@ module _ {job : List ℕ} {at : ℕ} {g : Form} {f noiseless : List ℕ} {w : �
   sums-filled e = some-elements (q .header .qubits) (q .noise .kind) (q .elements) (q .sound .distribution) e
 
   module _ {t : Float} {r : PauliFault} (h : FaultOf (q .noise) t r) where
-    pub stands : (sums : List Float) → t ≡ totalFrom nought (weightsOf (q .elements))
+    pub stands : (sums : List Float) → t ≡ totalFrom zeroFloat (weightsOf (q .elements))
         → (hasWeights (q .noise .kind) ≡ true → sums ≡ runningSums (weightsOf (q .elements))) → Represents (noiseIn q) (r .probability) (r .distribution) sums
     unfolding noiseOf
     stands sums total running =

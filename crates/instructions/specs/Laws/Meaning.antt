@@ -10,7 +10,7 @@ use lib.ListN.{length, getD}
 use Rattle.pauli.specs.Gate.{Gate, gateOf}
 use Rattle.text.specs.Bytes.{bytes}
 use Rattle.text.specs.Template.{Value, numberAt, listAt}
-use Rattle.job.specs.Float.{nought}
+use Rattle.job.specs.Float.{zeroFloat}
 use Rattle.job.specs.declared.Header.{Header}
 use Rattle.job.specs.Line.{SparsePauli, Line}
 use Rattle.job.specs.Grammar.{Kind, NoiseLine, Written, isOne, optional, unitaryLine, noiseLine, forms, readLine}
@@ -55,7 +55,7 @@ pub data Meaning (f : Form) : Written → Type 0 where
   allocate : (l : Line) → f ≡ form.Allocate → Meaning f (Written.line l)
   alone : (n : NoiseLine) → elementLines (n .kind) ≡ 0 → firstTotal (n .kind) ≡ none → noiseForm f ≡ true → Meaning f (Written.noise n)
   uniform : (n : NoiseLine) → f ≡ form.Uniform → firstTotal (n .kind) ≡ none → Meaning f (Written.noise n)
-  weighted : (n : NoiseLine) → f ≡ form.Weighted → firstTotal (n .kind) ≡ some nought → Meaning f (Written.noise n)
+  weighted : (n : NoiseLine) → f ≡ form.Weighted → firstTotal (n .kind) ≡ some zeroFloat → Meaning f (Written.noise n)
   element : (P : SparsePauli) → f ≡ form.Element → Meaning f (Written.element none P)
   weighted-element : (v : ℕ) (P : SparsePauli) → f ≡ form.WeightedElement → Meaning f (Written.element (some v) P)
 

@@ -11,7 +11,7 @@ use lib.Dec.{eqb, ltb}
 use lib.ListN.{getD}
 use Rattle.text.specs.Bytes.{bytes}
 use Rattle.text.specs.Template.{Value, numberAt}
-use Rattle.job.specs.Float.{float, nought, isWeight}
+use Rattle.job.specs.Float.{float, zeroFloat, isWeight}
 use Rattle.job.specs.Grammar.{Written, forms}
 use Rattle.job.specs.Checks.{Context, elementLines, firstTotal, nextTotal, sameWeight, expected, next, weightFits, ownTests, tests, refusalOf}
 use Rattle.text.specs.Laws.Values.{both}
@@ -76,7 +76,7 @@ module _ (c : Context) (f : Form) where
   no-total-after a b w (Meaning.weighted-element v P e) x = absurd (b e)
 
   -- a sum that begins
-  pub total-begins : (f ≡ form.WeightedElement → ⊥) → (w : Written) → Meaning f w → expected c w ≡ true → (t : Float) → next c w .total ≡ some t → nought ≡ t
+  pub total-begins : (f ≡ form.WeightedElement → ⊥) → (w : Written) → Meaning f w → expected c w ≡ true → (t : Float) → next c w .total ≡ some t → zeroFloat ≡ t
   unfolding next
   total-begins b w (Meaning.weighted n e k) x t q = some-same (sym k ∙ q)
   total-begins b w (Meaning.header h e) x t q = no-sum q
@@ -146,7 +146,7 @@ module _ (c : Known) {f : List ℕ} {vs : List Value} {w : Written} where
 
 -- the sum after a noise line with weights, and after an element line with one
 module _ (c : Context) (vs : List Value) (w : Written) where
-  pub total-first : formOf form.Weighted .says vs ≡ some w → next c w .total ≡ some nought
+  pub total-first : formOf form.Weighted .says vs ≡ some w → next c w .total ≡ some zeroFloat
   unfolding forms placeOf bytes next firstTotal noiseBy
   total-first e = sym (ap (λ (x : Written). next c x .total) (noise-said _ vs w e))
 

@@ -10,7 +10,7 @@ use lib.ListN.{length, drop, length-drop}
 use lib.Seq.{drop-drop}
 use Rattle.text.specs.Bytes.{LF, unlines}
 use Rattle.job.specs.Line.{Distribution, sizeOf, Noise, Instruction}
-use Rattle.job.specs.Float.{float, nought}
+use Rattle.job.specs.Float.{float, zeroFloat}
 use Rattle.writer.specs.Placed.{Puts}
 use Rattle.writer.specs.Laws.Placing.{puts-nothing, puts-more}
 use Rattle.writer.specs.Laws.Lines.{inject-next}
@@ -177,7 +177,7 @@ module _ {words : List ℕ} {from shots : ℕ} {out after : List ℕ} {r : Drawn
             }
 
 -- with p above zero all shots draw
-line-draws : (lent : Lent) (n : Noise) (ws : List ℕ) → le (float (n .probability)) nought ≡ false → drawLine lent n ws ≡ drawShots lent n (lent .shots) 0 ws
+line-draws : (lent : Lent) (n : Noise) (ws : List ℕ) → le (float (n .probability)) zeroFloat ≡ false → drawLine lent n ws ≡ drawShots lent n (lent .shots) 0 ws
 unfolding drawLine
 line-draws lent n ws high = rw high
 
@@ -205,7 +205,7 @@ module _ {p : Float} {d : PauliDistribution} {sums : List Float} {mask elements 
     step = stepOf (q .ready .lent) (drop position main) text (Instruction.noise noise)
 
     -- with p at or below zero nothing is read and nothing is put
-    pub no-draws : {place : ℕ} {out : List ℕ} → le p nought ≡ true → StepPut main place shots out step out (Done position place)
+    pub no-draws : {place : ℕ} {out : List ℕ} → le p zeroFloat ≡ true → StepPut main place shots out step out (Done position place)
     unfolding stepOf drawLine noiseStep PutAs unlines
     no-draws {place} low =
         rw (← q .ready .stands .probability, low)
@@ -222,14 +222,14 @@ module _ {p : Float} {d : PauliDistribution} {sums : List Float} {mask elements 
               };
         })
 
-    module _ (words : List ℕ) (high : le p nought ≡ false) (part : words ≡ partOf (q .ready .lent) (correlationOf correlation) (drop position main)) where
+    module _ (words : List ℕ) (high : le p zeroFloat ≡ false) (part : words ≡ partOf (q .ready .lent) (correlationOf correlation) (drop position main)) where
       abbrev draws : Draws
       draws = drawShots (q .ready .lent) noise shots 0 words
 
       step-is : step ≡ noiseStep noise (drop position main) draws
       unfolding stepOf
       step-is =
-          let above : le (float (noise .probability)) nought ≡ false = ap (λ (f : Float). le f nought) (sym (q .ready .stands .probability)) ∙ high in
+          let above : le (float (noise .probability)) zeroFloat ≡ false = ap (λ (f : Float). le f zeroFloat) (sym (q .ready .stands .probability)) ∙ high in
           let from-part : partOf (q .ready .lent) (noise .correlation) (drop position main) ≡ words =
           ap (λ (o : Option ℕ). partOf (q .ready .lent) o (drop position main)) (sym (q .correlated)) ∙ sym part in
           ap (noiseStep noise (drop position main))

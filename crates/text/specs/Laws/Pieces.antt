@@ -28,6 +28,15 @@ module _ (sep : ℕ) (s : List ℕ) (i : ℕ) where
   unfolding until
   until-end h = ap (until sep) (drop-of-length-le s h)
 
+pub until-le : (sep : ℕ) (l : List ℕ) → until sep l ≤ length l
+unfolding until
+until-le sep [] = omega arith
+until-le sep (b ∷ l) = go (eqb b sep) (until-le sep l)
+  where
+    go : (t : Bool) → until sep l ≤ length l → cond t 0 (suc (until sep l)) ≤ suc (length l)
+    go true h = omega arith
+    go false h = omega arith
+
 -- up to the first separator, where there is one
 abbrev pub First : List (List ℕ) → ℕ → List ℕ → Type 0
 First last sep l =

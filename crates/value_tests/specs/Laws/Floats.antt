@@ -6,7 +6,7 @@ use mathlib.Core.Bool.{Bool, true, false, not, true≢false}
 use lib.Dec.{ltb}
 use lib.Ieee.{Float, nan, inf, fin, binary64, ofBits, isNan, lt}
 use lib.Ieee.Bits.{nanBits-is, nanBits-above}
-use Rattle.job.specs.Float.{nought, one, isProbability, isWeight, isTotal}
+use Rattle.job.specs.Float.{zeroFloat, one, isProbability, isWeight, isTotal}
 use Rattle.value_tests.specs.declared.floats.Checked.the-variants.{Accepted, Refused}
 use Rattle.value_tests.specs.Floats.{onlyIf}
 
@@ -15,11 +15,11 @@ pub nan-test : (b : ℕ) → isNan (ofBits binary64 b) ≡ ltb 92188684372274053
 nan-test b = sym (nanBits-is binary64 b) ∙ nanBits-above binary64 b
 
 -- the two tests of a weight: below zero, then below infinity
-pub weight-below : (x : Float) → lt x nought ≡ true → false ≡ isWeight x
+pub weight-below : (x : Float) → lt x zeroFloat ≡ true → false ≡ isWeight x
 unfolding isWeight
 weight-below x e = rw e
 
-pub weight-else : (x : Float) → lt x nought ≡ false → lt x (ofBits binary64 9218868437227405312) ≡ isWeight x
+pub weight-else : (x : Float) → lt x zeroFloat ≡ false → lt x (ofBits binary64 9218868437227405312) ≡ isWeight x
 unfolding isWeight lt ofBits
 weight-else nan e = refl
 weight-else (inf true) e = absurd (true≢false e)
@@ -27,14 +27,14 @@ weight-else (inf false) e = refl
 weight-else (fin s m d) e = rw e
 
 -- the two tests of a total: above zero, then below infinity
-pub total-above : (x : Float) → lt nought x ≡ true → lt x (ofBits binary64 9218868437227405312) ≡ isTotal x
+pub total-above : (x : Float) → lt zeroFloat x ≡ true → lt x (ofBits binary64 9218868437227405312) ≡ isTotal x
 unfolding isTotal lt ofBits
 total-above nan e = absurd (true≢false (sym e))
 total-above (inf true) e = absurd (true≢false (sym e))
 total-above (inf false) e = refl
 total-above (fin s m d) e = rw e
 
-pub total-else : (x : Float) → lt nought x ≡ false → false ≡ isTotal x
+pub total-else : (x : Float) → lt zeroFloat x ≡ false → false ≡ isTotal x
 unfolding isTotal
 total-else x e = rw e
 
