@@ -1,12 +1,12 @@
--- `settling::put_instruction` meets its contract. Assumes nothing.
-use Rattle.settling.specs.Laws.Pass.{few-lines, plain-put}
+-- `instruction_text::put_instruction` meets its contract. Assumes nothing.
+use Rattle.instruction_text.specs.Laws.Pass.{few-lines, plain-put}
 use Rattle.job.specs.Laws.Begun.{ended-parts}
 use lib.ListN.{length-take}
 use mathlib.Core.Path.{sym, _∙_}
 use native.Mathlib.Omega.{arith}
 use borrow.Author.Needs.{needs}
-use Rattle.settling.proofs.put_instruction.Statement.{statement}
-use Rattle.settling.proofs.put_instruction.Tie as tie
+use Rattle.instruction_text.proofs.put_instruction.Statement.{statement}
+use Rattle.instruction_text.proofs.put_instruction.Tie as tie
 
 next-line-requires : tie.Need-next-line-requires
 next-line-requires c κs = search needs

@@ -1,14 +1,14 @@
--- `settling::put_noise_line` meets its contract. Assumes nothing.
+-- `instruction_text::put_noise_line` meets its contract. Assumes nothing.
 use lib.ListN.{length}
 use Prim.Native.Nat.{_≤_}
 use mathlib.Core.Path.{_≡_, sym}
 use lib.Dec.{lit≤}
-use Rattle.settling.specs.Laws.Pass.{few-shots, few-lines, noise-is, noise-here, ready-here, noise-spent, noise-done}
+use Rattle.instruction_text.specs.Laws.Pass.{few-shots, few-lines, noise-is, noise-here, ready-here, noise-spent, noise-done}
 use lib.Seq.{length-take-le}
 use native.Mathlib.Omega.{arith}
 use borrow.Author.Needs.{needs}
-use Rattle.settling.proofs.put_noise_line.Statement.{statement}
-use Rattle.settling.proofs.put_noise_line.Tie as tie
+use Rattle.instruction_text.proofs.put_noise_line.Statement.{statement}
+use Rattle.instruction_text.proofs.put_noise_line.Tie as tie
 
 add-next : tie.Need-add-next
 add-next c = search needs
