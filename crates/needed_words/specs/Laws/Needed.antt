@@ -15,13 +15,13 @@ use Rattle.injection.specs.Holds.{Holds}
 use Rattle.injection.specs.Laws.Holds.{holds-starts}
 use Rattle.execution.specs.Went.{lentBy, RowsFor, Finished}
 use Rattle.run.specs.Run.{Source, lentOf}
-use Rattle.runner.specs.Needed.{NeededReady, NeededRun}
-use Rattle.runner.specs.Laws.Padding.{past-shots}
-use Rattle.runner.specs.Laws.Replies.{Words, needed-finished, needed-stopped}
+use Rattle.needed_words.specs.Needed.{NeededReady, NeededRun}
+use Rattle.needed_words.specs.Laws.Padding.{past-shots}
+use Rattle.needed_words.specs.Laws.Replies.{Words, needed-finished, needed-stopped}
 
 -- words that were cleared are zero
-zeros : (l l′ : List ℕ) (n : ℕ) → length l ≡ n → l′ ≡ cleared 0 n l → l′ ≡ replicate n 0
-zeros l l′ n long e = e ∙ rw (← long) (cleared-all l)
+zeros : (l l′ : List ℕ) → l′ ≡ cleared 0 (length l) l → l′ ≡ replicate (length l) 0
+zeros l l′ e = e ∙ cleared-all l
 
 module _ {job : List ℕ} {h : Header} {from w : ℕ} {x z d noiseless : List ℕ} (ready : NeededReady job h from w x z d noiseless) where
   pub rows-for : {x′ z′ d′ : List ℕ} → length x′ ≡ length x → length z′ ≡ length z → length d′ ≡ length d → RowsFor h w x′ z′ d′ noiseless
@@ -40,7 +40,7 @@ module _ {job : List ℕ} {h : Header} {from w : ℕ} {x z d noiseless : List �
   -- cleared words hold the states that a run begins with
   pub holds-cleared : {x′ z′ d′ : List ℕ} → x′ ≡ cleared 0 (length x) x → z′ ≡ cleared 0 (length z) z → d′ ≡ cleared 0 (length d) d → Holds w x′ z′ d′ starts
   holds-cleared {x′} {z′} {d′} ex ez ed =
-      rw (zeros x x′ (length x) refl ex, zeros z z′ (length z) refl ez, zeros d d′ (length d) refl ed) (holds-starts w (length x) (length z) (length d))
+      rw (zeros x x′ ex, zeros z z′ ez, zeros d d′ ed) (holds-starts w (length x) (length z) (length d))
 
   module _ (source : Source) (same : source .noiseless ≡ noiseless) {x′ z′ d′ : List ℕ} {r : Answer}
       (finished : Finished (execute h (lentBy w h noiseless (source .second) (source .base)) (instructionsAt job 2 from) (source .main) starts) w x′ z′ d′ r)
@@ -61,14 +61,14 @@ module _ {job : List ℕ} {h : Header} {from w : ℕ} {x z d noiseless : List �
             is = needed-finished h (ready .words) (ready .ahead .header .some-shots) past (lx ∙ ready .of-x) (lz ∙ ready .of-z) (ld ∙ ready .of-deltas) fx fz fd in-source zero;
           }
 
-      pub run-stopped : {x″ z″ d″ : List ℕ} → x″ ≡ cleared 0 (length x) x′ → z″ ≡ cleared 0 (length z) z′ → d″ ≡ cleared 0 (length d) d′ → (r .number ≡ 0 → ⊥)
+      pub run-stopped : {x″ z″ d″ : List ℕ} → x″ ≡ cleared 0 (length x′) x′ → z″ ≡ cleared 0 (length z′) z′ → d″ ≡ cleared 0 (length d′) d′ → (r .number ≡ 0 → ⊥)
           → NeededRun job h source from x″ z″ d″ r
       run-stopped {x″} {z″} {d″} ex ez ed some =
           record {
             is =
                 needed-stopped h
-                (zeros x′ x″ (length x) lx ex ∙ rw (ready .of-x))
-                (zeros z′ z″ (length z) lz ez ∙ rw (ready .of-z))
-                (zeros d′ d″ (length d) ld ed ∙ rw (ready .of-deltas))
+                (zeros x′ x″ ex ∙ rw (lx, ready .of-x))
+                (zeros z′ z″ ez ∙ rw (lz, ready .of-z))
+                (zeros d′ d″ ed ∙ rw (ld, ready .of-deltas))
                 in-source some;
           }
