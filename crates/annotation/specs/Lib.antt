@@ -1,4 +1,3 @@
 -- What the functions of annotation say. Definitions, and laws that proofs cite.
-pub mod Qubits
 pub mod Lines
 pub mod Laws

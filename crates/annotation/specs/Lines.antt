@@ -1,16 +1,14 @@
--- What the code says of the annotated text and of the calls. Definitions. Assumes nothing.
+-- What the code says of the annotated text. Definitions. Assumes nothing.
 use Prim.Native.Nat.{ℕ}
 use mathlib.Core.Path.{_≡_}
 use mathlib.Core.Bool.{Bool, false, cond}
 use mathlib.Core.List.{List, _++_}
 use Rattle.text.specs.Bytes.{lines}
 use Rattle.job.specs.Grammar.{Written}
-use Rattle.job.specs.declared.CountReply.{CountReply}
 use Rattle.instructions.specs.Lines.{numbered}
 use Rattle.writer.specs.Placed.{Puts}
 use Rattle.circuit.specs.Annotate.{noiseBefore, annotatedText, firstUnfit}
-use Rattle.annotation.specs.declared.Counted.{Counted}
-use Rattle.annotation.specs.declared.lines.Progress.{Progress}
+use Rattle.annotation.specs.declared.around.Progress.{Progress}
 
 -- whether the noise of what a line says goes before it
 unfoldable pub beforeIt : Written → Bool
@@ -27,7 +25,3 @@ aroundText before line noise = cond before (noise ++ line) (line ++ noise)
 pub record Annotates (job : List ℕ) (p : ℕ) (r : Progress) (out after : List ℕ) : Type 0 where
   pub unfit : firstUnfit 1 (lines job) ≡ numbered (r .unfit)
   pub puts : r .unfit ≡ 0 → Puts 0 (annotatedText p job) out after (r .bytes)
-
--- the reply of the count
-abbrev pub countOf : Counted → CountReply
-countOf r = record { answered = r .answer; count = r .count }

@@ -1,19 +1,15 @@
-// Annotation of a job with depolarizing noise, and the count of its fault locations.
+// Annotation of a job with depolarizing noise.
 ghost use mathlib.Core.Path.{_≡_};
 ghost use Rattle.text.specs.Bytes.{lines as Bytes·lines};
 ghost use Rattle.job.specs.Job.{checkJob};
-ghost use Rattle.circuit.specs.Annotate.{firstUnfit, locations as Annotate·locations};
-ghost use Rattle.circuit.specs.Replies.{annotateAnswer, annotateReply, locationsReply};
+ghost use Rattle.circuit.specs.Annotate.{firstUnfit};
+ghost use Rattle.circuit.specs.Replies.{annotateAnswer, annotateReply};
 ghost use Rattle.writer.specs.Reply.{textReply};
-ghost use Rattle.annotation.specs.Lines.{countOf};
 
-pub mod lines;
-pub mod qubits;
+pub mod around;
 
-use crate::lines::put_annotated;
-use crate::qubits::noise_qubits;
+use crate::around::put_annotated;
 use checker::check;
-use instructions::next_line;
 use job::Answer;
 use value_tests::floats::Checked;
 use value_tests::floats::probability;
@@ -21,13 +17,6 @@ use writer::TextAnswer;
 use writer::refused;
 
 const MAX_BYTES: usize = 1048576;
-
-// What the count says, and the count.
-#[repr(C)]
-pub struct Counted {
-    pub answer: Answer,
-    pub count: u64,
-}
 
 // Annotates an accepted job. The text is measured first, over no bytes, since nothing is written with a refusal.
 fn annotate_accepted(job: &[u8], p: u64, out: &mut [u8]) -> TextAnswer
@@ -75,37 +64,4 @@ pub fn annotate(job: &[u8], p: u64, out: &mut [u8]) -> TextAnswer
         });
     };
     annotate_accepted(job, p, out)
-}
-
-// The locations of an accepted job.
-fn count(job: &[u8]) -> u64
-    requires { ⌜ checkJob (now job) .number ≡ 0 ⌝ }
-    ensures { λ r. ⌜ r ≡ Annotate·locations (Bytes·lines (now (job .entry))) ⌝ }
-{
-    let mut fields = [0u64; 136];
-    let mut qubits = [0u64; 124];
-    let mut at = 0;
-    let mut total: u64 = 0;
-    while at < job.len() {
-        let line = next_line(job, at, &mut fields);
-        let form = line.form;
-        let n = noise_qubits(form, &fields, &mut qubits);
-        total += 2 * n as u64;
-        at = line.end + 1;
-    }
-    total
-}
-
-// How many fault locations a job has: twice the qubits of its lines' noise.
-pub fn locations(job: &[u8]) -> Counted
-    ensures { λ r. ⌜ countOf r ≡ locationsReply (now (job .entry)) ⌝ }
-{
-    let answer = check(job);
-    if answer.number != 0 {
-        return Counted { answer, count: 0 };
-    }
-    Counted {
-        answer: Answer { number: 0, line: 0 },
-        count: count(job),
-    }
 }

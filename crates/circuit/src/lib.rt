@@ -1,2 +1,3 @@
-// The definitions of annotation, locations and the correlation check (specs/). The code is in the crates annotation and correlations.
+// The definitions of annotation, locations and the correlation check (specs/). The code is in the crates line_qubits, annotation, location_count and
+// correlations.
 pub fn nothing() {}

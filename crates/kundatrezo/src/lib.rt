@@ -86,7 +86,7 @@ pub extern "C" fn kundatrezo_annotate(job: &[u8], p: u64, out: &mut [u8]) -> Tex
 pub extern "C" fn kundatrezo_locations(job: &[u8]) -> CountAnswer
     ensures { λ r. ⌜ countReply r ≡ locationsReply (now (job .entry)) ⌝ }
 {
-    let r = annotation::locations(job);
+    let r = location_count::locations(job);
     let answer = r.answer;
     CountAnswer {
         answer,

@@ -1,4 +1,4 @@
-// Tests of the header and of the lines other than noise.
+// Tests of the header, and of each other kind of line but noise the number that refuses it after 2 and 3, 0 where none does.
 ghost use mathlib.Core.Path.{_≡_};
 ghost use mathlib.Core.List.{List, [], _∷_};
 ghost use mathlib.Core.Option.{some};
@@ -173,6 +173,7 @@ pub fn flip_number(c: Context, f: &[u64]) -> u64
     0
 }
 
+// How many outcomes are recorded after the line.
 pub fn recorded_after(c: Context, form: Form) -> u64
     requires { ⌜ c .recorded + 1 < 2 ^ 64 ⌝ }
     ensures { λ r. ⌜ ((vs : List Value) (w : Written) → formOf form .says vs ≡ some w → r ≡ Checks·next (contextOf c) w .recorded) ⌝ }

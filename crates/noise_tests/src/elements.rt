@@ -21,6 +21,7 @@ use value_tests::floats::is_total;
 use value_tests::floats::weight;
 use value_tests::lists::pauli_number;
 
+// The number that refuses an element line with a weight, after 2 and 3.
 pub fn weighted_element_number(c: Context, f: &[u64]) -> u64
     requires { ⌜ 136 ≤ length (now f) ⌝ }
     ensures { λ r. ⌜ ((vs : List Value) (w : Written) → Said form.WeightedElement (now (f .entry)) vs w → c .weighted ≡ true → r ≡ lowest (ownTests (contextOf c) w)) ⌝ }
@@ -114,6 +115,7 @@ pub fn total_after(c: Context, form: Form, f: &[u64]) -> f64
     }
 }
 
+// Whether the element lines that are due after the line have weights.
 pub fn weighted_after(form: Form) -> bool
     ensures { λ r. ⌜ ((c : Checks·Context) (vs : List Value) (w : Written) → formOf form .says vs ≡ some w → Checks·expected c w ≡ true → r ≡ hasTotal (Checks·next c w .total)) ⌝ }
 {

@@ -1,4 +1,4 @@
-// The tests of noise lines after 2 and 3.
+// Of each kind of noise line the number that refuses it after 2 and 3, 0 where none does.
 ghost use mathlib.Core.Path.{_≡_};
 ghost use mathlib.Core.List.{List, [], _∷_};
 ghost use Prim.Native.Nat.{ℕ, _≤_, _<_};

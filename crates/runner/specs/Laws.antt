@@ -1,9 +1,5 @@
 -- Laws, for the proofs that cite them. Nothing here has to be believed.
--- Bits past the last shot.
-pub mod Padding
--- From the states of shots to the reply.
+-- The reply, and the words beyond those that are needed.
 pub mod Replies
--- A run over exactly the words that it needs.
-pub mod Needed
--- A job that passed its tests, whose header was read.
+-- A job that passed its tests.
 pub mod Passed

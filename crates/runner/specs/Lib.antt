@@ -1,4 +1,4 @@
--- Definitions that contracts cite: what a run leaves in the words that it needs.
-pub mod Needed
--- Laws of these definitions.
+-- Definitions that contracts cite: whether so many words are lent as a run needs.
+pub mod Enough
+-- Laws of a run over lent words.
 pub mod Laws

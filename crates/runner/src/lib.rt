@@ -1,56 +1,33 @@
 // A run of a job: the tests, then its instructions one after the other on the lent words.
-use checker::check;
-use execution::execute;
-use instructions::next_line;
+use checker::examine;
 use job::Answer;
-use job::Header;
+use needed_words::run_needed;
+use numbers::pieces::find;
 ghost use mathlib.Core.Path.{_≡_};
 ghost use Rattle.run.specs.Run.{Source, Memory, RunReply, runReply};
-ghost use Rattle.runner.specs.Needed.{NeededReady, NeededRun};
+ghost use Rattle.runner.specs.Enough.{suffice};
 
-// A run over exactly the words that it needs. They are cleared first, and again where the draws were spent.
-fn run_needed<'a>(
-    job: &[u8],
-    from: usize,
-    x: &mut [u64],
-    z: &mut [u64],
-    deltas: &mut [u64],
-    w: usize,
-    h: Header,
-    noiseless: &[u64],
-    main: &'a [u64],
-    second: &'a [u64],
-    base: u64,
-) -> Answer
-    requires { ⌜ NeededReady (now job) h from w (now x) (now z) (now deltas) (now noiseless) ⌝ }
-    ensures { λ r. ⌜ NeededRun (now (job .entry)) h (record { noiseless = now (noiseless .entry); main = now (main .entry); second = now (second .entry); base = base }) from (now (x .exit)) (now (z .exit)) (now (deltas .exit)) r ⌝ }
+// Whether so many words are lent: a frame's of the X and of the Z part, the outcomes' of the deltas and of the noiseless bits.
+fn enough(
+    frame: usize,
+    outcomes: usize,
+    x: usize,
+    z: usize,
+    deltas: usize,
+    noiseless: usize,
+) -> bool
+    ensures { λ r. ⌜ r ≡ suffice frame outcomes x z deltas noiseless ⌝ }
 {
-    let nx = x.len();
-    let nz = z.len();
-    let nd = deltas.len();
-    rows::clear(&mut *x, 0, nx);
-    rows::clear(&mut *z, 0, nz);
-    rows::clear(&mut *deltas, 0, nd);
-    let r = execute(
-        job,
-        from,
-        &mut *x,
-        &mut *z,
-        &mut *deltas,
-        w,
-        h,
-        noiseless,
-        main,
-        second,
-        base,
-    );
-    if r.number == 0 {
-        return r;
+    if x < frame {
+        return false;
     }
-    rows::clear(x, 0, nx);
-    rows::clear(z, 0, nz);
-    rows::clear(deltas, 0, nd);
-    r
+    if z < frame {
+        return false;
+    }
+    if deltas < outcomes {
+        return false;
+    }
+    outcomes <= noiseless
 }
 
 // 13: lent words too few.
@@ -77,33 +54,26 @@ pub fn run<'a>(
 ) -> Answer
     ensures { λ r. ⌜ runReply (now (job .entry)) (record { x = now (x .entry); z = now (z .entry); deltas = now (deltas .entry); source = record { noiseless = now (noiseless .entry); main = now (main .entry); second = now (second .entry); base = base } }) ≡ record { answered = r; x = now (x .exit); z = now (z .exit); deltas = now (deltas .exit) } ⌝ }
 {
-    let checked = check(job);
-    if checked.number != 0 {
-        return checked;
+    let examined = examine(job);
+    let answer = examined.answer;
+    if answer.number != 0 {
+        return answer;
     }
-    let mut f = [0u64; 136];
-    let first = next_line(job, 0, &mut f);
-    let from = first.end + 1;
-    let h = Header {
-        qubits: f[0],
-        outcomes: f[1],
-        shots: f[2],
-    };
+    let h = examined.header;
     let w = (h.shots as usize + 63) / 64;
     let frame = h.qubits as usize * w;
     let outcomes = h.outcomes as usize * w;
-    if x.len() < frame {
+    if !enough(
+        frame,
+        outcomes,
+        x.len(),
+        z.len(),
+        deltas.len(),
+        noiseless.len(),
+    ) {
         return too_few();
     }
-    if z.len() < frame {
-        return too_few();
-    }
-    if deltas.len() < outcomes {
-        return too_few();
-    }
-    if noiseless.len() < outcomes {
-        return too_few();
-    }
+    let from = find(job, 0, 10) + 1;
     run_needed(
         job,
         from,

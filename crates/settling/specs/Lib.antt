@@ -1,3 +1,3 @@
--- Definitions that contracts cite: a pass over a job that puts its settled text. The laws are for the proofs.
-pub mod Pass
+-- Definitions that contracts cite: the settled text of a whole job. The laws are for the proofs.
+pub mod Whole
 pub mod Laws

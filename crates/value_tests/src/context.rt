@@ -1,4 +1,4 @@
-// What the lines before a line say.
+// What the tests of a line have to know of the lines before it.
 ghost use mathlib.Core.Path.{_≡_};
 ghost use Rattle.job.specs.Checks.{noContext};
 ghost use Rattle.value_tests.specs.Contexts.{contextOf};

@@ -94,7 +94,7 @@ pub fn slot_distinct(f: &[u64], slot: usize) -> bool
     distinct(&f[a..e])
 }
 
-// 4 and 5 of the lists from slot a up to slot e; n is the number of qubits.
+// The number that refuses Paulis: 4 and 5 of the lists from slot a up to slot e; n is the number of qubits.
 pub fn pauli_number(f: &[u64], a: usize, e: usize, n: u64) -> u64
     requires { ⌜ (e ≤ 4) × (12 ≤ length (now f)) ⌝ }
     ensures { λ r. ⌜ ((numbers lists : ℕ) (vs : List Value) → Held (now (f .entry)) numbers lists vs → e ≤ lists → r ≡ lowest (test 4 (eachBelow n (listsFrom a (e - a) vs)) ∷ test 5 (eachShort (listsFrom a (e - a) vs)) ∷ [])) ⌝ }

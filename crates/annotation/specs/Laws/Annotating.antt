@@ -4,10 +4,9 @@ use native.Mathlib.Omega.{arith}
 use mathlib.Core.Path.{_≡_, refl, sym, ap, subst, _∙_}
 use mathlib.Core.Bool.{Bool, true, false, _&&_}
 use mathlib.Core.List.{List, [], _∷_, _++_}
-use mathlib.Core.Option.{none, some}
+use mathlib.Core.Option.{some}
 use lib.Dec.{leb}
 use lib.ListN.{length, take, drop, length-append, drop-of-length-le}
-use lib.Seq.{length-take-le}
 use borrow.Author.Tests.{leb-true}
 use Rattle.text.specs.Bytes.{LF, pieces, lines, unlines}
 use Rattle.text.specs.Laws.Values.{both}
@@ -24,11 +23,11 @@ use Rattle.instructions.specs.Laws.Places.{whole-line}
 use Rattle.writer.specs.Placed.{Puts}
 use Rattle.writer.specs.Laws.Placing.{Rest, rest-all, rest-more, rest-none}
 use Rattle.writer.specs.Laws.Lines.{depolarizing-next}
-use Rattle.circuit.specs.Annotate.{noiseText, noiseLines, annotated, annotatedText, noiseOn, firstUnfit, locations}
-use Rattle.annotation.specs.Qubits.{NoiseQubits}
+use Rattle.circuit.specs.Annotate.{noiseText, noiseLines, annotated, annotatedText, noiseOn, firstUnfit}
+use Rattle.line_qubits.specs.Qubits.{NoiseQubits}
 use Rattle.annotation.specs.Lines.{beforeIt, aroundText, Annotates}
-use Rattle.annotation.specs.Laws.Merging.{part-few}
-use Rattle.annotation.specs.Laws.Around.{annotated-line, unfit-here, unfit-later, locations-line}
+use Rattle.line_qubits.specs.Laws.Merging.{part-few}
+use Rattle.annotation.specs.Laws.Around.{annotated-line, unfit-here, unfit-later}
 
 -- ---- the noise of one line
 
@@ -57,35 +56,6 @@ pub around-next : (before : Bool) (line : List ℕ) (p : ℕ) (qs : List ℕ) {a
     → Puts at (aroundText before line (unlines (noiseLines p qs))) out after next → next ≤ at + length line + (21 * length qs + 60)
 around-next true line p qs w = omega (arith, w .place, length-append (unlines (noiseLines p qs)) line, noise-length p qs)
 around-next false line p qs w = omega (arith, w .place, length-append line (unlines (noiseLines p qs)), noise-length p qs)
-
--- ---- locations
-
-pub record Counting (job : List ℕ) (at count : ℕ) : Type 0 where
-  pub number : ℕ
-  pub left : Left job number at
-  pub same : locations (lines job) ≡ count + locations (lines (drop at job))
-  pub bound : count ≤ 248 * at
-
-pub count-none : (job : List ℕ) → checkJob job .number ≡ 0 → Counting job 0 0
-count-none job e = record { number = 1; left = left-all job e; same = omega arith; bound = omega arith }
-
-pub count-more : {job : List ℕ} {at count : ℕ} {line : Next} {fields : List ℕ} {n : ℕ} {words : List ℕ} → Counting job at count
-    → NextLine job at line fields → NoiseQubits (line .form) fields n words → n ≤ length words → Counting job (line .end + 1) (count + 2 * n)
-count-more {job} {at} {count} {line} {fields} {n} {words} c l q h =
-    let r = here (c .left) l in
-    let size : n ≡ length (noiseOn (some (r .written))) = sym (length-take-le n words h) ∙ ap length (q .qubits (r .written) (line-read (c .left) l)) in
-    let step = ap locations (l .place .cut) ∙ locations-line (lineAt job at (line .end)) (lines (drop (line .end + 1) job)) (r .written) (r .reads) in
-    record {
-      number = c .number + 1;
-      left = left-more (c .left) l;
-      same = omega (arith, c .same, step, size);
-      bound = omega (arith, c .bound, q .few, l .place .begins);
-    }
-
-pub count-all : {job : List ℕ} {at count : ℕ} → Counting job at count → length job ≤ at → count ≡ locations (lines job)
-unfolding pieces locations
-count-all {job} {at} {count} c h =
-    let none = ap (λ (l : List ℕ). locations (lines l)) (drop-of-length-le job h) in omega (arith, c .same, none)
 
 -- ---- annotation
 

@@ -16,9 +16,9 @@ use Rattle.instructions.specs.Lines.{numbered}
 use Rattle.instructions.specs.Laws.Lines.{numbered-some, numbered-none}
 use Rattle.writer.specs.Placed.{placed}
 use Rattle.writer.specs.Laws.Placing.{placed-over}
-use Rattle.circuit.specs.Annotate.{annotatedText, firstUnfit, locations}
-use Rattle.circuit.specs.Replies.{annotateAnswer, annotateReply, locationsReply}
-use Rattle.annotation.specs.declared.lines.Progress.{Progress}
+use Rattle.circuit.specs.Annotate.{annotatedText, firstUnfit}
+use Rattle.circuit.specs.Replies.{annotateAnswer, annotateReply}
+use Rattle.annotation.specs.declared.around.Progress.{Progress}
 use Rattle.annotation.specs.Lines.{Annotates}
 
 -- ---- annotation of an accepted job
@@ -79,12 +79,3 @@ module _ (job : List ℕ) (p : ℕ) (out : List ℕ) where
       → r ≡ annotateReply job p out
   unfolding annotateReply
   accepted-reply e h i = rw (eq-eqb (checkJob job .number) 0 e, h) i
-
-module _ (job : List ℕ) where
-  pub refused-count : {a : Answer} → a ≡ checkJob job → (a .number ≡ 0 → ⊥) → record { answered = a; count = 0 } ≡ locationsReply job
-  unfolding locationsReply
-  refused-count e h = rw (← e, ne-eqb _ 0 h)
-
-  pub counted : {n : ℕ} → checkJob job .number ≡ 0 → n ≡ locations (lines job) → record { answered = accepted; count = n } ≡ locationsReply job
-  unfolding locationsReply
-  counted h e = rw (eq-eqb (checkJob job .number) 0 h, e)

@@ -1,43 +1,29 @@
--- A job that passed its tests, whose header was read. Laws. Assumes nothing.
+-- A job that passed its tests. Laws. Assumes nothing.
 use mathlib.Core.Path.{_≡_, sym, ap, _∙_}
 use mathlib.Core.Bool.{true, false}
 use mathlib.Core.List.{List, _++_}
 use Prim.Native.Nat.{ℕ, _+_, _*_, _/_, _^_, _≤_, _<_}
 use native.Mathlib.Nat.{mul-le-mul}
 use native.Mathlib.Omega.{arith}
-use lib.ListN.{length, getD, drop}
+use lib.ListN.{length, drop}
+use Rattle.text.specs.Bytes.{LF, until}
 use Rattle.job.specs.declared.Header.{Header}
 use Rattle.job.specs.declared.Answer.{Answer}
-use Rattle.job.specs.Job.{answer, wellEnded, jobOf, checkJob}
+use Rattle.job.specs.Job.{answer, jobOf, checkJob}
 use Rattle.job.specs.Sound.{InstructionsSound, HeaderSound}
 use Rattle.job.specs.Laws.Begun.{ended-parts}
 use Rattle.job.specs.Theorems.{checked-sound}
-use Rattle.instructions.specs.declared.Next.{Next}
-use Rattle.instructions.specs.Reading.{NextLine}
 use Rattle.instructions.specs.Ahead.{instructionsAt, Ahead}
-use Rattle.instructions.specs.Laws.Steps.{started, header-read}
+use Rattle.instructions.specs.Laws.Places.{found-line}
+use Rattle.instructions.specs.Laws.Steps.{started}
+use Rattle.checker.specs.declared.Examined.{Examined}
+use Rattle.checker.specs.Examines.{Examines}
 use Rattle.rows.specs.Words.{wordsPerRow}
 use Rattle.run.specs.Run.{Memory, frameWords, outcomeWords, enoughWords, untouched, runReply}
-use Rattle.injection.specs.Injected.{numbers}
-use Rattle.runner.specs.Needed.{NeededReady, NeededRun}
+use Rattle.needed_words.specs.Needed.{NeededReady, NeededRun}
 use Rattle.runner.specs.Laws.Replies.{run-refused, run-short, run-enough, needed-over}
 
--- ---- before the header is read
-
-module _ (job : List ℕ) {r : Answer} (checked : r ≡ checkJob job) where
-  pub refused-reply : (m : Memory) → (r .number ≡ 0 → ⊥) → runReply job m ≡ untouched r m
-  refused-reply m ne = rw checked (run-refused job m (λ e. ne (ap (λ (a : Answer). a .number) checked ∙ e)))
-
-  pub passed-number : r .number ≡ 0 → checkJob job .number ≡ 0
-  passed-number e = sym (ap (λ (a : Answer). a .number) checked) ∙ e
-
--- its bytes end in LF, and there are some
-pub passed-ended : (job : List ℕ) → checkJob job .number ≡ 0 → (wellEnded job ≡ true) × (0 < length job)
-passed-ended job e = let ended = checked-sound job e .ended in (ended, ended-parts job ended .0)
-
--- ---- behind the header
-
--- the lines behind it begin at `from`
+-- the lines behind the header begin at `from`
 pub record Passed (job : List ℕ) (h : Header) (from : ℕ) : Type 0 where
   pub passed : checkJob job .number ≡ 0
   pub header : jobOf job .header ≡ h
@@ -45,23 +31,36 @@ pub record Passed (job : List ℕ) (h : Header) (from : ℕ) : Type 0 where
   pub instructions : instructionsAt job 2 from ≡ jobOf job .instructions
   pub sound : InstructionsSound h 0 (instructionsAt job 2 from)
 
-pub passed-read : (job : List ℕ) (next : Next) (f : List ℕ) → checkJob job .number ≡ 0 → NextLine job 0 next f
-    → Passed job (numbers (getD f 0 0) (getD f 1 0) (getD f 2 0)) (next .end + 1)
-passed-read job next f e read =
-    let header = header-read e read in
-    let begun = started job (next .end) e (read .place) in
-    record {
-      passed = e;
-      header = header;
-      ahead = rw header at (begun .ahead);
-      instructions = begun .instructions;
-      sound = rw (begun .instructions) (rw header at (checked-sound job e .instructions));
-    }
+module _ {job : List ℕ} {r : Examined} (x : Examines job r) where
+  pub refused-reply : (m : Memory) → (r .answer .number ≡ 0 → ⊥) → runReply job m ≡ untouched (r .answer) m
+  refused-reply m ne = rw (x .answers) (run-refused job m (λ e. ne (ap (λ (a : Answer). a .number) (x .answers) ∙ e)))
+
+  module _ (zero : r .answer .number ≡ 0) where
+    passes : checkJob job .number ≡ 0
+    passes = sym (ap (λ (a : Answer). a .number) (x .answers)) ∙ zero
+
+    same : jobOf job .header ≡ r .header
+    same = sym (x .finds passes .header)
+
+    pub range : HeaderSound (r .header)
+    range = rw (← same) (checked-sound job passes .header)
+
+    pub short-reply : (m : Memory) {a : Answer} → a ≡ answer 13 0 → enoughWords (r .header) m ≡ false → runReply job m ≡ untouched a m
+    short-reply m e few = rw e (run-short job m passes (rw same few))
+
+    pub passed-at : {e : ℕ} → e ≡ 0 + until LF (drop 0 job) → Passed job (r .header) (e + 1)
+    passed-at {e} found =
+        let ended = checked-sound job passes .ended in
+        let begun = started job e passes (found-line job 0 e ended (ended-parts job ended .0) found) in
+        record {
+          passed = passes;
+          header = same;
+          ahead = rw same at (begun .ahead);
+          instructions = begun .instructions;
+          sound = rw (begun .instructions) (rw same at (checked-sound job passes .instructions));
+        }
 
 module _ {job : List ℕ} {h : Header} {from : ℕ} (p : Passed job h from) where
-  pub range : HeaderSound h
-  range = p .ahead .header
-
   pub needed-ready : {w : ℕ} {x z d noiseless : List ℕ} → w ≡ wordsPerRow (h .shots) → length x ≡ frameWords h → length z ≡ frameWords h → length d ≡ outcomeWords h
       → outcomeWords h ≤ length noiseless → NeededReady job h from w x z d noiseless
   needed-ready words lx lz ld ln =
@@ -74,9 +73,6 @@ module _ {job : List ℕ} {h : Header} {from : ℕ} (p : Passed job h from) wher
         of-deltas = ld;
         of-noiseless = ln;
       }
-
-  pub short-reply : (m : Memory) {r : Answer} → r ≡ answer 13 0 → enoughWords h m ≡ false → runReply job m ≡ untouched r m
-  short-reply m e few = rw e (run-short job m (p .passed) (rw (p .header) few))
 
   pub needed-reply : (m : Memory) {x z d : List ℕ} {r : Answer} → enoughWords h m ≡ true → NeededRun job h (m .source) from x z d r
       → runReply job m

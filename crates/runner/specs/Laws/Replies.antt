@@ -1,69 +1,19 @@
--- From the states of shots in words to the reply of a run. Laws. Assumes nothing.
-use mathlib.Core.Path.{_≡_, refl, sym, ap, _∙_}
+-- The reply of a run, and the words beyond those that it needs. Laws. Assumes nothing.
+use mathlib.Core.Path.{_≡_, refl}
 use mathlib.Core.Bool.{true, false}
 use mathlib.Core.List.{List, _++_}
-use Prim.Native.Nat.{ℕ, _*_, _/_, _^_, _≤_, _<_}
-use native.Mathlib.Omega.{arith}
-use lib.ListN.{length, getD, replicate, length-replicate, drop}
-use borrow.Author.Tests.{eq-eqb, ne-eqb, le-leb, lt-leb}
-use Rattle.pauli.specs.Bits.{Bits, none}
-use Rattle.pauli.specs.Pauli.{identity}
+use Prim.Native.Nat.{ℕ, _≤_, _<_}
+use lib.Dec.{leb}
+use lib.ListN.{length, length-replicate, drop}
+use borrow.Author.Tests.{eq-eqb, ne-eqb, leb-true, le-leb, lt-leb}
+use Rattle.text.specs.Laws.Values.{both}
 use Rattle.job.specs.declared.Header.{Header}
-use Rattle.job.specs.declared.Answer.{Answer}
-use Rattle.job.specs.Job.{answer, accepted, jobOf, checkJob}
-use Rattle.frames.specs.Forward.{State, start}
-use Rattle.draws.specs.Execute.{States, starts, Ended, execute}
-use Rattle.rows.specs.Words.{wordsPerRow, pack}
-use Rattle.rows.specs.Column.{column}
-use Rattle.rows.specs.Laws.Pack.{length-pack, packed}
+use Rattle.job.specs.Job.{answer, jobOf, checkJob}
+use Rattle.draws.specs.Execute.{starts, Ended, execute}
+use Rattle.rows.specs.Laws.Pack.{length-pack}
 use Rattle.run.specs.Run.{Memory, frameWords, outcomeWords, enoughWords, lentOf, untouched, spentReply, finishedReply, endedReply, runReply}
-use Rattle.injection.specs.Holds.{Holds}
-use Rattle.execution.specs.Went.{Finished}
-use Rattle.runner.specs.Needed.{neededReply}
-
--- ---- packing
-
--- words of which every number is below 2 ^ 64
-abbrev pub Words : List ℕ → Type 0
-Words l = (i : ℕ) → getD l i 0 < 2 ^ 64
-
-module _ (h : Header) (states : States) (some-shots : 1 ≤ h .shots) (past : (s : ℕ) → h .shots ≤ s → states s ≡ start) (x z d : List ℕ)
-    (holds : Holds (wordsPerRow (h .shots)) x z d states)
-  where
-    -- every part of the states
-    part-packed : (part : State → Bits) → ((r : ℕ) → part start r ≡ false) → (rows : ℕ) (l : List ℕ) → length l ≡ rows * wordsPerRow (h .shots) → Words l
-        → ((s : ℕ) → s / 64 < wordsPerRow (h .shots) → column (wordsPerRow (h .shots)) l s ≡ part (states s))
-        → l ≡ pack rows (h .shots) (λ r s. part (states s) r)
-    part-packed part off rows l long fits same =
-        packed rows (h .shots) (λ r s. part (states s) r) l some-shots long fits
-        (λ s r k b. ap (λ (c : Bits). c r) (same s k))
-        (λ s r k b p. ap (λ (t : State). part t r) (past s p) ∙ off r)
-
-    pub states-packed : length x ≡ frameWords h → length z ≡ frameWords h → length d ≡ outcomeWords h → Words x → Words z → Words d
-        → neededReply h (Ended.ended states) ≡ record { answered = accepted; x = x; z = z; deltas = d }
-    unfolding neededReply start identity none
-    states-packed lx lz ld fx fz fd =
-        let px = part-packed (λ t. t .frame .x) (λ r. refl) (h .qubits) x lx fx (λ s k. ap (λ (t : State). t .frame .x) (holds .shots s k)) in
-        let pz = part-packed (λ t. t .frame .z) (λ r. refl) (h .qubits) z lz fz (λ s k. ap (λ (t : State). t .frame .z) (holds .shots s k)) in
-        let pd = part-packed (λ t. t .deltas) (λ r. refl) (h .outcomes) d ld fd (λ s k. ap (λ (t : State). t .deltas) (holds .shots s k)) in
-        rw (← px, ← pz, ← pd)
-
--- ---- how execution ended
-
-module _ (h : Header) {all : Ended} {w : ℕ} {x z d : List ℕ} {r : Answer} where
-  pub needed-finished : w ≡ wordsPerRow (h .shots) → 1 ≤ h .shots → ((states : States) → all ≡ Ended.ended states → (s : ℕ) → h .shots ≤ s → states s ≡ start)
-      → length x ≡ frameWords h → length z ≡ frameWords h → length d ≡ outcomeWords h → Words x → Words z → Words d
-      → Finished all w x z d r → r .number ≡ 0 → neededReply h all ≡ record { answered = r; x = x; z = z; deltas = d }
-  needed-finished words some past lx lz ld fx fz fd (Finished.finished states e k holds) zero =
-      rw (e, k) (states-packed h states some (past states e) x z d (rw words at holds) lx lz ld fx fz fd)
-  needed-finished words some past lx lz ld fx fz fd (Finished.stopped k e a) zero =
-      let no : _≡_ {A = ℕ} 14 0 = sym (ap (λ (b : Answer). b .number) a) ∙ zero in absurd (omega arith)
-
-  pub needed-stopped : {x′ z′ d′ : List ℕ} → x′ ≡ replicate (frameWords h) 0 → z′ ≡ replicate (frameWords h) 0 → d′ ≡ replicate (outcomeWords h) 0
-      → Finished all w x z d r → (r .number ≡ 0 → ⊥) → neededReply h all ≡ record { answered = r; x = x′; z = z′; deltas = d′ }
-  unfolding neededReply
-  needed-stopped ex ez ed (Finished.finished states e k holds) some = absurd (some (ap (λ (b : Answer). b .number) k))
-  needed-stopped ex ez ed (Finished.stopped k e a) some = rw (e, a, ex, ez, ed)
+use Rattle.needed_words.specs.Needed.{neededReply}
+use Rattle.runner.specs.Enough.{suffice}
 
 -- ---- needed words in front of the others
 
@@ -99,39 +49,42 @@ module _ (job : List ℕ) (m : Memory) where
 
 -- ---- 13
 
-module _ (h : Header) (m : Memory) where
-  pub short-x : length (m .x) < frameWords h → enoughWords h m ≡ false
-  unfolding enoughWords
-  short-x e = rw (lt-leb (frameWords h) (length (m .x)) e)
+pub record Enough (frame outcomes x z deltas noiseless : ℕ) : Type 0 where
+  pub of-x : frame ≤ x
+  pub of-z : frame ≤ z
+  pub of-deltas : outcomes ≤ deltas
+  pub of-noiseless : outcomes ≤ noiseless
 
-  module _ (x : frameWords h ≤ length (m .x)) where
-    pub short-z : length (m .z) < frameWords h → enoughWords h m ≡ false
-    unfolding enoughWords
-    short-z e = rw (le-leb (frameWords h) (length (m .x)) x, lt-leb (frameWords h) (length (m .z)) e)
+module _ {frame outcomes x z deltas noiseless : ℕ} where
+  pub enough-words : suffice frame outcomes x z deltas noiseless ≡ true → Enough frame outcomes x z deltas noiseless
+  unfolding suffice
+  enough-words e =
+      let (three, d) = both _ (leb outcomes noiseless) e in
+      let (two, c) = both _ (leb outcomes deltas) three in
+      let (a, b) = both (leb frame x) (leb frame z) two in
+      record { of-x = leb-true frame x a; of-z = leb-true frame z b; of-deltas = leb-true outcomes deltas c; of-noiseless = leb-true outcomes noiseless d }
 
-    module _ (z : frameWords h ≤ length (m .z)) where
-      pub short-deltas : length (m .deltas) < outcomeWords h → enoughWords h m ≡ false
-      unfolding enoughWords
-      short-deltas e =
-          rw (le-leb (frameWords h) (length (m .x)) x, le-leb (frameWords h) (length (m .z)) z, lt-leb (outcomeWords h) (length (m .deltas)) e)
+module _ (frame outcomes x z deltas noiseless : ℕ) where
+  pub short-x : x < frame → false ≡ suffice frame outcomes x z deltas noiseless
+  unfolding suffice
+  short-x e = rw (lt-leb frame x e)
 
-      module _ (deltas : outcomeWords h ≤ length (m .deltas)) where
-        pub short-noiseless : length (m .source .noiseless) < outcomeWords h → enoughWords h m ≡ false
-        unfolding enoughWords
-        short-noiseless e =
-            rw (
-              le-leb (frameWords h) (length (m .x)) x,
-              le-leb (frameWords h) (length (m .z)) z,
-              le-leb (outcomeWords h) (length (m .deltas)) deltas,
-              lt-leb (outcomeWords h) (length (m .source .noiseless)) e,
-            )
+  module _ (hx : frame ≤ x) where
+    pub short-z : z < frame → false ≡ suffice frame outcomes x z deltas noiseless
+    unfolding suffice
+    short-z e = rw (le-leb frame x hx, lt-leb frame z e)
 
-        pub all-enough : outcomeWords h ≤ length (m .source .noiseless) → enoughWords h m ≡ true
-        unfolding enoughWords
-        all-enough e =
-            rw (
-              le-leb (frameWords h) (length (m .x)) x,
-              le-leb (frameWords h) (length (m .z)) z,
-              le-leb (outcomeWords h) (length (m .deltas)) deltas,
-              le-leb (outcomeWords h) (length (m .source .noiseless)) e,
-            )
+    module _ (hz : frame ≤ z) where
+      pub short-deltas : deltas < outcomes → false ≡ suffice frame outcomes x z deltas noiseless
+      unfolding suffice
+      short-deltas e = rw (le-leb frame x hx, le-leb frame z hz, lt-leb outcomes deltas e)
+
+      pub by-noiseless : outcomes ≤ deltas → leb outcomes noiseless ≡ suffice frame outcomes x z deltas noiseless
+      unfolding suffice
+      by-noiseless e = rw (le-leb frame x hx, le-leb frame z hz, le-leb outcomes deltas e)
+
+-- the test by words is the definition's
+pub same-test : (h : Header) (m : Memory)
+    → suffice (frameWords h) (outcomeWords h) (length (m .x)) (length (m .z)) (length (m .deltas)) (length (m .source .noiseless)) ≡ enoughWords h m
+unfolding suffice enoughWords
+same-test h m = refl

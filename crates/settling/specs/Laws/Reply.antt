@@ -28,7 +28,8 @@ use Rattle.run.specs.Run.{Source, outcomeWords, lentOf}
 use Rattle.backward.specs.Settling.{settledAnswer, settleReply}
 use Rattle.settling.specs.declared.TextLength.{TextLength}
 use Rattle.settling.specs.declared.TextLength.the-variants as text-length
-use Rattle.settling.specs.Pass.{Pass, passOf, lentBy, settledBy, Fits, PutAll, SettledPut}
+use Rattle.instruction_text.specs.Pass.{Pass, passOf, lentBy}
+use Rattle.settling.specs.Whole.{settledBy, Fits, PutAll, SettledPut}
 
 -- ---- refused before any draw
 

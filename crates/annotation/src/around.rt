@@ -1,0 +1,90 @@
+// The annotated text, line by line.
+ghost use mathlib.Core.Path.{_≡_};
+ghost use mathlib.Core.List.{List};
+ghost use mathlib.Core.Option.{some};
+ghost use Prim.Native.Nat.{_+_, _*_, _^_, _<_};
+ghost use lib.ListN.{length};
+ghost use Rattle.text.specs.Bytes.{unlines};
+ghost use Rattle.text.specs.Template.{Value};
+ghost use Rattle.job.specs.Grammar.{Written};
+ghost use Rattle.job.specs.Job.{checkJob};
+ghost use Rattle.reader.specs.Parsed.{formOf};
+ghost use Rattle.writer.specs.Placed.{Puts};
+ghost use Rattle.circuit.specs.Annotate.{noiseLines};
+ghost use Rattle.annotation.specs.Lines.{beforeIt, aroundText, Annotates};
+use instructions::next_line;
+use line_qubits::fit;
+use line_qubits::noise_qubits;
+use reader::Form;
+use writer::lines::put_depolarizing;
+use writer::put_bytes;
+
+// A line's noise: none over no qubits.
+fn put_noise(out: &mut [u8], at: usize, p: u64, qubits: &[u64]) -> usize
+    requires { ⌜ at + (21 * length (now qubits) + 60) < 2 ^ 64 ⌝ }
+    ensures { λ r. ⌜ Puts at (unlines (noiseLines p (now (qubits .entry)))) (now (out .entry)) (now (out .exit)) r ⌝ }
+{
+    if qubits.len() == 0 {
+        return at;
+    }
+    put_depolarizing(out, at, p, qubits)
+}
+
+// A line with its LF, and its noise before or after it.
+fn put_around(out: &mut [u8], at: usize, line: &[u8], before: bool, p: u64, qubits: &[u64]) -> usize
+    requires { ⌜ at + (length (now line) + (21 * length (now qubits) + 60)) < 2 ^ 64 ⌝ }
+    ensures { λ r. ⌜ Puts at (aroundText before (now (line .entry)) (unlines (noiseLines p (now (qubits .entry))))) (now (out .entry)) (now (out .exit)) r ⌝ }
+{
+    if before {
+        let next = put_noise(&mut *out, at, p, qubits);
+        return put_bytes(out, next, line);
+    }
+    let next = put_bytes(&mut *out, at, line);
+    put_noise(out, next, p, qubits)
+}
+
+// Noise goes before a measurement, and after the other lines.
+fn noise_before(form: Form) -> bool
+    ensures { λ r. ⌜ ((vs : List Value) (w : Written) → formOf form .says vs ≡ some w → r ≡ beforeIt w) ⌝ }
+{
+    match form {
+        Form::Measure => true,
+        _ => false,
+    }
+}
+
+// How far annotation came: the line that it does not fit (0 for none), and the bytes of the text.
+pub struct Progress {
+    pub unfit: u64,
+    pub bytes: usize,
+}
+
+// The annotated text of an accepted job.
+pub fn put_annotated(out: &mut [u8], job: &[u8], p: u64) -> Progress
+    requires { ⌜ checkJob (now job) .number ≡ 0 ⌝ }
+    ensures { λ r. ⌜ Annotates (now (job .entry)) p r (now (out .entry)) (now (out .exit)) ⌝ }
+{
+    let mut fields = [0u64; 136];
+    let mut qubits = [0u64; 124];
+    let mut at = 0;
+    let mut k: u64 = 1;
+    let mut next = 0;
+    while at < job.len() {
+        let line = next_line(job, at, &mut fields);
+        let form = line.form;
+        let end = line.end + 1;
+        let n = noise_qubits(form, &fields, &mut qubits);
+        let over = &qubits[..n];
+        if !fit(over) {
+            return Progress { unfit: k, bytes: 0 };
+        }
+        let before = noise_before(form);
+        next = put_around(&mut *out, next, &job[at..end], before, p, over);
+        at = end;
+        k += 1;
+    }
+    Progress {
+        unfit: 0,
+        bytes: next,
+    }
+}

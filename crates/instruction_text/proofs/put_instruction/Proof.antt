@@ -1,0 +1,78 @@
+-- `instruction_text::put_instruction` meets its contract. Assumes nothing.
+use Rattle.instruction_text.specs.Laws.Pass.{few-lines, plain-put}
+use Rattle.job.specs.Laws.Begun.{ended-parts}
+use lib.ListN.{length-take}
+use mathlib.Core.Path.{sym, _∙_}
+use native.Mathlib.Omega.{arith}
+use borrow.Author.Needs.{needs}
+use Rattle.instruction_text.proofs.put_instruction.Statement.{statement}
+use Rattle.instruction_text.proofs.put_instruction.Tie as tie
+
+next-line-requires : tie.Need-next-line-requires
+next-line-requires c κs = search needs
+
+is-noise-requires : tie.Need-is-noise-requires
+is-noise-requires c κs = search needs
+
+put-noise-line-requires : tie.Need-put-noise-line-requires
+put-noise-line-requires c κs = (c .before .before .before .before .before .before .before .before .before .before .before .before .before .before .before .before .pre .0, omega (arith, few-lines (c .before .before .before .before .before .before .before .before .before .before .before .before .before .before .before .before .pre .0), c .before .before .before .before .before .before .before .before .before .before .before .before .before .before .before .before .pre .2), c .before .before .before .before .before .before .before .next-line .ensures, sym (c .before .before .before .before .is-noise .ensures) ∙ c .before .before .before .if1 .taken, omega (arith, c .before .before .before .before .before .before .before .next-line .kept, c .before .before .before .before .before .before .before .before .before .before .before .before .before .before .before .before .pre .3), c .before .before .before .before .before .before .before .before .before .before .before .before .before .before .before .before .pre .4)
+
+same-length : tie.Need-same-length
+same-length c = search needs
+
+same-length-2 : tie.Need-same-length-2
+same-length-2 c = search needs
+
+same-length-3 : tie.Need-same-length-3
+same-length-3 c = search needs
+
+returns : tie.Need-returns
+returns c = search needs
+
+add-next : tie.Need-add-next
+add-next c = search needs
+
+sub-put-bytes : tie.Need-sub-put-bytes
+sub-put-bytes c = search needs
+
+part-put-bytes-start : tie.Need-part-put-bytes-start
+part-put-bytes-start c = search needs
+
+part-put-bytes-end : tie.Need-part-put-bytes-end
+part-put-bytes-end c = search needs
+
+put-bytes-requires : tie.Need-put-bytes-requires
+put-bytes-requires c κs = rw length-take (omega (arith, few-lines (c .before .before .before .before .before .before .before .before .before .before .before .before .before .before .before .before .pre .0), c .before .before .before .before .before .before .before .before .before .before .before .before .before .before .before .before .pre .2, c .before .before .before .before .before .before .before .next-line .ensures .place .inside, ended-parts _ (c .before .before .before .before .before .before .before .before .before .before .before .before .before .before .before .before .pre .0 .ahead .ended)))
+
+add-t32 : tie.Need-add-t32
+add-t32 c = search needs
+
+same-length-4 : tie.Need-same-length-4
+same-length-4 c = search needs
+
+same-length-5 : tie.Need-same-length-5
+same-length-5 c = search needs
+
+returns-2 : tie.Need-returns-2
+returns-2 c = plain-put (c .before .before .before .before .before .before .before .before .before .before .before .before .before .before .before .before .before .before .before .before .pre .0) (c .before .before .before .before .before .before .before .before .before .before .before .next-line .ensures) (sym (c .before .before .before .before .before .before .before .before .is-noise .ensures) ∙ c .before .before .before .before .before .before .before .if1 .left) (c .before .before .before .put-bytes .ensures)
+
+pub put-instruction-spec : {M : Type 1} → statement M
+put-instruction-spec =
+    tie.close
+    (tie.spec
+    next-line-requires
+    is-noise-requires
+    put-noise-line-requires
+    same-length
+    same-length-2
+    same-length-3
+    returns
+    add-next
+    sub-put-bytes
+    part-put-bytes-start
+    part-put-bytes-end
+    put-bytes-requires
+    add-t32
+    same-length-4
+    same-length-5
+    returns-2)

@@ -1,0 +1,7 @@
+-- Laws, for the proofs that cite them. Nothing here has to be believed.
+-- The least of two rising lists.
+pub mod Least
+-- Two rising lists merged member by member.
+pub mod Merging
+-- The noise of a line by its form.
+pub mod Noise

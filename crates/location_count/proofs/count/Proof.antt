@@ -1,0 +1,70 @@
+-- `location_count::count` meets its contract. Assumes nothing.
+use Prim.Native.Nat.{_-_}
+use mathlib.Core.Path.{_≡_, refl}
+use lib.ListN.{length}
+use Rattle.instructions.specs.Laws.Lines.{some-read}
+use Rattle.location_count.specs.Laws.Counting.{Counting, count-none, count-more, count-all}
+use native.Mathlib.Omega.{arith}
+use Rattle.location_count.proofs.count.Statement.{statement}
+use Rattle.location_count.proofs.count.Tie as tie
+
+abbrev Inv-loop : tie.InvT-loop
+Inv-loop job fields₀ qubits₀ at₀ total₀ fields qubits at total = Counting job at total × (length fields ≡ 136) × (length qubits ≡ 124)
+
+abbrev μ-loop : tie.MeasureT-loop
+μ-loop job fields₀ qubits₀ at₀ total₀ fields qubits at total = length job - at
+
+loop-holds : tie.Need-loop-holds Inv-loop μ-loop
+loop-holds c = (count-none _ (c .before .pre), refl, refl)
+
+slice-aggregate-next-line : tie.Need-slice-aggregate-next-line Inv-loop μ-loop
+slice-aggregate-next-line c = omega arith
+
+next-line-requires : tie.Need-next-line-requires Inv-loop μ-loop
+next-line-requires c κs = (c .before .before .loop .inv .0 .left .ended, c .before .loop-test .taken, omega arith)
+
+slice-aggregate-noise-qubits : tie.Need-slice-aggregate-noise-qubits Inv-loop μ-loop
+slice-aggregate-noise-qubits c = omega (arith, c .before .before .before .before .before .loop .inv .1, c .before .before .next-line .kept)
+
+slice-aggregate-noise-qubits-2 : tie.Need-slice-aggregate-noise-qubits-2 Inv-loop μ-loop
+slice-aggregate-noise-qubits-2 c = omega arith
+
+noise-qubits-requires : tie.Need-noise-qubits-requires Inv-loop μ-loop
+noise-qubits-requires c κs = (some-read (c .before .before .before .before .before .before .loop .inv .0 .left) (c .before .before .before .next-line .ensures), omega (arith, c .before .before .before .before .before .before .loop .inv .1, c .before .before .before .next-line .kept), omega (arith, c .before .before .before .before .before .before .loop .inv .2))
+
+mul-total : tie.Need-mul-total Inv-loop μ-loop
+mul-total c = omega (arith, c .before .noise-qubits .ensures .few)
+
+add-total : tie.Need-add-total Inv-loop μ-loop
+add-total c = omega (arith, c .before .noise-qubits .ensures .few, c .before .before .before .before .before .before .before .before .loop .inv .0 .bound, c .before .before .before .before .before .before .before .before .loop .inv .0 .left .within, c .before .before .before .before .before .before .before .before .loop .inv .0 .left .size)
+
+add-at : tie.Need-add-at Inv-loop μ-loop
+add-at c = omega (arith, c .before .before .before .before .before .before .next-line .ensures .place .inside, c .before .before .before .before .before .before .before .before .before .loop .inv .0 .left .size)
+
+loop-less : tie.Need-loop-less Inv-loop μ-loop
+loop-less c = omega (arith, c .before .before .before .before .before .before .next-line .ensures .place .inside, c .before .before .before .before .before .before .next-line .ensures .place .begins)
+
+loop-again : tie.Need-loop-again Inv-loop μ-loop
+loop-again c = (count-more (c .before .before .before .before .before .before .before .before .before .loop .inv .0) (c .before .before .before .before .before .before .next-line .ensures) (c .before .before .noise-qubits .ensures) (omega (arith, c .before .before .noise-qubits .ensures .few, c .before .before .noise-qubits .kept, c .before .before .before .before .before .before .before .before .before .loop .inv .2)), omega (arith, c .before .before .before .before .before .before .before .before .before .loop .inv .1, c .before .before .before .before .before .before .next-line .kept), omega (arith, c .before .before .before .before .before .before .before .before .before .loop .inv .2, c .before .before .noise-qubits .kept))
+
+returns : tie.Need-returns Inv-loop μ-loop
+returns c = count-all (c .before .loop .inv .0) (c .loop-test .left)
+
+pub count-spec : {M : Type 1} → statement M
+count-spec =
+    tie.close
+    (tie.spec
+    Inv-loop
+    μ-loop
+    loop-holds
+    slice-aggregate-next-line
+    next-line-requires
+    slice-aggregate-noise-qubits
+    slice-aggregate-noise-qubits-2
+    noise-qubits-requires
+    mul-total
+    add-total
+    add-at
+    loop-less
+    loop-again
+    returns)

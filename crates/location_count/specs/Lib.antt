@@ -1,0 +1,3 @@
+-- What the count says. Definitions, and laws that proofs cite.
+pub mod Count
+pub mod Laws

@@ -1,0 +1,51 @@
+// The count of a job's fault locations.
+ghost use mathlib.Core.Path.{_≡_};
+ghost use Rattle.text.specs.Bytes.{lines as Bytes·lines};
+ghost use Rattle.job.specs.Job.{checkJob};
+ghost use Rattle.circuit.specs.Annotate.{locations as Annotate·locations};
+ghost use Rattle.circuit.specs.Replies.{locationsReply};
+ghost use Rattle.location_count.specs.Count.{countOf};
+use checker::check;
+use instructions::next_line;
+use job::Answer;
+use line_qubits::noise_qubits;
+
+// What the count says, and the count.
+#[repr(C)]
+pub struct Counted {
+    pub answer: Answer,
+    pub count: u64,
+}
+
+// The locations of an accepted job.
+fn count(job: &[u8]) -> u64
+    requires { ⌜ checkJob (now job) .number ≡ 0 ⌝ }
+    ensures { λ r. ⌜ r ≡ Annotate·locations (Bytes·lines (now (job .entry))) ⌝ }
+{
+    let mut fields = [0u64; 136];
+    let mut qubits = [0u64; 124];
+    let mut at = 0;
+    let mut total: u64 = 0;
+    while at < job.len() {
+        let line = next_line(job, at, &mut fields);
+        let form = line.form;
+        let n = noise_qubits(form, &fields, &mut qubits);
+        total += 2 * n as u64;
+        at = line.end + 1;
+    }
+    total
+}
+
+// How many fault locations a job has: twice the qubits of its lines' noise.
+pub fn locations(job: &[u8]) -> Counted
+    ensures { λ r. ⌜ countOf r ≡ locationsReply (now (job .entry)) ⌝ }
+{
+    let answer = check(job);
+    if answer.number != 0 {
+        return Counted { answer, count: 0 };
+    }
+    Counted {
+        answer: Answer { number: 0, line: 0 },
+        count: count(job),
+    }
+}

@@ -1,0 +1,7 @@
+-- Laws, for the proofs that cite them. Nothing here has to be believed.
+-- Bits past the last shot.
+pub mod Padding
+-- From the states of shots to the words of the reply.
+pub mod Replies
+-- A run over exactly the words that it needs.
+pub mod Needed

@@ -1,0 +1,58 @@
+// A run of a job over exactly the words that it needs.
+use execution::execute;
+use job::Answer;
+use job::Header;
+ghost use mathlib.Core.Path.{_≡_};
+ghost use lib.ListN.{length};
+ghost use Rattle.rows.specs.Overwrite.{cleared};
+ghost use Rattle.run.specs.Run.{Source};
+ghost use Rattle.needed_words.specs.Needed.{NeededReady, NeededRun};
+
+fn clear_all(x: &mut [u64], z: &mut [u64], deltas: &mut [u64])
+    ensures { λ _. ⌜ (now (x .exit) ≡ cleared 0 (length (now (x .entry))) (now (x .entry))) × (now (z .exit) ≡ cleared 0 (length (now (z .entry))) (now (z .entry))) × (now (deltas .exit) ≡ cleared 0 (length (now (deltas .entry))) (now (deltas .entry))) ⌝ }
+{
+    let nx = x.len();
+    rows::clear(x, 0, nx);
+    let nz = z.len();
+    rows::clear(z, 0, nz);
+    let nd = deltas.len();
+    rows::clear(deltas, 0, nd);
+}
+
+// The words are cleared first, and again where the draws were spent.
+pub fn run_needed<'a>(
+    job: &[u8],
+    from: usize,
+    x: &mut [u64],
+    z: &mut [u64],
+    deltas: &mut [u64],
+    w: usize,
+    h: Header,
+    noiseless: &[u64],
+    main: &'a [u64],
+    second: &'a [u64],
+    base: u64,
+) -> Answer
+    requires { ⌜ NeededReady (now job) h from w (now x) (now z) (now deltas) (now noiseless) ⌝ }
+    ensures { λ r. ⌜ NeededRun (now (job .entry)) h (record { noiseless = now (noiseless .entry); main = now (main .entry); second = now (second .entry); base = base }) from (now (x .exit)) (now (z .exit)) (now (deltas .exit)) r ⌝ }
+{
+    clear_all(&mut *x, &mut *z, &mut *deltas);
+    let r = execute(
+        job,
+        from,
+        &mut *x,
+        &mut *z,
+        &mut *deltas,
+        w,
+        h,
+        noiseless,
+        main,
+        second,
+        base,
+    );
+    if r.number == 0 {
+        return r;
+    }
+    clear_all(x, z, deltas);
+    r
+}
