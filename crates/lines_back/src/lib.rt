@@ -109,7 +109,7 @@ pub struct Walk {
     pub noise: u64,
 }
 
-pub fn with_observable(w: Walk, observable: Pauli) -> Walk
+fn with_observable(w: Walk, observable: Pauli) -> Walk
     ensures { λ r. ⌜ r ≡ record { observable = observable; count = w .count; noise = w .noise } ⌝ }
 {
     Walk {

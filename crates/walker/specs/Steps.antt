@@ -76,3 +76,13 @@ pub record TextBack (text : List ℕ) (shot k : ℕ) (w w′ : WalkWords) (set s
   pub long : length set′ ≡ 16
   pub walks : (o : OfJob text) → walkOf w′ set′ ≡ writtenBack (full shot) (o .known .written) (walkOf w set)
   pub noise : (o : OfJob text) → w′ .noise ≡ noiseBack k (o .known .written) (w .noise)
+
+-- the walk with its observable in words
+abbrev pub walkWith : List ℕ → List ℕ → ℕ → ℕ → WalkWords
+walkWith x z count noise = record { observable = record { x = x; z = z }; count = count; noise = noise }
+
+-- a gate line changes the words of the observable alone
+pub record GateBack (text x z x′ z′ : List ℕ) : Type 0 where
+  pub long-x : length x′ ≡ 4
+  pub long-z : length z′ ≡ 4
+  pub back : (shot k count noise : ℕ) (set : List ℕ) → length set ≡ 16 → TextBack text shot k (walkWith x z count noise) (walkWith x′ z′ count noise) set set

@@ -2,8 +2,7 @@
 ghost use mathlib.Core.Path.{_≡_};
 ghost use mathlib.Core.Bool.{true};
 ghost use mathlib.Core.Option.{some};
-ghost use mathlib.Core.List.{List};
-ghost use Prim.Native.Nat.{ℕ, _+_, _^_, _<_, _≤_};
+ghost use Prim.Native.Nat.{_+_, _^_, _<_, _≤_};
 ghost use lib.ListN.{length, getD};
 ghost use Rattle.pauli.specs.Fixed.{inSet, AllBelow};
 ghost use Rattle.text.specs.Bytes.{lines as Bytes·lines};
@@ -12,14 +11,14 @@ ghost use Rattle.job.specs.Grammar.{Written, readLine};
 ghost use Rattle.job.specs.Checks.{allBelow};
 ghost use Rattle.job.specs.Job.{checkJob};
 ghost use Rattle.backward.specs.Walking.{walkReply};
-ghost use Rattle.walker.specs.Steps.{LineBefore, Started, WalkedBack, OfJob, PassedOver, GateBytes, TextBack};
+ghost use Rattle.walker.specs.Steps.{LineBefore, WalkedBack, OfJob, PassedOver, GateBytes, walkWith, GateBack, TextBack};
 ghost use Rattle.walker.specs.Reply.{replied};
 use checker::examine;
 use gate_text::read_gate;
 use job::Answer;
 use lines_back::Walk;
 use lines_back::line_back;
-use lines_back::with_observable;
+use observable::conjugate_back;
 use pauli::Pauli;
 use pauli::QubitId;
 use reader::read_line;
@@ -95,19 +94,19 @@ fn is_gate(line: &[u8]) -> bool
     line[3] == 117
 }
 
-// A gate line of an accepted job, of which there are many: read without testing its form again.
-fn gate_back(w: Walk, line: &[u8]) -> Walk
-    requires { ⌜ OfJob (now line) × GateBytes (now line) ⌝ }
-    ensures { λ r. ⌜ ((shot k : ℕ) (set : List ℕ) → length set ≡ 16 → TextBack (now (line .entry)) shot k w r set set) ⌝ }
+// A gate line of an accepted job, of which there are many: read without testing its form again, the observable conjugated in place.
+fn gate_back(x: &mut [u64], z: &mut [u64], line: &[u8])
+    requires { ⌜ OfJob (now line) × GateBytes (now line) × (length (now x) ≡ 4) × (length (now z) ≡ 4) ⌝ }
+    ensures { λ _. ⌜ GateBack (now (line .entry)) (now (x .entry)) (now (z .entry)) (now (x .exit)) (now (z .exit)) ⌝ }
 {
-    let b = w.observable;
     let g = read_gate(line);
-    let back = b.conjugate_back(
+    conjugate_back(
+        x,
+        z,
         g.code,
         QubitId(g.first as usize),
         QubitId(g.second as usize),
     );
-    with_observable(w, back)
 }
 
 // Any line of an accepted job, of number k, by its form and its fields.
@@ -122,24 +121,13 @@ fn read_back(w: Walk, line: &[u8], fields: &mut [u64], set: &mut [u64], shot: u6
     line_back(w, form, fields, set, shot, k)
 }
 
-// One line of an accepted job, of number k.
-fn step_back(w: Walk, line: &[u8], fields: &mut [u64], set: &mut [u64], shot: u64, k: u64) -> Walk
-    requires { ⌜ OfJob (now line) × (136 ≤ length (now fields)) × (length (now set) ≡ 16) × (w .count + 1 < 2 ^ 64) ⌝ }
-    ensures { λ r. ⌜ TextBack (now (line .entry)) shot k w r (now (set .entry)) (now (set .exit)) ⌝ }
-{
-    if is_gate(line) {
-        return gate_back(w, line);
-    }
-    read_back(w, line, fields, set, shot, k)
-}
-
-fn start() -> Walk
-    ensures { λ r. ⌜ Started r ⌝ }
+fn walk_with(x: [u64; 4], z: [u64; 4], count: u64, noise: u64) -> Walk
+    ensures { λ r. ⌜ r ≡ walkWith x z count noise ⌝ }
 {
     Walk {
-        observable: Pauli::identity(),
-        count: 0,
-        noise: 0,
+        observable: Pauli { x, z },
+        count,
+        noise,
     }
 }
 
@@ -149,17 +137,31 @@ fn walk_lines(job: &[u8], lines: u64, shot: u64, set: &mut [u64]) -> Walk
     ensures { λ r. ⌜ WalkedBack (now (job .entry)) shot (inSet (now (set .entry))) r ⌝ }
 {
     let mut fields = [0u64; 136];
-    let mut w = start();
+    let mut x = [0u64; 4];
+    let mut z = [0u64; 4];
+    let mut count: u64 = 0;
+    let mut noise: u64 = 0;
     let mut e = job.len();
     let mut k = lines;
     while 0 < e {
         let at = line_start(job, e - 1);
         let line = &job[at..e - 1];
-        w = step_back(w, line, &mut fields, &mut *set, shot, k);
+        let number = k;
         k -= 1;
         e = at;
+        if is_gate(line) {
+            gate_back(&mut x, &mut z, line);
+            continue;
+        }
+        let w = walk_with(x, z, count, noise);
+        let r = read_back(w, line, &mut fields, &mut *set, shot, number);
+        let b = r.observable;
+        x = b.x;
+        z = b.z;
+        count = r.count;
+        noise = r.noise;
     }
-    w
+    walk_with(x, z, count, noise)
 }
 
 // ---- The call

@@ -7,11 +7,13 @@ use borrow.Author.Tests.{eqb-true}
 use lib.Dec.{eqb, ltb, leb}
 use mathlib.Core.List.{List, [], _∷_, _++_, append-assoc, append-nil}
 use mathlib.Core.Option.{Option, some}
-use lib.ListN.{length, getD, take, length-append}
+use lib.ListN.{length, getD, take, replicate, length-append}
 use lib.Seq.{take-length}
 use Rattle.pauli.specs.Bits.{Bits}
 use Rattle.pauli.specs.Pauli.{identity}
-use Rattle.pauli.specs.Fixed.{inSet}
+use Rattle.pauli.specs.Fixed.{inSet, asPauli}
+use Rattle.pauli.specs.Laws.Set.{in-none}
+use Rattle.pauli.specs.Laws.Gates.{pauli-path}
 use Rattle.text.specs.Bytes.{LF, pieces, lines}
 use Rattle.job.specs.declared.Header.{Header}
 use Rattle.job.specs.Line.{Line, Placed}
@@ -32,7 +34,7 @@ use Rattle.carry.specs.Full.{full}
 use Rattle.carry.specs.Laws.Same.{same-backward}
 use Rattle.lines_back.specs.declared.Walk.{Walk as WalkWords}
 use Rattle.lines_back.specs.Back.{Readable, walkOf, writtenBack, noiseBack, LineBack}
-use Rattle.walker.specs.Steps.{LineStart, LineBefore, Started, lineOrNone, WalkedBack, Known, OfJob, PassedOver, TextBack}
+use Rattle.walker.specs.Steps.{LineStart, LineBefore, Started, lineOrNone, WalkedBack, Known, OfJob, PassedOver, walkWith, TextBack}
 use Rattle.walker.specs.Laws.Known.{job-known}
 
 -- ---- one line
@@ -124,6 +126,11 @@ pub record Going (job : List ℕ) (shot : ℕ) (S : Bits) (w : WalkWords) (set :
 job-ends : (job : List ℕ) → wellEnded job ≡ true → getD job (length job - 1) 0 ≡ LF
 unfolding wellEnded
 job-ends job e = eqb-true _ _ (both (ltb 0 (length job) && leb (length job) maxBytes) (eqb (getD job (length job - 1) 0) LF) e .1)
+
+-- words of 0 are the identity
+pub started : Started (walkWith (replicate 4 0) (replicate 4 0) 0 0)
+unfolding asPauli identity
+started = record { observable = pauli-path (in-none 4) (in-none 4); count = refl; noise = refl }
 
 module _ (job : List ℕ) (passes : checkJob job .number ≡ 0) where
   range : HeaderSound (jobOf job .header)
