@@ -6,7 +6,8 @@ use lib.Dec.{eqb}
 use Rattle.pauli.specs.Bits.{sumOver}
 use Rattle.job.specs.declared.Answer.{Answer}
 use Rattle.job.specs.Job.{jobOf}
-use Rattle.job.specs.Reply.{TextReply, writtenBy, CountReply}
+use Rattle.job.specs.Reply.{TextReply, writtenBy}
+use Rattle.job.specs.declared.CountReply.{CountReply}
 use Rattle.rows.specs.Words.{wordsPerRow}
 use Rattle.rows.specs.Column.{column}
 use Rattle.run.specs.Run.{Memory, RunReply, runReply}

@@ -1,5 +1,5 @@
 -- The reply of the count as the code has it. Definitions. Assumes nothing.
-use Rattle.job.specs.Reply.{CountReply}
+use Rattle.job.specs.declared.CountReply.{CountReply}
 use Rattle.location_count.specs.declared.Counted.{Counted}
 
 -- the reply of the count

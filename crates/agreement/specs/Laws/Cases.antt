@@ -4,7 +4,8 @@ use mathlib.Core.Bool.{Bool, true, false}
 use Prim.Native.Nat.{ℕ, _%_}
 use borrow.Author.Tests.{eqb-true, eqb-false, eq-eqb, ne-eqb}
 use lib.Dec.{eqb}
-use Rattle.job.specs.Reply.{TextReply, CountReply}
+use Rattle.job.specs.Reply.{TextReply}
+use Rattle.job.specs.declared.CountReply.{CountReply}
 use Rattle.run.specs.Run.{RunReply}
 use Rattle.agreement.specs.declared.Call.the-variants.{Run, Settle, Walk}
 use Rattle.agreement.specs.declared.Agreement.{Agreement}

@@ -10,7 +10,8 @@ use lib.ListN.{length, getD, take, drop, length-append}
 use Rattle.text.specs.Laws.Values.{both}
 use Rattle.job.specs.declared.Header.{Header}
 use Rattle.job.specs.Job.{answer, jobOf, recordedIn, checkJob}
-use Rattle.job.specs.Reply.{TextReply, writtenBy, CountReply}
+use Rattle.job.specs.Reply.{TextReply, writtenBy}
+use Rattle.job.specs.declared.CountReply.{CountReply}
 use Rattle.job.specs.Theorems.{checked-sound}
 use Rattle.job.specs.Laws.Lists.{below-more, below-at}
 use Rattle.draws.specs.Settle.{settledText}
