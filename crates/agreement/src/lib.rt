@@ -101,7 +101,7 @@ pub fn agree<'a>(
         return refused(Call::Settle, written, figure);
     }
     let walked = walk(&out[..figure as usize], shot, set);
-    let answer = walked.answer;
+    let answer = walked.answered;
     if answer.number != 0 {
         return refused(Call::Walk, answer, figure);
     }

@@ -9,16 +9,9 @@ ghost use Rattle.run.specs.Run.{runReply};
 ghost use Rattle.backward.specs.Settling.{settleReply};
 ghost use Rattle.backward.specs.Walking.{walkReply};
 ghost use Rattle.circuit.specs.Replies.{annotateReply, locationsReply, correlationReply};
-ghost use Rattle.kundatrezo.specs.Reply.{countReply};
 use job::Answer;
+use job::CountReply;
 use writer::TextAnswer;
-
-// What a call that counts says: its answer and its count.
-#[repr(C)]
-pub struct CountAnswer {
-    pub answer: Answer,
-    pub count: u64,
-}
 
 // Tests 1 to 12 of a job.
 #[no_mangle]
@@ -62,15 +55,10 @@ pub extern "C" fn kundatrezo_settle<'a>(
 
 // The walk of a set of outcomes in a shot, over a job without noise.
 #[no_mangle]
-pub extern "C" fn kundatrezo_walk(job: &[u8], shot: u64, set: &[u64]) -> CountAnswer
-    ensures { λ r. ⌜ countReply r ≡ walkReply (now (job .entry)) shot (now (set .entry)) ⌝ }
+pub extern "C" fn kundatrezo_walk(job: &[u8], shot: u64, set: &[u64]) -> CountReply
+    ensures { λ r. ⌜ r ≡ walkReply (now (job .entry)) shot (now (set .entry)) ⌝ }
 {
-    let r = walker::walk(job, shot, set);
-    let answer = r.answer;
-    CountAnswer {
-        answer,
-        count: r.count,
-    }
+    walker::walk(job, shot, set)
 }
 
 // The job with depolarizing noise, whose probability has the bits p.
@@ -83,15 +71,10 @@ pub extern "C" fn kundatrezo_annotate(job: &[u8], p: u64, out: &mut [u8]) -> Tex
 
 // How many fault locations a job has.
 #[no_mangle]
-pub extern "C" fn kundatrezo_locations(job: &[u8]) -> CountAnswer
-    ensures { λ r. ⌜ countReply r ≡ locationsReply (now (job .entry)) ⌝ }
+pub extern "C" fn kundatrezo_locations(job: &[u8]) -> CountReply
+    ensures { λ r. ⌜ r ≡ locationsReply (now (job .entry)) ⌝ }
 {
-    let r = location_count::locations(job);
-    let answer = r.answer;
-    CountAnswer {
-        answer,
-        count: r.count,
-    }
+    location_count::locations(job)
 }
 
 // Whether noise lines of one correlation all have as many elements.

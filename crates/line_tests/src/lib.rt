@@ -4,7 +4,6 @@ ghost use mathlib.Core.List.{List, [], _∷_};
 ghost use mathlib.Core.Option.{some};
 ghost use Prim.Native.Nat.{_+_, _^_, _≤_, _<_};
 ghost use lib.ListN.{length};
-ghost use Rattle.pauli.specs.Gate.{Gate, gateOf, operandsOf};
 ghost use Rattle.text.specs.Template.{Value};
 ghost use Rattle.job.specs.Grammar.{Written};
 ghost use Rattle.job.specs.Checks.{idTest, lowest, ownTests, next as Checks·next};
@@ -24,15 +23,6 @@ use value_tests::lists::slot_distinct;
 
 const MAX_CLIFFORD_QUBITS: u64 = 4;
 
-fn operands_of(gate: u64) -> u64
-    ensures { λ r. ⌜ (r ≤ 2) × ((g : Gate) → gateOf gate ≡ some g → r ≡ operandsOf g) ⌝ }
-{
-    match gate {
-        0..=10 => 1,
-        _ => 2,
-    }
-}
-
 pub fn unitary_number(c: Context, f: &[u64]) -> u64
     requires { ⌜ 136 ≤ length (now f) ⌝ }
     ensures { λ r. ⌜ ((vs : List Value) (w : Written) → Said form.Unitary (now (f .entry)) vs w → r ≡ lowest (ownTests (contextOf c) w)) ⌝ }
@@ -41,7 +31,7 @@ pub fn unitary_number(c: Context, f: &[u64]) -> u64
         return 4;
     }
     let count = f[4];
-    if count != operands_of(f[0]) {
+    if count != pauli::operands(f[0]) as u64 {
         return 5;
     }
     if !slot_distinct(f, 0) {

@@ -13,6 +13,7 @@ use lines::list;
 use pauli::OutcomeId;
 use pauli::Pauli;
 use pauli::QubitId;
+use pauli::Shot;
 use reader::Form;
 
 // ---- Lines that change the observable alone
@@ -79,22 +80,22 @@ fn conditional(f: &[u64], b: Pauli, set: &mut [u64])
 // ---- Lines that are counted, or not
 
 // An injection in the shot, where it anticommutes with the observable.
-fn inject(f: &[u64], b: Pauli, shot: u64) -> bool
+fn inject(f: &[u64], b: Pauli, shot: Shot) -> bool
     requires { ⌜ Ready Forms.Inject (now f) ⌝ }
-    ensures { λ r. ⌜ ((set : Bits) → Back Forms.Inject (now (f .entry)) shot b set b set r) ⌝ }
+    ensures { λ r. ⌜ ((set : Bits) → Back Forms.Inject (now (f .entry)) (shot .0) b set b set r) ⌝ }
 {
-    if f[0] != shot {
+    if f[0] as usize != shot.0 {
         return false;
     }
     carry::injection_counts(b, list(f, 0), list(f, 1))
 }
 
 // A flip in the shot, where its outcome is in the set.
-fn flip(f: &[u64], set: &[u64], shot: u64) -> bool
+fn flip(f: &[u64], set: &[u64], shot: Shot) -> bool
     requires { ⌜ Ready Forms.Flip (now f) ⌝ }
-    ensures { λ r. ⌜ ((b : PauliWords) → Back Forms.Flip (now (f .entry)) shot b (inSet (now (set .entry))) b (inSet (now (set .entry))) r) ⌝ }
+    ensures { λ r. ⌜ ((b : PauliWords) → Back Forms.Flip (now (f .entry)) (shot .0) b (inSet (now (set .entry))) b (inSet (now (set .entry))) r) ⌝ }
 {
-    if f[0] != shot {
+    if f[0] as usize != shot.0 {
         return false;
     }
     pauli::has_outcome(set, OutcomeId(f[1] as usize))
@@ -146,9 +147,9 @@ fn with_noise(w: Walk, k: u64) -> Walk
 }
 
 // One line back, of number k. Noise is remembered by its line; lines of the other forms that are not named do nothing.
-pub fn line_back(w: Walk, form: Form, f: &[u64], set: &mut [u64], shot: u64, k: u64) -> Walk
+pub fn line_back(w: Walk, form: Form, f: &[u64], set: &mut [u64], shot: Shot, k: u64) -> Walk
     requires { ⌜ Readable form (now f) × (length (now set) ≡ 16) × (w .count + 1 < 2 ^ 64) ⌝ }
-    ensures { λ r. ⌜ LineBack form (now (f .entry)) shot k w r (now (set .entry)) (now (set .exit)) ⌝ }
+    ensures { λ r. ⌜ LineBack form (now (f .entry)) (shot .0) k w r (now (set .entry)) (now (set .exit)) ⌝ }
 {
     let b = w.observable;
     match form {

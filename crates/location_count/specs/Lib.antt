@@ -1,3 +1,2 @@
--- What the count says. Definitions, and laws that proofs cite.
-pub mod Count
+-- Laws that proofs cite.
 pub mod Laws

@@ -4,18 +4,11 @@ ghost use Rattle.text.specs.Bytes.{lines as Bytes·lines};
 ghost use Rattle.job.specs.Job.{checkJob};
 ghost use Rattle.circuit.specs.Annotate.{locations as Annotate·locations};
 ghost use Rattle.circuit.specs.Replies.{locationsReply};
-ghost use Rattle.location_count.specs.Count.{countOf};
 use checker::check;
 use instructions::next_line;
 use job::Answer;
+use job::CountReply;
 use line_qubits::noise_qubits;
-
-// What the count says, and the count.
-#[repr(C)]
-pub struct Counted {
-    pub answer: Answer,
-    pub count: u64,
-}
 
 // The locations of an accepted job.
 fn count(job: &[u8]) -> u64
@@ -37,15 +30,18 @@ fn count(job: &[u8]) -> u64
 }
 
 // How many fault locations a job has: twice the qubits of its lines' noise.
-pub fn locations(job: &[u8]) -> Counted
-    ensures { λ r. ⌜ countOf r ≡ locationsReply (now (job .entry)) ⌝ }
+pub fn locations(job: &[u8]) -> CountReply
+    ensures { λ r. ⌜ r ≡ locationsReply (now (job .entry)) ⌝ }
 {
     let answer = check(job);
     if answer.number != 0 {
-        return Counted { answer, count: 0 };
+        return CountReply {
+            answered: answer,
+            count: 0,
+        };
     }
-    Counted {
-        answer: Answer { number: 0, line: 0 },
+    CountReply {
+        answered: Answer { number: 0, line: 0 },
         count: count(job),
     }
 }

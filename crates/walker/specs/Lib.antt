@@ -1,5 +1,4 @@
--- Definitions that contracts cite: the reply, and the steps of the walk.
-pub mod Reply
+-- Definitions that contracts cite: the steps of the walk.
 pub mod Steps
 -- Laws of these definitions.
 pub mod Laws

@@ -12,15 +12,16 @@ ghost use Rattle.job.specs.Checks.{allBelow};
 ghost use Rattle.job.specs.Job.{checkJob};
 ghost use Rattle.backward.specs.Walking.{walkReply};
 ghost use Rattle.walker.specs.Steps.{LineBefore, WalkedBack, OfJob, PassedOver, GateBytes, walkWith, GateBack, TextBack};
-ghost use Rattle.walker.specs.Reply.{replied};
 use checker::examine;
 use gate_text::read_gate;
 use job::Answer;
+use job::CountReply;
 use lines_back::Walk;
 use lines_back::line_back;
 use observable::conjugate_back;
 use pauli::Pauli;
 use pauli::QubitId;
+use pauli::Shot;
 use reader::read_line;
 use template::read_on;
 
@@ -51,21 +52,21 @@ fn line_start(job: &[u8], e: usize) -> usize
 }
 
 // Whether a line that begins as an injection does is one in another shot: read up to its shot alone.
-fn other_shot(line: &[u8], shot: u64, fields: &mut [u64]) -> bool
+fn other_shot(line: &[u8], shot: Shot, fields: &mut [u64]) -> bool
     requires { ⌜ 136 ≤ length (now fields) ⌝ }
-    ensures { λ r. ⌜ (r ≡ true → getD (now (line .entry)) 0 0 ≡ 111 → getD (now (line .entry)) 3 0 ≡ 105 → (v : Written) → readLine (now (line .entry)) ≡ some v → PassedOver shot v) ⌝ }
+    ensures { λ r. ⌜ (r ≡ true → getD (now (line .entry)) 0 0 ≡ 111 → getD (now (line .entry)) 3 0 ≡ 105 → (v : Written) → readLine (now (line .entry)) ≡ some v → PassedOver (shot .0) v) ⌝ }
 {
     let p = read_on(line, b"op=i shot=N ", 0, 0, 0, &mut *fields);
     if !p.ok {
         return false;
     }
-    fields[0] != shot
+    fields[0] as usize != shot.0
 }
 
 // Whether a line is passed over without being read to its end: a Pauli, an allocation, or an injection in another shot, of which there are many.
-fn passed_over(line: &[u8], shot: u64, fields: &mut [u64]) -> bool
+fn passed_over(line: &[u8], shot: Shot, fields: &mut [u64]) -> bool
     requires { ⌜ 136 ≤ length (now fields) ⌝ }
-    ensures { λ r. ⌜ (r ≡ true → (v : Written) → readLine (now (line .entry)) ≡ some v → PassedOver shot v) ⌝ }
+    ensures { λ r. ⌜ (r ≡ true → (v : Written) → readLine (now (line .entry)) ≡ some v → PassedOver (shot .0) v) ⌝ }
 {
     if line.len() < 4 {
         return false;
@@ -110,9 +111,9 @@ fn gate_back(x: &mut [u64], z: &mut [u64], line: &[u8])
 }
 
 // Any line of an accepted job, of number k, by its form and its fields.
-fn read_back(w: Walk, line: &[u8], fields: &mut [u64], set: &mut [u64], shot: u64, k: u64) -> Walk
+fn read_back(w: Walk, line: &[u8], fields: &mut [u64], set: &mut [u64], shot: Shot, k: u64) -> Walk
     requires { ⌜ OfJob (now line) × (136 ≤ length (now fields)) × (length (now set) ≡ 16) × (w .count + 1 < 2 ^ 64) ⌝ }
-    ensures { λ r. ⌜ TextBack (now (line .entry)) shot k w r (now (set .entry)) (now (set .exit)) ⌝ }
+    ensures { λ r. ⌜ TextBack (now (line .entry)) (shot .0) k w r (now (set .entry)) (now (set .exit)) ⌝ }
 {
     if passed_over(line, shot, &mut *fields) {
         return w;
@@ -132,9 +133,9 @@ fn walk_with(x: [u64; 4], z: [u64; 4], count: u64, noise: u64) -> Walk
 }
 
 // All lines of an accepted job, of which there are so many. The set is carried back with the observable.
-fn walk_lines(job: &[u8], lines: u64, shot: u64, set: &mut [u64]) -> Walk
+fn walk_lines(job: &[u8], lines: u64, shot: Shot, set: &mut [u64]) -> Walk
     requires { ⌜ (checkJob (now job) .number ≡ 0) × (lines ≡ length (Bytes·lines (now job))) × (length (now set) ≡ 16) ⌝ }
-    ensures { λ r. ⌜ WalkedBack (now (job .entry)) shot (inSet (now (set .entry))) r ⌝ }
+    ensures { λ r. ⌜ WalkedBack (now (job .entry)) (shot .0) (inSet (now (set .entry))) r ⌝ }
 {
     let mut fields = [0u64; 136];
     let mut x = [0u64; 4];
@@ -166,17 +167,11 @@ fn walk_lines(job: &[u8], lines: u64, shot: u64, set: &mut [u64]) -> Walk
 
 // ---- The call
 
-// The answer, and the count.
-pub struct Counted {
-    pub answer: Answer,
-    pub count: u64,
-}
-
-fn refused(number: u64, line: u64) -> Counted
-    ensures { λ r. ⌜ r ≡ record { answer = record { number = number; line = line }; count = 0 } ⌝ }
+fn refused(number: u64, line: u64) -> CountReply
+    ensures { λ r. ⌜ r ≡ record { answered = record { number = number; line = line }; count = 0 } ⌝ }
 {
-    Counted {
-        answer: Answer { number, line },
+    CountReply {
+        answered: Answer { number, line },
         count: 0,
     }
 }
@@ -210,13 +205,16 @@ fn all_below(numbers: &[u64], n: u64) -> bool
 }
 
 // The walk of a set of outcomes in a shot: tests 1 to 12 of the job, then 17, then 16.
-pub fn walk(job: &[u8], shot: u64, set: &[u64]) -> Counted
-    ensures { λ r. ⌜ replied r ≡ walkReply (now (job .entry)) shot (now (set .entry)) ⌝ }
+pub fn walk(job: &[u8], shot: u64, set: &[u64]) -> CountReply
+    ensures { λ r. ⌜ r ≡ walkReply (now (job .entry)) shot (now (set .entry)) ⌝ }
 {
     let found = examine(job);
     let answer = found.answer;
     if answer.number != 0 {
-        return Counted { answer, count: 0 };
+        return CountReply {
+            answered: answer,
+            count: 0,
+        };
     }
     let header = found.header;
     if header.shots <= shot {
@@ -229,12 +227,12 @@ pub fn walk(job: &[u8], shot: u64, set: &[u64]) -> Counted
         return refused(17, 0);
     }
     let mut outcomes = pauli::outcomes(set);
-    let w = walk_lines(job, found.lines, shot, &mut outcomes);
+    let w = walk_lines(job, found.lines, Shot(shot as usize), &mut outcomes);
     if w.noise != 0 {
         return refused(16, w.noise);
     }
-    Counted {
-        answer: Answer { number: 0, line: 0 },
+    CountReply {
+        answered: Answer { number: 0, line: 0 },
         count: w.count,
     }
 }

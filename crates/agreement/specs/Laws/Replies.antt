@@ -21,8 +21,6 @@ use Rattle.rows.specs.Laws.Overwrite.{before-row}
 use Rattle.run.specs.Run.{Source, Memory, RunReply, frameWords, outcomeWords, enoughWords, runReply}
 use Rattle.writer.specs.declared.TextAnswer.{TextAnswer}
 use Rattle.writer.specs.Reply.{textReply}
-use Rattle.walker.specs.declared.Counted.{Counted}
-use Rattle.walker.specs.Reply.{replied}
 use Rattle.backward.specs.Settling.{settleReply}
 use Rattle.backward.specs.Walking.{walkable, walkReply}
 use Rattle.backward.specs.CallTheorems.{written-walked}
@@ -52,8 +50,8 @@ text-lies job source out {s} {after} settles settled =
     omega arith
 
 -- a walk on it takes a shot of the job, and a set of its recorded outcomes
-walk-taken : (job : List ℕ) (source : Source) (out : List ℕ) (shot : ℕ) (set : List ℕ) {s : TextAnswer} {after : List ℕ} {w : Counted}
-    → textReply s after ≡ settleReply job source out → s .answer .number ≡ 0 → replied w ≡ walkReply (take (s .figure) after) shot set → w .answer .number ≡ 0
+walk-taken : (job : List ℕ) (source : Source) (out : List ℕ) (shot : ℕ) (set : List ℕ) {s : TextAnswer} {after : List ℕ} {w : CountReply}
+    → textReply s after ≡ settleReply job source out → s .answer .number ≡ 0 → w ≡ walkReply (take (s .figure) after) shot set → w .answered .number ≡ 0
     → Walkable (jobOf job) shot set
 walk-taken job source out shot set settles settled walks walked = go (walkable (jobOf job) shot set) refl
   where
@@ -116,18 +114,18 @@ module _ (job : List ℕ) (m : Memory) (out : List ℕ) (shot : ℕ) (set : List
       unfolding agreeReply
       settle-refused ne says = replies (rw (runs, ← settles, said-settle ran (textReply s after) _ _ done ne, eq-eqb (ran .answered .number) 0 done, says))
 
-      module _ (settled : s .answer .number ≡ 0) {w : Counted} (walks : replied w ≡ walkReply (take (s .figure) after) shot set) where
-        pub walk-refused : {a : Agreement} → (w .answer .number ≡ 0 → ⊥) → a ≡ refusedBy Walk (w .answer) (s .figure) → Replies (replyOf a ran after)
+      module _ (settled : s .answer .number ≡ 0) {w : CountReply} (walks : w ≡ walkReply (take (s .figure) after) shot set) where
+        pub walk-refused : {a : Agreement} → (w .answered .number ≡ 0 → ⊥) → a ≡ refusedBy Walk (w .answer) (s .figure) → Replies (replyOf a ran after)
         unfolding agreeReply
         walk-refused ne says =
-            replies (rw (runs, ← settles, ← walks, said-walk ran (textReply s after) (replied w) _ done settled ne, eq-eqb (ran .answered .number) 0 done, says))
+            replies (rw (runs, ← settles, ← walks, said-walk ran (textReply s after) w _ done settled ne, eq-eqb (ran .answered .number) 0 done, says))
 
-        module _ (walked : w .answer .number ≡ 0) {words : ℕ} (row : words ≡ wordsPerRow (jobOf job .header .shots)) where
+        module _ (walked : w .answered .number ≡ 0) {words : ℕ} (row : words ≡ wordsPerRow (jobOf job .header .shots)) where
           pub rows-ready : {deltas : List ℕ} → length deltas ≡ length (m .deltas) → RowsIn words set deltas × (shot / 64 < words)
           rows-ready kept = rows-lie job m shot set runs done (walk-taken job (m .source) out shot set settles settled walks walked) row kept
 
-          pub none-refused : {sum : ℕ} → sum ≡ deltaSum words (ran .deltas) shot set → Replies (replyOf (compared (replied w) (s .figure) sum) ran after)
+          pub none-refused : {sum : ℕ} → sum ≡ deltaSum words (ran .deltas) shot set → Replies (replyOf (compared w (s .figure) sum) ran after)
           unfolding agreeReply
           none-refused is =
               replies
-              (rw (runs, ← settles, ← walks, ← row, ← is, said-compared ran (textReply s after) (replied w) _ done settled walked, eq-eqb (ran .answered .number) 0 done))
+              (rw (runs, ← settles, ← walks, ← row, ← is, said-compared ran (textReply s after) w _ done settled walked, eq-eqb (ran .answered .number) 0 done))

@@ -6,8 +6,9 @@ use lib.Dec.{eqb}
 use lib.ListN.{length}
 use Rattle.text.specs.Template.{listAt}
 use Rattle.pauli.specs.Gate.{gateOf, operandsOf}
+use Rattle.pauli.specs.Code.{operandCount}
 use Rattle.value_tests.specs.Laws.Lowest.{none-bad, fails, passes, left-false, right-false, both-true, one-short}
-use Rattle.line_tests.specs.Laws.Lines.{tests-unitary}
+use Rattle.line_tests.specs.Laws.Lines.{tests-unitary, few-operands}
 use borrow.Author.Needs.{needs}
 use Rattle.line_tests.proofs.unitary_number.Statement.{statement}
 use Rattle.line_tests.proofs.unitary_number.Tie as tie
@@ -24,19 +25,20 @@ returns c =
 shared-slice-read-count : tie.Need-shared-slice-read-count
 shared-slice-read-count c = search needs
 
-shared-slice-read-operands-of : tie.Need-shared-slice-read-operands-of
-shared-slice-read-operands-of c = search needs
+shared-slice-read-operands : tie.Need-shared-slice-read-operands
+shared-slice-read-operands c = search needs
 
-operands-of-requires : tie.Need-operands-of-requires
-operands-of-requires c κs = search needs
+operands-requires : tie.Need-operands-requires
+operands-requires c κs = search needs
 
 returns-2 : tie.Need-returns-2
+unfolding operandCount
 returns-2 c =
     λ vs w h.
     let (g, e, t) = tests-unitary (c .before .before .before .before .before .before .before .args .c) h in
     let size = t .held .count 0 (omega arith) in
     let code = ap gateOf (t .held .number 0 (omega arith)) in
-    fails 5 _ _ (left-false _ _ (left-false _ _ (ne-eqb _ _ (λ z. c .if2 .taken (size ∙ z ∙ sym (c .before .operands-of .ensures .1 g (code ∙ e)))))))
+    fails 5 _ _ (left-false _ _ (left-false _ _ (ne-eqb _ _ (λ z. c .if2 .taken (size ∙ z ∙ sym (c .before .operands .ensures ∙ ap operandCount (code ∙ e)))))))
     ∙ passes 4 _ _ (sym (c .before .before .before .before .before .below .ensures _ _ vs (t .held) (omega arith)) ∙ not-false _ (c .before .before .before .before .if1 .left))
     ∙ t .own
 
@@ -53,17 +55,18 @@ returns-3 c =
     ∙ t .own
 
 returns-4 : tie.Need-returns-4
+unfolding operandCount
 returns-4 c =
     λ vs w h.
     let (g, e, t) = tests-unitary (c .before .before .before .before .before .before .before .before .before .args .c) h in
     let size = t .held .count 0 (omega arith) in
     let code = ap gateOf (t .held .number 0 (omega arith)) in
-    let operands = c .before .before .before .operands-of .ensures .1 g (code ∙ e) in
+    let operands = c .before .before .before .operands .ensures ∙ ap operandCount (code ∙ e) in
     let once = c .before .slot-distinct .ensures _ _ vs (t .held) (omega arith) in
     none-bad ∙ passes 5 _ _
     (both-true
     (both-true (eq-eqb _ _ (sym size ∙ c .before .before .if2 .left ∙ operands)) (sym once ∙ not-false _ (c .if3 .left)))
-    (one-short vs 0 (omega (arith, c .before .before .before .operands-of .ensures .0))))
+    (one-short vs 0 (omega (arith, few-operands g, operands))))
     ∙ passes 4 _ _ (sym (c .before .before .before .before .before .before .before .below .ensures _ _ vs (t .held) (omega arith)) ∙ not-false _ (c .before .before .before .before .before .before .if1 .left))
     ∙ t .own
 
@@ -74,8 +77,8 @@ unitary-number-spec =
     below-requires
     returns
     shared-slice-read-count
-    shared-slice-read-operands-of
-    operands-of-requires
+    shared-slice-read-operands
+    operands-requires
     returns-2
     slot-distinct-requires
     returns-3

@@ -50,41 +50,23 @@ module _ (k : ℕ) (s : List ℕ) where
 
 -- ---- how many operands a gate takes
 
--- a gate among the first of the gates, and one after them
-module _ (P : Gate → Type 0) (g : Gate) where
-  among-first : (before after : List Gate) (code : ℕ) → Every P before → code < length before → gateFrom (before ++ after) code ≡ some g → P g
-  unfolding gateFrom
-  among-first [] after code p h e = absurd (omega arith)
-  among-first (a ∷ before) after zero p h e = rw (← some-same e) (p .0)
-  among-first (a ∷ before) after (suc code) p h e = among-first before after code (p .1) (omega arith) e
-
-  among-later : (before after : List Gate) (code : ℕ) → Every P after → length before ≤ code → gateFrom (before ++ after) code ≡ some g → P g
-  unfolding gateFrom
-  among-later [] [] code p h e = let z : _≡_ {A = ℕ} 0 1 = cc in absurd (omega arith)
-  among-later [] (a ∷ after) zero p h e = rw (← some-same e) (p .0)
-  among-later [] (a ∷ after) (suc code) p h e = among-later [] after code (p .1) (omega arith) e
-  among-later (a ∷ before) after zero p h e = absurd (omega arith)
-  among-later (a ∷ before) after (suc code) p h e = among-later before after code p (omega arith) e
-
-also : {A B : Type 0} → A → B → A × B
-also a b = (a, b)
-
-oneQubit : List Gate
-oneQubit = I ∷ X ∷ Y ∷ Z ∷ Hadamard ∷ SqrtZ ∷ SqrtZInv ∷ SqrtX ∷ SqrtXInv ∷ SqrtY ∷ SqrtYInv ∷ []
-
-twoQubits : List Gate
-twoQubits = ControlledX ∷ ControlledZ ∷ Swap ∷ PrepareBell ∷ []
-
--- codes to 10 take one qubit, the others two
-module _ (code : ℕ) (g : Gate) (e : gateOf code ≡ some g) where
-  pub takes-one : code ≤ 10 → 1 ≡ operandsOf g
-  unfolding gateOf gates oneQubit twoQubits operandsOf
-  takes-one h =
-      among-first (λ (a : Gate). 1 ≡ operandsOf a) g oneQubit twoQubits code (also refl (also refl (also refl (also refl (also refl (also refl (also refl (also refl (also refl (also refl (also refl tt))))))))))) (omega arith) e
-
-  pub takes-two : 10 < code → 2 ≡ operandsOf g
-  unfolding gateOf gates oneQubit twoQubits operandsOf
-  takes-two h = among-later (λ (a : Gate). 2 ≡ operandsOf a) g oneQubit twoQubits code (also refl (also refl (also refl (also refl tt)))) (omega arith) e
+pub few-operands : (g : Gate) → operandsOf g ≤ 2
+unfolding operandsOf
+few-operands I = omega arith
+few-operands X = omega arith
+few-operands Y = omega arith
+few-operands Z = omega arith
+few-operands Hadamard = omega arith
+few-operands SqrtZ = omega arith
+few-operands SqrtZInv = omega arith
+few-operands SqrtX = omega arith
+few-operands SqrtXInv = omega arith
+few-operands SqrtY = omega arith
+few-operands SqrtYInv = omega arith
+few-operands ControlledX = omega arith
+few-operands ControlledZ = omega arith
+few-operands Swap = omega arith
+few-operands PrepareBell = omega arith
 
 -- ---- the tests of a line of each form
 

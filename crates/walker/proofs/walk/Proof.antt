@@ -2,7 +2,6 @@
 use mathlib.Core.Path.{sym, ap, _∙_}
 use mathlib.Core.List.{[]}
 use borrow.Author.Tests.{not-true, not-false}
-use Rattle.walker.specs.Reply.{replied}
 use Rattle.walker.specs.Laws.Answers.{examined-refused, passes, examined-lines, examined-shot, examined-rising, examined-recorded, examined-below, examined-noise, examined-count}
 use borrow.Author.Needs.{needs}
 use Rattle.walker.proofs.walk.Statement.{statement}
@@ -18,7 +17,7 @@ refused-requires : tie.Need-refused-requires
 refused-requires c κs = search needs
 
 returns-2 : tie.Need-returns-2
-returns-2 c = ap replied (c .refused .ensures) ∙ examined-shot (c .before .before .before .before .before .before .before .examine .ensures) _ _ (c .before .before .before .before .if1 .left) (c .before .if2 .taken)
+returns-2 c = c .refused .ensures ∙ examined-shot (c .before .before .before .before .before .before .before .examine .ensures) _ _ (c .before .before .before .before .if1 .left) (c .before .if2 .taken)
 
 is-rising-requires : tie.Need-is-rising-requires
 is-rising-requires c κs = search needs
@@ -27,7 +26,7 @@ refused-requires-2 : tie.Need-refused-requires-2
 refused-requires-2 c κs = search needs
 
 returns-3 : tie.Need-returns-3
-returns-3 c = ap replied (c .refused2 .ensures) ∙ examined-rising (c .before .before .before .before .before .before .before .before .before .examine .ensures) _ _ (c .before .before .before .before .before .before .if1 .left) (sym (c .before .before .is-rising .ensures) ∙ not-true _ (c .before .if3 .taken))
+returns-3 c = c .refused2 .ensures ∙ examined-rising (c .before .before .before .before .before .before .before .before .before .examine .ensures) _ _ (c .before .before .before .before .before .before .if1 .left) (sym (c .before .before .is-rising .ensures) ∙ not-true _ (c .before .if3 .taken))
 
 all-below-requires : tie.Need-all-below-requires
 all-below-requires c κs = search needs
@@ -36,7 +35,7 @@ refused-requires-3 : tie.Need-refused-requires-3
 refused-requires-3 c κs = search needs
 
 returns-4 : tie.Need-returns-4
-returns-4 c = ap replied (c .refused3 .ensures) ∙ examined-recorded (c .before .before .before .before .before .before .before .before .before .before .before .examine .ensures) (c .before .before .before .before .before .before .before .before .before .before .before .before .before .before .args .shot) _ (c .before .before .before .before .before .before .before .before .if1 .left) (sym (c .before .before .all-below .ensures) ∙ not-true _ (c .before .if4 .taken))
+returns-4 c = c .refused3 .ensures ∙ examined-recorded (c .before .before .before .before .before .before .before .before .before .before .before .examine .ensures) (c .before .before .before .before .before .before .before .before .before .before .before .before .before .before .args .shot) _ (c .before .before .before .before .before .before .before .before .if1 .left) (sym (c .before .before .all-below .ensures) ∙ not-true _ (c .before .if4 .taken))
 
 outcomes-requires : tie.Need-outcomes-requires
 outcomes-requires c κs = examined-below (c .before .before .before .before .before .before .before .before .before .before .examine .ensures) (c .before .before .before .before .before .before .before .before .before .before .before .before .before .args .shot) _ (c .before .before .before .before .before .before .before .if1 .left) (sym (c .before .all-below .ensures) ∙ not-false _ (c .if4 .left))
@@ -51,7 +50,7 @@ refused-requires-4 : tie.Need-refused-requires-4
 refused-requires-4 c κs = search needs
 
 returns-5 : tie.Need-returns-5
-returns-5 c = ap replied (c .refused4 .ensures) ∙ examined-noise (c .before .before .before .before .before .before .before .before .before .before .before .before .before .before .before .before .before .examine .ensures) _ _ (c .before .before .before .before .before .before .before .before .before .before .before .before .before .before .if1 .left) (c .before .before .before .before .before .before .before .before .before .before .before .if2 .left) (sym (c .before .before .before .before .before .before .before .before .before .before .is-rising .ensures) ∙ not-false _ (c .before .before .before .before .before .before .before .before .before .if3 .left)) (sym (c .before .before .before .before .before .before .before .before .all-below .ensures) ∙ not-false _ (c .before .before .before .before .before .before .before .if4 .left)) (c .before .before .before .before .before .before .outcomes .ensures) (c .before .before .before .before .walk-lines .ensures) (c .before .if5 .taken)
+returns-5 c = c .refused4 .ensures ∙ examined-noise (c .before .before .before .before .before .before .before .before .before .before .before .before .before .before .before .before .before .examine .ensures) _ _ (c .before .before .before .before .before .before .before .before .before .before .before .before .before .before .if1 .left) (c .before .before .before .before .before .before .before .before .before .before .before .if2 .left) (sym (c .before .before .before .before .before .before .before .before .before .before .is-rising .ensures) ∙ not-false _ (c .before .before .before .before .before .before .before .before .before .if3 .left)) (sym (c .before .before .before .before .before .before .before .before .all-below .ensures) ∙ not-false _ (c .before .before .before .before .before .before .before .if4 .left)) (c .before .before .before .before .before .before .outcomes .ensures) (c .before .before .before .before .walk-lines .ensures) (c .before .if5 .taken)
 
 returns-6 : tie.Need-returns-6
 returns-6 c = examined-count (c .before .before .before .before .before .before .before .before .before .before .before .before .before .before .before .before .examine .ensures) _ _ (c .before .before .before .before .before .before .before .before .before .before .before .before .before .if1 .left) (c .before .before .before .before .before .before .before .before .before .before .if2 .left) (sym (c .before .before .before .before .before .before .before .before .before .is-rising .ensures) ∙ not-false _ (c .before .before .before .before .before .before .before .before .if3 .left)) (sym (c .before .before .before .before .before .before .before .all-below .ensures) ∙ not-false _ (c .before .before .before .before .before .before .if4 .left)) (c .before .before .before .before .before .outcomes .ensures) (c .before .before .before .walk-lines .ensures) (c .if5 .left)
