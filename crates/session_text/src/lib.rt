@@ -11,6 +11,8 @@ ghost use Rattle.writer.specs.Placed.{Puts};
 ghost use Rattle.session_text.specs.Lines.{headerText, deltaText};
 use job::Answer;
 use job::Header;
+use pauli::OutcomeId;
+use pauli::Shot;
 use writer::put_byte;
 use writer::put_bytes;
 use writer::put_number;
@@ -40,26 +42,28 @@ fn put_header(out: &mut [u8], h: Header) -> usize
 }
 
 // The delta of an outcome in a shot, as 0 or 1, where a row has w words.
-fn delta_byte(deltas: &[u64], w: usize, id: usize, shot: usize) -> u8
-    requires { ⌜ (id * w + w ≤ length (now deltas)) × (shot / 64 < w) ⌝ }
-    ensures { λ r. ⌜ r ≡ cond (bitIn w (now (deltas .entry)) id shot) 49 48 ⌝ }
+fn delta_byte(deltas: &[u64], w: usize, id: OutcomeId, shot: Shot) -> u8
+    requires { ⌜ (id .0 * w + w ≤ length (now deltas)) × (shot .0 / 64 < w) ⌝ }
+    ensures { λ r. ⌜ r ≡ cond (bitIn w (now (deltas .entry)) (id .0) (shot .0)) 49 48 ⌝ }
 {
-    if (deltas[id * w + shot / 64] >> (shot % 64)) % 2 == 1 {
+    let row = id.0;
+    let s = shot.0;
+    if (deltas[row * w + s / 64] >> (s % 64)) % 2 == 1 {
         return 49;
     }
     48
 }
 
 // The deltas of an outcome, shot 0 first.
-fn put_bits(out: &mut [u8], at: usize, deltas: &[u64], id: usize, shots: usize) -> usize
-    requires { ⌜ (shots ≤ 64) × (at + shots < 2 ^ 64) × (id * wordsPerRow shots + wordsPerRow shots ≤ length (now deltas)) ⌝ }
-    ensures { λ r. ⌜ Puts at (bitText (bitIn (wordsPerRow shots) (now (deltas .entry)) id) shots 0) (now (out .entry)) (now (out .exit)) r ⌝ }
+fn put_bits(out: &mut [u8], at: usize, deltas: &[u64], id: OutcomeId, shots: usize) -> usize
+    requires { ⌜ (shots ≤ 64) × (at + shots < 2 ^ 64) × (id .0 * wordsPerRow shots + wordsPerRow shots ≤ length (now deltas)) ⌝ }
+    ensures { λ r. ⌜ Puts at (bitText (bitIn (wordsPerRow shots) (now (deltas .entry)) (id .0)) shots 0) (now (out .entry)) (now (out .exit)) r ⌝ }
 {
     let w = (shots + 63) / 64;
     let mut next = at;
     let mut s = 0;
     while s < shots {
-        let b = delta_byte(deltas, w, id, s);
+        let b = delta_byte(deltas, w, id, Shot(s));
         next = put_byte(&mut *out, next, b);
         s += 1;
     }
@@ -67,12 +71,12 @@ fn put_bits(out: &mut [u8], at: usize, deltas: &[u64], id: usize, shots: usize) 
 }
 
 // `id=N delta=`, and the bits
-fn put_delta(out: &mut [u8], at: usize, deltas: &[u64], id: usize, shots: usize) -> usize
-    requires { ⌜ (shots ≤ 64) × (at + 104 < 2 ^ 64) × (id * wordsPerRow shots + wordsPerRow shots ≤ length (now deltas)) ⌝ }
-    ensures { λ r. ⌜ Puts at (deltaText shots (now (deltas .entry)) id ++ LF ∷ []) (now (out .entry)) (now (out .exit)) r ⌝ }
+fn put_delta(out: &mut [u8], at: usize, deltas: &[u64], id: OutcomeId, shots: usize) -> usize
+    requires { ⌜ (shots ≤ 64) × (at + 104 < 2 ^ 64) × (id .0 * wordsPerRow shots + wordsPerRow shots ≤ length (now deltas)) ⌝ }
+    ensures { λ r. ⌜ Puts at (deltaText shots (now (deltas .entry)) (id .0) ++ LF ∷ []) (now (out .entry)) (now (out .exit)) r ⌝ }
 {
     let a = put_bytes(&mut *out, at, b"id=");
-    let b = put_number(&mut *out, a, id as u64);
+    let b = put_number(&mut *out, a, id.0 as u64);
     let c = put_bytes(&mut *out, b, b" delta=");
     let d = put_bits(&mut *out, c, deltas, id, shots);
     put_byte(out, d, 10)
@@ -86,7 +90,7 @@ fn put_deltas(out: &mut [u8], at: usize, h: Header, deltas: &[u64], n: usize) ->
     let mut next = at;
     let mut id = 0;
     while id < n {
-        next = put_delta(&mut *out, next, deltas, id, h.shots as usize);
+        next = put_delta(&mut *out, next, deltas, OutcomeId(id), h.shots as usize);
         id += 1;
     }
     next

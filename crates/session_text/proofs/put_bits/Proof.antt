@@ -8,7 +8,7 @@ use Rattle.session_text.proofs.put_bits.Statement.{statement}
 use Rattle.session_text.proofs.put_bits.Tie as tie
 
 abbrev Inv-loop : tie.InvT-loop
-Inv-loop out₀ at deltas id shots w next₀ s₀ out next s = Bits at (bitIn (wordsPerRow shots) deltas id) shots out₀ s next out
+Inv-loop out₀ at deltas id shots w next₀ s₀ out next s = Bits at (bitIn (wordsPerRow shots) deltas (id .0)) shots out₀ s next out
 
 abbrev μ-loop : tie.MeasureT-loop
 μ-loop out₀ at deltas id shots w next₀ s₀ out next s = shots - s
