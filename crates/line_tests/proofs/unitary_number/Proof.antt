@@ -1,6 +1,7 @@
 -- `line_tests::unitary_number` meets its contract. Assumes nothing.
 use native.Mathlib.Omega.{arith}
 use mathlib.Core.Path.{sym, ap, _∙_}
+use mathlib.Core.Option.{some}
 use borrow.Author.Tests.{not-true, not-false, eq-eqb, ne-eqb}
 use lib.Dec.{eqb}
 use lib.ListN.{length}
@@ -8,7 +9,7 @@ use Rattle.text.specs.Template.{listAt}
 use Rattle.pauli.specs.Gate.{gateOf, operandsOf}
 use Rattle.pauli.specs.Code.{operandCount}
 use Rattle.value_tests.specs.Laws.Lowest.{none-bad, fails, passes, left-false, right-false, both-true, one-short}
-use Rattle.line_tests.specs.Laws.Lines.{tests-unitary, few-operands}
+use Rattle.line_tests.specs.Laws.Lines.{tests-unitary, few-counted}
 use borrow.Author.Needs.{needs}
 use Rattle.line_tests.proofs.unitary_number.Statement.{statement}
 use Rattle.line_tests.proofs.unitary_number.Tie as tie
@@ -31,6 +32,9 @@ shared-slice-read-operands c = search needs
 operands-requires : tie.Need-operands-requires
 operands-requires c κs = search needs
 
+cast-if2 : tie.Need-cast-if2
+cast-if2 c = search needs
+
 returns-2 : tie.Need-returns-2
 unfolding operandCount
 returns-2 c =
@@ -43,7 +47,7 @@ returns-2 c =
     ∙ t .own
 
 slot-distinct-requires : tie.Need-slot-distinct-requires
-slot-distinct-requires c κs = (omega arith, omega arith, omega arith)
+slot-distinct-requires c κs = (omega arith, omega arith, omega (arith, few-counted _ (c .before .operands .ensures)))
 
 returns-3 : tie.Need-returns-3
 returns-3 c =
@@ -66,7 +70,7 @@ returns-4 c =
     none-bad ∙ passes 5 _ _
     (both-true
     (both-true (eq-eqb _ _ (sym size ∙ c .before .before .if2 .left ∙ operands)) (sym once ∙ not-false _ (c .if3 .left)))
-    (one-short vs 0 (omega (arith, few-operands g, operands))))
+    (one-short vs 0 (omega (arith, few-counted (some g) operands))))
     ∙ passes 4 _ _ (sym (c .before .before .before .before .before .before .before .below .ensures _ _ vs (t .held) (omega arith)) ∙ not-false _ (c .before .before .before .before .before .before .if1 .left))
     ∙ t .own
 
@@ -79,6 +83,7 @@ unitary-number-spec =
     shared-slice-read-count
     shared-slice-read-operands
     operands-requires
+    cast-if2
     returns-2
     slot-distinct-requires
     returns-3

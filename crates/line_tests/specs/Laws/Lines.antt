@@ -1,18 +1,18 @@
 -- The tests of the header and of a line of each form, by its values. Laws. Assumes nothing.
-use Prim.Native.Nat.{ℕ, zero, suc, _≤_, _<_}
+use Prim.Native.Nat.{ℕ, _≤_}
 use native.Mathlib.Omega.{arith}
 use mathlib.Core.Path.{_≡_, refl, sym, ap, _∙_}
 use mathlib.Core.Bool.{Bool, true, false, _&&_, and-true}
-use mathlib.Core.List.{List, [], _∷_, _++_}
-use mathlib.Core.Option.{some}
+use mathlib.Core.List.{List, [], _∷_}
+use mathlib.Core.Option.{Option, none, some}
 use borrow.Author.Tests.{eq-eqb, ne-eqb}
 use lib.Dec.{eqb, ltb, leb}
 use lib.ListN.{length}
 use Rattle.pauli.specs.Bits.{outside, members}
-use Rattle.pauli.specs.Gate.{Gate, I, X, Y, Z, Hadamard, SqrtZ, SqrtZInv, SqrtX, SqrtXInv, SqrtY, SqrtYInv, ControlledX, ControlledZ, Swap, PrepareBell, gates, gateFrom, gateOf, operandsOf}
+use Rattle.pauli.specs.Gate.{Gate, I, X, Y, Z, Hadamard, SqrtZ, SqrtZInv, SqrtX, SqrtXInv, SqrtY, SqrtYInv, ControlledX, ControlledZ, Swap, PrepareBell, gateOf, operandsOf}
+use Rattle.pauli.specs.Code.{operandCount}
 use Rattle.text.specs.Bytes.{bytes}
 use Rattle.text.specs.Template.{Value, numberAt, listAt}
-use Rattle.job.specs.Sound.{Every}
 use Rattle.job.specs.Clifford.{isClifford}
 use Rattle.job.specs.Grammar.{Written, forms}
 use Rattle.job.specs.Checks.{test, allBelow, eachBelow, eachShort, distinct, isPermutation, idTest, lineTests, ownTests, lowest}
@@ -67,6 +67,11 @@ few-operands ControlledX = omega arith
 few-operands ControlledZ = omega arith
 few-operands Swap = omega arith
 few-operands PrepareBell = omega arith
+
+pub few-counted : {r : ℕ} (o : Option Gate) → r ≡ operandCount o → r ≤ 2
+unfolding operandCount
+few-counted none e = omega (arith, e)
+few-counted (some g) e = omega (arith, e, few-operands g)
 
 -- ---- the tests of a line of each form
 
