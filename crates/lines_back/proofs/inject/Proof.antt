@@ -16,14 +16,14 @@ returns : tie.Need-returns
 returns c = λ set. inject-goes (sym (rw (ne-eqb _ _ (c .if1 .taken))))
 
 list-requires : tie.Need-list-requires
-list-requires c κs = (omega arith, c .before .before .before .pre .plain .wide, inject-read (c .before .before .before .pre .plain) .few 0 (omega arith))
+list-requires c κs = (omega arith, c .before .before .before .before .pre .plain .wide, inject-read (c .before .before .before .before .pre .plain) .few 0 (omega arith))
 
 list-requires-2 : tie.Need-list-requires-2
-list-requires-2 c κs = (omega arith, c .before .before .before .before .pre .plain .wide, inject-read (c .before .before .before .before .pre .plain) .few 1 (omega arith))
+list-requires-2 c κs = (omega arith, c .before .before .before .before .before .pre .plain .wide, inject-read (c .before .before .before .before .before .pre .plain) .few 1 (omega arith))
 
 injection-counts-requires : tie.Need-injection-counts-requires
 unfolding LineSound
-injection-counts-requires c κs = rw (c .before .list .ensures, c .list2 .ensures) (pauli-below (c .before .before .before .before .before .pre .few-qubits) (inject-read (c .before .before .before .before .before .pre .plain) .sound .pauli))
+injection-counts-requires c κs = rw (c .before .list .ensures, c .list2 .ensures) (pauli-below (c .before .before .before .before .before .before .pre .few-qubits) (inject-read (c .before .before .before .before .before .before .pre .plain) .sound .pauli))
 
 returns-2 : tie.Need-returns-2
 returns-2 c = λ set. inject-goes ((rw (c .before .before .list .ensures, c .before .list2 .ensures) at (c .injection-counts .ensures)) ∙ rw (eq-eqb _ _ (c .before .before .before .if1 .left)))
