@@ -28,7 +28,7 @@ same-length-2 c = search needs
 
 returns-2 : tie.Need-returns-2
 unfolding injectBegin bytes
-returns-2 c = λ e first third v reads. shot-passed _ _ v first third reads (c .before .before .before .before .before .read-on .ensures .read (not-false _ (c .before .if1 .left))) (eqb-false _ _ (not-true _ e))
+returns-2 c = λ e first third v reads. shot-passed _ _ v first third reads (c .before .before .before .before .before .before .read-on .ensures .read (not-false _ (c .before .before .if1 .left))) (eqb-false _ _ (not-true _ e))
 
 pub other-shot-spec : {M : Type 1} → statement M
 other-shot-spec =

@@ -12,7 +12,7 @@ use Rattle.walker.proofs.walk_lines.Tie as tie
 
 abbrev Inv-loop : tie.InvT-loop
 Inv-loop job lines shot set₀ fields₀ x₀ z₀ count₀ noise₀ e₀ k₀ set fields x z count noise e k =
-    Going job shot (inSet set₀) (walkWith x z count noise) set k e × (length fields ≡ 136) × (length x ≡ 4) × (length z ≡ 4)
+    Going job (shot .0) (inSet set₀) (walkWith x z count noise) set k e × (length fields ≡ 136) × (length x ≡ 4) × (length z ≡ 4)
 
 abbrev μ-loop : tie.MeasureT-loop
 μ-loop job lines shot set₀ fields₀ x₀ z₀ count₀ noise₀ e₀ k₀ set fields x z count noise e k = e
