@@ -1,7 +1,7 @@
 -- `agreement::agree` meets its contract. Assumes nothing.
 use lib.Seq.{length-take-le}
 use mathlib.Core.Path.{sym}
-use Rattle.agreement.specs.Laws.Replies.{run-accepted, text-lies, run-refused, settle-refused, walk-refused, rows-ready, none-refused}
+use Rattle.agreement.specs.Laws.Replies.{run-accepted, text-within, run-refused, settle-refused, walk-refused, rows-ready, none-refused}
 use borrow.Author.Needs.{needs}
 use Rattle.agreement.proofs.agree.Statement.{statement}
 use Rattle.agreement.proofs.agree.Tie as tie
@@ -46,10 +46,10 @@ returns-2 : tie.Need-returns-2
 returns-2 c = settle-refused _ _ _ _ _ (c .before .before .before .before .before .before .before .before .before .before .before .before .before .before .before .before .run .ensures) (c .before .before .before .before .before .before .before .before .if1 .left) (c .before .before .before .before .before .before .settle .ensures) (c .before .if2 .taken) (c .refused2 .ensures)
 
 slice-reshare-prefix-walk : tie.Need-slice-reshare-prefix-walk
-slice-reshare-prefix-walk c = text-lies _ _ _ (c .before .before .before .before .before .settle .ensures) (c .if2 .left)
+slice-reshare-prefix-walk c = text-within _ _ _ (c .before .before .before .before .before .settle .ensures) (c .if2 .left)
 
 slice-aggregate-walk : tie.Need-slice-aggregate-walk
-slice-aggregate-walk c = sym (length-take-le _ _ (text-lies _ _ _ (c .before .before .before .before .before .before .settle .ensures) (c .before .if2 .left)))
+slice-aggregate-walk c = sym (length-take-le _ _ (text-within _ _ _ (c .before .before .before .before .before .before .settle .ensures) (c .before .if2 .left)))
 
 walk-requires : tie.Need-walk-requires
 walk-requires c κs = search needs

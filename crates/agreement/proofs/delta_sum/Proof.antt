@@ -1,5 +1,5 @@
 -- `agreement::delta_sum` meets its contract. Assumes nothing.
-use Prim.Native.Nat.{_-_, _≤_}
+use Prim.Native.Nat.{_-_}
 use native.Mathlib.Omega.{arith}
 use mathlib.Core.Path.{_≡_}
 use lib.ListN.{length}
@@ -10,13 +10,13 @@ use Rattle.agreement.proofs.delta_sum.Statement.{statement}
 use Rattle.agreement.proofs.delta_sum.Tie as tie
 
 abbrev Inv-loop : tie.InvT-loop
-Inv-loop deltas w set shot place word₀ i₀ word i = (i ≤ length set) × (sumFrom w deltas shot set word i ≡ sumOver set (column w deltas shot))
+Inv-loop deltas w set shot place word₀ i₀ word i = sumFrom w deltas shot set word i ≡ sumOver set (column w deltas shot)
 
 abbrev μ-loop : tie.MeasureT-loop
 μ-loop deltas w set shot place word₀ i₀ word i = length set - i
 
 loop-holds : tie.Need-loop-holds Inv-loop μ-loop
-loop-holds c = (omega arith, sum-starts _ _ _ _)
+loop-holds c = sum-starts _ _ _ _
 
 mul-id : tie.Need-mul-id Inv-loop μ-loop
 mul-id c = omega arith
@@ -43,13 +43,13 @@ loop-less : tie.Need-loop-less Inv-loop μ-loop
 loop-less c = omega arith
 
 loop-again : tie.Need-loop-again Inv-loop μ-loop
-loop-again c = (omega arith, sum-turn _ _ _ _ _ _ (c .before .before .loop-test .taken) (c .before .before .before .loop .inv .1))
+loop-again c = sum-turn _ _ _ _ _ _ (c .before .before .loop-test .taken) (c .before .before .before .loop .inv)
 
 shr-result : tie.Need-shr-result Inv-loop μ-loop
 shr-result c = omega arith
 
 returns : tie.Need-returns Inv-loop μ-loop
-returns c = sum-ends _ _ _ _ _ _ (c .loop-test .left) (c .before .loop .inv .1)
+returns c = sum-ends _ _ _ _ _ _ (c .loop-test .left) (c .before .loop .inv)
 
 pub delta-sum-spec : {M : Type 1} → statement M
 delta-sum-spec =

@@ -39,9 +39,9 @@ pub run-accepted : (job : List ℕ) (m : Memory) {ran : RunReply} → runReply j
 run-accepted job m runs done = run-ends job m (ap (λ (r : RunReply). r .answered .number) runs ∙ done) .passes
 
 -- the text that settling wrote lies in the lent bytes
-pub text-lies : (job : List ℕ) (source : Source) (out : List ℕ) {s : TextAnswer} {after : List ℕ} → textReply s after ≡ settleReply job source out
+pub text-within : (job : List ℕ) (source : Source) (out : List ℕ) {s : TextAnswer} {after : List ℕ} → textReply s after ≡ settleReply job source out
     → s .answer .number ≡ 0 → s .figure ≤ length after
-text-lies job source out {s} {after} settles settled =
+text-within job source out {s} {after} settles settled =
     let (ls, to) = settle-writes job source out (sym (ap (λ (r : TextReply). r .answered .number) settles) ∙ settled) in
     let text = settledText (jobOf job .text) ls in
     let figure : s .figure ≡ length text = ap (λ (r : TextReply). r .figure) (settles ∙ to .reply) in
@@ -77,10 +77,10 @@ delta-words h m e =
     leb-true _ _ (both (leb (frameWords h) (length (m .x)) && leb (frameWords h) (length (m .z))) _ (three .0) .1)
 
 -- so the rows of the set, and the shot in them, lie in the words of a run of the job
-pub rows-lie : (job : List ℕ) (m : Memory) (shot : ℕ) (set : List ℕ) {ran : RunReply} {deltas : List ℕ} {words : ℕ} → runReply job m ≡ ran
+rows-within : (job : List ℕ) (m : Memory) (shot : ℕ) (set : List ℕ) {ran : RunReply} {deltas : List ℕ} {words : ℕ} → runReply job m ≡ ran
     → ran .answered .number ≡ 0 → Walkable (jobOf job) shot set → words ≡ wordsPerRow (jobOf job .header .shots) → length deltas ≡ length (m .deltas)
     → RowsIn words set deltas × (shot / 64 < words)
-rows-lie job m shot set runs done taken row kept =
+rows-within job m shot set runs done taken row kept =
     let ends = run-ends job m (ap (λ (r : RunReply). r .answered .number) runs ∙ done) in
     let h = jobOf job .header in
     let recorded = below-more (recordedIn (jobOf job .instructions)) (h .outcomes) set (checked-sound job (ends .passes) .recorded) (taken .recorded) in
@@ -122,7 +122,7 @@ module _ (job : List ℕ) (m : Memory) (out : List ℕ) (shot : ℕ) (set : List
 
         module _ (walked : w .answered .number ≡ 0) {words : ℕ} (row : words ≡ wordsPerRow (jobOf job .header .shots)) where
           pub rows-ready : {deltas : List ℕ} → length deltas ≡ length (m .deltas) → RowsIn words set deltas × (shot / 64 < words)
-          rows-ready kept = rows-lie job m shot set runs done (walk-taken job (m .source) out shot set settles settled walks walked) row kept
+          rows-ready kept = rows-within job m shot set runs done (walk-taken job (m .source) out shot set settles settled walks walked) row kept
 
           pub none-refused : {sum : ℕ} → sum ≡ deltaSum words (ran .deltas) shot set → Replies (replyOf (compared w (s .figure) sum) ran after)
           unfolding agreeReply
