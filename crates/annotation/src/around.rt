@@ -16,7 +16,7 @@ use instructions::next_line;
 use line_qubits::fit;
 use line_qubits::noise_qubits;
 use reader::Form;
-use writer::lines::put_depolarizing;
+use writer::noise_lines::put_depolarizing;
 use writer::put_bytes;
 
 // A line's noise: none over no qubits.

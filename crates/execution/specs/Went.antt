@@ -12,8 +12,6 @@ use Rattle.instructions.specs.Ahead.{instructionsAt, Ahead}
 use Rattle.draws.specs.Draws.{Lent}
 use Rattle.draws.specs.Execute.{States, Ended, execute}
 use Rattle.rows.specs.Words.{bitIn}
-use Rattle.noise.specs.declared.Correlation.{Correlation}
-use Rattle.noise.specs.declared.Correlation.the-variants.{Uncorrelated, Shared}
 use Rattle.faults.specs.Prepared.{NoiseLines, noiseIn}
 use Rattle.injection.specs.Holds.{Holds}
 use Rattle.execution.specs.declared.Moved.{Moved}
@@ -35,11 +33,6 @@ pub record RowsFor (h : Header) (w : ℕ) (x z d noiseless : List ℕ) : Type 0 
   pub of-noiseless : h .outcomes * w ≤ length noiseless
 
 -- ---- one instruction
-
--- the position in the main list after a noise line that has read so many words of its part
-unfoldable pub positionAfter : Correlation → ℕ → ℕ → ℕ
-positionAfter Uncorrelated position read = position + read
-positionAfter (Shared c) position read = position
 
 -- Where execution of what is left comes to `all`, it goes on so many lines behind line k, with fewer instructions than so many: from another place of the
 -- job, another position in the main list and the states that the words hold.

@@ -7,32 +7,18 @@ use instructions::next_line;
 use job::Answer;
 use job::Header;
 use lines::apply_line;
-use noise::Correlation;
 use noise::words::part;
+use noise::words::position_after;
 use reader::Form;
-ghost use mathlib.Core.Path.{_≡_};
-ghost use mathlib.Core.Option.{none};
-ghost use Prim.Native.Nat.{ℕ, _+_, _^_, _<_, _≤_};
+ghost use Prim.Native.Nat.{ℕ, _≤_};
 ghost use lib.ListN.{length};
 ghost use Rattle.instructions.specs.Ahead.{Ahead};
-ghost use Rattle.noise.specs.Kinds.{correlationOf};
-ghost use Rattle.execution.specs.Went.{positionAfter, RowsFor, NoiseReady, NoiseRoom, NoiseDone, StepReady, Stepped, Executes};
+ghost use Rattle.execution.specs.Went.{RowsFor, NoiseReady, NoiseRoom, NoiseDone, StepReady, Stepped, Executes};
 
 // The next place in the job, the next position in the main list and the lines that were read; or the draws were spent.
 pub enum Moved {
     To(usize, usize, usize),
     Spent,
-}
-
-// The position in the main list behind a noise line: only a line without correlation reads on.
-fn position_after(correlation: Correlation, position: usize, read: usize) -> usize
-    requires { ⌜ (correlationOf correlation ≡ none → position + read < 2 ^ 64) ⌝ }
-    ensures { λ r. ⌜ r ≡ positionAfter correlation position read ⌝ }
-{
-    match correlation {
-        Correlation::Uncorrelated => position + read,
-        Correlation::Shared(_) => position,
-    }
 }
 
 // A noise line, whose fields were read and whose element lines begin at a place of the job: it is made ready, and its faults are injected.
@@ -70,37 +56,28 @@ fn apply_noise<'a>(
     );
     let fault = r.fault;
     let lines = r.lines;
-    let next = r.next;
-    let p = fault.probability;
-    if p <= 0.0 {
-        return Moved::To(next, position, lines + 1);
+    if fault.probability <= 0.0 {
+        return Moved::To(r.next, position, lines + 1);
     }
     let correlation = fault.correlation;
-    let d = fault.distribution;
     let words = part(main, second, correlation, base, position);
-    let n = h.qubits as usize;
-    let shots = h.shots as usize;
     let drawn = inject_faults(
         words,
         &mask,
-        p,
-        d,
+        fault,
         &sums[..lines],
         elements,
         x,
         z,
         w,
-        n,
-        shots,
+        h.qubits as usize,
+        h.shots as usize,
     );
-    match drawn {
-        Drawn::Done(read) => Moved::To(
-            next,
-            position_after(correlation, position, read),
-            lines + 1,
-        ),
-        Drawn::Spent => Moved::Spent,
-    }
+    let Drawn::Done(read) = drawn else {
+        return Moved::Spent;
+    };
+    let after = position_after(correlation, position, read);
+    Moved::To(r.next, after, lines + 1)
 }
 
 // The instruction that begins at a place of the job.

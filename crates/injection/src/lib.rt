@@ -2,6 +2,7 @@
 use choice::bound;
 use choice::limit;
 use noise::PauliDistribution;
+use noise::PauliFault;
 use pauli::Shot;
 use shots::NextFault;
 use shots::next_fault;
@@ -22,20 +23,20 @@ ghost use Rattle.injection.specs.Injected.{ListedHeld, ElementReady, Ele
 // ---- The elements of d=2
 
 // Adds 1 to a bit of a row, if asked to.
-fn flip_if(rows: &mut [u64], w: usize, row: usize, shot: usize, on: bool)
-    requires { ⌜ (row * w + w ≤ length (now rows)) × (shot < 64 * w) ⌝ }
-    ensures { λ _. ⌜ now (rows .exit) ≡ cond on (flipped w shot row (now (rows .entry))) (now (rows .entry)) ⌝ }
+fn flip_if(rows: &mut [u64], w: usize, row: usize, shot: Shot, on: bool)
+    requires { ⌜ (row * w + w ≤ length (now rows)) × (shot .0 < 64 * w) ⌝ }
+    ensures { λ _. ⌜ now (rows .exit) ≡ cond on (flipped w (shot .0) row (now (rows .entry))) (now (rows .entry)) ⌝ }
 {
     if !on {
         return;
     }
-    rows::flip_bit(rows, w, row, shot);
+    rows::flip_bit(rows, w, row, shot.0);
 }
 
 // Adds 1, in one shot, to the rows of the qubits whose bit is set in v, which gives each qubit two bits; the lower one is looked at.
-fn flip_selected(rows: &mut [u64], w: usize, qubits: &[u64], v: u64, shot: usize)
-    requires { ⌜ (shot < 64 * w) × RowsIn w (now qubits) (now rows) ⌝ }
-    ensures { λ _. ⌜ now (rows .exit) ≡ overList (flipped w shot) (selected v (now (qubits .entry))) (now (rows .entry)) ⌝ }
+fn flip_selected(rows: &mut [u64], w: usize, qubits: &[u64], v: u64, shot: Shot)
+    requires { ⌜ (shot .0 < 64 * w) × RowsIn w (now qubits) (now rows) ⌝ }
+    ensures { λ _. ⌜ now (rows .exit) ≡ overList (flipped w (shot .0)) (selected v (now (qubits .entry))) (now (rows .entry)) ⌝ }
 {
     let mut left = v;
     let mut i = 0;
@@ -60,10 +61,9 @@ pub fn inject_depolarizing(
     requires { ⌜ (length (now x) ≡ n * w) × (length (now z) ≡ n * w) × (allBelow n (now qubits) ≡ true) × (distinct (now qubits) ≡ true) × (e + 1 < 2 ^ 64) × (shot .0 < 64 * w) ⌝ }
     ensures { λ _. ⌜ ((m : ℕ) (d : List ℕ) → Acts w (lineRule n m (Line.inject (shot .0) (depolarizingElement (now (qubits .entry)) e))) (now (x .entry)) (now (z .entry)) d (now (x .exit)) (now (z .exit)) d) ⌝ }
 {
-    let s = shot.0;
     let v = e + 1;
-    flip_selected(x, w, qubits, v, s);
-    flip_selected(z, w, qubits, v / 2, s);
+    flip_selected(x, w, qubits, v, shot);
+    flip_selected(z, w, qubits, v / 2, shot);
 }
 
 // ---- Any element
@@ -124,8 +124,7 @@ pub enum Drawn {
 pub fn inject_faults(
     words: &[u64],
     mask: &[u64],
-    p: f64,
-    d: PauliDistribution,
+    fault: PauliFault,
     sums: &[f64],
     elements: &[u64],
     x: &mut [u64],
@@ -134,15 +133,17 @@ pub fn inject_faults(
     n: usize,
     shots: usize,
 ) -> Drawn
-    requires { ⌜ FaultsReady n shots w p d (now sums) (now elements) (now mask) (now x) (now z) ⌝ }
-    ensures { λ r. ⌜ FaultsInjected n shots w p d (now (sums .entry)) (now (elements .entry)) (now (mask .entry)) (now (words .entry)) (now (x .entry)) (now (z .entry)) (now (x .exit)) (now (z .exit)) r ⌝ }
+    requires { ⌜ FaultsReady n shots w (fault .probability) (fault .distribution) (now sums) (now elements) (now mask) (now x) (now z) ⌝ }
+    ensures { λ r. ⌜ FaultsInjected n shots w (fault .probability) (fault .distribution) (now (sums .entry)) (now (elements .entry)) (now (mask .entry)) (now (words .entry)) (now (x .entry)) (now (z .entry)) (now (x .exit)) (now (z .exit)) r ⌝ }
 {
+    let p = fault.probability;
+    let d = fault.distribution;
     let c = bound(d);
     let most = limit(c);
     let mut at = 0;
     let mut shot = 0;
     loop {
-        match next_fault(words, at, mask, shot, shots, p, d, c, most, sums) {
+        match next_fault(words, at, mask, Shot(shot), shots, p, d, c, most, sums) {
             NextFault::Spent => {
                 return Drawn::Spent;
             }
@@ -150,9 +151,9 @@ pub fn inject_faults(
                 return Drawn::Done(next);
             }
             NextFault::At(s, e, next) => {
-                inject_element(x, z, w, n, Shot(s), d, elements, e);
+                inject_element(x, z, w, n, s, d, elements, e);
                 at = next;
-                shot = s + 1;
+                shot = s.0 + 1;
             }
         }
     }

@@ -61,16 +61,11 @@ fn put_noise_line<'a>(
         &mut mask,
     );
     let fault = ready.fault;
-    let p = fault.probability;
-    let d = fault.distribution;
-    let correlation = fault.correlation;
     let lines = ready.lines;
     match put_noise(
         out,
         from.byte,
-        p,
-        d,
-        correlation,
+        fault,
         &sums[..lines],
         &mask,
         elements,

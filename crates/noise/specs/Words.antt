@@ -1,12 +1,19 @@
--- Words that bring no fault. Definitions. Assumes nothing.
-use Prim.Native.Nat.{ℕ, zero, suc}
+-- Words that bring no fault, and the position behind those that a line has read. Definitions. Assumes nothing.
+use Prim.Native.Nat.{ℕ, zero, suc, _+_}
 use mathlib.Core.Bool.{cond}
 use mathlib.Core.List.{List, [], _∷_}
 use lib.Ieee.{Float}
 use Rattle.draws.specs.Draws.{falls}
+use Rattle.noise.specs.declared.Correlation.{Correlation}
+use Rattle.noise.specs.declared.Correlation.the-variants.{Uncorrelated, Shared}
 
 -- the first words, at most so many, that bring no fault
 unfoldable pub skipOf : Float → ℕ → List ℕ → ℕ
 skipOf p zero ws = 0
 skipOf p (suc most) [] = 0
 skipOf p (suc most) (w ∷ ws) = let more = suc (skipOf p most ws) in cond (falls w p) 0 more
+
+-- the position in the main list after a noise line that has read so many words of its part
+unfoldable pub positionAfter : Correlation → ℕ → ℕ → ℕ
+positionAfter Uncorrelated position read = position + read
+positionAfter (Shared c) position read = position

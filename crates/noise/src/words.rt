@@ -1,11 +1,12 @@
 // Words: as numbers from 0 to 1, and the part of the two lists of them that a noise line reads from.
 use crate::Correlation;
 ghost use mathlib.Core.Path.{_≡_};
-ghost use Prim.Native.Nat.{_≤_};
+ghost use mathlib.Core.Option.{none};
+ghost use Prim.Native.Nat.{_+_, _^_, _<_, _≤_};
 ghost use lib.ListN.{length, drop};
 ghost use Rattle.draws.specs.Draws.{unitOf, falls, Lent, partOf};
 ghost use Rattle.noise.specs.Kinds.{correlationOf};
-ghost use Rattle.noise.specs.Words.{skipOf};
+ghost use Rattle.noise.specs.Words.{skipOf, positionAfter};
 
 // u = floor(w / 2048) / 2^53. A number below 2^53 is cast without loss, and scaling by a power of two is exact.
 pub fn unit(w: u64) -> f64
@@ -45,6 +46,17 @@ pub fn part<'a>(
     match correlation {
         Correlation::Uncorrelated => tail(main, position),
         Correlation::Shared(c) => tail(second, std::num::wrapping_add_u64(base, c) as usize),
+    }
+}
+
+// The position in the main list behind a noise line: only a line without correlation reads on.
+pub fn position_after(correlation: Correlation, position: usize, read: usize) -> usize
+    requires { ⌜ (correlationOf correlation ≡ none → position + read < 2 ^ 64) ⌝ }
+    ensures { λ r. ⌜ r ≡ positionAfter correlation position read ⌝ }
+{
+    match correlation {
+        Correlation::Uncorrelated => position + read,
+        Correlation::Shared(_) => position,
     }
 }
 

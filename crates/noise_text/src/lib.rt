@@ -15,19 +15,21 @@ pub mod lists;
 use crate::lists::select;
 use choice::bound;
 use choice::limit;
-use noise::Correlation;
 use noise::PauliDistribution;
+use noise::PauliFault;
 use noise::words::part;
+use noise::words::position_after;
+use pauli::Shot;
 use shots::NextFault;
 use shots::next_fault;
-use writer::lines::put_inject;
+use writer::noise_lines::put_inject;
 
 // ---- An element
 
 // The injection of an element of a depolarizing distribution.
-fn put_depolarizing(out: &mut [u8], place: usize, shot: u64, qubits: &[u64], e: u64) -> usize
+fn put_depolarizing(out: &mut [u8], place: usize, shot: Shot, qubits: &[u64], e: u64) -> usize
     requires { ⌜ (place + 1342 < 2 ^ 64) × (length (now qubits) ≤ 31) × (e + 1 < 2 ^ 64) ⌝ }
-    ensures { λ r. ⌜ Puts place (injectText shot (depolarizingElement (now (qubits .entry)) e) ++ LF ∷ []) (now (out .entry)) (now (out .exit)) r ⌝ }
+    ensures { λ r. ⌜ Puts place (injectText (shot .0) (depolarizingElement (now (qubits .entry)) e) ++ LF ∷ []) (now (out .entry)) (now (out .exit)) r ⌝ }
 {
     let v = e + 1;
     let mut x = [0u64; 32];
@@ -38,9 +40,9 @@ fn put_depolarizing(out: &mut [u8], place: usize, shot: u64, qubits: &[u64], e: 
 }
 
 // The injection of an element that is kept whole.
-fn put_kept(out: &mut [u8], place: usize, shot: u64, elements: &[u64], e: usize) -> usize
+fn put_kept(out: &mut [u8], place: usize, shot: Shot, elements: &[u64], e: usize) -> usize
     requires { ⌜ (place + 1342 < 2 ^ 64) × Kept (now elements) e ⌝ }
-    ensures { λ r. ⌜ Puts place (injectText shot (keptElement (now (elements .entry)) e) ++ LF ∷ []) (now (out .entry)) (now (out .exit)) r ⌝ }
+    ensures { λ r. ⌜ Puts place (injectText (shot .0) (keptElement (now (elements .entry)) e) ++ LF ∷ []) (now (out .entry)) (now (out .exit)) r ⌝ }
 {
     let a = e * 64;
     let x = a + 2;
@@ -53,13 +55,13 @@ fn put_kept(out: &mut [u8], place: usize, shot: u64, elements: &[u64], e: usize)
 fn put_element(
     out: &mut [u8],
     place: usize,
-    shot: u64,
+    shot: Shot,
     d: PauliDistribution,
     elements: &[u64],
     e: u64,
 ) -> usize
     requires { ⌜ (place + 1342 < 2 ^ 64) × ElementIn d (now elements) e ⌝ }
-    ensures { λ r. ⌜ Puts place (injectText shot (elementIn d (now (elements .entry)) e) ++ LF ∷ []) (now (out .entry)) (now (out .exit)) r ⌝ }
+    ensures { λ r. ⌜ Puts place (injectText (shot .0) (elementIn d (now (elements .entry)) e) ++ LF ∷ []) (now (out .entry)) (now (out .exit)) r ⌝ }
 {
     match d {
         PauliDistribution::Depolarizing(k) => {
@@ -85,21 +87,22 @@ fn put_faults(
     words: &[u64],
     mask: &[u64],
     shots: usize,
-    p: f64,
-    d: PauliDistribution,
+    fault: PauliFault,
     sums: &[f64],
     elements: &[u64],
 ) -> Drawn
-    requires { ⌜ (from + 1342 * shots < 2 ^ 64) × Ready p d (now sums) (now mask) (now elements) shots ⌝ }
-    ensures { λ r. ⌜ ((q : Ready p d (now (sums .entry)) (now (mask .entry)) (now (elements .entry)) shots) → StepPut (now (words .entry)) from shots (now (out .entry)) (injected (q .noise .distribution) (drawShots (q .lent) (q .noise) shots 0 (now (words .entry)))) (now (out .exit)) r) ⌝ }
+    requires { ⌜ (from + 1342 * shots < 2 ^ 64) × Ready (fault .probability) (fault .distribution) (now sums) (now mask) (now elements) shots ⌝ }
+    ensures { λ r. ⌜ ((q : Ready (fault .probability) (fault .distribution) (now (sums .entry)) (now (mask .entry)) (now (elements .entry)) shots) → StepPut (now (words .entry)) from shots (now (out .entry)) (injected (q .noise .distribution) (drawShots (q .lent) (q .noise) shots 0 (now (words .entry)))) (now (out .exit)) r) ⌝ }
 {
+    let p = fault.probability;
+    let d = fault.distribution;
     let c = bound(d);
     let rejected = limit(c);
     let mut place = from;
     let mut at = 0;
     let mut shot = 0;
     loop {
-        match next_fault(words, at, mask, shot, shots, p, d, c, rejected, sums) {
+        match next_fault(words, at, mask, Shot(shot), shots, p, d, c, rejected, sums) {
             NextFault::Spent => {
                 return Drawn::Spent;
             }
@@ -107,9 +110,9 @@ fn put_faults(
                 return Drawn::Done(next, place);
             }
             NextFault::At(s, e, next) => {
-                place = put_element(&mut *out, place, s as u64, d, elements, e);
+                place = put_element(&mut *out, place, s, d, elements, e);
                 at = next;
-                shot = s + 1;
+                shot = s.0 + 1;
             }
         }
     }
@@ -119,9 +122,7 @@ fn put_faults(
 pub fn put_noise<'a>(
     out: &mut [u8],
     place: usize,
-    p: f64,
-    d: PauliDistribution,
-    correlation: Correlation,
+    fault: PauliFault,
     sums: &[f64],
     mask: &[u64],
     elements: &[u64],
@@ -131,18 +132,18 @@ pub fn put_noise<'a>(
     base: u64,
     position: usize,
 ) -> Drawn
-    requires { ⌜ (place + 1342 * shots < 2 ^ 64) × (position ≤ length (now main)) × ReadyOf p d (now sums) (now mask) (now elements) shots correlation (now second) base ⌝ }
-    ensures { λ r. ⌜ ((q : ReadyOf p d (now (sums .entry)) (now (mask .entry)) (now (elements .entry)) shots correlation (now (second .entry)) base) (text : List ℕ) → StepPut (now (main .entry)) place shots (now (out .entry)) (stepOf (q .ready .lent) (drop position (now (main .entry))) text (Instruction.noise (q .ready .noise))) (now (out .exit)) r) ⌝ }
+    requires { ⌜ (place + 1342 * shots < 2 ^ 64) × (position ≤ length (now main)) × ReadyOf (fault .probability) (fault .distribution) (now sums) (now mask) (now elements) shots (fault .correlation) (now second) base ⌝ }
+    ensures { λ r. ⌜ ((q : ReadyOf (fault .probability) (fault .distribution) (now (sums .entry)) (now (mask .entry)) (now (elements .entry)) shots (fault .correlation) (now (second .entry)) base) (text : List ℕ) → StepPut (now (main .entry)) place shots (now (out .entry)) (stepOf (q .ready .lent) (drop position (now (main .entry))) text (Instruction.noise (q .ready .noise))) (now (out .exit)) r) ⌝ }
 {
-    if p <= 0.0 {
+    if fault.probability <= 0.0 {
         return Drawn::Done(position, place);
     }
+    let correlation = fault.correlation;
     let words = part(main, second, correlation, base, position);
-    match put_faults(out, place, words, mask, shots, p, d, sums, elements) {
+    match put_faults(out, place, words, mask, shots, fault, sums, elements) {
         Drawn::Spent => Drawn::Spent,
-        Drawn::Done(read, next) => match correlation {
-            Correlation::Uncorrelated => Drawn::Done(position + read, next),
-            Correlation::Shared(_) => Drawn::Done(position, next),
-        },
+        Drawn::Done(read, next) => {
+            Drawn::Done(position_after(correlation, position, read), next)
+        }
     }
 }

@@ -59,7 +59,7 @@ firstFault lent n (suc left) shot ws = orLater shot (drawShot n (λ id. lent .no
 unfoldable pub faultOf : List ℕ → NextFault → FirstFault
 faultOf words next.Spent = FirstFault.spent
 faultOf words (next.Done at) = FirstFault.quiet (drop at words)
-faultOf words (next.At shot e at) = FirstFault.fault shot e (drop at words)
+faultOf words (next.At shot e at) = FirstFault.fault (shot .0) e (drop at words)
 
 -- the place of the next word
 unfoldable pub wordAfter : NextFault → ℕ
@@ -71,7 +71,7 @@ wordAfter (next.At shot e at) = at
 unfoldable pub InShots : ℕ → ℕ → NextFault → Type 0
 InShots shot shots next.Spent = Unit
 InShots shot shots (next.Done at) = Unit
-InShots shot shots (next.At s e at) = (shot ≤ s) × (s < shots)
+InShots shot shots (next.At s e at) = (shot ≤ s .0) × (s .0 < shots)
 
 -- The next fault in the shots from one on, from a place of the words on: for every noise line that the values stand for, where the mask has the shots in
 -- which its condition is satisfied.

@@ -4,6 +4,7 @@ use choice::element;
 use noise::PauliDistribution;
 use noise::words::is_fault;
 use noise::words::next_skip;
+use pauli::Shot;
 ghost use mathlib.Core.Path.{_≡_};
 ghost use Prim.Native.Nat.{_*_, _/_, _%_, _<_, _≤_};
 ghost use lib.ListN.{length, getD};
@@ -49,11 +50,12 @@ pub fn draw_shot(
 }
 
 // Whether a shot is in a mask.
-pub fn is_set(mask: &[u64], shot: usize) -> bool
-    requires { ⌜ shot < 64 * length (now mask) ⌝ }
-    ensures { λ r. ⌜ r ≡ bit (getD (now (mask .entry)) (shot / 64) 0) (shot % 64) ⌝ }
+pub fn is_set(mask: &[u64], shot: Shot) -> bool
+    requires { ⌜ shot .0 < 64 * length (now mask) ⌝ }
+    ensures { λ r. ⌜ r ≡ bit (getD (now (mask .entry)) (shot .0 / 64) 0) (shot .0 % 64) ⌝ }
 {
-    (mask[shot / 64] >> (shot % 64)) % 2 == 1
+    let s = shot.0;
+    (mask[s / 64] >> (s % 64)) % 2 == 1
 }
 
 // The next fault of a line: its shot, its element and the place of the next word. Or no shot that is left has one, with the place of the next
@@ -61,7 +63,7 @@ pub fn is_set(mask: &[u64], shot: usize) -> bool
 pub enum NextFault {
     Spent,
     Done(usize),
-    At(usize, u64, usize),
+    At(Shot, u64, usize),
 }
 
 // The next fault in the shots from one on. The mask has the shots whose condition is satisfied.
@@ -69,7 +71,7 @@ pub fn next_fault(
     words: &[u64],
     at: usize,
     mask: &[u64],
-    shot: usize,
+    shot: Shot,
     shots: usize,
     p: f64,
     d: PauliDistribution,
@@ -77,11 +79,11 @@ pub fn next_fault(
     limit: u64,
     sums: &[f64],
 ) -> NextFault
-    requires { ⌜ (at ≤ length (now words)) × (shot ≤ shots) × (shots ≤ 64 * length (now mask)) × (c ≡ boundOf d) × (limit ≡ limitOf c) ⌝ }
-    ensures { λ r. ⌜ FaultFound (now (words .entry)) at (now (mask .entry)) shot shots p d (now (sums .entry)) r ⌝ }
+    requires { ⌜ (at ≤ length (now words)) × (shot .0 ≤ shots) × (shots ≤ 64 * length (now mask)) × (c ≡ boundOf d) × (limit ≡ limitOf c) ⌝ }
+    ensures { λ r. ⌜ FaultFound (now (words .entry)) at (now (mask .entry)) (shot .0) shots p d (now (sums .entry)) r ⌝ }
 {
     let mut i = at;
-    let mut s = shot;
+    let mut s = shot.0;
     while s < shots {
         let skip = next_skip(words, i, shots - s, p);
         i += skip;
@@ -89,7 +91,7 @@ pub fn next_fault(
         if s == shots {
             return NextFault::Done(i);
         }
-        match draw_shot(words, i, p, d, c, limit, sums, is_set(mask, s)) {
+        match draw_shot(words, i, p, d, c, limit, sums, is_set(mask, Shot(s))) {
             ShotDraw::Spent => {
                 return NextFault::Spent;
             }
@@ -97,7 +99,7 @@ pub fn next_fault(
                 i = next;
             }
             ShotDraw::Fault(e, next) => {
-                return NextFault::At(s, e, next);
+                return NextFault::At(Shot(s), e, next);
             }
         }
         s += 1;

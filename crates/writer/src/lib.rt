@@ -9,7 +9,7 @@ ghost use Rattle.text.specs.List.{commas, listText};
 ghost use Rattle.writer.specs.Placed.{Puts};
 use job::Answer;
 
-pub mod lines;
+pub mod noise_lines;
 
 // What a call that writes text says: its answer, and its byte figure.
 #[repr(C)]

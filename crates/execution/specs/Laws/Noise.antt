@@ -1,13 +1,12 @@
 -- A noise instruction, made ready and injected. Laws. Assumes nothing.
-use mathlib.Core.Path.{_≡_, refl, ap, _∙_}
+use mathlib.Core.Path.{_≡_, ap, _∙_}
 use mathlib.Core.Bool.{true, false}
 use mathlib.Core.List.{List, [], _∷_}
 use mathlib.Core.Option.{none}
 use Prim.Native.Nat.{ℕ, suc, _+_, _^_, _<_, _≤_}
 use native.Mathlib.Omega.{arith}
 use lib.Ieee.{Float, le}
-use lib.ListN.{length, take, drop, length-drop}
-use lib.Seq.{drop-drop}
+use lib.ListN.{length, take, drop}
 use Rattle.job.specs.declared.Header.{Header}
 use Rattle.job.specs.Line.{Noise, Instruction, Placed}
 use Rattle.job.specs.Float.{float, zeroFloat}
@@ -18,8 +17,9 @@ use Rattle.draws.specs.Draws.{Lent, partOf, mainAfter}
 use Rattle.draws.specs.Execute.{States, Executed, injectShots, injectNoise, onMain, executeOne, Ended, executeThen, execute}
 use Rattle.propagator.specs.Acts.{stateOf}
 use Rattle.noise.specs.declared.Correlation.{Correlation}
-use Rattle.noise.specs.declared.Correlation.the-variants.{Uncorrelated, Shared}
 use Rattle.noise.specs.Kinds.{correlationOf}
+use Rattle.noise.specs.Words.{positionAfter}
+use Rattle.noise.specs.Laws.Position.{main-after, main-stays, position-within, position-fits}
 use Rattle.faults.specs.declared.Prepared.{Prepared}
 use Rattle.faults.specs.Prepared.{NoiseLines, noiseIn, PreparedAs}
 use Rattle.injection.specs.declared.Drawn.{Drawn}
@@ -29,36 +29,7 @@ use Rattle.injection.specs.Injected.{LineReady, FaultsReady, executedAs, placeO
 use Rattle.injection.specs.Laws.Holds.{holds-some}
 use Rattle.execution.specs.declared.Moved.{Moved}
 use Rattle.execution.specs.declared.Moved.the-variants.{To, Spent}
-use Rattle.execution.specs.Went.{lentBy, positionAfter, WentBy, Went, NoiseReady, NoiseRoom, NoiseDone}
-
--- ---- what is left of the main list
-
--- behind a noise line without correlation as many words are left as in its part, else as many as before
-main-after : (corr : Correlation) (lent : Lent) (main : List ℕ) (position read : ℕ)
-    → mainAfter (correlationOf corr) (drop position main) (drop read (partOf lent (correlationOf corr) (drop position main)))
-    ≡ drop (positionAfter corr position read) main
-unfolding mainAfter correlationOf partOf positionAfter
-main-after Uncorrelated lent main position read = drop-drop read position main
-main-after (Shared c) lent main position read = refl
-
-main-stays : (corr : Correlation) (lent : Lent) (main : List ℕ) (position : ℕ)
-    → mainAfter (correlationOf corr) (drop position main) (partOf lent (correlationOf corr) (drop position main)) ≡ drop position main
-unfolding mainAfter correlationOf partOf
-main-stays Uncorrelated lent main position = refl
-main-stays (Shared c) lent main position = refl
-
--- the position stays in the main list
-position-within : (corr : Correlation) (lent : Lent) (main : List ℕ) (position read : ℕ) → position ≤ length main
-    → read ≤ length (partOf lent (correlationOf corr) (drop position main)) → positionAfter corr position read ≤ length main
-unfolding correlationOf partOf positionAfter
-position-within Uncorrelated lent main position read h k = omega (arith, length-drop position main)
-position-within (Shared c) lent main position read h k = h
-
-position-fits : (corr : Correlation) (lent : Lent) (main : List ℕ) (position read : ℕ) → position ≤ length main → length main < 2 ^ 64
-    → read ≤ length (partOf lent (correlationOf corr) (drop position main)) → correlationOf corr ≡ none → position + read < 2 ^ 64
-unfolding correlationOf partOf
-position-fits Uncorrelated lent main position read h b k e = omega (arith, length-drop position main)
-position-fits (Shared c) lent main position read h b k e = let z : _≡_ {A = ℕ} 0 1 = cc in absurd (omega arith)
+use Rattle.execution.specs.Went.{lentBy, WentBy, Went, NoiseReady, NoiseRoom, NoiseDone}
 
 -- ---- what the noise comes to
 

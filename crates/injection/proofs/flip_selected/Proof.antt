@@ -14,7 +14,7 @@ use Rattle.injection.proofs.flip_selected.Tie as tie
 
 abbrev Inv-loop : tie.InvT-loop
 Inv-loop rows₀ w qubits v shot left₀ i₀ rows left i =
-    (overList (flipped w shot) (selected left (drop i qubits)) rows ≡ overList (flipped w shot) (selected v qubits) rows₀)
+    (overList (flipped w (shot .0)) (selected left (drop i qubits)) rows ≡ overList (flipped w (shot .0)) (selected v qubits) rows₀)
     × (length rows ≡ length rows₀)
 
 abbrev μ-loop : tie.MeasureT-loop

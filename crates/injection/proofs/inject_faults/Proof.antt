@@ -12,12 +12,12 @@ use Rattle.injection.proofs.inject_faults.Statement.{statement}
 use Rattle.injection.proofs.inject_faults.Tie as tie
 
 abbrev Inv-loop : tie.InvT-loop
-Inv-loop words mask p d sums elements x₀ z₀ w n shots c most at₀ shot₀ x z at shot =
+Inv-loop words mask sums elements x₀ z₀ w n shots p d c most at₀ shot₀ x z at shot =
     (at ≤ length words) × (shot ≤ shots) × (length x ≡ length x₀) × (length z ≡ length z₀) × (c ≡ boundOf d) × (most ≡ limitOf c)
     × Injecting n shots w p d sums elements mask words x₀ z₀ x z at shot
 
 abbrev μ-loop : tie.MeasureT-loop
-μ-loop words mask p d sums elements x₀ z₀ w n shots c most at₀ shot₀ x z at shot = shots - shot
+μ-loop words mask sums elements x₀ z₀ w n shots p d c most at₀ shot₀ x z at shot = shots - shot
 
 bound-requires : tie.Need-bound-requires Inv-loop μ-loop
 bound-requires c κs = c .before .before .before .before .before .before .pre .line .small
@@ -78,24 +78,24 @@ inject-element-requires c κs =
     )
 
 add-shot : tie.Need-add-shot Inv-loop μ-loop
-add-shot c = let shot = at-shot (c .before .before .before .before .before .before .before .before .before .before .next-fault .ensures) _ _ _ (c .before .before .before .before .before .before .before .before .s .given .1) in record { fits = omega arith }
+add-shot c = let shot = at-shot (c .before .before .before .before .before .before .before .before .before .before .before .next-fault .ensures) _ _ _ (c .before .before .before .before .before .before .before .before .before .s .given .1) in record { fits = omega (arith, shot, c .before .before .before .before .before .before .before .before .before .before .before .before .before .before .before .before .before .before .before .before .before .good) }
 
 loop-less : tie.Need-loop-less Inv-loop μ-loop
-loop-less c = let shot = at-shot (c .before .before .before .before .before .before .before .before .before .before .next-fault .ensures) _ _ _ (c .before .before .before .before .before .before .before .before .s .given .1) in omega arith
+loop-less c = let shot = at-shot (c .before .before .before .before .before .before .before .before .before .before .before .next-fault .ensures) _ _ _ (c .before .before .before .before .before .before .before .before .before .s .given .1) in omega arith
 
 loop-again : tie.Need-loop-again Inv-loop μ-loop
 loop-again c =
-    let i = c .before .before .before .before .before .before .before .before .before .before .before .loop .inv in
-    let found = c .before .before .before .before .before .before .before .before .before .before .next-fault .ensures in
-    let k = c .before .before .before .before .before .before .before .before .s .given .1 in
+    let i = c .before .before .before .before .before .before .before .before .before .before .before .before .loop .inv in
+    let found = c .before .before .before .before .before .before .before .before .before .before .before .next-fault .ensures in
+    let k = c .before .before .before .before .before .before .before .before .before .s .given .1 in
     let shot = at-shot found _ _ _ k in (
       at-within found _ _ _ k,
       omega arith,
-      c .before .before .before .before .inject-element .kept .0 ∙ i .2,
-      c .before .before .before .before .inject-element .kept .1 .0 ∙ i .3,
+      c .before .before .before .before .before .inject-element .kept .0 ∙ i .2,
+      c .before .before .before .before .before .inject-element .kept .1 .0 ∙ i .3,
       i .4,
       i .5,
-      injecting-at _ _ _ _ _ _ _ _ _ _ _ _ _ _ _ (i .1) (c .before .before .before .before .before .before .before .before .before .before .before .before .before .before .before .before .before .before .before .before .pre .in-words) _ found (i .6) _ _ _ _ _ k (c .before .before .before .before .inject-element .ensures),
+      injecting-at _ _ _ _ _ _ _ _ _ _ _ _ _ _ _ (i .1) (c .before .before .before .before .before .before .before .before .before .before .before .before .before .before .before .before .before .before .before .before .before .pre .in-words) _ found (i .6) _ _ _ _ _ k (c .before .before .before .before .before .inject-element .ensures),
     )
 
 pub inject-faults-spec : {M : Type 1} → statement M

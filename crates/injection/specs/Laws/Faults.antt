@@ -6,6 +6,7 @@ use native.Mathlib.Nat.{sub-zero}
 use native.Mathlib.Omega.{arith}
 use lib.ListN.{drop}
 use lib.Ieee.{Float}
+use Rattle.pauli.specs.declared.Shot.{Shot}
 use Rattle.job.specs.Line.{Line, Noise}
 use Rattle.draws.specs.Draws.{elementAt, Lent}
 use Rattle.draws.specs.Execute.{States, forwardAll, injectShots}
@@ -63,7 +64,7 @@ module _ (qubits shots w : ℕ) (p : Float) (d : PauliDistribution) (sums : List
           }
 
       -- the next fault's element is one of the distribution's
-      pub element-ready : (ready : FaultsReady qubits shots w p d sums elements mask x₀ z₀) (s e i : ℕ) → r ≡ next.At s e i → ElementReady qubits d elements e
+      pub element-ready : (ready : FaultsReady qubits shots w p d sums elements mask x₀ z₀) (s : Shot) (e i : ℕ) → r ≡ next.At s e i → ElementReady qubits d elements e
       element-ready ready s e i k =
           let line = ready .line in
           record {
@@ -76,13 +77,13 @@ module _ (qubits shots w : ℕ) (p : Float) (d : PauliDistribution) (sums : List
             below = at-below found before (line .stands) (ready .lent) fits (line .masks) s e i k (size-some qubits _ (line .sound));
           }
 
-      pub injecting-at : (s e i : ℕ) (x′ z′ : List ℕ) → r ≡ next.At s e i → ElementInjected w qubits s d elements e x z x′ z′ → Injecting x′ z′ i (s + 1)
+      pub injecting-at : (s : Shot) (e i : ℕ) (x′ z′ : List ℕ) → r ≡ next.At s e i → ElementInjected w qubits (s .0) d elements e x z x′ z′ → Injecting x′ z′ i (s .0 + 1)
       injecting-at s e i x′ z′ k injected =
           record {
             by = λ outcomes n lent ready deltas states₀ holds₀.
                 let (states, holds, same) = going .by outcomes n lent ready deltas states₀ holds₀ in
                 let below = at-below found before (ready .stands) lent fits (ready .masks) s e i k (size-some qubits _ (ready .sound)) in
-                let line = Line.inject s (elementAt (n .distribution) e) in (
+                let line = Line.inject (s .0) (elementAt (n .distribution) e) in (
                   forwardAll (numbers qubits outcomes shots) line states,
                   holds-line (numbers qubits outcomes shots) line holds (injected .acts (n .distribution) sums (ready .stands .chooses) (ready .held) below outcomes deltas),
                   sym (injects-at found before (ready .stands) lent fits (ready .masks) (numbers qubits outcomes shots) states s e i k) ∙ same,

@@ -11,7 +11,7 @@ use Rattle.noise_text.proofs.put_faults.Statement.{statement}
 use Rattle.noise_text.proofs.put_faults.Tie as tie
 
 abbrev Inv-loop : tie.InvT-loop
-Inv-loop out₀ from words mask shots p d sums elements c rejected place₀ at₀ shot₀ out place at shot =
+Inv-loop out₀ from words mask shots sums elements p d c rejected place₀ at₀ shot₀ out place at shot =
     (at ≤ length words)
     × (shot ≤ shots)
     × (place ≤ from + 1342 * shot)
@@ -19,7 +19,7 @@ Inv-loop out₀ from words mask shots p d sums elements c rejected place₀ at�
     × ((q : Ready p d sums mask elements shots) → Putting q words from out₀ at shot place out)
 
 abbrev μ-loop : tie.MeasureT-loop
-μ-loop out₀ from words mask shots p d sums elements c rejected place₀ at₀ shot₀ out place at shot = shots - shot
+μ-loop out₀ from words mask shots sums elements p d c rejected place₀ at₀ shot₀ out place at shot = shots - shot
 
 bound-requires : tie.Need-bound-requires Inv-loop μ-loop
 bound-requires c κs = c .before .before .before .before .before .pre .1 .small
@@ -60,20 +60,20 @@ put-element-requires c κs =
     (omega (arith, later, c .before .before .before .before .before .loop .inv .2, c .before .before .before .before .before .before .before .before .before .before .before .before .before .pre .0), element-inside (c .before .before .before .before .before .before .before .before .before .before .before .before .before .pre .1) (c .before .before .before .before .next-fault .ensures) (c .before .before .before .before .before .loop .inv .1) _ _ _ (c .before .before .s .given .1))
 
 add-shot : tie.Need-add-shot Inv-loop μ-loop
-add-shot c = omega (arith, at-shot (c .before .before .before .before .before .before .before .next-fault .ensures) _ _ _ (c .before .before .before .before .before .s .given .1))
+add-shot c = omega (arith, at-shot (c .before .before .before .before .before .before .before .before .next-fault .ensures) _ _ _ (c .before .before .before .before .before .before .s .given .1))
 
 loop-less : tie.Need-loop-less Inv-loop μ-loop
-loop-less c = omega (arith, at-shot (c .before .before .before .before .before .before .before .next-fault .ensures) _ _ _ (c .before .before .before .before .before .s .given .1))
+loop-less c = omega (arith, at-shot (c .before .before .before .before .before .before .before .before .next-fault .ensures) _ _ _ (c .before .before .before .before .before .before .s .given .1))
 
 loop-again : tie.Need-loop-again Inv-loop μ-loop
 loop-again c =
-    let later = at-shot (c .before .before .before .before .before .before .before .next-fault .ensures) _ _ _ (c .before .before .before .before .before .s .given .1) in
-    let goes = element-next (c .before .before .before .before .before .before .before .before .before .before .before .before .before .before .before .before .pre .1) (c .before .before .before .before .before .before .before .next-fault .ensures) (c .before .before .before .before .before .before .before .before .loop .inv .1) _ _ _ (c .before .before .before .before .before .s .given .1) (c .before .before .put-element .ensures) in (
-      at-within (c .before .before .before .before .before .before .before .next-fault .ensures) _ _ _ (c .before .before .before .before .before .s .given .1),
+    let later = at-shot (c .before .before .before .before .before .before .before .before .next-fault .ensures) _ _ _ (c .before .before .before .before .before .before .s .given .1) in
+    let goes = element-next (c .before .before .before .before .before .before .before .before .before .before .before .before .before .before .before .before .before .pre .1) (c .before .before .before .before .before .before .before .before .next-fault .ensures) (c .before .before .before .before .before .before .before .before .before .loop .inv .1) _ _ _ (c .before .before .before .before .before .before .s .given .1) (c .before .before .before .put-element .ensures) in (
+      at-within (c .before .before .before .before .before .before .before .before .next-fault .ensures) _ _ _ (c .before .before .before .before .before .before .s .given .1),
       omega (arith, later),
-      omega (arith, later, goes, c .before .before .before .before .before .before .before .before .loop .inv .2),
-      c .before .before .put-element .kept .0 ∙ c .before .before .before .before .before .before .before .before .loop .inv .3,
-      λ q. put-more q (c .before .before .before .before .before .before .before .before .loop .inv .4 q) (c .before .before .before .before .before .before .before .next-fault .ensures) (c .before .before .before .before .before .before .before .before .loop .inv .1) _ _ _ (c .before .before .before .before .before .s .given .1) (c .before .before .put-element .ensures),
+      omega (arith, later, goes, c .before .before .before .before .before .before .before .before .before .loop .inv .2),
+      c .before .before .before .put-element .kept .0 ∙ c .before .before .before .before .before .before .before .before .before .loop .inv .3,
+      λ q. put-more q (c .before .before .before .before .before .before .before .before .before .loop .inv .4 q) (c .before .before .before .before .before .before .before .before .next-fault .ensures) (c .before .before .before .before .before .before .before .before .before .loop .inv .1) _ _ _ (c .before .before .before .before .before .before .s .given .1) (c .before .before .before .put-element .ensures),
     )
 
 pub put-faults-spec : {M : Type 1} → statement M

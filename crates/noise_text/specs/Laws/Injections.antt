@@ -3,12 +3,12 @@ use mathlib.Core.Path.{_≡_, refl, sym, ap, _∙_}
 use mathlib.Core.Bool.{true, false}
 use mathlib.Core.List.{List, [], _∷_, _++_, map, append-assoc, append-nil}
 use mathlib.Core.Option.{Option, none, some}
-use Prim.Native.Nat.{ℕ, _+_, _-_, _*_, _≤_, _<_}
+use Prim.Native.Nat.{ℕ, _+_, _-_, _*_, _^_, _≤_, _<_}
 use native.Mathlib.Omega.{arith}
 use lib.Ieee.{Float, le}
-use lib.ListN.{length, drop, length-drop}
-use lib.Seq.{drop-drop}
+use lib.ListN.{length, drop}
 use Rattle.text.specs.Bytes.{LF, unlines}
+use Rattle.pauli.specs.declared.Shot.{Shot}
 use Rattle.job.specs.Line.{Distribution, sizeOf, Noise, Instruction}
 use Rattle.job.specs.Float.{float, zeroFloat}
 use Rattle.writer.specs.Placed.{Puts}
@@ -19,10 +19,11 @@ use Rattle.draws.specs.Settle.{SettledLine, injectText, injection, Step, noiseS
 use Rattle.draws.specs.Laws.SettledText.{element-sound}
 use Rattle.noise.specs.declared.PauliDistribution.{PauliDistribution}
 use Rattle.noise.specs.declared.Correlation.{Correlation}
-use Rattle.noise.specs.declared.Correlation.the-variants.{Uncorrelated, Shared}
 use Rattle.shots.specs.declared.NextFault.{NextFault}
 use Rattle.shots.specs.declared.NextFault.the-variants as next
 use Rattle.noise.specs.Kinds.{correlationOf}
+use Rattle.noise.specs.Words.{positionAfter}
+use Rattle.noise.specs.Laws.Position.{main-after, position-within, position-fits}
 use Rattle.shots.specs.Shots.{FaultFound}
 use Rattle.shots.specs.Laws.Next.{draws-spent, draws-done, draws-at, done-within, at-below}
 use Rattle.faults.specs.Laws.Drawn.{size-some}
@@ -70,20 +71,20 @@ module _ {p : Float} {d : PauliDistribution} {sums : List Float} {mask elements 
 
   -- the next fault
   module _ {words : List ℕ} {at shot : ℕ} {r : NextFault} (found : FaultFound words at mask shot shots p d sums r) (here : shot ≤ shots) where
-    below : (s e i : ℕ) → r ≡ next.At s e i → e < sizeOf D
+    below : (s : Shot) (e i : ℕ) → r ≡ next.At s e i → e < sizeOf D
     below s e i k = at-below found here (q .stands) (q .lent) (q .fits) (q .satisfied) s e i k (size-some (q .qubits) D (q .sound))
 
-    pub element-inside : (s e i : ℕ) → r ≡ next.At s e i → ElementIn d elements e
+    pub element-inside : (s : Shot) (e i : ℕ) → r ≡ next.At s e i → ElementIn d elements e
     element-inside s e i k = q .inside e (below s e i k)
 
     -- how far its injection goes
-    pub element-next : (s e i : ℕ) → r ≡ next.At s e i → {place after : ℕ} {out mid : List ℕ} → Puts place (injectText s (elementIn d elements e) ++ LF ∷ []) out mid after
+    pub element-next : (s : Shot) (e i : ℕ) → r ≡ next.At s e i → {place after : ℕ} {out mid : List ℕ} → Puts place (injectText (s .0) (elementIn d elements e) ++ LF ∷ []) out mid after
         → after ≤ place + 1342
     unfolding injectText
     element-next s e i k puts =
         let P = elementAt D e in
         let sound = element-sound (q .qubits) D (q .sound) e in
-        let goes = inject-next s (P .x) (P .z) (rw (q .held e (below s e i k)) at puts) in
+        let goes = inject-next (s .0) (P .x) (P .z) (rw (q .held e (below s e i k)) at puts) in
         omega (arith, goes, sound .x .few, sound .z .few)
 
   -- ---- all faults
@@ -107,17 +108,17 @@ module _ {p : Float} {d : PauliDistribution} {sums : List Float} {mask elements 
   module _ {words : List ℕ} {from : ℕ} {out : List ℕ} {at shot place : ℕ} {mid : List ℕ} (s : Putting words from out at shot place mid) {r : NextFault}
       (found : FaultFound words at mask shot shots p d sums r) (here : shot ≤ shots)
     where
-      pub put-more : (t e i : ℕ) → r ≡ next.At t e i → {end : ℕ} {after : List ℕ}
-          → Puts place (injectText t (elementIn d elements e) ++ LF ∷ []) mid after end → Putting words from out i (t + 1) end after
+      pub put-more : (t : Shot) (e i : ℕ) → r ≡ next.At t e i → {end : ℕ} {after : List ℕ}
+          → Puts place (injectText (t .0) (elementIn d elements e) ++ LF ∷ []) mid after end → Putting words from out i (t .0 + 1) end after
       put-more t e i k {end} {after} puts =
-          let f : Fault = record { shot = t; element = e } in
-          let line : injectText t (elementIn d elements e) ++ LF ∷ [] ≡ textOf (injection D f ∷ []) =
+          let f : Fault = record { shot = t .0; element = e } in
+          let line : injectText (t .0) (elementIn d elements e) ++ LF ∷ [] ≡ textOf (injection D f ∷ []) =
           rw (q .held e (below found here t e i k)) (unfold unlines injection in refl) in
           record {
             faults = s .faults ++ f ∷ [];
             draws =
                 s .draws
-                ∙ rw (draws-at found here (q .stands) (q .lent) (q .fits) (q .satisfied) t e i k) (also-more (s .faults) f (drawShots (q .lent) (q .noise) (shots - (t + 1)) (t + 1) (drop i words)));
+                ∙ rw (draws-at found here (q .stands) (q .lent) (q .fits) (q .satisfied) t e i k) (also-more (s .faults) f (drawShots (q .lent) (q .noise) (shots - (t .0 + 1)) (t .0 + 1) (drop i words)));
             puts = rw (map-append (injection D) (s .faults) (f ∷ []), text-append (map (injection D) (s .faults)) (injection D f ∷ [])) (puts-more (s .puts) (rw line at puts));
           }
 
@@ -186,7 +187,7 @@ unfolding mainAfter partOf
 part-main lent none main = refl
 part-main lent (some c) main = refl
 
-pub step-within : {words : List ℕ} {from shots : ℕ} {out : List ℕ} {step : Step} {after : List ℕ} {r : Drawn} {i j : ℕ}
+step-within : {words : List ℕ} {from shots : ℕ} {out : List ℕ} {step : Step} {after : List ℕ} {r : Drawn} {i j : ℕ}
     → StepPut words from shots out step after r → r ≡ Done i j → i ≤ length words
 unfolding PutAs
 step-within {words} {from} {shots} {out} {step} {after} {r} {i} t e = go step (t .put)
@@ -241,21 +242,18 @@ module _ {p : Float} {d : PauliDistribution} {sums : List Float} {mask elements 
         pub spent-draws : r ≡ Spent → StepPut main place shots out step after Spent
         spent-draws e = rw step-is (as-spent main noise (drop position main) draws put e)
 
-        pub main-draws : correlation ≡ Uncorrelated → {i j : ℕ} → r ≡ Done i j → StepPut main place shots out step after (Done (position + i) j)
-        unfolding correlationOf partOf mainAfter
-        main-draws main-list {i} {j} e =
-            let uncorrelated : noise .correlation ≡ none = sym (q .correlated) ∙ ap correlationOf main-list in
-            let from-main : words ≡ drop position main = part ∙ ap (λ (k : Correlation). partOf (q .ready .lent) (correlationOf k) (drop position main)) main-list in
-            let within : i ≤ length words = step-within put e in
-            let long : length words ≡ length main - position = ap length from-main ∙ length-drop position main in
-            let rest : mainAfter (noise .correlation) (drop position main) (drop i words) ≡ drop (position + i) main =
-            ap (λ (o : Option ℕ). mainAfter o (drop position main) (drop i words)) uncorrelated ∙ ap (drop i) from-main ∙ drop-drop i position main in
-            rw step-is (as-done main noise (drop position main) draws put i j (position + i) e (omega arith) rest)
+        module _ {i j : ℕ} (e : r ≡ Done i j) where
+          read-within : i ≤ length (partOf (q .ready .lent) (correlationOf correlation) (drop position main))
+          read-within = rw part at (step-within put e)
 
-        pub second-draws : {c : ℕ} → correlation ≡ Shared c → {i j : ℕ} → r ≡ Done i j → StepPut main place shots out step after (Done position j)
-        unfolding correlationOf mainAfter
-        second-draws {c} shared {i} {j} e =
-            let correlated : noise .correlation ≡ some c = sym (q .correlated) ∙ ap correlationOf shared in
-            let rest : mainAfter (noise .correlation) (drop position main) (drop i words) ≡ drop position main =
-            ap (λ (o : Option ℕ). mainAfter o (drop position main) (drop i words)) correlated in
-            rw step-is (as-done main noise (drop position main) draws put i j position e inside rest)
+          pub read-fits : length main < 2 ^ 64 → correlationOf correlation ≡ none → position + i < 2 ^ 64
+          read-fits small = position-fits correlation (q .ready .lent) main position i inside small read-within
+
+          pub done-draws : StepPut main place shots out step after (Done (positionAfter correlation position i) j)
+          done-draws =
+              let left : mainAfter (noise .correlation) (drop position main) (drop i words) ≡ drop (positionAfter correlation position i) main =
+              rw (← q .correlated, part) (main-after correlation (q .ready .lent) main position i) in
+              rw step-is
+              (as-done main noise (drop position main) draws put i j (positionAfter correlation position i) e
+              (position-within correlation (q .ready .lent) main position i inside read-within)
+              left)

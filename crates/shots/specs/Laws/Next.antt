@@ -7,6 +7,7 @@ use mathlib.Core.List.{List, []}
 use mathlib.Core.Option.{none, some}
 use lib.ListN.{length, drop}
 use lib.Ieee.{Float}
+use Rattle.pauli.specs.declared.Shot.{Shot}
 use Rattle.job.specs.declared.Header.{Header}
 use Rattle.job.specs.Line.{Line, sizeOf, Noise}
 use Rattle.draws.specs.Draws.{elementAt, ShotDraw, drawShot, Lent, Draws, alsoFault, thenShots, drawShots}
@@ -71,7 +72,7 @@ module _ {O : Type 0} (spent : O) (done : List ℕ → O) (fault : ℕ → ℕ �
           unfolding byFault faultOf
           by-done i e = rw e at whole
 
-          by-at : (s x i : ℕ) → r ≡ next.At s x i → f (shots - shot) shot (drop at words) ≡ fault s x (f (shots - (s + 1)) (s + 1) (drop i words))
+          by-at : (s : Shot) (x i : ℕ) → r ≡ next.At s x i → f (shots - shot) shot (drop at words) ≡ fault (s .0) x (f (shots - (s .0 + 1)) (s .0 + 1) (drop i words))
           unfolding byFault faultOf
           by-at s x i e = rw add-one (rw e at whole)
 
@@ -141,11 +142,11 @@ module _ {words mask : List ℕ} {at shot shots : ℕ} {p : Float} {d : PauliDis
     unfolding wordAfter
     done-within i e = rw e at (q .within)
 
-    pub at-within : (s e i : ℕ) → r ≡ next.At s e i → i ≤ length words
+    pub at-within : (s : Shot) (e i : ℕ) → r ≡ next.At s e i → i ≤ length words
     unfolding wordAfter
     at-within s e i k = rw k at (q .within)
 
-    pub at-shot : (s e i : ℕ) → r ≡ next.At s e i → (shot ≤ s) × (s < shots)
+    pub at-shot : (s : Shot) (e i : ℕ) → r ≡ next.At s e i → (shot ≤ s .0) × (s .0 < shots)
     unfolding InShots
     at-shot s e i k = rw k at (q .in-shots)
 
@@ -166,8 +167,8 @@ module _ {words mask : List ℕ} {at shot shots : ℕ} {p : Float} {d : PauliDis
     unfolding drawShots
     draws-done = by-done _ _ _ lent n (drawShots lent n) (λ s ws. refl) (draws-one lent n) words shot shots at le r found
 
-    pub draws-at : (s e i : ℕ) → r ≡ next.At s e i → drawShots lent n (shots - shot) shot (drop at words)
-        ≡ alsoFault record { shot = s; element = e } (drawShots lent n (shots - (s + 1)) (s + 1) (drop i words))
+    pub draws-at : (s : Shot) (e i : ℕ) → r ≡ next.At s e i → drawShots lent n (shots - shot) shot (drop at words)
+        ≡ alsoFault record { shot = s .0; element = e } (drawShots lent n (shots - (s .0 + 1)) (s .0 + 1) (drop i words))
     unfolding drawShots
     draws-at = by-at _ _ _ lent n (drawShots lent n) (λ s ws. refl) (draws-one lent n) words shot shots at le r found
 
@@ -185,15 +186,15 @@ module _ {words mask : List ℕ} {at shot shots : ℕ} {p : Float} {d : PauliDis
           ap (λ (f : States → Executed). f states)
           (by-done _ _ _ lent n (shotsFrom h lent n) (λ s ws. refl) (inject-one h lent n) words shot shots at le r found i e)
 
-      pub injects-at : (s e i : ℕ) → r ≡ next.At s e i → injectShots h lent n (shots - shot) shot (drop at words) states
-          ≡ injectShots h lent n (shots - (s + 1)) (s + 1) (drop i words) (forwardAll h (Line.inject s (elementAt (n .distribution) e)) states)
+      pub injects-at : (s : Shot) (e i : ℕ) → r ≡ next.At s e i → injectShots h lent n (shots - shot) shot (drop at words) states
+          ≡ injectShots h lent n (shots - (s .0 + 1)) (s .0 + 1) (drop i words) (forwardAll h (Line.inject (s .0) (elementAt (n .distribution) e)) states)
       unfolding injectShots
       injects-at s e i k =
           ap (λ (f : States → Executed). f states)
           (by-at _ _ _ lent n (shotsFrom h lent n) (λ s ws. refl) (inject-one h lent n) words shot shots at le r found s e i k)
 
     -- the element
-    pub at-below : (s e i : ℕ) → r ≡ next.At s e i → 0 < sizeOf (n .distribution) → e < sizeOf (n .distribution)
+    pub at-below : (s : Shot) (e i : ℕ) → r ≡ next.At s e i → 0 < sizeOf (n .distribution) → e < sizeOf (n .distribution)
     unfolding FirstBelow faultOf
     at-below s e i k some-size =
         let below : FirstBelow (sizeOf (n .distribution)) (faultOf words r) = rw found (first-below lent n some-size (shots - shot) shot (drop at words)) in

@@ -189,7 +189,7 @@ module _ {words mask : List ℕ} {shots : ℕ} {p : Float} {d : PauliDistributio
       unfolding drawOf orLater foundOf wordAfter InShots
       found-spent e = record { within = omega arith; in-shots = tt; is = λ n lent w r f m. (rw e at (drawn n lent w r f m)) }
 
-      pub found-at : (x k : ℕ) → a ≡ draw.Fault x k → shot ≤ s → FaultFound words at mask shot shots p d sums (next.At s x k)
+      pub found-at : (x k : ℕ) → a ≡ draw.Fault x k → shot ≤ s → FaultFound words at mask shot shots p d sums (next.At record { 0 = s } x k)
       unfolding drawOf nextOf orLater foundOf wordAfter InShots
       found-at x k e le =
           record {

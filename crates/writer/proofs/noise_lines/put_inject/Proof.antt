@@ -1,12 +1,12 @@
--- `writer::lines::put_inject` meets its contract. Assumes nothing.
+-- `writer::noise_lines::put_inject` meets its contract. Assumes nothing.
 use Rattle.text.specs.Bytes.{bytes}
 use Rattle.writer.specs.Laws.Placing.{puts-more}
 use Rattle.writer.specs.Laws.Lists.{number-next, list-next}
 use Rattle.writer.specs.Laws.Lines.{inject-line}
 use borrow.Author.Needs.{needs}
 use native.Mathlib.Omega.{arith}
-use Rattle.writer.proofs.lines.put_inject.Statement.{statement}
-use Rattle.writer.proofs.lines.put_inject.Tie as tie
+use Rattle.writer.proofs.noise_lines.put_inject.Statement.{statement}
+use Rattle.writer.proofs.noise_lines.put_inject.Tie as tie
 
 slice-aggregate-put-bytes : tie.Need-slice-aggregate-put-bytes
 slice-aggregate-put-bytes c = search needs

@@ -1,9 +1,9 @@
--- `execution::position_after` meets its contract. Assumes nothing.
-use Rattle.execution.specs.Went.{positionAfter}
+-- `noise::words::position_after` meets its contract. Assumes nothing.
+use Rattle.noise.specs.Words.{positionAfter}
 use Rattle.noise.specs.Kinds.{correlationOf}
 use borrow.Author.Needs.{needs}
-use Rattle.execution.proofs.position_after.Statement.{statement}
-use Rattle.execution.proofs.position_after.Tie as tie
+use Rattle.noise.proofs.words.position_after.Statement.{statement}
+use Rattle.noise.proofs.words.position_after.Tie as tie
 
 enum-told : tie.Need-enum-told
 enum-told c = search needs

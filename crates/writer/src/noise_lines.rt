@@ -11,14 +11,15 @@ use crate::put_bytes;
 use crate::put_hex;
 use crate::put_list;
 use crate::put_number;
+use pauli::Shot;
 
 // `op=i shot=N x=L z=L`
-pub fn put_inject(out: &mut [u8], at: usize, shot: u64, x: &[u64], z: &[u64]) -> usize
+pub fn put_inject(out: &mut [u8], at: usize, shot: Shot, x: &[u64], z: &[u64]) -> usize
     requires { ⌜ at + (21 * length (now x) + 21 * length (now z) + 40) < 2 ^ 64 ⌝ }
-    ensures { λ r. ⌜ Puts at (lineText injectTemplate (Value.number shot ∷ Value.list (now (x .entry)) ∷ Value.list (now (z .entry)) ∷ []) ++ LF ∷ []) (now (out .entry)) (now (out .exit)) r ⌝ }
+    ensures { λ r. ⌜ Puts at (lineText injectTemplate (Value.number (shot .0) ∷ Value.list (now (x .entry)) ∷ Value.list (now (z .entry)) ∷ []) ++ LF ∷ []) (now (out .entry)) (now (out .exit)) r ⌝ }
 {
     let a = put_bytes(&mut *out, at, b"op=i shot=");
-    let b = put_number(&mut *out, a, shot);
+    let b = put_number(&mut *out, a, shot.0 as u64);
     let c = put_bytes(&mut *out, b, b" x=");
     let d = put_list(&mut *out, c, x);
     let e = put_bytes(&mut *out, d, b" z=");
