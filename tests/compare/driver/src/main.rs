@@ -4,6 +4,7 @@
 
 mod bench;
 mod brute;
+mod chosen;
 mod differences;
 #[cfg(feature = "linked")]
 mod linked;
@@ -25,7 +26,7 @@ usage: compare CALL N [SEED]      N random inputs of a call: check, run, settle,
        compare vectors            the stored vectors
        compare all N [SEED]       all of these
        compare write CALL N SEED  N vectors of a call, made by the reference, on standard output
-       compare replay CALL        the list of a replay program, on standard output: check
+       compare replay             the list of the program replay_calls, on standard output
        compare bench [PART]       times beside the published Rust's and document 01's by hand; PART is checks, runs or around
 A difference is seen again by `compare CALL 1 SEED` with the seed that it prints.";
 
@@ -46,7 +47,7 @@ fn main() -> ExitCode {
         ["bench"] => bench::run("all") || usage(),
         ["bench", part] => bench::run(part) || usage(),
         ["write", call, count, seed] => write(call, count, seed),
-        ["replay", "check"] => replay::write_check(),
+        ["replay"] => replay::write(),
         [command, count] => counted(command, count, None),
         [command, count, seed] => counted(command, count, Some(seed)),
         _ => usage(),

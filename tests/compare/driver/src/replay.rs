@@ -1,31 +1,71 @@
-//! The lists that the replay programs run: crates/replay/README.md says how they are written.
+//! The list that the program `replay_calls` runs: crates/replay/README.md says how it is written.
 
+use crate::chosen::chosen;
+use checker::calls::Answer;
 use checker::cases::cases;
 use checker::read::check;
 use generator::inputs::input;
 use generator::random::Random;
-use reference::vectors::Call;
+use reference::vectors::{CALLS, Call, Input, Output, fresh_bytes};
 use std::io::Write;
 
-/// How many random and damaged jobs a list has, and how long they may be.
+/// How many random and damaged jobs are checked, and how long they may be.
 const RANDOM: usize = 100;
 const MOST_BYTES: usize = 600;
 
 /// From how many times on a line that is repeated gets a record of its own.
-const REPEATED: usize = 8;
+const REPEATED: usize = 4;
 
-/// Write the list of `check` to standard output: the jobs of every limit, then random and damaged ones, answered by document 01's checks by hand.
-pub fn write_check() -> bool {
-    let seeds = 1..;
-    let random = seeds.map(|seed| input(&mut Random::new(seed), Call::Check).job);
-    let random = random.filter(|job| job.len() <= MOST_BYTES).take(RANDOM);
-    let mut list = Vec::new();
-    for job in cases().into_iter().map(|case| case.job).chain(random) {
-        add(&mut list, &job);
-        let (number, line) = check(&job).map_or_else(|refusal| (refusal.number, refusal.line), |()| (0, 0));
-        list.extend_from_slice(format!("check number={number} line={line}\n").as_bytes());
-    }
+/// Write the list to standard output.
+pub fn write() -> bool {
+    let others = CALLS.into_iter().filter(|call| !matches!(call, Call::Check | Call::Print));
+    let others = others.flat_map(|call| chosen(call, |input, output| case(call, input, output)));
+    let list: Vec<u8> = checks().into_iter().chain(others).flatten().collect();
     std::io::stdout().write_all(&list).is_ok()
+}
+
+/// Cases of `check`: the jobs of every limit, then random and damaged ones, answered by document 01's checks by hand.
+fn checks() -> Vec<Vec<u8>> {
+    let random = (1..).map(|seed| input(&mut Random::new(seed), Call::Check).job);
+    let random = random.filter(|job| job.len() <= MOST_BYTES).take(RANDOM);
+    let jobs = cases().into_iter().map(|case| case.job).chain(random);
+    let checked = |job: Vec<u8>| {
+        let output = Output { answer: Answer::of(check(&job)), ..Output::default() };
+        case(Call::Check, &Input { job, ..Input::default() }, &output)
+    };
+    jobs.map(checked).collect()
+}
+
+/// A case: its bytes and words, and the record of its call.
+fn case(call: Call, input: &Input, output: &Output) -> Vec<u8> {
+    let mut case = Vec::new();
+    add(&mut case, &input.job);
+    let draws = [&input.noiseless, &input.main, &input.second];
+    let after = [&output.frames_x, &output.frames_z, &output.deltas];
+    let words: Vec<&Vec<u64>> = match call {
+        Call::Walk => vec![&input.set],
+        Call::Settle => draws.to_vec(),
+        Call::Run => draws.into_iter().chain(after).collect(),
+        _ => Vec::new(),
+    };
+    add_text(&mut case, output);
+    let lines = words.iter().copied().flatten().map(|word| format!("{word:016x}\n"));
+    add(&mut case, lines.collect::<String>().as_bytes());
+    let Answer { number, line, figure } = output.answer;
+    let bytes = input.job.len();
+    let lengths = words.iter().map(|list| list.len().to_string()).collect::<Vec<_>>().join(",");
+    let rest = match call {
+        Call::Locations => format!(" count={figure}"),
+        Call::Walk => format!(" count={figure} shot={} bytes={bytes}", input.shot),
+        Call::Annotate => format!(" figure={figure} p={:016x} bytes={bytes}", input.p),
+        Call::Settle => {
+            format!(" figure={figure} base={:016x} bytes={bytes},{} words={lengths}", input.base, input.out_len)
+        }
+        Call::Run => format!(" figure={figure} base={:016x} bytes={bytes} words={lengths}", input.base),
+        _ => String::new(),
+    };
+    case.extend_from_slice(format!("{} number={number} line={line}{rest}\n", call.name()).as_bytes());
+    case
 }
 
 /// Records that make up some bytes: a line that is repeated often is written once.
@@ -43,8 +83,17 @@ fn add(list: &mut Vec<u8>, bytes: &[u8]) {
     record(list, &plain, 1);
 }
 
+/// Every lent byte after a call: the text that it wrote, and behind it what lent bytes hold before a call in the program.
+fn add_text(list: &mut Vec<u8>, output: &Output) {
+    let written = if output.answer.number == 0 { output.answer.figure } else { 0 };
+    let written = usize::try_from(written).expect("a length").min(output.bytes.len());
+    assert_eq!(output.bytes[written..], fresh_bytes(output.bytes.len())[written..]);
+    add(list, &output.bytes[..written]);
+    record(list, b"A", output.bytes.len() - written);
+}
+
 fn record(list: &mut Vec<u8>, bytes: &[u8], times: usize) {
-    if !bytes.is_empty() {
+    if !bytes.is_empty() && times > 0 {
         list.extend_from_slice(format!("add bytes={} times={times}\n", bytes.len()).as_bytes());
         list.extend_from_slice(bytes);
     }

@@ -3,5 +3,5 @@ use Prim.Native.Nat.{ℕ}
 use mathlib.Core.Path.{_≡_, sym}
 use lib.ListN.{length, replicate, length-replicate}
 
-pub long : (n : ℕ) → n ≡ length {A = ℕ} (replicate n 0)
-long n = sym (length-replicate n 0)
+pub long : (n v : ℕ) → n ≡ length {A = ℕ} (replicate n v)
+long n v = sym (length-replicate n v)

@@ -1,0 +1,10 @@
+-- `replay_calls::list_buffer` meets its contract. Assumes nothing.
+use Rattle.replay_calls.proofs.Long.{long}
+use Rattle.replay_calls.proofs.list_buffer.Statement.{statement}
+use Rattle.replay_calls.proofs.list_buffer.Tie as tie
+
+returns : tie.Need-returns
+returns c = long 786432 0
+
+pub list-buffer-spec : {M : Type 1} → statement M
+list-buffer-spec = tie.close (tie.spec returns)

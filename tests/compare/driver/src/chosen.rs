@@ -1,0 +1,314 @@
+//! Which inputs the stored cases of a call have: random ones, each of which shows something that few before it show.
+
+use checker::job::{Distribution, Header, Instruction, Job, MAX_BYTES, Noise, usize_of};
+use checker::plain::settled;
+use checker::read::read;
+use generator::damage::damaged;
+use generator::inputs::{input, lent};
+use generator::jobs::{DENSE, Shape, job_of};
+use generator::random::Random;
+use reference::Reference;
+use reference::vectors::{Call, Input, Output};
+use std::cmp::Ordering;
+use std::collections::BTreeMap;
+
+/// How many cases show each thing.
+const EACH: usize = 2;
+
+/// After how many seeds a thing that isn't shown often enough is an error.
+const MOST_SEEDS: u64 = 100_000;
+
+/// How long a case may be in the stored list: one that is refused, one at the most shots, and any other.
+const MOST_REFUSED: usize = 1_000;
+const MOST_AT_MOST_SHOTS: usize = 16_000;
+const MOST: usize = 3_600;
+
+/// Shots at which rows of words begin and end, and the most there may be.
+const SHOTS: [u64; 7] = [1, 63, 64, 65, 127, 128, 4096];
+
+/// At the most shots each draw comes so often, one behind the other, so that a list of them is stored in few bytes.
+const HELD: usize = 61;
+
+/// What lent words hold before a run.
+const FRESH: u64 = 0x4141_4141_4141_4141;
+
+/// The stored cases of a call, as `case` writes an input and what the reference answers to it and leaves: those at the limits, then random ones.
+///
+/// # Panics
+///
+/// Panics if something that they must show comes too seldom.
+pub fn chosen(call: Call, case: impl Fn(&Input, &Output) -> Vec<u8>) -> Vec<Vec<u8>> {
+    let answered = |input: &Input| input.make(call, &Reference).expect("the reference makes every call");
+    let mut all: Vec<Vec<u8>> = limits(call).iter().map(|input| case(input, &answered(input))).collect();
+    let mut wanted: BTreeMap<String, usize> = wanted(call).into_iter().map(|thing| (thing, EACH)).collect();
+    for seed in 1..=MOST_SEEDS {
+        let random = &mut Random::new(seed);
+        let mut input = match seed % 3 {
+            0 => input(random, call),
+            1 => at_shots(random, call, 20, if call == Call::Walk { 0 } else { 6 }),
+            _ => short_damaged(random, call),
+        };
+        for rows in [&mut input.frames_x, &mut input.frames_z, &mut input.deltas] {
+            rows.fill(FRESH);
+        }
+        let output = answered(&input);
+        let shown = shown(call, &input, &output);
+        let case = case(&input, &output);
+        let most = match output.answer.number {
+            0 if shown.contains(&format!("{} shots", SHOTS[6])) => MOST_AT_MOST_SHOTS,
+            0 => MOST,
+            _ => MOST_REFUSED,
+        };
+        if case.len() <= most && shown.iter().any(|thing| wanted.contains_key(thing)) {
+            all.push(case);
+            for thing in shown {
+                wanted.entry(thing).and_modify(|left| *left -= 1);
+            }
+            wanted.retain(|_, left| *left > 0);
+        }
+        if wanted.is_empty() {
+            return all;
+        }
+    }
+    panic!("{}: too few cases show {wanted:?}", call.name());
+}
+
+// ---- inputs
+
+/// Jobs as long as they may be and a byte longer; for calls that write text, also jobs whose text is so long.
+fn limits(call: Call) -> Vec<Input> {
+    const HEADER: &str = "op=job qubits=11 outcomes=0 shots=8\n";
+    const GATE: &str = "op=u g=4 q=0\n";
+    const NOISE: &str = "op=n p=3ff0000000000000 corr=- cond=- parity=0 d=1 x=0 z=-\n";
+    let p = 0.25_f64.to_bits();
+    let (line, text) = match call {
+        Call::Annotate => (GATE, format!("{GATE}op=n p={p:016x} corr=- cond=- parity=0 d=2 q=0\n")),
+        Call::Settle => (NOISE, (0..8).map(|shot| format!("op=i shot={shot} x=0 z=-\n")).collect()),
+        _ => ("", String::new()),
+    };
+    let lengths = [MAX_BYTES, MAX_BYTES + 1];
+    let mut jobs: Vec<Vec<u8>> = lengths.map(|length| filled(HEADER, length)).into();
+    if !line.is_empty() {
+        jobs.extend(lengths.map(|length| filled(&[HEADER, line].concat(), length + line.len() - text.len())));
+    }
+    let lent = |job| {
+        let (main, rows) = (vec![0; 8], vec![FRESH; 11]);
+        Input { job, p, main, frames_x: rows.clone(), frames_z: rows, out_len: MAX_BYTES + 2, ..Input::default() }
+    };
+    jobs.into_iter().map(lent).collect()
+}
+
+/// Lines up to a length: resets of two lengths without a common divisor.
+fn filled(start: &str, length: usize) -> Vec<u8> {
+    const LINES: [&str; 2] = ["op=z q=0\n", "op=z q=10\n"];
+    let left = length - start.len();
+    let longer = left % LINES[0].len();
+    let shorter = left / LINES[0].len() - longer;
+    [start, &LINES[1].repeat(longer), &LINES[0].repeat(shorter)].concat().into_bytes()
+}
+
+/// A job of so many lines at most and with so much noise at one of the shots, and what its call is lent.
+fn at_shots(random: &mut Random, call: Call, most_lines: u64, noise: u64) -> Input {
+    let shots = random.pick(&SHOTS);
+    let header = Header { qubits: random.pick(&[1, 2, 3, 4, 33]), outcomes: random.between(0, 3), shots };
+    let lines = random.between(1, most_lines);
+    let made = job_of(random, header, lines, &Shape { noise, ..DENSE });
+    let mut input = lent(random, call, &made.bytes());
+    if shots == SHOTS[6] && matches!(call, Call::Run | Call::Settle) {
+        hold(random, &mut input);
+    }
+    input
+}
+
+/// A job of a few lines, damaged, and what the call of the undamaged one is lent.
+fn short_damaged(random: &mut Random, call: Call) -> Input {
+    let mut input = at_shots(random, call, 5, 6);
+    input.job = damaged(random, &input.job);
+    input
+}
+
+/// Draws of which each comes often; all that the job reads, or now and then one less.
+fn hold(random: &mut Random, input: &mut Input) {
+    let mut held = |length: usize| -> Vec<u64> {
+        let words: Vec<u64> = (0..=length / HELD).map(|_| random.word()).collect();
+        (0..length).map(|place| words[place / HELD]).collect()
+    };
+    let job = read(&input.job).expect("a job that the checks accept");
+    let noise = job.lines.iter().filter(|line| matches!(line.instruction, Instruction::Noise(_))).count();
+    input.main = held(noise * 3 * usize_of(job.header.shots));
+    input.second = held(input.second.len());
+    input.noiseless = held(input.noiseless.len());
+    if input.noiseless.len() >= job.header.outcome_words()
+        && let Ok(settled) = settled(&job, input.draws(), &input.noiseless)
+    {
+        let read = usize_of(settled.words_read);
+        input.main.truncate(if random.one_in(4) { read.saturating_sub(1) } else { read });
+    }
+}
+
+// ---- what they show
+
+/// What the cases of a call must show.
+fn wanted(call: Call) -> Vec<String> {
+    let own_numbers: &[u64] = match call {
+        Call::Run => &[13, 14],
+        Call::Settle => &[13, 14, 15],
+        Call::Walk => &[16, 17],
+        Call::Annotate => &[15, 18],
+        Call::Correlation => &[19],
+        Call::Check | Call::Locations | Call::Print => &[],
+    };
+    let mut all: Vec<String> =
+        (0..=12).chain(own_numbers.iter().copied()).map(|number| format!("number {number}")).collect();
+    all.extend((0..=14).map(|gate| format!("gate {gate}")));
+    all.extend(KINDS.map(String::from));
+    if call != Call::Walk {
+        all.extend(DISTRIBUTIONS.map(|kind| format!("{kind}")));
+        all.extend(["correlated", "even condition", "odd condition"].map(String::from));
+    }
+    match call {
+        Call::Run | Call::Settle => {
+            let at_shots = |shots| DISTRIBUTIONS.map(|kind| format!("{kind} at {shots} shots"));
+            all.extend(SHOTS.into_iter().flat_map(at_shots));
+            all.extend(["rejected word", "main list spent", "second list spent", "wrapped place"].map(String::from));
+        }
+        Call::Walk => all.extend(SHOTS.map(|shots| format!("{shots} shots"))),
+        _ => {}
+    }
+    let lists: &[&str] = match call {
+        Call::Run => &["x", "z", "deltas", "noiseless"],
+        Call::Settle => &["noiseless"],
+        _ => &[],
+    };
+    all.extend(lists.iter().flat_map(|list| ["short", "exact", "longer"].map(|length| format!("{length} {list}"))));
+    if matches!(call, Call::Settle | Call::Annotate) {
+        all.extend(["exact text", "longer text"].map(String::from));
+    }
+    all
+}
+
+const KINDS: [&str; 11] = [
+    "clifford",
+    "pauli",
+    "exponential",
+    "controlled",
+    "permute",
+    "measure",
+    "allocate",
+    "conditional",
+    "reset",
+    "inject",
+    "flip",
+];
+
+const DISTRIBUTIONS: [&str; 4] = ["single", "depolarizing", "uniform", "weighted"];
+
+/// What a case shows: the kinds of lines and noise of a job only if it gets to its end.
+fn shown(call: Call, input: &Input, output: &Output) -> Vec<String> {
+    let number = output.answer.number;
+    let mut all = vec![format!("number {number}")];
+    let Ok(job) = read(&input.job) else { return all };
+    match call {
+        Call::Run => {
+            all.push(length("x", input.frames_x.len(), job.header.frame_words()));
+            all.push(length("z", input.frames_z.len(), job.header.frame_words()));
+            all.push(length("deltas", input.deltas.len(), job.header.outcome_words()));
+            all.push(length("noiseless", input.noiseless.len(), job.header.outcome_words()));
+        }
+        Call::Settle => all.push(length("noiseless", input.noiseless.len(), job.header.outcome_words())),
+        _ => {}
+    }
+    if matches!(call, Call::Settle | Call::Annotate) && number == 0 {
+        all.push(length("text", input.out_len, usize_of(output.answer.figure)));
+    }
+    if number == 14 {
+        let spent = job.lines.iter().find(|line| line.number == output.answer.line);
+        let is_correlated =
+            spent.and_then(|line| noise(&line.instruction)).is_some_and(|noise| noise.correlation.is_some());
+        all.push(if is_correlated { "second list spent" } else { "main list spent" }.into());
+    }
+    if number == 0 {
+        all.push(format!("{} shots", job.header.shots));
+        all.extend(job.lines.iter().map(|line| kind(&line.instruction)));
+        for noise in job.lines.iter().filter_map(|line| noise(&line.instruction)) {
+            all.extend(shown_by_noise(noise, job.header.shots, input.base));
+        }
+        if has_rejected(&job, input) {
+            all.push("rejected word".into());
+        }
+    }
+    all.sort();
+    all.dedup();
+    all
+}
+
+fn length(list: &str, length: usize, need: usize) -> String {
+    let length = match length.cmp(&need) {
+        Ordering::Less => "short",
+        Ordering::Equal => "exact",
+        Ordering::Greater => "longer",
+    };
+    format!("{length} {list}")
+}
+
+fn noise(instruction: &Instruction) -> Option<&Noise> {
+    if let Instruction::Noise(noise) = instruction { Some(noise) } else { None }
+}
+
+fn kind(instruction: &Instruction) -> String {
+    let kind = match instruction {
+        Instruction::Unitary { gate, .. } => return format!("gate {gate}"),
+        Instruction::Clifford { .. } => "clifford",
+        Instruction::Pauli(_) => "pauli",
+        Instruction::Exponential(_) => "exponential",
+        Instruction::Controlled { .. } => "controlled",
+        Instruction::Permute { .. } => "permute",
+        Instruction::Measure { .. } => "measure",
+        Instruction::Allocate { .. } => "allocate",
+        Instruction::Conditional { .. } => "conditional",
+        Instruction::Reset { .. } => "reset",
+        Instruction::Inject { .. } => "inject",
+        Instruction::Flip { .. } => "flip",
+        Instruction::Noise(noise) => distribution(noise),
+    };
+    kind.into()
+}
+
+fn distribution(noise: &Noise) -> &'static str {
+    match noise.distribution {
+        Distribution::Single(_) => "single",
+        Distribution::Depolarizing(_) => "depolarizing",
+        Distribution::Uniform(_) => "uniform",
+        Distribution::Weighted(_) => "weighted",
+    }
+}
+
+fn shown_by_noise(noise: &Noise, shots: u64, base: u64) -> Vec<String> {
+    let mut all = vec![format!("{} at {shots} shots", distribution(noise))];
+    if !noise.condition.is_empty() {
+        all.push(if noise.parity { "odd condition" } else { "even condition" }.into());
+    }
+    if let Some(correlation) = noise.correlation {
+        all.push("correlated".into());
+        if base.checked_add(correlation).is_none() {
+            all.push("wrapped place".into());
+        }
+    }
+    all
+}
+
+/// Whether the main list was read further than its lines' faults need without a rejected word.
+fn has_rejected(job: &Job<'_>, input: &Input) -> bool {
+    if input.noiseless.len() < job.header.outcome_words() {
+        return false;
+    }
+    let Ok(settled) = settled(job, input.draws(), &input.noiseless) else { return false };
+    let words = |(line, faults): (&checker::job::Line<'_>, &Vec<_>)| match noise(&line.instruction) {
+        Some(noise) if noise.correlation.is_none() && noise.probability() > 0.0 => {
+            let chosen = if matches!(noise.distribution, Distribution::Single(_)) { 0 } else { faults.len() as u64 };
+            job.header.shots + chosen
+        }
+        _ => 0,
+    };
+    settled.words_read > job.lines.iter().zip(&settled.faults).map(words).sum()
+}
