@@ -4,8 +4,8 @@
 ghost use mathlib.Core.Path.{_≡_};
 ghost use Prim.Native.Nat.{_+_, _≤_, _<_};
 ghost use lib.ListN.{length};
-use text::numbers::Value;
-use text::numbers::hex16;
+use numbers::Value;
+use numbers::hex16;
 use numbers::pieces::find;
 use template::read_all;
 
