@@ -3,7 +3,8 @@ use mathlib.Core.Path.{sym, ap}
 use native.Mathlib.Omega.{arith}
 use Rattle.job.specs.declared.Header.{Header}
 use Rattle.rows.specs.Words.{wordsPerRow}
-use Rattle.runner.specs.Laws.Passed.{passed-ended, passed-read, range}
+use Rattle.instructions.specs.Laws.Steps.{header-read}
+use Rattle.agreement.specs.Laws.Header.{passed-ended, passed-range}
 use borrow.Author.Needs.{needs}
 use Rattle.agreement.proofs.row_words.Statement.{statement}
 use Rattle.agreement.proofs.row_words.Tie as tie
@@ -18,11 +19,11 @@ array-read-result : tie.Need-array-read-result
 array-read-result c = search needs
 
 add-result : tie.Need-add-result
-add-result c = let shots = range (passed-read _ _ _ (c .before .before .before .before .pre) (c .before .next-line .ensures)) .few-shots in
+add-result c = let shots = passed-range _ (c .before .before .before .before .pre) (header-read (c .before .before .before .before .pre) (c .before .next-line .ensures)) .few-shots in
     record { fits = omega arith }
 
 returns : tie.Need-returns
-returns c = sym (ap (λ (h : Header). wordsPerRow (h .shots)) (passed-read _ _ _ (c .before .before .before .before .pre) (c .before .next-line .ensures) .header))
+returns c = sym (ap (λ (h : Header). wordsPerRow (h .shots)) (header-read (c .before .before .before .before .pre) (c .before .next-line .ensures)))
 
 pub row-words-spec : {M : Type 1} → statement M
 row-words-spec =

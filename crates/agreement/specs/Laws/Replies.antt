@@ -115,7 +115,7 @@ module _ (job : List ℕ) (m : Memory) (out : List ℕ) (shot : ℕ) (set : List
       settle-refused ne says = replies (rw (runs, ← settles, said-settle ran (textReply s after) _ _ done ne, eq-eqb (ran .answered .number) 0 done, says))
 
       module _ (settled : s .answer .number ≡ 0) {w : CountReply} (walks : w ≡ walkReply (take (s .figure) after) shot set) where
-        pub walk-refused : {a : Agreement} → (w .answered .number ≡ 0 → ⊥) → a ≡ refusedBy Walk (w .answer) (s .figure) → Replies (replyOf a ran after)
+        pub walk-refused : {a : Agreement} → (w .answered .number ≡ 0 → ⊥) → a ≡ refusedBy Walk (w .answered) (s .figure) → Replies (replyOf a ran after)
         unfolding agreeReply
         walk-refused ne says =
             replies (rw (runs, ← settles, ← walks, said-walk ran (textReply s after) w _ done settled ne, eq-eqb (ran .answered .number) 0 done, says))
