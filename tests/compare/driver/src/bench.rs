@@ -92,7 +92,10 @@ fn checks() {
         check(&format!("check, {size} bytes of gate lines"), &loads::cut(loads::gates(header, 80_000), bytes).bytes());
     }
     for (size, bytes) in [("250,000", 250_000), ("500,000", 500_000), ("1,000,000", 1_000_000)] {
-        check(&format!("check, {size} bytes of noise lines"), &loads::cut(loads::noise(header, 20_000, 0.001), bytes).bytes());
+        check(
+            &format!("check, {size} bytes of noise lines"),
+            &loads::cut(loads::noise(header, 20_000, 0.001), bytes).bytes(),
+        );
     }
     let mixed = loads::mixed(header, 12_000, 0.001);
     check("check, a mixed job of 1,000,000 bytes at most", &loads::cut(mixed, 1_000_000).bytes());
