@@ -93,6 +93,16 @@ struct kundatrezo_count_answer kundatrezo_locations(const uint8_t *job, size_t j
 /* The correlation check: whether noise lines of one correlation all have as many elements. Nothing is written. */
 struct kundatrezo_answer kundatrezo_correlation(const uint8_t *job, size_t job_len);
 
+/* Where a line lies in the job's bytes. */
+struct kundatrezo_line_part {
+    size_t start;
+    size_t len; /* without the LF */
+};
+
+/* Where the line lies that an answer names by its number, from 1, so that a caller can show it: len bytes from start on. Where there is no such line,
+ * start is job_len and len 0. The bytes need not be those of an accepted job. Nothing is written. */
+struct kundatrezo_line_part kundatrezo_line(const uint8_t *job, size_t job_len, uint64_t number);
+
 #ifdef __cplusplus
 }
 #endif

@@ -142,6 +142,28 @@ static void correlation(void)
     expect_figure("correlation", KUNDATREZO_SIZES, 3, 0, got, 0);
 }
 
+static void expect_part(const uint8_t *job, size_t length, uint64_t number, size_t start, size_t len)
+{
+    struct kundatrezo_line_part got = kundatrezo_line(job, length, number);
+    if (got.start != start || got.len != len) {
+        printf("line %llu: %zu bytes from %zu on\n", (unsigned long long)number, got.len, got.start);
+        failed = 1;
+    }
+}
+
+static void line(void)
+{
+    static const char text[] = "one\n\nthree";
+    const uint8_t *job = (const uint8_t *)text;
+    size_t length = sizeof text - 1;
+    expect_part(job, length, 0, length, 0);
+    expect_part(job, length, 1, 0, 3);
+    expect_part(job, length, 2, 4, 0);
+    expect_part(job, length, 3, 5, 5);
+    expect_part(job, length, 4, length, 0);
+    expect_part(job, length, UINT64_MAX, length, 0);
+}
+
 int main(void)
 {
     check();
@@ -150,6 +172,7 @@ int main(void)
     walk();
     annotate();
     correlation();
+    line();
     puts(failed ? "calls from C: differences" : "calls from C: 0 differences");
     return failed;
 }

@@ -9,8 +9,10 @@ ghost use Rattle.run.specs.Run.{runReply};
 ghost use Rattle.backward.specs.Settling.{settleReply};
 ghost use Rattle.backward.specs.Walking.{walkReply};
 ghost use Rattle.circuit.specs.Replies.{annotateReply, locationsReply, correlationReply};
+ghost use Rattle.line_reader.specs.Reading.{partNumbered};
 use job::Answer;
 use job::CountReply;
+use line_reader::LinePart;
 use writer::TextAnswer;
 
 // Tests 1 to 12 of a job.
@@ -83,4 +85,12 @@ pub extern "C" fn kundatrezo_correlation(job: &[u8]) -> Answer
     ensures { λ r. ⌜ r ≡ correlationReply (now (job .entry)) ⌝ }
 {
     correlations::correlation(job)
+}
+
+// Where the line lies that an answer names, for a caller who shows it.
+#[no_mangle]
+pub extern "C" fn kundatrezo_line(job: &[u8], number: u64) -> LinePart
+    ensures { λ r. ⌜ r ≡ partNumbered (now (job .entry)) number ⌝ }
+{
+    line_reader::line_part(job, number)
 }

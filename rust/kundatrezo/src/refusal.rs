@@ -138,8 +138,8 @@ impl Refusal {
     /// The refused line of the job that was handed over, without its LF; none where no line fits.
     #[must_use]
     pub fn line_of<'a>(&self, job: &'a [u8]) -> Option<&'a [u8]> {
-        let place = usize::try_from(self.line).ok()?.checked_sub(1)?;
-        job.split(|byte| *byte == b'\n').nth(place)
+        let part = crate::sys::line(job, self.line);
+        (part.start < job.len()).then(|| &job[part.start..part.start + part.len])
     }
 }
 

@@ -29,6 +29,13 @@ pub struct Count {
     pub count: u64,
 }
 
+/// `struct kundatrezo_line_part`.
+#[repr(C)]
+pub struct LinePart {
+    pub start: usize,
+    pub len: usize,
+}
+
 unsafe extern "C" {
     fn kundatrezo_check(job: *const u8, job_len: usize) -> Answer;
 
@@ -71,6 +78,8 @@ unsafe extern "C" {
     fn kundatrezo_locations(job: *const u8, job_len: usize) -> Count;
 
     fn kundatrezo_correlation(job: *const u8, job_len: usize) -> Answer;
+
+    fn kundatrezo_line(job: *const u8, job_len: usize, number: u64) -> LinePart;
 }
 
 // SAFETY, for every call below: each pointer and length are those of a slice that lives through the call, so the pointer is not null and the memory is
@@ -131,6 +140,10 @@ pub fn annotate(job: &[u8], p_bits: u64, out: &mut [u8]) -> TextAnswer {
 
 pub fn locations(job: &[u8]) -> Count {
     unsafe { kundatrezo_locations(job.as_ptr(), job.len()) }
+}
+
+pub fn line(job: &[u8], number: u64) -> LinePart {
+    unsafe { kundatrezo_line(job.as_ptr(), job.len(), number) }
 }
 
 pub fn correlation(job: &[u8]) -> Answer {
