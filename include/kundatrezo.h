@@ -140,12 +140,11 @@ static inline int kundatrezo_float_state_ok(void)
     return (_mm_getcsr() & 0xffc0u) == 0x1f80u;
 }
 
-/* The bytes of stack that a call takes at most. The tests measure them. */
+/* The bytes of stack that a call takes at most, those of memcpy and memset and of binding them included. The tests measure them. */
 #define KUNDATREZO_RUN_STACK 61440
 #define KUNDATREZO_SETTLE_STACK 45056
-#define KUNDATREZO_CORRELATION_STACK 8192
-#define KUNDATREZO_ANNOTATE_STACK 8192
-#define KUNDATREZO_OTHER_STACK 6144 /* every other call */
+#define KUNDATREZO_CORRELATION_STACK 12288
+#define KUNDATREZO_OTHER_STACK 8192 /* every other call */
 
 /* Words of a row: bit s % 64 of word s / 64 is shot s. */
 #define KUNDATREZO_ROW_WORDS(shots) (((shots) + 63) / 64)
