@@ -8,7 +8,7 @@
  * A list is lent as a pointer to its first element and its length in elements. Nothing is asked of what a list holds or of how long it is: a job of any
  * bytes gets an answer. The rest is the caller's, and no call tests it:
  *
- * - Pointers are not null, not even that of an empty list: lend any address of the right alignment with length 0.
+ * - Pointers are not null, not even that of an empty list, as data() of an empty std::vector may be: lend any aligned address with length 0.
  * - Pointers to uint64_t are aligned to 8 bytes.
  * - The memory is as long as is said, and initialised, that which a call writes included.
  * - What a call writes overlaps with no other list of the call. Lists that it only reads may overlap.
@@ -17,8 +17,8 @@
  * - The floating-point state is the one that a program starts with: round to nearest, subnormal numbers on, no trap. With subnormals off, as in a program
  *   linked with -ffast-math, or another rounding, probabilities and weights are read wrongly and rates are wrong. kundatrezo_float_state_ok tests it.
  *
- * The library keeps no state and no pointer, calls nothing of its caller's, and takes no memory but the stack. It may leave floating-point exception flags
- * raised.
+ * The library keeps no state and no pointer, calls nothing but memcpy and memset, and takes no memory but the stack. It may leave floating-point exception
+ * flags raised.
  */
 #ifndef KUNDATREZO_H
 #define KUNDATREZO_H

@@ -77,6 +77,16 @@ static void bytes(size_t length, uint64_t number)
     }
 }
 
+static void version(void)
+{
+    char numbers[100];
+    snprintf(numbers, sizeof numbers, "%d.%d.%d", KUNDATREZO_VERSION_MAJOR, KUNDATREZO_VERSION_MINOR, KUNDATREZO_VERSION_PATCH);
+    if (strcmp(numbers, KUNDATREZO_VERSION) != 0) {
+        printf("version %s, by its numbers %s\n", KUNDATREZO_VERSION, numbers);
+        failed = 1;
+    }
+}
+
 int main(int count, char **arguments)
 {
     (void)arguments;
@@ -85,6 +95,7 @@ int main(int count, char **arguments)
             printf("%llu: %s\n", (unsigned long long)number, kundatrezo_refusal_text(number));
         return 0;
     }
+    version();
     header(KUNDATREZO_MAX_QUBITS, KUNDATREZO_MAX_OUTCOMES, KUNDATREZO_MAX_SHOTS, 0);
     header(KUNDATREZO_MAX_QUBITS + 1, 0, 1, KUNDATREZO_HEADER);
     header(1, KUNDATREZO_MAX_OUTCOMES + 1, 1, KUNDATREZO_HEADER);
