@@ -71,7 +71,7 @@ pub fn sample(distance: usize, p: f64, jobs: usize, words: &mut Xorshift) -> Res
     let mut failures = 0;
     for _ in 0..jobs {
         words.fill(&mut main);
-        frames.run(job.as_bytes(), &noiseless, Draws { main: &main, ..Draws::default() })?;
+        frames.run(job.as_bytes(), &noiseless, Draws::new(&main))?;
         failures += wrong_majorities(&frames);
     }
     Ok(Point { distance, p, shots: (jobs * MAX_SHOTS) as u64, failures })
@@ -79,7 +79,7 @@ pub fn sample(distance: usize, p: f64, jobs: usize, words: &mut Xorshift) -> Res
 
 /// The shots in which more than half of the outcomes are flipped, 64 shots at a time.
 fn wrong_majorities(frames: &Frames) -> u64 {
-    let header = frames.header();
+    let header = frames.job();
     let majority = header.outcomes / 2 + 1;
     let wrong = |word: usize| {
         // bit s of at_least[k]: at least k of the outcomes so far are flipped in shot s
@@ -115,7 +115,7 @@ mod tests {
     #[test]
     fn failures_are_those_of_the_words() {
         let (distance, p) = (5, 0.2);
-        let mut words = Xorshift::new(7_777_777_777_777).expect("not zero");
+        let mut words = Xorshift::new(7);
         let mut drawn = vec![0; distance * MAX_SHOTS];
         words.clone().fill(&mut drawn);
         let flips = |word: u64| ((word / 2048) as f64 / (1_u64 << 53) as f64) < p;

@@ -31,7 +31,7 @@ fn main() -> Result<(), Box<dyn Error>> {
         return Err("a point needs a job".into());
     }
     let seed = arguments.next().map_or(Ok(SEED), |text| text.parse())?;
-    let points = points(jobs, Xorshift::new(seed).ok_or("the seed is zero")?)?;
+    let points = points(jobs, Xorshift::new(seed))?;
     print_table(&points);
     let shots: u64 = points.iter().map(|point| point.shots).sum();
     let fit = ChiSquare::of(&points);
@@ -74,7 +74,7 @@ mod tests {
     /// With a fixed seed the counts are fixed, so this holds always or never.
     #[test]
     fn rates_are_those_of_the_closed_form() {
-        let mut points = points(JOBS, Xorshift::new(SEED).expect("not zero")).expect("the jobs run");
+        let mut points = points(JOBS, Xorshift::new(SEED)).expect("the jobs run");
         assert!(points.iter().map(|point| point.shots).sum::<u64>() > 5_000_000);
         let fit = ChiSquare::of(&points);
         assert!(fit.points >= 28 && (0.01..0.99).contains(&fit.probability()), "{fit}");
