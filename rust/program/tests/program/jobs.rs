@@ -8,8 +8,8 @@ use std::path::Path;
 /// The lines that the page's short examples stand behind.
 const BEGINNING: &str = "op=job qubits=8 outcomes=9 shots=100\nop=r id=0 angle=0\nop=r id=1 angle=0\n";
 
-/// The page's whole example, which is a file, too.
-const SYNDROME: &str = "examples/syndrome.job";
+/// The examples that are files, too.
+const FILES: [&str; 2] = ["examples/bell.job", "examples/syndrome.job"];
 
 fn page() -> String {
     document("docs/JOBS.md")
@@ -58,14 +58,18 @@ fn examples_pass_the_checks() {
         let whole = if example.starts_with("op=job") { example.clone() } else { format!("{BEGINNING}{example}") };
         assert_eq!(kundatrezo(["check", "-"], whole.as_bytes()).status, 0, "{example}");
     }
-    assert!(examples.contains(&document(SYNDROME)));
+    for file in FILES {
+        assert!(examples.contains(&document(file)), "{file}");
+    }
 }
 
 #[test]
 fn sessions() {
     let folder = folder("jobs");
     fs::create_dir(folder.join("examples")).expect("the folder can be made");
-    fs::write(folder.join(SYNDROME), document(SYNDROME)).expect("the file can be written");
+    for file in FILES {
+        fs::write(folder.join(file), document(file)).expect("the file can be written");
+    }
     for step in steps(&page()) {
         assert_eq!(run(&step, &folder).status, 0, "{}", step.command);
     }
