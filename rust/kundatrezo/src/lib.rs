@@ -1,7 +1,7 @@
 //! Safe calls of Kundatrezo, a Pauli-frame noise engine that is written and proved in Rattle, from its static library `libkundatrezo.a`.
 //!
-//! A *job* is a text: a header with the numbers of qubits, outcomes and shots, then a line for each instruction. Each call takes a job of arbitrary
-//! bytes and lists of any length, and gives the finished work or a [`Refusal`] with a number and a line.
+//! A *job* is a text: a header with the numbers of qubits, outcomes and shots, then a line for each instruction; docs/JOBS.md of the repository has the
+//! language. Each call takes a job of arbitrary bytes and lists of any length, and gives the finished work or a [`Refusal`] with a number and a line.
 //!
 //! | call | gives |
 //! |---|---|
@@ -21,17 +21,16 @@
 //!
 //! # Example
 //!
+//! The job `examples/bell.job` of the repository entangles two qubits, has a fault in shot 1 and a flipped outcome in shot 2:
+//!
+//! ```text
+#![doc = include_str!("../../../examples/bell.job")]
+//! ```
+//!
 //! ```
 //! use kundatrezo::{Draws, Frames, bit, settled, walk};
 //!
-//! let job = b"op=job qubits=2 outcomes=2 shots=3
-//! op=u g=4 q=0
-//! op=u g=11 q=0,1
-//! op=i shot=1 x=0 z=-
-//! op=o x=- z=0 id=0
-//! op=o x=- z=1 id=1
-//! op=t shot=2 id=1
-//! ";
+//! let job = include_bytes!(concat!(env!("CARGO_MANIFEST_DIR"), "/../../examples/bell.job"));
 //! let noiseless = [0, 0];
 //! let frames = Frames::of_run(job, &noiseless, Draws::default())?;
 //! assert_eq!(frames.deltas(), [0b010, 0b100]);
@@ -61,10 +60,16 @@
 //! # Ok::<(), kundatrezo::Refusal>(())
 //! ```
 //!
+//! # What a caller owes
+//!
+//! Nothing but stack: a run takes up to 60 KiB of it, settling 44 KiB, and every other call less than 8 KiB. The pages are touched one after the other, so
+//! that a thread with less ends the process at its guard page. What C callers owe besides is the crate's: each call is made in the default floating-point
+//! state, whatever the thread has set (subnormals off, another rounding, exceptions), and leaves that as it was.
+//!
 //! # Linking
 //!
 //! The build script links the library from the folder in the environment variable `KUNDATREZO_LIB_DIR`, an absolute path. The library is for x86-64
-//! Linux, keeps no state and takes no memory but some of the stack, so calls may be made from several threads at the same time.
+//! Linux, keeps no state and takes no memory but the stack, so calls may be made from several threads at the same time.
 
 mod draws;
 mod examination;

@@ -167,13 +167,14 @@ fn walk(arguments: &Arguments) -> Result<(), Failure> {
     };
     let (job, examined) = examined(arguments)?;
     let count = kundatrezo::walk(&job, shot, &set).map_err(|refusal| {
-        let shots = examined.shots;
-        let remedy = match refusal.number {
-            Number::WALK if shot >= shots as u64 => Some(format!("the job has {shots} shots, which count from 0")),
-            Number::WALK => Some(format!(
-                "{} is to rise strictly and to name outcomes that the job records, which are {}, from 0",
-                SET.name, examined.recorded
-            )),
+        let remedy = match (refusal.number, examined.recorded) {
+            (Number::WALK, _) if shot >= examined.shots as u64 => {
+                Some(format!("the job's shots are 0 to {}", examined.shots - 1))
+            }
+            (Number::WALK, 0) => Some("the job records no outcome".into()),
+            (Number::WALK, some) => {
+                Some(format!("{} names recorded outcomes, 0 to {}, and rises strictly", SET.name, some - 1))
+            }
             _ => None,
         };
         Failure::refused(&refusal, &job, remedy)

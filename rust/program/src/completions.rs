@@ -137,5 +137,5 @@ fn fish() -> String {
 
 /// A text within single quotes of a script, where colons and brackets mean something too.
 fn quoted(text: &str) -> String {
-    text.replace('\'', "").replace(':', "").replace(['[', ']'], "")
+    text.replace(['\'', ':', '[', ']'], "")
 }

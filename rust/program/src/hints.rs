@@ -87,12 +87,8 @@ impl Job<'_> {
         match number {
             Number::FORM => self.form(),
             Number::HEADER => Some(self.header()),
-            Number::QUBIT => {
-                Some(format!("the header has qubits={0}: they count from 0 to below {0}", self.limit("qubits")?))
-            }
-            Number::SHOT => {
-                Some(format!("the header has shots={0}: they count from 0 to below {0}", self.limit("shots")?))
-            }
+            Number::QUBIT => self.below("qubits"),
+            Number::SHOT => self.below("shots"),
             Number::OPERANDS => self.operands(),
             Number::PERMUTATION => {
                 Some("s= holds each of 0 to k - 1 once, for k qubits in q=: it names places in q=, not qubits".into())
@@ -114,6 +110,12 @@ impl Job<'_> {
             Number::SIZES => Some("give this line a corr= of its own".into()),
             _ => None,
         }
+    }
+
+    /// What a number of the header allows.
+    fn below(&self, key: &str) -> Option<String> {
+        let count = self.limit(key)?;
+        Some(format!("the header has {key}={count}: they are 0 to {}", count.checked_sub(1)?))
     }
 
     /// A number of the header.
@@ -201,8 +203,9 @@ impl Job<'_> {
         if let Some((kind, more)) = self.due() {
             let form = named(&ELEMENTS, kind)?;
             let fault = fields(self.line, &split(form), &format!("an element line of d={kind}"));
-            let ends =
-                self.is_last.then(|| format!("the job ends here, and d={kind} wants {} element lines more", more - 1));
+            let ends = self
+                .is_last
+                .then(|| format!("the job ends here; element lines of d={kind} that are missing: {}", more - 1));
             return fault.or(ends);
         }
         let op = field(self.line, "op").filter(|_| self.line.starts_with("op="));
@@ -370,7 +373,10 @@ mod tests {
             (&format!("{noise} parity=0 d=5 q=0"), "a noise line is op=n"),
             (&format!("{noise} parity=0 d=2 x=0 z=-"), "the fields of op=n with d=2 are p= corr= cond= parity= d= q="),
             (&format!("{noise} parity=0 d=3 n=2"), "the job ends before the 2 element lines"),
-            (&format!("{noise} parity=0 d=3 n=3\nx=0 z=-"), "the job ends here, and d=3 wants 2 element lines more"),
+            (
+                &format!("{noise} parity=0 d=3 n=3\nx=0 z=-"),
+                "the job ends here; element lines of d=3 that are missing: 2",
+            ),
             (&format!("{noise} parity=0 d=4 n=1\nx=0 z=-"), "the fields of an element line of d=4 are w= x= z="),
             (
                 &format!("{noise} parity=0 d=4 n=1\nw=0.5 x=0 z=-"),

@@ -1,6 +1,7 @@
 //! The words that a run or settling draws from: read from files as far as they are needed, or made from seeds.
 
 use crate::arguments::{Arguments, FILE, Flag};
+use crate::commands::longer;
 use crate::{Failure, files};
 use kundatrezo::{Answer, Draws, Examination, Number, Refusal, Used, Xorshift};
 use std::ffi::OsString;
@@ -198,12 +199,15 @@ impl<'a> Lent<'a> {
         line.split(' ').find_map(|field| field.strip_prefix("corr="))?.parse().ok()
     }
 
-    /// What to do about a refusal by 13 or 14.
+    /// What to do about a refusal by 13, 14 or 15.
     fn remedy(&self, refusal: &Refusal) -> Option<String> {
+        if refusal.number == Number::ROOM {
+            return longer(refusal);
+        }
         if refusal.number == Number::WORDS {
             let (have, need) = (self.noiseless.len(), self.examined.outcome_words());
             return Some(format!(
-                "{} has {have} words and {need} are needed, ceil(shots / 64) for each outcome of the header",
+                "{} has {have} words, and needs {need}: ceil(shots / 64) for each outcome of the header",
                 NOISELESS.name
             ));
         }

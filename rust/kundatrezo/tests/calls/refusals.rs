@@ -131,7 +131,8 @@ op=o x=0 z=- id=2
     let injections: Vec<&[u8]> = text.split(|byte| *byte == b'\n').filter(|line| line.starts_with(b"op=i")).collect();
     let expected = ["op=i shot=1 x=0 z=0", "op=i shot=0 x=1 z=-", "op=i shot=1 x=- z=1"];
     assert_eq!(injections, expected.map(str::as_bytes));
-    assert_eq!(Frames::of_run(&text, &noiseless, Draws::default()), Ok(frames));
+    let again = Frames::of_run(&text, &noiseless, Draws::default()).expect("the settled job runs");
+    assert_eq!((again.x(), again.z(), again.deltas()), (frames.x(), frames.z(), frames.deltas()));
     assert_eq!((walk(&text, 0, &[2]), walk(&text, 1, &[2]), walk(&text, 1, &[])), (Ok(0), Ok(1), Ok(0)));
     assert_eq!(locations(job), Ok(2));
     // the base wraps, and a place past the second list is 14

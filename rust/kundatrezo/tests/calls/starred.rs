@@ -1,15 +1,8 @@
-//! The starred cases of document 01, and its limits of shots.
+//! The ten cases that the specification marks, and its limits of shots.
 
 use kundatrezo::{Draws, Frames, Number, check, walk};
 
-const SESSION: &[u8] = b"op=job qubits=2 outcomes=2 shots=3
-op=u g=4 q=0
-op=u g=11 q=0,1
-op=i shot=1 x=0 z=-
-op=o x=- z=0 id=0
-op=o x=- z=1 id=1
-op=t shot=2 id=1
-";
+const SESSION: &[u8] = include_bytes!("../../../../examples/bell.job");
 
 /// The frame of qubit 0 as words of its X and Z rows, after a run of at most 64 shots without outcomes.
 fn frame(job: &str, main: &[u64]) -> Result<(u64, u64), Number> {

@@ -219,11 +219,11 @@ fn refusals_are_said_in_words() {
     assert_eq!(hint, "the probability of --p or --p-bits is NaN");
     let walk = format!("refused: {}", kundatrezo::Number::WALK);
     let hint = refused("walk - --shot 0 --set 1,0", header, &walk);
-    assert_eq!(hint, "--set is to rise strictly and to name outcomes that the job records, which are 0, from 0");
-    assert_eq!(refused("walk - --shot 1 --set -", header, &walk), "the job has 1 shots, which count from 0");
+    assert_eq!(hint, "the job records no outcome");
+    assert_eq!(refused("walk - --shot 1 --set -", header, &walk), "the job's shots are 0 to 0");
     let words = "refused: 13 (lent words too few)";
     let hint = refused("run - --noiseless /dev/null", header, words);
-    assert!(hint.starts_with("--noiseless has 0 words and 1 are needed"), "{hint}");
+    assert!(hint.starts_with("--noiseless has 0 words, and needs 1: "), "{hint}");
     let noisy = format!("{header}op=n p=3ff0000000000000 corr=- cond=- parity=0 d=1 x=0 z=-\n");
     let room = "refused: 15 (the text is longer than the lent bytes or 1,048,576)";
     let done = call("settle - --room 10 --seed 9", &noisy);

@@ -1,15 +1,12 @@
 //! docs/JOBS.md: its examples are jobs that pass the checks, its sessions print what stands there, and its tables are those of the engine.
 
 use crate::common::{Done, folder, kundatrezo};
-use crate::documents::{document, run, steps};
+use crate::documents::{document, run, session_folder, steps};
 use std::fs;
 use std::path::Path;
 
 /// The lines that the page's short examples stand behind.
 const BEGINNING: &str = "op=job qubits=8 outcomes=9 shots=100\nop=r id=0 angle=0\nop=r id=1 angle=0\n";
-
-/// The examples that are files, too.
-const FILES: [&str; 2] = ["examples/bell.job", "examples/syndrome.job"];
 
 fn page() -> String {
     document("docs/JOBS.md")
@@ -58,18 +55,14 @@ fn examples_pass_the_checks() {
         let whole = if example.starts_with("op=job") { example.clone() } else { format!("{BEGINNING}{example}") };
         assert_eq!(kundatrezo(["check", "-"], whole.as_bytes()).status, 0, "{example}");
     }
-    for file in FILES {
+    for file in ["examples/bell.job", "examples/syndrome.job"] {
         assert!(examples.contains(&document(file)), "{file}");
     }
 }
 
 #[test]
 fn sessions() {
-    let folder = folder("jobs");
-    fs::create_dir(folder.join("examples")).expect("the folder can be made");
-    for file in FILES {
-        fs::write(folder.join(file), document(file)).expect("the file can be written");
-    }
+    let folder = session_folder("jobs");
     for step in steps(&page()) {
         assert_eq!(run(&step, &folder).status, 0, "{}", step.command);
     }
