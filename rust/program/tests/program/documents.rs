@@ -7,13 +7,13 @@ use std::path::{Path, PathBuf};
 use std::process::Command;
 
 /// A command of a document and what it prints, standard output and error together.
-struct Step {
-    command: String,
-    printed: String,
+pub struct Step {
+    pub command: String,
+    pub printed: String,
 }
 
 /// The steps of a text: indented lines, from a `$` line on.
-fn steps(text: &str) -> Vec<Step> {
+pub fn steps(text: &str) -> Vec<Step> {
     let mut steps: Vec<Step> = Vec::new();
     let mut in_session = false;
     for line in text.lines() {
@@ -35,7 +35,7 @@ fn steps(text: &str) -> Vec<Step> {
 }
 
 /// Run a step in a folder, with the program in the shell's path, and see that it prints what it should.
-fn run(step: &Step, folder: &Path) -> Done {
+pub fn run(step: &Step, folder: &Path) -> Done {
     let program = Path::new(env!("CARGO_BIN_EXE_kundatrezo"));
     let mut path = program.parent().expect("the program lies in a folder").as_os_str().to_owned();
     path.push(":");
@@ -48,13 +48,13 @@ fn run(step: &Step, folder: &Path) -> Done {
     done
 }
 
-fn document(name: &str) -> String {
+pub fn document(name: &str) -> String {
     let path = PathBuf::from(env!("CARGO_MANIFEST_DIR")).join("../..").join(name);
     fs::read_to_string(path).expect("the document is there")
 }
 
 /// A folder in which sessions run, with the examples of the repository.
-fn session_folder(name: &str) -> PathBuf {
+pub fn session_folder(name: &str) -> PathBuf {
     let folder = folder(name);
     let examples = PathBuf::from(env!("CARGO_MANIFEST_DIR")).join("../../examples");
     std::os::unix::fs::symlink(examples, folder.join("examples")).expect("a link can be made");
