@@ -114,6 +114,21 @@ impl List {
         }
         Ok(self.words.len() > before)
     }
+
+    /// What to do where the list is too short.
+    fn remedy(&self, name: &str) -> String {
+        let (words, seed) = (self.words.len(), self.seed);
+        match &self.source {
+            Source::None => format!("there is no {name} list: {seed} N makes as many words as are needed"),
+            _ if words == self.most && words < MOST => format!("{} allows no more than {words} words", WORDS.name),
+            Source::File(..) => {
+                format!("the {name} list has {words} words and this line needs more: lend a longer one, or {seed} N")
+            }
+            Source::Made(_) => {
+                format!("a list has at most {MOST} words, and place base + corr of this line lies past it")
+            }
+        }
+    }
 }
 
 /// What a run or settling is lent to draw from.
@@ -201,33 +216,17 @@ impl<'a> Lent<'a> {
 
     /// What to do about a refusal by 13, 14 or 15.
     fn remedy(&self, refusal: &Refusal) -> Option<String> {
-        if refusal.number == Number::ROOM {
-            return longer(refusal);
+        match refusal.number {
+            Number::WORDS => Some(format!(
+                "{} has {} words, and needs {}: ceil(shots / 64) for each outcome of the header",
+                NOISELESS.name,
+                self.noiseless.len(),
+                self.examined.outcome_words()
+            )),
+            Number::DRAWS if self.correlation(refusal).is_none() => Some(self.main.remedy("main")),
+            Number::DRAWS => Some(self.second.remedy("second")),
+            _ => longer(refusal),
         }
-        if refusal.number == Number::WORDS {
-            let (have, need) = (self.noiseless.len(), self.examined.outcome_words());
-            return Some(format!(
-                "{} has {have} words, and needs {need}: ceil(shots / 64) for each outcome of the header",
-                NOISELESS.name
-            ));
-        }
-        let (list, name) = match self.correlation(refusal) {
-            None => (&self.main, "main"),
-            Some(_) => (&self.second, "second"),
-        };
-        let seed = list.seed;
-        let remedy = match &list.source {
-            Source::None => format!("there is no {name} list: {seed} N makes as many words as are needed"),
-            Source::File(..) => format!(
-                "the {name} list has {} words and this line needs more: lend a longer one, or {seed} N",
-                list.words.len()
-            ),
-            Source::Made(_) if list.most < MOST => format!("{} allows {} words", WORDS.name, list.most),
-            Source::Made(_) => {
-                format!("a list has at most {MOST} words, and place base + corr of this line lies past it")
-            }
-        };
-        (refusal.number == Number::DRAWS).then_some(remedy)
     }
 
     /// The line that says how many words a run has read, if lists were given.

@@ -183,6 +183,7 @@ fn an_endless_file_is_read_as_far_as_needed() {
     for source in ["--main /dev/zero", "--seed 1"] {
         let done = call(&format!("run - {source} --words 63"), noise);
         assert!(done.stderr.starts_with("refused: 14 "), "{done:?}");
+        assert!(done.stderr.ends_with("\nhint: --words allows no more than 63 words\n"), "{done:?}");
         assert_eq!(call(&format!("run - {source} --words 64"), noise).status, 0);
     }
     // words from standard input, which can be read once
@@ -355,43 +356,12 @@ fn help_names_every_command_and_option() {
         String::from_utf8(done.stdout).expect("text")
     };
     let whole = help("--help");
+    let lists = "main seed state skip words second second-seed second-state base noiseless";
+    let drawn: &[&str] = &lists.split(' ').collect::<Vec<_>>();
     let commands = [
         ("check", vec![]),
-        (
-            "run",
-            vec![
-                "main",
-                "seed",
-                "state",
-                "skip",
-                "words",
-                "second",
-                "second-seed",
-                "second-state",
-                "base",
-                "noiseless",
-                "x",
-                "z",
-                "deltas",
-            ],
-        ),
-        (
-            "settle",
-            vec![
-                "main",
-                "seed",
-                "state",
-                "skip",
-                "words",
-                "second",
-                "second-seed",
-                "second-state",
-                "base",
-                "noiseless",
-                "output",
-                "room",
-            ],
-        ),
+        ("run", [drawn, &["x", "z", "deltas"]].concat()),
+        ("settle", [drawn, &["output", "room"]].concat()),
         ("walk", vec!["shot", "set"]),
         ("annotate", vec!["p", "p-bits", "output", "room"]),
         ("locations", vec![]),
