@@ -1,20 +1,55 @@
 /* Kundatrezo: a Pauli-frame noise engine. The calls of libkundatrezo.a, for x86-64 Linux.
  *
- * A list is lent as a pointer to its first element and its length in elements. A pointer is never null, not even of an empty list, and two
- * lists of a call may overlap only where the call writes neither. The library keeps no state and no pointer, calls nothing of its caller's, and
- * takes no memory but some of the stack. Calls on memory of their own may run at the same time.
+ * docs/JOBS.md describes the language of jobs, docs/REFUSALS.md each refusal with examples and remedies, docs/TRUST.md what is proved and what has to be
+ * believed.
  *
- * A call requires nothing of what lists hold or of how long they are: a job of any bytes gets an answer.
+ * What a caller owes
+ *
+ * A list is lent as a pointer to its first element and its length in elements. Nothing is asked of what a list holds or of how long it is: a job of any
+ * bytes gets an answer. The rest is the caller's, and no call tests it:
+ *
+ * - Pointers are not null, not even that of an empty list, as data() of an empty std::vector may be: lend any aligned address with length 0.
+ * - Pointers to uint64_t are aligned to 8 bytes.
+ * - The memory is as long as is said, and initialised, that which a call writes included.
+ * - What a call writes overlaps with no other list of the call. Lists that it only reads may overlap.
+ * - While a call runs, no other thread writes what it reads, or touches what it writes. Calls on memory of their own may run at the same time.
+ * - The stack has room: see KUNDATREZO_RUN_STACK and those beside it.
+ * - The floating-point state is the one that a program starts with: round to nearest, subnormal numbers on, no trap. With subnormals off, as in a program
+ *   linked with -ffast-math, or another rounding, probabilities and weights are read wrongly and rates are wrong. kundatrezo_float_state_ok tests it.
+ *
+ * The library keeps no state and no pointer, calls nothing but memcpy and memset, and takes no memory but the stack. It may leave floating-point exception
+ * flags raised.
  */
 #ifndef KUNDATREZO_H
 #define KUNDATREZO_H
 
 #include <stddef.h>
 #include <stdint.h>
+#include <xmmintrin.h>
 
 #ifdef __cplusplus
 extern "C" {
 #endif
+
+/* ---- version: that of this header, which is to be the library's */
+
+#define KUNDATREZO_VERSION "0.1.0"
+#define KUNDATREZO_VERSION_MAJOR 0
+#define KUNDATREZO_VERSION_MINOR 1
+#define KUNDATREZO_VERSION_PATCH 0
+
+/* ---- limits of a job */
+
+#define KUNDATREZO_MAX_BYTES 1048576     /* of a job, and of a text that a call writes */
+#define KUNDATREZO_MAX_QUBITS 256        /* a header has 1 to this */
+#define KUNDATREZO_MAX_OUTCOMES 1024     /* 0 to this */
+#define KUNDATREZO_MAX_SHOTS 4096        /* 1 to this */
+#define KUNDATREZO_MAX_MEMBERS 31        /* of a list on a line */
+#define KUNDATREZO_MAX_GATE 14           /* the last gate code */
+#define KUNDATREZO_MAX_CLIFFORD_QUBITS 4 /* of a Clifford line */
+#define KUNDATREZO_MAX_ELEMENTS 64       /* of a noise line with d=3 or d=4: 1 to this */
+
+/* ---- answers */
 
 /* What a call says. */
 struct kundatrezo_answer {
@@ -34,47 +69,122 @@ struct kundatrezo_count_answer {
     uint64_t count; /* 0 with a refusal */
 };
 
-/* The numbers of refusals. The first bad line of a job counts, and its lowest number. */
-enum kundatrezo_refusal {
-    KUNDATREZO_LENGTH = 1,       /* the job is empty, longer than 1,048,576 bytes, or has no LF at its end; line 0 */
-    KUNDATREZO_FORM = 2,         /* form of a line, a gate code above 14, or the job ends before its element lines */
-    KUNDATREZO_HEADER = 3,       /* header missing, repeated or out of range */
-    KUNDATREZO_QUBIT = 4,        /* a qubit not below the header's qubits */
-    KUNDATREZO_OPERANDS = 5,     /* number of operands, a repeated operand, or a list of more than 31 */
-    KUNDATREZO_PERMUTATION = 6,  /* s is no permutation of the places */
-    KUNDATREZO_CLIFFORD = 7,     /* not a Clifford */
-    KUNDATREZO_NEXT_ID = 8,      /* id of a measurement or an allocation not the next one, or not below the header's outcomes */
-    KUNDATREZO_NOT_RECORDED = 9, /* an outcome that is not recorded yet */
-    KUNDATREZO_SHOT = 10,        /* a shot not below the header's shots */
-    KUNDATREZO_PROBABILITY = 11, /* p is NaN or above 1 */
-    KUNDATREZO_ELEMENTS = 12,    /* n not 1 to 64; a weight below zero or not finite; their total zero or not finite */
-    KUNDATREZO_WORDS = 13,       /* lent words too few; line 0 */
-    KUNDATREZO_DRAWS = 14,       /* a needed draw lies past its list; the noise line */
-    KUNDATREZO_ROOM = 15,        /* a text longer than the lent bytes or than 1,048,576; line 0 */
-    KUNDATREZO_NOISE = 16,       /* noise in a walk; the first noise line */
-    KUNDATREZO_WALK = 17,        /* a walk's shot not below shots, or its set not strictly rising or with an outcome that is not recorded; line 0 */
-    KUNDATREZO_ANNOTATION = 18,  /* annotation over a repeated qubit or over more than 31 */
-    KUNDATREZO_SIZES = 19        /* sizes of one correlation differ; the later line */
+/* What an examination says: with a refusal all numbers are 0. */
+struct kundatrezo_examination {
+    struct kundatrezo_answer answer;
+    uint64_t qubits; /* the header's numbers */
+    uint64_t outcomes;
+    uint64_t shots;
+    uint64_t recorded; /* the outcomes that the job records: those of id 0 to recorded - 1 */
+    uint64_t lines;    /* the job's lines, its header's included */
 };
+
+/* ---- the numbers of refusals
+ *
+ * Every call but kundatrezo_line makes tests 1 to 12: the first bad line of the job counts, and its lowest number. After them come the call's own tests. */
+
+#define KUNDATREZO_LENGTH 1       /* line 0 */
+#define KUNDATREZO_FORM 2         /* the bad line; where element lines are missing, the last line */
+#define KUNDATREZO_HEADER 3       /* the bad line */
+#define KUNDATREZO_QUBIT 4        /* the bad line */
+#define KUNDATREZO_OPERANDS 5     /* the bad line */
+#define KUNDATREZO_PERMUTATION 6  /* the bad line */
+#define KUNDATREZO_CLIFFORD 7     /* the bad line */
+#define KUNDATREZO_NEXT_ID 8      /* the bad line */
+#define KUNDATREZO_NOT_RECORDED 9 /* the bad line */
+#define KUNDATREZO_SHOT 10        /* the bad line */
+#define KUNDATREZO_PROBABILITY 11 /* the bad line; 0 for the p that annotation is given */
+#define KUNDATREZO_ELEMENTS 12    /* the noise line for n, the element line for its weight, the last element line for the total */
+#define KUNDATREZO_WORDS 13       /* line 0 */
+#define KUNDATREZO_DRAWS 14       /* the noise line */
+#define KUNDATREZO_ROOM 15        /* line 0 */
+#define KUNDATREZO_NOISE 16       /* the first noise line */
+#define KUNDATREZO_WALK 17        /* line 0 */
+#define KUNDATREZO_ANNOTATION 18  /* the first line whose noise does not fit a noise line */
+#define KUNDATREZO_SIZES 19       /* the later line */
+
+/* What a number means, in words. */
+static inline const char *kundatrezo_refusal_text(uint64_t number)
+{
+    switch (number) {
+    case 0: return "accepted";
+    case KUNDATREZO_LENGTH: return "the job is empty, longer than 1,048,576 bytes, or has no LF at its end";
+    case KUNDATREZO_FORM: return "form of a line, a gate code above 14, or the job ends before its element lines";
+    case KUNDATREZO_HEADER: return "header missing, repeated or out of range";
+    case KUNDATREZO_QUBIT: return "a qubit not below the header's qubits";
+    case KUNDATREZO_OPERANDS: return "number of operands, a repeated operand, or a list of more than 31";
+    case KUNDATREZO_PERMUTATION: return "s is no permutation of the places";
+    case KUNDATREZO_CLIFFORD: return "not a Clifford";
+    case KUNDATREZO_NEXT_ID: return "id of a measurement or an allocation not the next one, or not below the header's outcomes";
+    case KUNDATREZO_NOT_RECORDED: return "an outcome that is not recorded yet";
+    case KUNDATREZO_SHOT: return "a shot not below the header's shots";
+    case KUNDATREZO_PROBABILITY: return "p is NaN or above 1";
+    case KUNDATREZO_ELEMENTS: return "n not 1 to 64; a weight below zero or not finite; their total zero or not finite";
+    case KUNDATREZO_WORDS: return "lent words too few";
+    case KUNDATREZO_DRAWS: return "a needed draw lies past its list";
+    case KUNDATREZO_ROOM: return "the text is longer than the lent bytes or 1,048,576";
+    case KUNDATREZO_NOISE: return "noise in a walk";
+    case KUNDATREZO_WALK: return "the walk's shot not below the header's shots; its set not strictly rising, or with an outcome that is not recorded";
+    case KUNDATREZO_ANNOTATION: return "annotation over a repeated qubit, or over more than 31";
+    case KUNDATREZO_SIZES: return "sizes of one correlation differ";
+    default: return "a number that this header does not know";
+    }
+}
+
+/* ---- before a call */
+
+/* 1 where the floating-point state of this thread is the one that calls need, else 0. */
+static inline int kundatrezo_float_state_ok(void)
+{
+    /* of MXCSR: denormals-are-zero, the six exception masks, the rounding mode, flush-to-zero */
+    return (_mm_getcsr() & 0xffc0u) == 0x1f80u;
+}
+
+/* The bytes of stack that a call takes at most, those of memcpy and memset and of binding them included. The tests measure them. */
+#define KUNDATREZO_RUN_STACK 61440
+#define KUNDATREZO_SETTLE_STACK 45056
+#define KUNDATREZO_CORRELATION_STACK 12288
+#define KUNDATREZO_OTHER_STACK 8192 /* every other call */
+
+/* Words of a row: bit s % 64 of word s / 64 is shot s. */
+#define KUNDATREZO_ROW_WORDS(shots) (((shots) + 63) / 64)
+
+/* The words that x and z of a run need, each. */
+static inline size_t kundatrezo_frame_words(struct kundatrezo_examination job)
+{
+    return (size_t)(job.qubits * KUNDATREZO_ROW_WORDS(job.shots));
+}
+
+/* The words that deltas and noiseless need, each. */
+static inline size_t kundatrezo_outcome_words(struct kundatrezo_examination job)
+{
+    return (size_t)(job.outcomes * KUNDATREZO_ROW_WORDS(job.shots));
+}
+
+/* ---- the calls */
 
 /* Tests 1 to 12 of a job: number 0 if the job is accepted, else the first bad line and its lowest number. Nothing is written. */
 struct kundatrezo_answer kundatrezo_check(const uint8_t *job, size_t job_len);
 
+/* The same tests, and of an accepted job the numbers that a caller needs to lend memory for it. Nothing is written. */
+struct kundatrezo_examination kundatrezo_examine(const uint8_t *job, size_t job_len);
+
 /* A run of all shots from cleared frames.
  *
- * w = (shots + 63) / 64 words make a row, bit s % 64 of word s / 64 being shot s; bits past the last shot are 0. x and z have a row for each qubit: the X
- * and Z parts of the frames. deltas has a row for each outcome: where it is 1, the outcome differs from the noiseless one. noiseless has the outcomes'
- * noiseless bits in the same layout, which conditions of noise lines look at. main and second are lists of random words: noise lines read on in main,
- * and one with corr c reads second from base + c on, modulo 2^64.
+ * w = KUNDATREZO_ROW_WORDS(shots) words make a row, bit s % 64 of word s / 64 being shot s; rows lie one after the other. x and z have a row for each
+ * qubit of the header: the X and Z parts of the frames. deltas has a row for each outcome of the header, recorded or not: where it is 1, the outcome
+ * differs from the noiseless one. noiseless has the outcomes' noiseless bits in the same layout, which conditions of noise lines look at. It is needed
+ * even if no line has a condition. main_words and second are lists of random words: noise lines read on in main_words, and one with corr c reads second
+ * from base + c on, modulo 2^64.
  *
- * x, z and deltas are written: the words that the header needs hold the frames and deltas at the end, words beyond them stay. A refusal writes
- * nothing, but for KUNDATREZO_DRAWS, which leaves the needed words 0. */
+ * x, z and deltas are written: the words that the header needs hold the frames and deltas at the end, their bits past the last shot 0; words beyond them
+ * stay. Bits of noiseless past the last shot are not looked at. A refusal writes nothing, but for KUNDATREZO_DRAWS, which leaves the needed words 0. */
 struct kundatrezo_answer kundatrezo_run(const uint8_t *job, size_t job_len, uint64_t *x, size_t x_len, uint64_t *z, size_t z_len, uint64_t *deltas,
                                         size_t deltas_len, const uint64_t *noiseless, size_t noiseless_len, const uint64_t *main_words,
                                         size_t main_len, const uint64_t *second, size_t second_len, uint64_t base);
 
 /* Settling: the job with each noise instruction replaced by the injections that a run with the same words draws. Bytes of out beyond the text stay, and
- * a refusal writes nothing; the figure of KUNDATREZO_ROOM is the bytes that the text needs. */
+ * a refusal writes nothing; the figure of KUNDATREZO_ROOM is the bytes that the text needs, which may be more than KUNDATREZO_MAX_BYTES. */
 struct kundatrezo_text_answer kundatrezo_settle(const uint8_t *job, size_t job_len, const uint64_t *noiseless, size_t noiseless_len,
                                                 const uint64_t *main_words, size_t main_len, const uint64_t *second, size_t second_len,
                                                 uint64_t base, uint8_t *out, size_t out_len);
@@ -84,10 +194,13 @@ struct kundatrezo_text_answer kundatrezo_settle(const uint8_t *job, size_t job_l
 struct kundatrezo_count_answer kundatrezo_walk(const uint8_t *job, size_t job_len, uint64_t shot, const uint64_t *set, size_t set_len);
 
 /* Annotation: the job with a depolarizing noise line before each measurement and after each gate (u, c, p, e, k, m lines). p_bits is the
- * probability by the bits of its double; one that is NaN or above 1 is refused by KUNDATREZO_PROBABILITY with line 0. A refusal writes nothing. */
+ * probability by the bits of its double; one that is NaN or above 1 is refused by KUNDATREZO_PROBABILITY with line 0. Bytes of out beyond the text stay,
+ * and a refusal writes nothing. KUNDATREZO_ANNOTATION names the first line whose noise line would have a qubit twice (control and target of a k line share
+ * it) or more than KUNDATREZO_MAX_MEMBERS. */
 struct kundatrezo_text_answer kundatrezo_annotate(const uint8_t *job, size_t job_len, uint64_t p_bits, uint8_t *out, size_t out_len);
 
-/* How many fault locations the job has: twice the qubits of the noise lines that annotation adds, summed. Nothing is written. */
+/* How many fault locations the job has: twice the qubits of the noise lines that annotation adds, summed. It counts also where annotation refuses by
+ * KUNDATREZO_ANNOTATION or KUNDATREZO_ROOM; a qubit that control and target of a k line share then counts for both. Nothing is written. */
 struct kundatrezo_count_answer kundatrezo_locations(const uint8_t *job, size_t job_len);
 
 /* The correlation check: whether noise lines of one correlation all have as many elements. Nothing is written. */

@@ -37,6 +37,35 @@ static void check(void)
     expect_check(late, sizeof late - 1, KUNDATREZO_QUBIT, 3);
 }
 
+static void expect_examination(const char *job, uint64_t number, uint64_t line, const uint64_t numbers[5])
+{
+    struct kundatrezo_examination got = kundatrezo_examine((const uint8_t *)job, strlen(job));
+    const uint64_t found[5] = {got.qubits, got.outcomes, got.shots, got.recorded, got.lines};
+    if (got.answer.number != number || got.answer.line != line || memcmp(found, numbers, sizeof found) != 0) {
+        printf("examine: %llu %llu, %llu qubits, %llu outcomes, %llu shots, %llu recorded, %llu lines\n", (unsigned long long)got.answer.number,
+               (unsigned long long)got.answer.line, (unsigned long long)got.qubits, (unsigned long long)got.outcomes,
+               (unsigned long long)got.shots, (unsigned long long)got.recorded, (unsigned long long)got.lines);
+        failed = 1;
+    }
+}
+
+static void examine(void)
+{
+    static const uint64_t found[] = {3, 7, 65, 2, 4}, none[5] = {0};
+    static const char job[] = "op=job qubits=3 outcomes=7 shots=65\n"
+                              "op=o x=- z=0 id=0\n"
+                              "op=z q=1\n"
+                              "op=r id=1 angle=0\n";
+    expect_examination(job, 0, 0, found);
+    expect_examination("op=job qubits=3 outcomes=7 shots=65\nop=z q=3\n", KUNDATREZO_QUBIT, 2, none);
+    expect_examination("", KUNDATREZO_LENGTH, 0, none);
+    struct kundatrezo_examination numbers = kundatrezo_examine((const uint8_t *)job, sizeof job - 1);
+    if (kundatrezo_frame_words(numbers) != 6 || kundatrezo_outcome_words(numbers) != 14) {
+        puts("examine: another number of words");
+        failed = 1;
+    }
+}
+
 static const char flipped[] = "op=job qubits=1 outcomes=2 shots=2\n"
                               "op=i shot=1 x=0 z=-\n"
                               "op=o x=- z=0 id=0\n"
@@ -90,6 +119,20 @@ static void run(void)
     expect_figure("run, words beyond", 0, 0, 7, got, x[2]);
 }
 
+/* A condition looks at the noiseless bits of the shots alone, not at those past the last one. */
+static void padding(void)
+{
+    static const char job[] = "op=job qubits=1 outcomes=1 shots=2\n"
+                              "op=o x=- z=0 id=0\n"
+                              "op=n p=3ff0000000000000 corr=- cond=0 parity=1 d=1 x=0 z=-\n";
+    uint64_t words[2] = {0, 0}, x[1] = {7}, z[1] = {7}, deltas[1] = {7};
+    for (int padded = 0; padded < 2; padded++) {
+        uint64_t noiseless[1] = {padded ? ~(uint64_t)1 : 2};
+        struct kundatrezo_answer got = kundatrezo_run((const uint8_t *)job, sizeof job - 1, x, 1, z, 1, deltas, 1, noiseless, 1, words, 2, words, 0, 0);
+        expect_figure("run under a condition", 0, 0, 2, got, x[0]);
+    }
+}
+
 static void settle(void)
 {
     static const char settled[] = "op=job qubits=1 outcomes=1 shots=65\n"
@@ -117,20 +160,34 @@ static void annotate(void)
     static const char noisy[] = "op=job qubits=1 outcomes=1 shots=1\n"
                                 "op=n p=3fe0000000000000 corr=- cond=- parity=0 d=2 q=0\n"
                                 "op=o x=- z=0 id=0\n";
-    static uint8_t out[sizeof noisy];
+    uint8_t out[sizeof noisy + 1];
     const uint8_t *job = (const uint8_t *)measured;
     size_t length = sizeof measured - 1;
-    uint64_t half = 0x3fe0000000000000;
+    uint64_t half = 0x3fe0000000000000, two = 0x4000000000000000;
+    memset(out, 7, sizeof out);
     struct kundatrezo_text_answer got = kundatrezo_annotate(job, length, half, out, sizeof noisy - 2);
     expect_figure("annotate", KUNDATREZO_ROOM, 0, 0, got.answer, got.figure);
+    got = kundatrezo_annotate(job, length, two, out, sizeof out);
+    expect_figure("annotate", KUNDATREZO_PROBABILITY, 0, 0, got.answer, got.figure);
     got = kundatrezo_annotate(job, length, half, out, sizeof out);
     expect_figure("annotate", 0, 0, sizeof noisy - 1, got.answer, got.figure);
-    if (memcmp(out, noisy, sizeof noisy) != 0) {
+    if (memcmp(out, noisy, sizeof noisy - 1) != 0 || out[sizeof noisy - 1] != 7 || out[sizeof noisy] != 7) {
         printf("annotate wrote something else\n");
         failed = 1;
     }
     struct kundatrezo_count_answer counted = kundatrezo_locations(job, length);
     expect_figure("locations", 0, 0, 2, counted.answer, counted.count);
+}
+
+/* Locations are counted where annotation refuses a shared qubit, which then counts for control and target. */
+static void annotate_shared(void)
+{
+    static const char shared[] = "op=job qubits=1 outcomes=0 shots=1\nop=u g=4 q=0\nop=k x=0 z=- u=0 v=-\n";
+    uint8_t out[1];
+    struct kundatrezo_text_answer got = kundatrezo_annotate((const uint8_t *)shared, sizeof shared - 1, 0, out, 0);
+    expect_figure("annotate", KUNDATREZO_ANNOTATION, 3, 0, got.answer, got.figure);
+    struct kundatrezo_count_answer counted = kundatrezo_locations((const uint8_t *)shared, sizeof shared - 1);
+    expect_figure("locations", 0, 0, 6, counted.answer, counted.count);
 }
 
 static void correlation(void)
@@ -167,10 +224,13 @@ static void line(void)
 int main(void)
 {
     check();
+    examine();
     run();
+    padding();
     settle();
     walk();
     annotate();
+    annotate_shared();
     correlation();
     line();
     puts(failed ? "calls from C: differences" : "calls from C: 0 differences");

@@ -4,12 +4,14 @@
 // get an answer, and what is promised here is the whole of it.
 ghost use mathlib.Core.Path.{_≡_};
 ghost use Rattle.job.specs.Job.{checkJob};
+ghost use Rattle.examination.specs.Reply.{examineReply};
 ghost use Rattle.writer.specs.Reply.{textReply};
 ghost use Rattle.run.specs.Run.{runReply};
 ghost use Rattle.backward.specs.Settling.{settleReply};
 ghost use Rattle.backward.specs.Walking.{walkReply};
 ghost use Rattle.circuit.specs.Replies.{annotateReply, locationsReply, correlationReply};
 ghost use Rattle.line_reader.specs.Reading.{partNumbered};
+use examination::Examination;
 use job::Answer;
 use job::CountReply;
 use line_reader::LinePart;
@@ -21,6 +23,14 @@ pub extern "C" fn kundatrezo_check(job: &[u8]) -> Answer
     ensures { λ r. ⌜ r ≡ checkJob (now (job .entry)) ⌝ }
 {
     checker::check(job)
+}
+
+// Tests 1 to 12 of a job, and the numbers of an accepted one.
+#[no_mangle]
+pub extern "C" fn kundatrezo_examine(job: &[u8]) -> Examination
+    ensures { λ r. ⌜ r ≡ examineReply (now (job .entry)) ⌝ }
+{
+    examination::examine(job)
 }
 
 // A run of a job.

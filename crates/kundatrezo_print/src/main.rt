@@ -1,6 +1,7 @@
 // Prints the session of the job on standard input: the deltas of its recorded outcomes in each shot, or its refusal.
 ghost use mathlib.Core.Path.{_≡_};
 ghost use lib.ListN.{length};
+use libc::STDERR_FILENO;
 use libc::STDIN_FILENO;
 use libc::STDOUT_FILENO;
 use printing::print_session;
@@ -19,10 +20,20 @@ fn session_buffer() -> [u8; 24410]
     [0; 24410]
 }
 
+// A program of this language has no exit status, so that a session which could not be written is told on standard error alone.
+fn write_session(session: &[u8]) {
+    if !io::write_all(STDOUT_FILENO, session) {
+        io::write_all(
+            STDERR_FILENO,
+            b"kundatrezo_print: the session could not be written whole\n",
+        );
+    }
+}
+
 fn main() {
     let mut input = input_buffer();
     let mut session = session_buffer();
     let n = io::read_full(STDIN_FILENO, &mut input);
     let m = print_session(&input[..n], &mut session);
-    io::write_all(STDOUT_FILENO, &session[..m]);
+    write_session(&session[..m]);
 }

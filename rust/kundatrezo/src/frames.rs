@@ -1,6 +1,6 @@
 //! Frames and deltas in memory of their own.
 
-use crate::{Answer, Draws, Header, Rows, run};
+use crate::{Answer, Draws, Examination, Rows, examine, run};
 
 /// The frames and outcome deltas that a run leaves, in memory of their own, which a further run uses again.
 ///
@@ -14,14 +14,14 @@ use crate::{Answer, Draws, Header, Rows, run};
 /// ";
 /// let words = [0; 70];
 /// let noiseless = [0; 2];
-/// let frames = Frames::of_run(job, &noiseless, Draws { main: &words, ..Draws::default() })?;
+/// let frames = Frames::of_run(job, &noiseless, Draws::new(&words))?;
 /// assert_eq!(frames.delta_row(0), [u64::MAX, 0x3f]);
 /// assert!(bit(frames.x_row(0), 69) && !bit(frames.z_row(0), 69));
 /// # Ok::<(), kundatrezo::Refusal>(())
 /// ```
 #[derive(Debug, Clone, Default, PartialEq, Eq)]
 pub struct Frames {
-    header: Header,
+    job: Examination,
     x: Vec<u64>,
     z: Vec<u64>,
     deltas: Vec<u64>,
@@ -45,29 +45,31 @@ impl Frames {
         Ok(frames)
     }
 
-    /// Run a job in this memory, which grows as the job's header asks. After a refusal every row is zero.
+    /// Run a job in this memory, which grows as the job's header asks. After a refusal by 13 or 14 every row is zero, and after one by 1 to 12 there are
+    /// no rows.
     ///
     /// # Errors
     ///
     /// The refusal by 1 to 12, 13 (too few noiseless words) or 14.
     pub fn run(&mut self, job: &[u8], noiseless: &[u64], draws: Draws<'_>) -> Answer {
-        // A job without a header gets no rows; the run refuses it.
-        self.header = Header::parse(job).unwrap_or_default();
+        let examined = examine(job);
+        self.job = examined.unwrap_or_default();
         for (list, need) in [
-            (&mut self.x, self.header.frame_words()),
-            (&mut self.z, self.header.frame_words()),
-            (&mut self.deltas, self.header.outcome_words()),
+            (&mut self.x, self.job.frame_words()),
+            (&mut self.z, self.job.frame_words()),
+            (&mut self.deltas, self.job.outcome_words()),
         ] {
             list.clear();
             list.resize(need, 0);
         }
-        run(job, Rows { x: &mut self.x, z: &mut self.z, deltas: &mut self.deltas }, noiseless, draws)
+        examined?;
+        run(job, Rows::new(&mut self.x, &mut self.z, &mut self.deltas), noiseless, draws)
     }
 
-    /// The numbers of the header that the rows lie by; all zero where the last job had none.
+    /// The numbers of the job that the rows lie by; all zero where the last job did not pass the checks.
     #[must_use]
-    pub fn header(&self) -> Header {
-        self.header
+    pub fn job(&self) -> Examination {
+        self.job
     }
 
     /// The X part of the frames, a row for each qubit.
@@ -119,7 +121,7 @@ impl Frames {
     }
 
     fn row<'a>(&self, list: &'a [u64], place: usize) -> &'a [u64] {
-        let words = self.header.words_per_row();
+        let words = self.job.words_per_row();
         &list[place * words..][..words]
     }
 }

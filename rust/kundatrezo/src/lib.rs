@@ -1,11 +1,11 @@
 //! Safe calls of Kundatrezo, a Pauli-frame noise engine that is written and proved in Rattle, from its static library `libkundatrezo.a`.
 //!
-//! A *job* is a text: a header with the numbers of qubits, outcomes and shots, then a line for each instruction. Each call takes a job of arbitrary
-//! bytes and lists of any length, and gives the finished work or a [`Refusal`] with a number and a line.
+//! A *job* is a text: a header with the numbers of qubits, outcomes and shots, then a line for each instruction; docs/JOBS.md of the repository has the
+//! language. Each call takes a job of arbitrary bytes and lists of any length, and gives the finished work or a [`Refusal`] with a number and a line.
 //!
 //! | call | gives |
 //! |---|---|
-//! | [`check`] | whether the job passes tests 1 to 12 |
+//! | [`check`] | whether the job passes tests 1 to 12; [`examine`] says what it asks of its caller, too |
 //! | [`run`] | the frames and the outcome deltas of all shots; [`Frames`] has memory of its own |
 //! | [`settle`] | the job with its noise replaced by the injections that the same words draw; [`settled`] as a `Vec` |
 //! | [`walk`] | for a set of outcomes and a shot, the count of faults that flip the set's parity |
@@ -16,22 +16,21 @@
 //! # Rows
 //!
 //! A row has a bit for each shot: shot s is bit s mod 64 of word s / 64. The frames have an X row and a Z row for each qubit, deltas and noiseless bits a
-//! row for each outcome; rows lie in order, each of [`Header::words_per_row`] words. Bits past the last shot are zero in what a run leaves, and are not
+//! row for each outcome; rows lie in order, each of [`Examination::words_per_row`] words. Bits past the last shot are zero in what a run leaves, and are not
 //! looked at in what it is lent. Words beyond those that the header asks for stay as they are.
 //!
 //! # Example
 //!
+//! The job `examples/bell.job` of the repository entangles two qubits, has a fault in shot 1 and a flipped outcome in shot 2:
+//!
+//! ```text
+#![doc = include_str!("../../../examples/bell.job")]
+//! ```
+//!
 //! ```
 //! use kundatrezo::{Draws, Frames, bit, settled, walk};
 //!
-//! let job = b"op=job qubits=2 outcomes=2 shots=3
-//! op=u g=4 q=0
-//! op=u g=11 q=0,1
-//! op=i shot=1 x=0 z=-
-//! op=o x=- z=0 id=0
-//! op=o x=- z=1 id=1
-//! op=t shot=2 id=1
-//! ";
+//! let job = include_bytes!(concat!(env!("CARGO_MANIFEST_DIR"), "/../../examples/bell.job"));
 //! let noiseless = [0, 0];
 //! let frames = Frames::of_run(job, &noiseless, Draws::default())?;
 //! assert_eq!(frames.deltas(), [0b010, 0b100]);
@@ -48,34 +47,45 @@
 //! A caller who has no random words of their own can make them from a seed:
 //!
 //! ```
-//! use kundatrezo::{Draws, Frames, Header, Xorshift, annotated};
+//! use kundatrezo::{Draws, Frames, Xorshift, annotated, examine};
 //!
 //! let job = b"op=job qubits=2 outcomes=1 shots=4096\nop=u g=14 q=0,1\nop=o x=- z=0,1 id=0\n";
 //! let job = annotated(job, 0.01)?;
-//! let noiseless = vec![0; Header::parse(&job).unwrap().outcome_words()];
-//! let words: Vec<u64> = Xorshift::new(0x9e37_79b9_7f4a_7c15).unwrap().take(100_000).collect();
-//! let frames = Frames::of_run(&job, &noiseless, Draws { main: &words, ..Draws::default() })?;
+//! let noiseless = vec![0; examine(&job)?.outcome_words()];
+//! let words: Vec<u64> = Xorshift::new(2026).take(100_000).collect();
+//! let frames = Frames::of_run(&job, &noiseless, Draws::new(&words))?;
 //! let flipped: u32 = frames.delta_row(0).iter().map(|word| word.count_ones()).sum();
 //! // of 15 Paulis on the two qubits 8 flip the outcome, and there are two such noise lines
 //! assert!((flipped as f64 / 4096.0 - 2.0 * 0.01 * 8.0 / 15.0).abs() < 0.005);
 //! # Ok::<(), kundatrezo::Refusal>(())
 //! ```
 //!
+//! # What a caller owes
+//!
+//! Nothing but stack: a run takes up to 60 KiB of it, settling 44 KiB, and every other call less than 8 KiB. The pages are touched one after the other, so
+//! that a thread with less ends the process at its guard page. What C callers owe besides is the crate's: each call is made in the default floating-point
+//! state, whatever the thread has set (subnormals off, another rounding, exceptions), and leaves that as it was.
+//!
 //! # Linking
 //!
 //! The build script links the library from the folder in the environment variable `KUNDATREZO_LIB_DIR`, an absolute path. The library is for x86-64
-//! Linux, keeps no state and takes no memory but some of the stack, so calls may be made from several threads at the same time.
+//! Linux, keeps no state and takes no memory but the stack, so calls may be made from several threads at the same time.
 
 mod draws;
+mod examination;
+mod float_state;
 mod frames;
-mod header;
 mod refusal;
 mod sys;
+mod used;
+mod xorshift;
 
-pub use draws::{Draws, Xorshift};
+pub use draws::Draws;
+pub use examination::{Examination, examine};
 pub use frames::{Frames, bit};
-pub use header::{Header, recorded};
 pub use refusal::{Answer, Number, Refusal};
+pub use used::Used;
+pub use xorshift::Xorshift;
 
 use refusal::answer_of;
 
@@ -90,13 +100,22 @@ pub const MAX_SHOTS: usize = 4_096;
 
 /// The lent words that a run writes.
 #[derive(Debug)]
+#[non_exhaustive]
 pub struct Rows<'a> {
-    /// The X part of the frames: [`Header::frame_words`] words.
+    /// The X part of the frames: [`Examination::frame_words`] words.
     pub x: &'a mut [u64],
-    /// The Z part of the frames: [`Header::frame_words`] words.
+    /// The Z part of the frames: [`Examination::frame_words`] words.
     pub z: &'a mut [u64],
-    /// The deltas: [`Header::outcome_words`] words.
+    /// The deltas: [`Examination::outcome_words`] words.
     pub deltas: &'a mut [u64],
+}
+
+impl<'a> Rows<'a> {
+    /// The X part of the frames, the Z part, and the deltas.
+    #[must_use]
+    pub fn new(x: &'a mut [u64], z: &'a mut [u64], deltas: &'a mut [u64]) -> Self {
+        Self { x, z, deltas }
+    }
 }
 
 /// Make tests 1 to 12 of a job.
@@ -117,7 +136,7 @@ pub fn check(job: &[u8]) -> Answer {
 
 /// Run a job to its end in all of its shots: the final frames and the outcome deltas are left in `rows`, whatever was there before.
 ///
-/// `noiseless` has the noiseless outcomes, [`Header::outcome_words`] words, which the conditions of noise lines look at.
+/// `noiseless` has the noiseless outcomes, [`Examination::outcome_words`] words, which the conditions of noise lines look at.
 ///
 /// # Errors
 ///
@@ -129,7 +148,7 @@ pub fn check(job: &[u8]) -> Answer {
 ///
 /// let job = b"op=job qubits=1 outcomes=1 shots=2\nop=i shot=1 x=0 z=-\nop=o x=- z=0 id=0\n";
 /// let (mut x, mut z, mut deltas) = ([0], [0], [0]);
-/// run(job, Rows { x: &mut x, z: &mut z, deltas: &mut deltas }, &[0], Draws::default())?;
+/// run(job, Rows::new(&mut x, &mut z, &mut deltas), &[0], Draws::default())?;
 /// assert_eq!((x, z, deltas), ([0b10], [0], [0b10]));
 /// # Ok::<(), kundatrezo::Refusal>(())
 /// ```
@@ -151,7 +170,7 @@ pub fn run(job: &[u8], rows: Rows<'_>, noiseless: &[u64], draws: Draws<'_>) -> A
 /// let header = "op=job qubits=1 outcomes=0 shots=2\n";
 /// let job = format!("{header}op=n p=3fe0000000000000 corr=- cond=- parity=0 d=1 x=0 z=-\n");
 /// // the second word is not below one half
-/// let draws = Draws { main: &[0, u64::MAX], ..Draws::default() };
+/// let draws = Draws::new(&[0, u64::MAX]);
 /// let mut out = [0; 100];
 /// let bytes = settle(job.as_bytes(), &[], draws, &mut out)?;
 /// assert_eq!(out[..bytes], *format!("{header}op=i shot=0 x=0 z=-\n").as_bytes());
@@ -163,7 +182,7 @@ pub fn run(job: &[u8], rows: Rows<'_>, noiseless: &[u64], draws: Draws<'_>) -> A
 /// ```
 pub fn settle(job: &[u8], noiseless: &[u64], draws: Draws<'_>, out: &mut [u8]) -> Answer<usize> {
     let said = sys::settle(job, noiseless, draws, out);
-    answer_of(&said.answer, said.figure).map(bytes)
+    answer_of(&said.answer, said.figure).map(size)
 }
 
 /// The settled job, in memory of its own.
@@ -221,7 +240,7 @@ pub fn walk(job: &[u8], shot: u64, set: &[u64]) -> Answer<u64> {
 /// ```
 pub fn annotate(job: &[u8], p: f64, out: &mut [u8]) -> Answer<usize> {
     let said = sys::annotate(job, p.to_bits(), out);
-    answer_of(&said.answer, said.figure).map(bytes)
+    answer_of(&said.answer, said.figure).map(size)
 }
 
 /// The annotated job, in memory of its own.
@@ -288,7 +307,7 @@ fn text(call: impl FnOnce(&mut [u8]) -> Answer<usize>) -> Answer<Vec<u8>> {
     Ok(out)
 }
 
-/// Bytes written, which are no more than were lent.
-fn bytes(figure: u64) -> usize {
-    usize::try_from(figure).expect("the library is for 64-bit processors")
+/// A number of the library as a size.
+fn size(number: u64) -> usize {
+    usize::try_from(number).expect("the library is for 64-bit processors")
 }

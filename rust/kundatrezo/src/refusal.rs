@@ -6,8 +6,7 @@ use std::fmt;
 /// What a call says: the finished work, or why not.
 pub type Answer<T = ()> = Result<T, Refusal>;
 
-/// The number of a refusal. The names are those of `enum kundatrezo_refusal` in include/kundatrezo.h; docs/REFUSALS.md has an example and a remedy
-/// for each.
+/// The number of a refusal. Names and words are those of include/kundatrezo.h; docs/REFUSALS.md has an example and a remedy for each.
 ///
 /// ```
 /// use kundatrezo::Number;
@@ -18,92 +17,66 @@ pub type Answer<T = ()> = Result<T, Refusal>;
 #[derive(Debug, Clone, Copy, PartialEq, Eq, PartialOrd, Ord, Hash)]
 pub struct Number(u64);
 
-impl Number {
-    /// 1: the job is empty, longer than [`MAX_BYTES`](crate::MAX_BYTES), or has no LF at its end.
-    pub const LENGTH: Self = Self(1);
-    /// 2: form of a line, a gate code above 14, or the job ends before its element lines.
-    pub const FORM: Self = Self(2);
-    /// 3: header missing, repeated or out of range.
-    pub const HEADER: Self = Self(3);
-    /// 4: a qubit not below the header's qubits.
-    pub const QUBIT: Self = Self(4);
-    /// 5: number of operands, a repeated operand, or a list of more than 31.
-    pub const OPERANDS: Self = Self(5);
-    /// 6: s is no permutation of the places.
-    pub const PERMUTATION: Self = Self(6);
-    /// 7: not a Clifford.
-    pub const CLIFFORD: Self = Self(7);
-    /// 8: id of a measurement or an allocation not the next one, or not below the header's outcomes.
-    pub const NEXT_ID: Self = Self(8);
-    /// 9: an outcome that is not recorded yet.
-    pub const NOT_RECORDED: Self = Self(9);
-    /// 10: a shot not below the header's shots.
-    pub const SHOT: Self = Self(10);
-    /// 11: p is NaN or above 1.
-    pub const PROBABILITY: Self = Self(11);
-    /// 12: n not 1 to 64; a weight below zero or not finite; their total zero or not finite.
-    pub const ELEMENTS: Self = Self(12);
-    /// 13: lent words too few.
-    pub const WORDS: Self = Self(13);
-    /// 14: a needed draw lies past its list.
-    pub const DRAWS: Self = Self(14);
-    /// 15: the text is longer than the lent bytes or [`MAX_BYTES`](crate::MAX_BYTES).
-    pub const ROOM: Self = Self(15);
-    /// 16: noise in a walk.
-    pub const NOISE: Self = Self(16);
-    /// 17: the walk's shot not below the header's shots; its set not strictly rising, or with an outcome that is not recorded.
-    pub const WALK: Self = Self(17);
-    /// 18: annotation over a repeated qubit, or over more than 31.
-    pub const ANNOTATION: Self = Self(18);
-    /// 19: sizes of one correlation differ.
-    pub const SIZES: Self = Self(19);
+/// Gives each number its name and its words.
+macro_rules! numbers {
+    ($($number:literal $name:ident $words:literal)*) => {
+        impl Number {
+            $(
+                #[doc = concat!($number, ": ", $words, ".")]
+                pub const $name: Self = Self($number);
+            )*
 
-    /// Every number, rising.
-    pub const ALL: [Self; 19] = {
-        let mut all = [Self::LENGTH; 19];
-        let mut place = 0;
-        while place < all.len() {
-            all[place] = Self(place as u64 + 1);
-            place += 1;
+            /// Every number that this crate knows, rising.
+            pub const ALL: &'static [Self] = &[$(Self::$name),*];
+
+            /// What it means, in words.
+            #[must_use]
+            pub const fn words(self) -> &'static str {
+                match self.0 {
+                    $($number => $words,)*
+                    _ => "a number that this crate does not know",
+                }
+            }
+
+            /// The name of its constant, here and, after `KUNDATREZO_`, in the C header.
+            #[must_use]
+            pub const fn name(self) -> &'static str {
+                match self.0 {
+                    $($number => stringify!($name),)*
+                    _ => "",
+                }
+            }
         }
-        all
     };
+}
 
+numbers! {
+    1 LENGTH "the job is empty, longer than 1,048,576 bytes, or has no LF at its end"
+    2 FORM "form of a line, a gate code above 14, or the job ends before its element lines"
+    3 HEADER "header missing, repeated or out of range"
+    4 QUBIT "a qubit not below the header's qubits"
+    5 OPERANDS "number of operands, a repeated operand, or a list of more than 31"
+    6 PERMUTATION "s is no permutation of the places"
+    7 CLIFFORD "not a Clifford"
+    8 NEXT_ID "id of a measurement or an allocation not the next one, or not below the header's outcomes"
+    9 NOT_RECORDED "an outcome that is not recorded yet"
+    10 SHOT "a shot not below the header's shots"
+    11 PROBABILITY "p is NaN or above 1"
+    12 ELEMENTS "n not 1 to 64; a weight below zero or not finite; their total zero or not finite"
+    13 WORDS "lent words too few"
+    14 DRAWS "a needed draw lies past its list"
+    15 ROOM "the text is longer than the lent bytes or 1,048,576"
+    16 NOISE "noise in a walk"
+    17 WALK "the walk's shot not below the header's shots; its set not strictly rising, or with an outcome that is not recorded"
+    18 ANNOTATION "annotation over a repeated qubit, or over more than 31"
+    19 SIZES "sizes of one correlation differ"
+}
+
+impl Number {
     /// The number itself.
     #[must_use]
     pub const fn get(self) -> u64 {
         self.0
-    }
-
-    /// What it means, in words.
-    #[must_use]
-    pub const fn words(self) -> &'static str {
-        match self {
-            Self::LENGTH => "the job is empty, longer than 1,048,576 bytes, or has no LF at its end",
-            Self::FORM => "form of a line, a gate code above 14, or the job ends before its element lines",
-            Self::HEADER => "header missing, repeated or out of range",
-            Self::QUBIT => "a qubit not below the header's qubits",
-            Self::OPERANDS => "number of operands, a repeated operand, or a list of more than 31",
-            Self::PERMUTATION => "s is no permutation of the places",
-            Self::CLIFFORD => "not a Clifford",
-            Self::NEXT_ID => {
-                "id of a measurement or an allocation not the next one, or not below the header's outcomes"
-            }
-            Self::NOT_RECORDED => "an outcome that is not recorded yet",
-            Self::SHOT => "a shot not below the header's shots",
-            Self::PROBABILITY => "p is NaN or above 1",
-            Self::ELEMENTS => "n not 1 to 64; a weight below zero or not finite; their total zero or not finite",
-            Self::WORDS => "lent words too few",
-            Self::DRAWS => "a needed draw lies past its list",
-            Self::ROOM => "the text is longer than the lent bytes or 1,048,576",
-            Self::NOISE => "noise in a walk",
-            Self::WALK => {
-                "the walk's shot not below the header's shots; its set not strictly rising, or with an outcome that is not recorded"
-            }
-            Self::ANNOTATION => "annotation over a repeated qubit, or over more than 31",
-            Self::SIZES => "sizes of one correlation differ",
-            _ => "a number that this crate does not know",
-        }
     }
 }
 
@@ -125,6 +98,7 @@ impl fmt::Display for Number {
 /// assert_eq!(refusal.line_of(job), Some(b"op=z q=1".as_slice()));
 /// ```
 #[derive(Debug, Clone, Copy, PartialEq, Eq, Hash)]
+#[non_exhaustive]
 pub struct Refusal {
     /// The number.
     pub number: Number,

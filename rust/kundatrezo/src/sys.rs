@@ -1,11 +1,15 @@
-//! The C interface; include/kundatrezo.h is its other side. The crate's unsafe code is in this file alone, and what leaves it is safe.
+//! The C interface; include/kundatrezo.h is its other side, and says what a caller owes. What leaves this file is safe: the crate's unsafe code is here
+//! and in `float_state.rs`.
 //!
 //! A list passes as a pointer to its first element and its length in elements, and an answer comes back as a struct by value. The library asks that
-//! no pointer is null, also of an empty list, and that no list which it writes overlaps another list of the call. It asks nothing of what lists hold or
-//! of how long they are, keeps no pointer and no state, and never unwinds.
+//! no pointer is null, also of an empty list, that it is aligned, that the memory is initialised, that no list which it writes overlaps another list of
+//! the call or is used by another thread: slices and their borrows are all of this. It asks for the default floating-point state, which
+//! `in_default_state` gives, and for some of the stack, whose pages it touches one after the other, so that where there are too few the process ends at
+//! the guard page. It asks nothing of what lists hold or of how long they are, keeps no pointer and no state, and never unwinds.
 
 #![allow(unsafe_code)]
 
+use crate::float_state::in_default_state;
 use crate::{Draws, Rows};
 
 /// `struct kundatrezo_answer`.
@@ -29,6 +33,17 @@ pub struct Count {
     pub count: u64,
 }
 
+/// `struct kundatrezo_examination`.
+#[repr(C)]
+pub struct Examination {
+    pub answer: Answer,
+    pub qubits: u64,
+    pub outcomes: u64,
+    pub shots: u64,
+    pub recorded: u64,
+    pub lines: u64,
+}
+
 /// `struct kundatrezo_line_part`.
 #[repr(C)]
 pub struct LinePart {
@@ -38,6 +53,8 @@ pub struct LinePart {
 
 unsafe extern "C" {
     fn kundatrezo_check(job: *const u8, job_len: usize) -> Answer;
+
+    fn kundatrezo_examine(job: *const u8, job_len: usize) -> Examination;
 
     fn kundatrezo_run(
         job: *const u8,
@@ -87,11 +104,15 @@ unsafe extern "C" {
 // include/kundatrezo.h.
 
 pub fn check(job: &[u8]) -> Answer {
-    unsafe { kundatrezo_check(job.as_ptr(), job.len()) }
+    in_default_state(|| unsafe { kundatrezo_check(job.as_ptr(), job.len()) })
+}
+
+pub fn examine(job: &[u8]) -> Examination {
+    in_default_state(|| unsafe { kundatrezo_examine(job.as_ptr(), job.len()) })
 }
 
 pub fn run(job: &[u8], rows: Rows<'_>, noiseless: &[u64], draws: Draws<'_>) -> Answer {
-    unsafe {
+    in_default_state(|| unsafe {
         kundatrezo_run(
             job.as_ptr(),
             job.len(),
@@ -109,11 +130,11 @@ pub fn run(job: &[u8], rows: Rows<'_>, noiseless: &[u64], draws: Draws<'_>) -> A
             draws.second.len(),
             draws.base,
         )
-    }
+    })
 }
 
 pub fn settle(job: &[u8], noiseless: &[u64], draws: Draws<'_>, out: &mut [u8]) -> TextAnswer {
-    unsafe {
+    in_default_state(|| unsafe {
         kundatrezo_settle(
             job.as_ptr(),
             job.len(),
@@ -127,25 +148,85 @@ pub fn settle(job: &[u8], noiseless: &[u64], draws: Draws<'_>, out: &mut [u8]) -
             out.as_mut_ptr(),
             out.len(),
         )
-    }
+    })
 }
 
 pub fn walk(job: &[u8], shot: u64, set: &[u64]) -> Count {
-    unsafe { kundatrezo_walk(job.as_ptr(), job.len(), shot, set.as_ptr(), set.len()) }
+    in_default_state(|| unsafe { kundatrezo_walk(job.as_ptr(), job.len(), shot, set.as_ptr(), set.len()) })
 }
 
 pub fn annotate(job: &[u8], p_bits: u64, out: &mut [u8]) -> TextAnswer {
-    unsafe { kundatrezo_annotate(job.as_ptr(), job.len(), p_bits, out.as_mut_ptr(), out.len()) }
+    in_default_state(|| unsafe { kundatrezo_annotate(job.as_ptr(), job.len(), p_bits, out.as_mut_ptr(), out.len()) })
 }
 
 pub fn locations(job: &[u8]) -> Count {
-    unsafe { kundatrezo_locations(job.as_ptr(), job.len()) }
+    in_default_state(|| unsafe { kundatrezo_locations(job.as_ptr(), job.len()) })
 }
 
 pub fn line(job: &[u8], number: u64) -> LinePart {
-    unsafe { kundatrezo_line(job.as_ptr(), job.len(), number) }
+    in_default_state(|| unsafe { kundatrezo_line(job.as_ptr(), job.len(), number) })
 }
 
 pub fn correlation(job: &[u8]) -> Answer {
-    unsafe { kundatrezo_correlation(job.as_ptr(), job.len()) }
+    in_default_state(|| unsafe { kundatrezo_correlation(job.as_ptr(), job.len()) })
+}
+
+#[cfg(test)]
+mod tests {
+    use super::*;
+    use crate::float_state::tests::{DAZ, FTZ, UP};
+    use crate::float_state::{DEFAULT, in_state};
+    use crate::{Frames, Number};
+
+    /// One noise line, that of weights with its element lines.
+    fn job(noise: &str) -> Vec<u8> {
+        format!("op=job qubits=1 outcomes=0 shots=1\nop=n p={noise}\n").into_bytes()
+    }
+
+    /// The least p above zero: a word of 0 faults.
+    fn least_p() -> Vec<u8> {
+        job("0000000000000001 corr=- cond=- parity=0 d=1 x=0 z=-")
+    }
+
+    /// A lone weight of 2^-1074.
+    fn least_weight() -> Vec<u8> {
+        job("3ff0000000000000 corr=- cond=- parity=0 d=4 n=1\nw=0000000000000001 x=0 z=-")
+    }
+
+    /// The largest number and 1, whose sum is the largest number but for rounding up.
+    fn large_total() -> Vec<u8> {
+        job("3ff0000000000000 corr=- cond=- parity=0 d=4 n=2\nw=7fefffffffffffff x=0 z=-\nw=3ff0000000000000 x=- z=0")
+    }
+
+    #[test]
+    fn answers_are_those_of_the_default_state() {
+        let (p, weight, total) = (least_p(), least_weight(), large_total());
+        // all exceptions unmasked, too: the first inexact result would end the process
+        for state in [DEFAULT, DEFAULT | DAZ | FTZ, DEFAULT | UP, DEFAULT | DAZ | FTZ | UP, DEFAULT | 0x2000, 0x6000, 0]
+        {
+            let draws = Draws::new(&[0, u64::MAX]);
+            let (fault, accepted, chosen) = in_state(state, || {
+                let fault = Frames::of_run(&p, &[], draws);
+                let accepted = [&weight, &total].map(|job| crate::check(job));
+                let chosen = [&weight, &total].map(|job| crate::settled(job, &[], draws));
+                (fault, accepted, chosen)
+            });
+            assert_eq!(fault.map(|frames| frames.x().to_vec()), Ok(vec![1]), "{state:x}");
+            assert_eq!(accepted, [Ok(()); 2], "{state:x}");
+            // weights of nearly 1 and nearly 0: a u just below 1 is within the first running sum, which rounds to 1
+            assert!(chosen.into_iter().all(|text| text.expect("it settles").ends_with(b"op=i shot=0 x=0 z=-\n")));
+        }
+    }
+
+    /// Without that, answers are wrong in these states; else the test above would show nothing.
+    #[test]
+    fn the_library_needs_the_default_state() {
+        let number = |state: u32, job: &[u8]| {
+            // SAFETY: as for every call above; another floating-point state changes answers and nothing else.
+            in_state(state, || unsafe { kundatrezo_check(job.as_ptr(), job.len()) }).number
+        };
+        let refused = Number::ELEMENTS.get();
+        assert_eq!((number(DEFAULT, &least_weight()), number(DEFAULT | DAZ, &least_weight())), (0, refused));
+        assert_eq!((number(DEFAULT, &large_total()), number(DEFAULT | UP, &large_total())), (0, refused));
+    }
 }

@@ -2,16 +2,43 @@
 
 use crate::Failure;
 use std::ffi::{OsStr, OsString};
+use std::os::unix::ffi::OsStrExt;
 
 /// A command of the program.
 pub struct Command {
     pub name: &'static str,
+    pub operand: Operand,
     /// One line, for the help of the whole program.
     pub summary: &'static str,
     /// What it does, in paragraphs.
     pub details: &'static [&'static str],
-    pub options: &'static [Flag],
+    /// Its options, in groups.
+    pub options: &'static [&'static [Flag]],
     pub obey: fn(&Arguments) -> Result<(), Failure>,
+}
+
+/// What a command is called on.
+#[derive(Clone, Copy, PartialEq, Eq)]
+pub enum Operand {
+    /// A job: a file, or - for standard input.
+    Job,
+    /// One value or more.
+    Values(&'static str),
+    /// One of these words.
+    Word(&'static str, &'static [&'static str]),
+    None,
+}
+
+impl Operand {
+    /// How it is written in the help.
+    pub fn usage(self) -> String {
+        match self {
+            Self::Job => " JOB".into(),
+            Self::Values(name) => format!(" {name}.."),
+            Self::Word(name, _) => format!(" {name}"),
+            Self::None => String::new(),
+        }
+    }
 }
 
 /// An option that takes a value.
@@ -22,52 +49,102 @@ pub struct Flag {
     pub text: &'static str,
 }
 
+/// The value of an option that names a file.
+pub const FILE: &str = "FILE";
+
 impl Command {
+    pub fn flags(&self) -> impl Iterator<Item = &'static Flag> {
+        self.options.iter().flat_map(|group| group.iter())
+    }
+
+    pub fn usage(&self) -> String {
+        let options = if self.options.is_empty() { "" } else { " [OPTION VALUE].." };
+        format!("kundatrezo {}{}{options}", self.name, self.operand.usage())
+    }
+
     /// The help of this command.
     pub fn help(&self) -> String {
-        let options = if self.options.is_empty() { "" } else { " [OPTION VALUE].." };
         let row = |flag: &Flag| format!("    {:<18} {}\n", format!("{} {}", flag.name, flag.value), flag.text);
-        let rows: String = self.options.iter().map(row).collect();
+        let rows: String = self.flags().map(row).collect();
         let gap = if rows.is_empty() { "" } else { "\n" };
-        format!("usage: kundatrezo {} JOB{options}\n\n{}\n{gap}{rows}", self.name, self.details.join("\n\n"))
+        format!("usage: {}\n\n{}\n{gap}{rows}", self.usage(), self.details.join("\n\n"))
     }
 }
 
 /// The arguments of a command.
 pub struct Arguments {
-    pub job: OsString,
+    operands: Vec<OsString>,
     values: Vec<(&'static str, OsString)>,
 }
 
 impl Arguments {
-    /// The arguments after a command's name, or none where they ask for help.
+    /// The arguments after a command's name, or none where they ask for help. What follows `--` is no option.
     pub fn read(command: &Command, given: &[OsString]) -> Result<Option<Self>, String> {
-        let mut job = None;
-        let mut values: Vec<(&'static str, OsString)> = Vec::new();
+        let mut read = Self { operands: Vec::new(), values: Vec::new() };
         let mut given = given.iter();
         while let Some(argument) = given.next() {
-            let text = argument.to_str().unwrap_or_default();
-            if text == "--help" || text == "-h" {
+            let bytes = argument.as_bytes();
+            if bytes == b"--" {
+                read.operands.extend(given.by_ref().cloned());
+            } else if bytes == b"--help" || bytes == b"-h" {
                 return Ok(None);
+            } else if bytes == b"-" || !bytes.starts_with(b"-") {
+                read.operands.push(argument.clone());
+            } else {
+                read.option(command, argument, &mut given)?;
             }
-            if !text.starts_with("--") {
-                if job.replace(argument.clone()).is_some() {
-                    return Err(format!("one job is wanted, and '{}' is another", argument.display()));
-                }
-                continue;
-            }
-            let (name, joined) = text.split_once('=').map_or((text, None), |(name, value)| (name, Some(value)));
-            let flag = command.options.iter().find(|flag| flag.name == name);
-            let flag = flag.ok_or_else(|| format!("'{}' has no option '{name}'", command.name))?;
-            let value = joined.map(OsString::from).or_else(|| given.next().cloned());
-            let value = value.ok_or_else(|| format!("the option {name} wants a value: {}", flag.value))?;
-            if values.iter().any(|(earlier, _)| *earlier == flag.name) {
-                return Err(format!("the option {name} is given twice"));
-            }
-            values.push((flag.name, value));
         }
-        let job = job.ok_or("a job is missing (a file, or - for standard input)")?;
-        Ok(Some(Self { job, values }))
+        read.count(command)?;
+        Ok(Some(read))
+    }
+
+    /// An option with its value, which stands after `=` or is the next argument.
+    fn option<'a>(
+        &mut self,
+        command: &Command,
+        argument: &OsStr,
+        rest: &mut impl Iterator<Item = &'a OsString>,
+    ) -> Result<(), String> {
+        let mut parts = argument.as_bytes().splitn(2, |byte| *byte == b'=');
+        let name = OsStr::from_bytes(parts.next().unwrap_or_default());
+        let flag = command.flags().find(|flag| flag.name == name).ok_or_else(|| {
+            format!("'{}' has no option '{}' (after --, a name may begin with -)", command.name, name.display())
+        })?;
+        let value = parts.next().map(|value| OsStr::from_bytes(value).to_owned()).or_else(|| rest.next().cloned());
+        let value = value.ok_or_else(|| format!("the option {} wants a value: {}", flag.name, flag.value))?;
+        if self.value(flag.name).is_some() {
+            return Err(format!("the option {} is given twice", flag.name));
+        }
+        self.values.push((flag.name, value));
+        Ok(())
+    }
+
+    /// That there are as many operands as the command takes.
+    fn count(&self, command: &Command) -> Result<(), String> {
+        let surplus = |place: usize, wanted: &str| match self.operands.get(place) {
+            Some(other) => Err(format!("{wanted}, and '{}' is one more", other.display())),
+            None => Ok(()),
+        };
+        match (command.operand, self.operands.first()) {
+            (Operand::None, _) => surplus(0, "no argument is wanted"),
+            (Operand::Job, None) => Err("a job is missing (a file, or - for standard input)".into()),
+            (Operand::Job, _) => surplus(1, "one job is wanted"),
+            (Operand::Values(name), None) => Err(format!("{name} is missing")),
+            (Operand::Values(_), _) => Ok(()),
+            (Operand::Word(_, words), Some(word)) if words.iter().any(|known| word == known) => {
+                surplus(1, "one word is wanted")
+            }
+            (Operand::Word(name, words), _) => Err(format!("{name} is to be one of {}", words.join(", "))),
+        }
+    }
+
+    /// What the command is called on; a command that takes one has it.
+    pub fn operand(&self) -> &OsStr {
+        self.operands.first().map_or(OsStr::new(""), OsString::as_os_str)
+    }
+
+    pub fn operands(&self) -> &[OsString] {
+        &self.operands
     }
 
     /// The value of an option, if it is given.

@@ -1,17 +1,18 @@
 //! The commands, a call of the engine each.
 
-use crate::arguments::{Arguments, Command, Flag};
+use crate::arguments::{Arguments, Command, FILE, Flag, Operand};
+use crate::completions::{self, SHELLS};
 use crate::words::{self, Lent};
-use crate::{Failure, files, print};
-use kundatrezo::{Frames, Header, MAX_BYTES, Refusal, bit, recorded};
+use crate::{Failure, files, manual, numbers, print};
+use kundatrezo::{Examination, Frames, MAX_BYTES, Number, Refusal, bit};
 use std::fmt::Write;
 
-const X: Flag = Flag { name: "--x", value: "FILE", text: "write the X rows of the frames to this file" };
-const Z: Flag = Flag { name: "--z", value: "FILE", text: "write the Z rows of the frames to this file" };
+const X: Flag = Flag { name: "--x", value: FILE, text: "write the X rows of the frames to this file" };
+const Z: Flag = Flag { name: "--z", value: FILE, text: "write the Z rows of the frames to this file" };
 const DELTAS: Flag =
-    Flag { name: "--deltas", value: "FILE", text: "write the rows of the deltas to this file, and do not print them" };
+    Flag { name: "--deltas", value: FILE, text: "write the rows of the deltas to this file, and do not print them" };
 const OUTPUT: Flag =
-    Flag { name: "--output", value: "FILE", text: "write the text to this file; without it, to standard output" };
+    Flag { name: "--output", value: FILE, text: "write the text to this file; without it, to standard output" };
 const ROOM: Flag =
     Flag { name: "--room", value: "N", text: "lend N bytes for the text; without it 1048576, the most it may have" };
 const SHOT: Flag = Flag { name: "--shot", value: "N", text: "the shot, from 0" };
@@ -28,6 +29,7 @@ ceil(shots / 64) words, in their order.";
 pub const COMMANDS: &[Command] = &[
     Command {
         name: "check",
+        operand: Operand::Job,
         summary: "whether a job passes the checks",
         details: &["Makes tests 1 to 12 of a job, and prints 'ok=1' and the numbers of its header."],
         options: &[],
@@ -35,69 +37,54 @@ pub const COMMANDS: &[Command] = &[
     },
     Command {
         name: "run",
+        operand: Operand::Job,
         summary: "the frames and the outcome deltas of all shots",
         details: &[
             "\
 Runs a job in all of its shots. Prints 'ok=1' and the numbers of its header, then 'id=' and 'delta=' for
 each recorded outcome, with a digit for each shot, shot 0 first.",
+            words::SERIES,
             ROWS,
             words::DETAILS,
         ],
-        options: &[
-            words::MAIN,
-            words::SEED,
-            words::SKIP,
-            words::SECOND,
-            words::SECOND_SEED,
-            words::BASE,
-            words::NOISELESS,
-            X,
-            Z,
-            DELTAS,
-        ],
+        options: &[words::FLAGS, &[X, Z, DELTAS]],
         obey: run,
     },
     Command {
         name: "settle",
+        operand: Operand::Job,
         summary: "the job with its noise replaced by the injections that it draws",
         details: &[
             "Writes the job with each noise line replaced by the injections that a run with the same words makes.",
             words::DETAILS,
         ],
-        options: &[
-            words::MAIN,
-            words::SEED,
-            words::SKIP,
-            words::SECOND,
-            words::SECOND_SEED,
-            words::BASE,
-            words::NOISELESS,
-            OUTPUT,
-            ROOM,
-        ],
+        options: &[words::FLAGS, &[OUTPUT, ROOM]],
         obey: settle,
     },
     Command {
         name: "walk",
+        operand: Operand::Job,
         summary: "the count of faults that flip the parity of a set of outcomes",
         details: &["\
 Carries the observable of a set of recorded outcomes back through a job without noise (settle another job
 first). Prints 'ok=1 count=' and the number of the shot's faults that flip the set's parity. --shot and
 --set are wanted."],
-        options: &[SHOT, SET],
+        options: &[&[SHOT, SET]],
         obey: walk,
     },
     Command {
         name: "annotate",
+        operand: Operand::Job,
         summary: "the job with depolarizing noise before each measurement and after each gate",
         details: &["\
 Writes the job with a line of depolarizing noise before each measurement and after each gate. Either --p
 or --p-bits is wanted."],
-        options: &[P, P_BITS, OUTPUT, ROOM],
+        options: &[&[P, P_BITS, OUTPUT, ROOM]],
         obey: annotate,
     },
     Command {
         name: "locations",
+        operand: Operand::Job,
         summary: "the number of fault locations",
         details: &["Prints 'ok=1 locations=' and twice the qubits that annotation gives noise, summed over the job."],
         options: &[],
@@ -105,38 +92,70 @@ or --p-bits is wanted."],
     },
     Command {
         name: "correlation",
+        operand: Operand::Job,
         summary: "whether correlated noise lines agree in size",
         details: &["Prints 'ok=1' if the noise lines of each correlation have distributions of one size."],
         options: &[],
         obey: correlation,
     },
+    Command {
+        name: "bits",
+        operand: Operand::Values("NUMBER"),
+        summary: "the bits of probabilities or weights, as jobs have them, from decimal",
+        details: &[numbers::BITS],
+        options: &[],
+        obey: numbers::print_bits,
+    },
+    Command {
+        name: "decimal",
+        operand: Operand::Values("BITS"),
+        summary: "probabilities or weights in decimal, from their bits",
+        details: &[numbers::DECIMAL],
+        options: &[],
+        obey: numbers::print_decimal,
+    },
+    Command {
+        name: "completions",
+        operand: Operand::Word("SHELL", SHELLS),
+        summary: "a script that lets a shell complete commands and options",
+        details: &[completions::DETAILS],
+        options: &[],
+        obey: completions::print_script,
+    },
+    Command {
+        name: "man",
+        operand: Operand::None,
+        summary: "the manual page of this program",
+        details: &["Prints the manual page, for man: 'kundatrezo man >kundatrezo.1'."],
+        options: &[],
+        obey: |_| print(manual::page()),
+    },
 ];
 
 fn check(arguments: &Arguments) -> Result<(), Failure> {
-    let job = files::job(&arguments.job)?;
-    kundatrezo::check(&job).map_err(refused(&job))?;
-    print(format!("{}\n", numbers(Header::parse(&job).unwrap_or_default())))
+    let (_, examined) = examined(arguments)?;
+    print(format!("{}\n", numbers_of(examined)))
 }
 
 fn run(arguments: &Arguments) -> Result<(), Failure> {
-    let job = files::job(&arguments.job)?;
-    let mut lent = Lent::read(arguments, &job)?;
+    let (job, examined) = examined(arguments)?;
+    let mut lent = Lent::read(arguments, &job, examined)?;
     let mut frames = Frames::new();
-    lent.call(&job, |noiseless, draws| frames.run(&job, noiseless, draws))?;
+    lent.call(|noiseless, draws| frames.run(&job, noiseless, draws))?;
     for (flag, words) in [(X, frames.x()), (Z, frames.z()), (DELTAS, frames.deltas())] {
         if let Some(path) = arguments.value(flag.name) {
             files::write_words(path, words)?;
         }
     }
-    let printed = if arguments.value(DELTAS.name).is_some() { 0 } else { recorded(&job) };
-    print(session(&frames, printed))
+    let printed = if arguments.value(DELTAS.name).is_some() { 0 } else { examined.recorded };
+    print(session(&frames, printed) + &lent.report()?)
 }
 
 fn settle(arguments: &Arguments) -> Result<(), Failure> {
-    let job = files::job(&arguments.job)?;
-    let mut lent = Lent::read(arguments, &job)?;
+    let (job, examined) = examined(arguments)?;
+    let mut lent = Lent::read(arguments, &job, examined)?;
     let mut out = room(arguments)?;
-    let bytes = lent.call(&job, |noiseless, draws| kundatrezo::settle(&job, noiseless, draws, &mut out))?;
+    let bytes = lent.call(|noiseless, draws| kundatrezo::settle(&job, noiseless, draws, &mut out))?;
     write_text(arguments, &out[..bytes])
 }
 
@@ -146,53 +165,83 @@ fn walk(arguments: &Arguments) -> Result<(), Failure> {
     let (Some(shot), Some(set)) = (shot, set) else {
         return Err(Failure::Other(format!("{} and {} are wanted", SHOT.name, SET.name)));
     };
-    let job = files::job(&arguments.job)?;
-    let count = kundatrezo::walk(&job, shot, &set).map_err(refused(&job))?;
+    let (job, examined) = examined(arguments)?;
+    let count = kundatrezo::walk(&job, shot, &set).map_err(|refusal| {
+        let remedy = match (refusal.number, examined.recorded) {
+            (Number::WALK, _) if shot >= examined.shots as u64 => {
+                Some(format!("the job's shots are 0 to {}", examined.shots - 1))
+            }
+            (Number::WALK, 0) => Some("the job records no outcome".into()),
+            (Number::WALK, some) => {
+                Some(format!("{} names recorded outcomes, 0 to {}, and rises strictly", SET.name, some - 1))
+            }
+            _ => None,
+        };
+        Failure::refused(&refusal, &job, remedy)
+    })?;
     print(format!("ok=1 count={count}\n"))
 }
 
 fn annotate(arguments: &Arguments) -> Result<(), Failure> {
-    let decimal = arguments.parsed(P.name, "a number", |text| text.parse::<f64>().ok())?;
-    let bits = arguments.parsed(P_BITS.name, "16 hexadecimal digits", binary64)?;
+    let decimal = arguments.parsed(P.name, "a number", numbers::decimal)?;
+    let bits = arguments.parsed(P_BITS.name, "16 hexadecimal digits", numbers::binary64)?;
     let ((Some(p), None) | (None, Some(p))) = (decimal, bits) else {
         return Err(Failure::Other(format!("either {} or {} is wanted", P.name, P_BITS.name)));
     };
-    let job = files::job(&arguments.job)?;
+    let job = files::job(arguments.operand())?;
     let mut out = room(arguments)?;
-    let bytes = kundatrezo::annotate(&job, p, &mut out).map_err(refused(&job))?;
+    let bytes = kundatrezo::annotate(&job, p, &mut out).map_err(|refusal| {
+        let own = refusal.number == Number::PROBABILITY && refusal.line == 0;
+        let remedy = own.then(|| format!("the probability of {} or {} is {p:?}", P.name, P_BITS.name));
+        Failure::refused(&refusal, &job, remedy.or_else(|| longer(&refusal)))
+    })?;
     write_text(arguments, &out[..bytes])
 }
 
 fn locations(arguments: &Arguments) -> Result<(), Failure> {
-    let job = files::job(&arguments.job)?;
+    let job = files::job(arguments.operand())?;
     let count = kundatrezo::locations(&job).map_err(refused(&job))?;
     print(format!("ok=1 locations={count}\n"))
 }
 
 fn correlation(arguments: &Arguments) -> Result<(), Failure> {
-    let job = files::job(&arguments.job)?;
+    let job = files::job(arguments.operand())?;
     kundatrezo::correlation(&job).map_err(refused(&job))?;
     print("ok=1\n")
 }
 
 // ---- what commands share
 
+/// The job that a command is called on, and its numbers.
+fn examined(arguments: &Arguments) -> Result<(Vec<u8>, Examination), Failure> {
+    let job = files::job(arguments.operand())?;
+    let examined = kundatrezo::examine(&job).map_err(refused(&job))?;
+    Ok((job, examined))
+}
+
 fn refused(job: &[u8]) -> impl FnOnce(Refusal) -> Failure {
-    move |refusal| Failure::refused(&refusal, job)
+    move |refusal| Failure::refused(&refusal, job, None)
 }
 
-/// The header's numbers as document 01's session prints them.
-fn numbers(header: Header) -> String {
-    format!("ok=1 qubits={} outcomes={} shots={}", header.qubits, header.outcomes, header.shots)
+/// What to do about a text that does not fit.
+pub fn longer(refusal: &Refusal) -> Option<String> {
+    let remedy =
+        format!("leave out {}, if it is given; a text of more than {MAX_BYTES} bytes wants a smaller job", ROOM.name);
+    (refusal.number == Number::ROOM).then_some(remedy)
 }
 
-/// Document 01's printed session: the header's numbers and the deltas of the first outcomes.
+/// The header's numbers, as a session prints them.
+fn numbers_of(job: Examination) -> String {
+    format!("ok=1 qubits={} outcomes={} shots={}", job.qubits, job.outcomes, job.shots)
+}
+
+/// The printed session: the header's numbers and the deltas of the first outcomes.
 fn session(frames: &Frames, outcomes: usize) -> String {
-    let mut text = numbers(frames.header());
+    let mut text = numbers_of(frames.job());
     for id in 0..outcomes {
         write!(text, "\nid={id} delta=").expect("a string takes all");
         let row = frames.delta_row(id);
-        text.extend((0..frames.header().shots).map(|shot| if bit(row, shot) { '1' } else { '0' }));
+        text.extend((0..frames.job().shots).map(|shot| if bit(row, shot) { '1' } else { '0' }));
     }
     text.push('\n');
     text
@@ -216,9 +265,4 @@ fn write_text(arguments: &Arguments, text: &[u8]) -> Result<(), Failure> {
 /// Numbers with commas between, in any order; the walk judges them.
 fn list(text: &str) -> Option<Vec<u64>> {
     if text == "-" { Some(Vec::new()) } else { text.split(',').map(|number| number.parse().ok()).collect() }
-}
-
-fn binary64(text: &str) -> Option<f64> {
-    let digits = text.len() == 16 && text.bytes().all(|byte| byte.is_ascii_hexdigit());
-    if digits { u64::from_str_radix(text, 16).ok().map(f64::from_bits) } else { None }
 }

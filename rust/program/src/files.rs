@@ -6,27 +6,37 @@ use std::ffi::OsStr;
 use std::fs::{self, File};
 use std::io::{self, Read};
 
+/// A file that is read, or standard input for `-`.
+pub fn open(path: &OsStr) -> Result<Box<dyn Read>, Failure> {
+    if path == "-" {
+        return Ok(Box::new(io::stdin().lock()));
+    }
+    Ok(Box::new(File::open(path).map_err(|error| fault(path, &error))?))
+}
+
 /// The bytes of a job. A longer file than a job may be is read no further than one byte past that, which is enough to have it refused.
 pub fn job(path: &OsStr) -> Result<Vec<u8>, Failure> {
-    let source: Box<dyn Read> = if path == "-" {
-        Box::new(io::stdin().lock())
-    } else {
-        Box::new(File::open(path).map_err(|error| fault(path, &error))?)
-    };
     let mut bytes = Vec::new();
-    source.take(MAX_BYTES as u64 + 1).read_to_end(&mut bytes).map_err(|error| fault(path, &error))?;
+    open(path)?.take(MAX_BYTES as u64 + 1).read_to_end(&mut bytes).map_err(|error| fault(path, &error))?;
     Ok(bytes)
 }
 
-/// The words of a file, eight bytes each, the lowest first.
-pub fn words(path: &OsStr) -> Result<Vec<u64>, Failure> {
-    let bytes = fs::read(path).map_err(|error| fault(path, &error))?;
+/// The next words of a file, eight bytes each, the lowest first: as many as this, or fewer where it ends.
+pub fn words(path: &OsStr, source: &mut dyn Read, count: usize) -> Result<Vec<u64>, Failure> {
+    let mut bytes = Vec::new();
+    source.take(8 * count as u64).read_to_end(&mut bytes).map_err(|error| fault(path, &error))?;
     let (words, rest) = bytes.as_chunks();
     if !rest.is_empty() {
-        let text = format!("{}: {} bytes are no whole number of 64-bit words", path.display(), bytes.len());
+        let text = format!("{}: its bytes are no whole number of 64-bit words", path.display());
         return Err(Failure::Other(text));
     }
     Ok(words.iter().map(|word| u64::from_le_bytes(*word)).collect())
+}
+
+/// Leave out the next words of a file.
+pub fn skip_words(path: &OsStr, source: &mut dyn Read, count: u64) -> Result<(), Failure> {
+    let bytes = count.saturating_mul(8);
+    io::copy(&mut source.take(bytes), &mut io::sink()).map_err(|error| fault(path, &error)).map(drop)
 }
 
 /// Write words to a file, eight bytes each, the lowest first.

@@ -2,7 +2,11 @@
 
 mod arguments;
 mod commands;
+mod completions;
 mod files;
+mod hints;
+mod manual;
+mod numbers;
 mod words;
 
 use arguments::{Arguments, Command};
@@ -23,20 +27,24 @@ enum Failure {
 }
 
 impl Failure {
-    /// The refusal of a job, with the text of its line.
-    fn refused(refusal: &Refusal, job: &[u8]) -> Self {
+    /// The refusal of a job, with the text of its line and what to do about it: what the command knows of that, or what the line shows.
+    fn refused(refusal: &Refusal, job: &[u8], remedy: Option<String>) -> Self {
         let line = refusal.line_of(job).map(|line| format!(": {}", shortened(line))).unwrap_or_default();
         let need = match (refusal.number, refusal.figure) {
             (Number::ROOM, 1..) => format!("; the text needs {} bytes", refusal.figure),
             _ => String::new(),
         };
-        Self::Refused(format!("{refusal}{line}{need}"))
+        let remedy = remedy.or_else(|| hints::hint(refusal, job)).map(|text| format!("\nhint: {text}"));
+        Self::Refused(format!("{refusal}{line}{need}{}", remedy.unwrap_or_default()))
     }
 }
 
 impl From<io::Error> for Failure {
     fn from(error: io::Error) -> Self {
-        if error.kind() == io::ErrorKind::BrokenPipe { Self::Unread } else { Self::Other(error.to_string()) }
+        match error.kind() {
+            io::ErrorKind::BrokenPipe => Self::Unread,
+            _ => Self::Other(format!("standard output: {error}")),
+        }
     }
 }
 
@@ -84,24 +92,35 @@ fn print(text: impl AsRef<[u8]>) -> Result<(), Failure> {
     Ok(out.flush()?)
 }
 
+/// What the program is.
+const SUMMARY: &str = "Kundatrezo: a Pauli-frame noise engine. Calls on jobs that lie in files.";
+
+/// What all commands have in common, in paragraphs.
+const COMMON: [&str; 2] = [
+    "\
+JOB is a file, or - for standard input; docs/JOBS.md has the language of jobs. A file of words holds 64-bit
+words, eight bytes each, the lowest byte first. What follows -- is no option.",
+    "\
+Exit status: 0, the work is done; 1, the call refused, and standard error says by which number, at which
+line, and what may help (docs/REFUSALS.md has more); 2, the arguments are at fault, or a file or standard
+output can't be read or written. Unless the status is 0 no file is written, but for those that were
+written before one could not be.",
+];
+
 /// The help of the whole program.
 fn whole_help() -> String {
     let row = |command: &Command| format!("    {:<12} {}\n", command.name, command.summary);
     let commands: String = COMMANDS.iter().map(row).collect();
     format!(
-        "Kundatrezo: a Pauli-frame noise engine. Calls on jobs that lie in files.
+        "{SUMMARY}
 
 usage: kundatrezo COMMAND JOB [OPTION VALUE]..
        kundatrezo COMMAND --help
 
 {commands}
-JOB is a file, or - for standard input. A file of words holds 64-bit words, eight bytes each, the lowest
-byte first.
-
-Exit status: 0, the work is done; 1, the call refused, and standard error says by which number and at
-which line; 2, the arguments or a file are at fault. Unless the status is 0 no file is written, but for
-those that were written before one could not be.
-"
+{}
+",
+        COMMON.join("\n\n")
     )
 }
 

@@ -1,135 +1,246 @@
-//! The words that a run or settling draws from: of files, or made from seeds.
+//! The words that a run or settling draws from: read from files as far as they are needed, or made from seeds.
 
-use crate::arguments::{Arguments, Flag};
+use crate::arguments::{Arguments, FILE, Flag};
+use crate::commands::longer;
 use crate::{Failure, files};
-use kundatrezo::{Answer, Draws, Header, Number, Xorshift};
+use kundatrezo::{Answer, Draws, Examination, Number, Refusal, Used, Xorshift};
+use std::ffi::OsString;
+use std::io::Read;
 
-pub const MAIN: Flag =
-    Flag { name: "--main", value: "FILE", text: "words of the main list; without it and --seed, none" };
-pub const SEED: Flag = Flag { name: "--seed", value: "N", text: "make the main list from a seed" };
-pub const SKIP: Flag = Flag { name: "--skip", value: "N", text: "leave out the first N words that --seed makes" };
-pub const SECOND: Flag =
-    Flag { name: "--second", value: "FILE", text: "words of the second list; without it and --second-seed, none" };
-pub const SECOND_SEED: Flag = Flag { name: "--second-seed", value: "N", text: "make the second list from a seed" };
-pub const BASE: Flag = Flag { name: "--base", value: "N", text: "the base of the second list; without it 0" };
-pub const NOISELESS: Flag =
-    Flag { name: "--noiseless", value: "FILE", text: "rows of the noiseless bits of the outcomes; without it, zeros" };
+const MAIN: Flag = Flag {
+    name: "--main",
+    value: FILE,
+    text: "read the words of the main list from this file, or - for standard input",
+};
+const SEED: Flag = Flag { name: "--seed", value: "N", text: "make the words of the main list from a seed, any number" };
+const STATE: Flag = Flag { name: "--state", value: "N", text: "make them from a bare state of the xorshift, not 0" };
+const SKIP: Flag = Flag { name: "--skip", value: "N", text: "leave out the first N words of the main list" };
+const WORDS: Flag = Flag { name: "--words", value: "N", text: "read or make at most N words for the main list" };
+const SECOND: Flag = Flag { name: "--second", value: FILE, text: "read the words of the second list from this file" };
+const SECOND_SEED: Flag =
+    Flag { name: "--second-seed", value: "N", text: "make the words of the second list from a seed" };
+const SECOND_STATE: Flag = Flag { name: "--second-state", value: "N", text: "make them from a bare state" };
+const BASE: Flag = Flag { name: "--base", value: "N", text: "the base of the second list; without it 0" };
+const NOISELESS: Flag =
+    Flag { name: "--noiseless", value: FILE, text: "rows of the noiseless bits of the outcomes; without it, zeros" };
+
+pub const FLAGS: &[Flag] = &[MAIN, SEED, STATE, SKIP, WORDS, SECOND, SECOND_SEED, SECOND_STATE, BASE, NOISELESS];
 
 /// What the help says of the options above.
 pub const DETAILS: &str = "\
 Noise draws words. A shot of a noise line reads one, and a fault another to choose its Pauli (d=2, 3, 4).
 Lines without a corr read the main list on from line to line; a line with corr=c reads the second list
-from place base + c on. A file of words may hold any random bytes, a multiple of eight.
+from place base + c on. Without --main, --seed and --state the main list is empty. A file of words may
+hold any random bytes, a multiple of eight, and is read no further than the job needs, so that it may be
+endless, as /dev/urandom is.
 
-With a seed the words are those of Marsaglia's 64-bit xorshift: a step changes the state by exclusive or
-with itself shifted left 13, then right 7, then left 17, and the new state is the word. The seed, which is
-not zero, is the first state: from 1 the first word is 1082269761. A list is made as long as it is needed,
-up to 268435456 words. Take a large seed, since the streams of small ones begin alike. For the next job of
-a series take the same seed, and skip more words than the jobs before have used: two for each shot of each
-noise line, and a few for words that a choice rejects, which are rare.";
+With a seed the words are those of Marsaglia's 64-bit xorshift (left 13, right 7, left 17) from the state
+that SplitMix64 makes of the seed. Every seed is good, 0 and small ones too. A bare state is the state of
+the xorshift itself: from 1 the first word is 1082269761. The streams of small states begin alike; take
+seeds for a series. A list has at most 268435456 words.";
 
-/// Most words that are made from a seed: no job of main-list noise needs as many, and they are 2 GiB.
+/// What the help of a run says of a series.
+pub const SERIES: &str = "\
+Where a main list is given, the last line is 'words=' with the number of its words that the run has read,
+and 'skip=' with the value of --skip for the next run of a series. 'second=' says from which place on the
+second list, if one is given, was not read: that is a --base for the next run.";
+
+/// Most words of a list: no job of main-list noise needs as many, and they are 2 GiB.
 const MOST: usize = 1 << 28;
 
-/// A list of words: lent as it is, or made from a seed and read on as needed.
+/// Where a list has its words from.
+enum Source {
+    None,
+    Made(Xorshift),
+    File(OsString, Box<dyn Read>),
+}
+
+/// A list of words, as long as it has been needed so far.
 struct List {
     words: Vec<u64>,
-    made: Option<Xorshift>,
+    source: Source,
+    most: usize,
+    /// The option that a user who has no words may give.
+    seed: &'static str,
 }
 
 impl List {
-    /// The list that two options of a command give.
-    fn read(arguments: &Arguments, file: &Flag, seed: &Flag) -> Result<Self, Failure> {
+    /// The list that three options of a command give.
+    fn read(arguments: &Arguments, file: &Flag, seed: &'static Flag, state: &Flag) -> Result<Self, Failure> {
         let path = arguments.value(file.name);
-        let number = arguments.number(seed.name)?;
-        if path.is_some() && number.is_some() {
-            return Err(Failure::Other(format!("{} and {} exclude each other", file.name, seed.name)));
-        }
-        let words = path.map(files::words).transpose()?.unwrap_or_default();
-        let zero = || Failure::Other(format!("the value of {} is to be above zero", seed.name));
-        let made = number.map(|number| Xorshift::new(number).ok_or_else(zero)).transpose()?;
-        Ok(Self { words, made })
+        let by_seed = arguments.number(seed.name)?;
+        let by_state = arguments.number(state.name)?;
+        let source = match (path, by_seed, by_state) {
+            (None, None, None) => Source::None,
+            (Some(path), None, None) => Source::File(path.to_owned(), files::open(path)?),
+            (None, Some(number), None) => Source::Made(Xorshift::new(number)),
+            (None, None, Some(number)) => {
+                let zero = || Failure::Other(format!("the value of {} is to be above zero", state.name));
+                Source::Made(Xorshift::from_state(number).ok_or_else(zero)?)
+            }
+            _ => {
+                let names = [file.name, seed.name, state.name].join(", ");
+                return Err(Failure::Other(format!("of {names} one at most can be given")));
+            }
+        };
+        Ok(Self { words: Vec::new(), source, most: MOST, seed: seed.name })
     }
 
-    /// Make the list as long as this, if it is made at all; whether it has grown.
-    fn grow(&mut self, length: usize) -> bool {
-        let missing = length.min(MOST).saturating_sub(self.words.len());
-        let Some(made) = &mut self.made else {
-            return false;
-        };
-        self.words.extend(made.take(missing));
-        missing > 0
+    fn is_given(&self) -> bool {
+        !matches!(self.source, Source::None) || !self.words.is_empty()
+    }
+
+    /// Leave out the first words.
+    fn skip(&mut self, words: u64) -> Result<(), Failure> {
+        match &mut self.source {
+            Source::Made(made) => made.advance(words),
+            Source::File(path, file) => files::skip_words(path, file, words)?,
+            Source::None => {
+                let text = format!("{} wants {}, {} or {}", SKIP.name, MAIN.name, SEED.name, STATE.name);
+                return Err(Failure::Other(text));
+            }
+        }
+        Ok(())
+    }
+
+    /// Make the list as long as this, or as long as it can be; whether it has grown.
+    fn grow(&mut self, length: usize) -> Result<bool, Failure> {
+        let missing = length.min(self.most).saturating_sub(self.words.len());
+        let before = self.words.len();
+        match &mut self.source {
+            Source::None => {}
+            Source::Made(made) => self.words.extend(made.take(missing)),
+            Source::File(path, file) => self.words.extend(files::words(path, file, missing)?),
+        }
+        Ok(self.words.len() > before)
+    }
+
+    /// What to do where the list is too short.
+    fn remedy(&self, name: &str) -> String {
+        let (words, seed) = (self.words.len(), self.seed);
+        match &self.source {
+            Source::None => format!("there is no {name} list: {seed} N makes as many words as are needed"),
+            _ if words == self.most && words < MOST => format!("{} allows no more than {words} words", WORDS.name),
+            Source::File(..) => {
+                format!("the {name} list has {words} words and this line needs more: lend a longer one, or {seed} N")
+            }
+            Source::Made(_) => {
+                format!("a list has at most {MOST} words, and place base + corr of this line lies past it")
+            }
+        }
     }
 }
 
 /// What a run or settling is lent to draw from.
-pub struct Lent {
+pub struct Lent<'a> {
+    job: &'a [u8],
+    examined: Examination,
     pub noiseless: Vec<u64>,
     main: List,
     second: List,
     base: u64,
+    skipped: u64,
 }
 
-impl Lent {
-    /// What a command's options lend for a job.
-    pub fn read(arguments: &Arguments, job: &[u8]) -> Result<Self, Failure> {
-        let header = Header::parse(job).unwrap_or_default();
+impl<'a> Lent<'a> {
+    /// What a command's options lend for an accepted job.
+    pub fn read(arguments: &Arguments, job: &'a [u8], examined: Examination) -> Result<Self, Failure> {
+        let files = [MAIN, SECOND, NOISELESS].map(|flag| arguments.value(flag.name));
+        let inputs = files.into_iter().flatten().chain([arguments.operand()]).filter(|path| *path == "-").count();
+        if inputs > 1 {
+            return Err(Failure::Other("standard input can be read for one thing only".into()));
+        }
+        let need = examined.outcome_words();
         let noiseless = match arguments.value(NOISELESS.name) {
-            Some(path) => files::words(path)?,
-            None => vec![0; header.outcome_words()],
+            Some(path) => files::words(path, &mut files::open(path)?, need)?,
+            None => vec![0; need],
         };
-        let mut main = List::read(arguments, &MAIN, &SEED)?;
-        let second = List::read(arguments, &SECOND, &SECOND_SEED)?;
-        if main.made.is_some() && main.made == second.made {
-            return Err(Failure::Other(format!("{} and {} are to differ", SEED.name, SECOND_SEED.name)));
+        let mut main = List::read(arguments, &MAIN, &SEED, &STATE)?;
+        let second = List::read(arguments, &SECOND, &SECOND_SEED, &SECOND_STATE)?;
+        if let (Source::Made(main), Source::Made(second)) = (&main.source, &second.source)
+            && main == second
+        {
+            return Err(Failure::Other("the words of the two lists are to differ: give another seed".into()));
         }
-        let skip = arguments.number(SKIP.name)?;
-        match (&mut main.made, skip) {
-            (Some(words), Some(skip)) => words.advance(skip),
-            (None, Some(_)) => return Err(Failure::Other(format!("{} wants {}", SKIP.name, SEED.name))),
-            (_, None) => {}
+        if let Some(words) = arguments.number(WORDS.name)? {
+            main.most = usize::try_from(words).unwrap_or(MOST).min(MOST);
         }
-        Ok(Self { noiseless, main, second, base: arguments.number(BASE.name)?.unwrap_or(0) })
+        let skipped = arguments.number(SKIP.name)?;
+        skipped.map(|words| main.skip(words)).transpose()?;
+        let base = arguments.number(BASE.name)?.unwrap_or(0);
+        Ok(Self { job, examined, noiseless, main, second, base, skipped: skipped.unwrap_or(0) })
     }
 
-    /// Make a call. Where it needs more words than have been made so far, more are made and it is called again: the words before them are the same,
-    /// so the answer is that of a list which was long enough from the start.
-    pub fn call<T>(&mut self, job: &[u8], mut call: impl FnMut(&[u64], Draws<'_>) -> Answer<T>) -> Result<T, Failure> {
+    fn draws(&self) -> Draws<'_> {
+        Draws::new(&self.main.words).with_second(&self.second.words, self.base)
+    }
+
+    /// Make a call. Where it needs more words than the lists have so far, more are read or made and it is called again: the words before them are
+    /// the same, so the answer is that of a list which was long enough from the start.
+    pub fn call<T>(&mut self, mut call: impl FnMut(&[u64], Draws<'_>) -> Answer<T>) -> Result<T, Failure> {
         loop {
-            let draws = Draws { main: &self.main.words, second: &self.second.words, base: self.base };
-            let refusal = match call(&self.noiseless, draws) {
+            let refusal = match call(&self.noiseless, self.draws()) {
                 Ok(done) => return Ok(done),
                 Err(refusal) => refusal,
             };
-            let line = refusal.line_of(job).unwrap_or_default();
-            if refusal.number != Number::DRAWS || !self.make_more(job, line) {
-                return Err(Failure::refused(&refusal, job));
+            if refusal.number != Number::DRAWS || !self.make_more(&refusal)? {
+                return Err(Failure::refused(&refusal, self.job, self.remedy(&refusal)));
             }
         }
     }
 
-    /// More words for the list that this noise line reads; whether there are any.
-    fn make_more(&mut self, job: &[u8], line: &[u8]) -> bool {
+    /// More words for the list that the refused noise line reads; whether there are any.
+    fn make_more(&mut self, refusal: &Refusal) -> Result<bool, Failure> {
         // Two words for each shot of a line, seldom more where words are rejected.
-        let for_line = 2 * Header::parse(job).unwrap_or_default().shots;
-        match correlation(line) {
+        let for_line = 2 * self.examined.shots;
+        match self.correlation(refusal) {
             None => {
-                let lines = job.split(|byte| *byte == b'\n').filter(|line| line.starts_with(b"op=n ")).count();
+                let lines = self.job.split(|byte| *byte == b'\n').filter(|line| line.starts_with(b"op=n ")).count();
                 self.main.grow((lines * for_line).max(2 * self.main.words.len()))
             }
             Some(correlation) => {
                 let place = self.base.wrapping_add(correlation);
-                let reached = usize::try_from(place).ok().filter(|place| *place < MOST);
-                let length = self.second.words.len();
-                reached.is_some_and(|place| self.second.grow((place + for_line).max(2 * length)))
+                let Some(place) = usize::try_from(place).ok().filter(|place| *place < MOST) else {
+                    return Ok(false);
+                };
+                self.second.grow((place + for_line).max(2 * self.second.words.len()))
             }
         }
     }
-}
 
-/// The correlation of a noise line that has passed the checks.
-fn correlation(line: &[u8]) -> Option<u64> {
-    let text = std::str::from_utf8(line).ok()?;
-    let field = text.split(' ').find_map(|field| field.strip_prefix("corr="))?;
-    field.parse().ok()
+    /// The correlation of the refused noise line, which has passed the checks.
+    fn correlation(&self, refusal: &Refusal) -> Option<u64> {
+        let line = std::str::from_utf8(refusal.line_of(self.job)?).ok()?;
+        line.split(' ').find_map(|field| field.strip_prefix("corr="))?.parse().ok()
+    }
+
+    /// What to do about a refusal by 13, 14 or 15.
+    fn remedy(&self, refusal: &Refusal) -> Option<String> {
+        match refusal.number {
+            Number::WORDS => Some(format!(
+                "{} has {} words, and needs {}: ceil(shots / 64) for each outcome of the header",
+                NOISELESS.name,
+                self.noiseless.len(),
+                self.examined.outcome_words()
+            )),
+            Number::DRAWS if self.correlation(refusal).is_none() => Some(self.main.remedy("main")),
+            Number::DRAWS => Some(self.second.remedy("second")),
+            _ => longer(refusal),
+        }
+    }
+
+    /// The line that says how many words a run has read, if lists were given.
+    pub fn report(&self) -> Result<String, Failure> {
+        let given = [self.main.is_given(), self.second.is_given()];
+        if given == [false; 2] {
+            return Ok(String::new());
+        }
+        let used = self.draws().used(self.job, &self.noiseless);
+        let Used { main, second, .. } = used.map_err(|refusal| Failure::refused(&refusal, self.job, None))?;
+        let skip = self.skipped.saturating_add(main as u64);
+        let parts = [format!("words={main} skip={skip}"), format!("second={second}")];
+        let said: Vec<String> =
+            parts.into_iter().zip(given).filter(|(_, given)| *given).map(|(part, _)| part).collect();
+        Ok(format!("{}\n", said.join(" ")))
+    }
 }

@@ -34,11 +34,11 @@ print-session-requires c κs = search needs
 array-share-prefix-session : tie.Need-array-share-prefix-session
 array-share-prefix-session c = omega (arith, printed-next _ (c .before .print-session .ensures), c .before .print-session .kept .1 .0, c .before .before .before .before .before .before .before .session-buffer .ensures)
 
-slice-aggregate-write-all : tie.Need-slice-aggregate-write-all
-slice-aggregate-write-all c = sym (length-take-le _ _ (omega (arith, printed-next _ (c .before .before .print-session .ensures), c .before .before .print-session .kept .1 .0, c .before .before .before .before .before .before .before .before .session-buffer .ensures)))
+slice-aggregate-write-session : tie.Need-slice-aggregate-write-session
+slice-aggregate-write-session c = sym (length-take-le _ _ (omega (arith, printed-next _ (c .before .before .print-session .ensures), c .before .before .print-session .kept .1 .0, c .before .before .before .before .before .before .before .before .session-buffer .ensures)))
 
-write-all-requires : tie.Need-write-all-requires
-write-all-requires c κs = search needs
+write-session-requires : tie.Need-write-session-requires
+write-session-requires c κs = search needs
 
 returns : tie.Need-returns
 returns c = search needs
@@ -56,6 +56,6 @@ main-spec =
     slice-aggregate-print-session-2
     print-session-requires
     array-share-prefix-session
-    slice-aggregate-write-all
-    write-all-requires
+    slice-aggregate-write-session
+    write-session-requires
     returns)

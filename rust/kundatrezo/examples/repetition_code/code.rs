@@ -1,98 +1,103 @@
-//! The repetition code: d qubits, each flipped with probability p and measured; the majority decides.
+//! The repetition code's memory experiment: data qubits, whose neighbours' parities are measured by ancillas in each round, and which are measured at
+//! the end, under depolarizing noise of probability p.
 
-use kundatrezo::{Draws, Frames, MAX_SHOTS, Refusal, Xorshift};
 use std::fmt::Write;
 
-/// A sampled logical error rate.
-#[derive(Debug, Clone)]
-pub struct Point {
+/// Which faults the code corrects. The two codes are the same circuit in the bases of Z and X, and depolarizing noise treats both alike, so that they
+/// have the same rates, by the two halves of the gate's rule.
+#[derive(Debug, Clone, Copy, PartialEq, Eq)]
+pub enum Basis {
+    /// Flips of bits: data qubits control, and carry X to the ancillas.
+    Bit,
+    /// Flips of phases: ancillas control, and take Z from the data qubits.
+    Phase,
+}
+
+/// A step of the circuit, in the words of the bits that the basis measures.
+#[derive(Debug, Clone, PartialEq, Eq)]
+pub enum Step {
+    /// Depolarizing noise over qubits.
+    Noise(Vec<usize>),
+    /// A data qubit's bit is added to an ancilla's, by ControlledX.
+    Copy {
+        data: usize,
+        ancilla: usize,
+    },
+    Measure(usize),
+    Reset(usize),
+}
+
+/// A code of some distance, and how often its parities are measured.
+#[derive(Debug, Clone, Copy, PartialEq, Eq)]
+pub struct Code {
     pub distance: usize,
-    pub p: f64,
-    pub shots: u64,
-    /// Shots in which the majority is wrong.
-    pub failures: u64,
+    pub rounds: usize,
 }
 
-#[allow(clippy::cast_precision_loss)]
-impl Point {
-    pub fn rate(&self) -> f64 {
-        self.failures as f64 / self.shots as f64
+impl Code {
+    pub fn qubits(self) -> usize {
+        2 * self.distance - 1
     }
 
-    pub fn closed_form(&self) -> f64 {
-        closed_form(self.distance, self.p)
+    /// The parities of all rounds, then the data qubits.
+    pub fn outcomes(self) -> usize {
+        self.rounds * (self.distance - 1) + self.distance
     }
 
-    /// Failures that the closed form expects.
-    pub fn expected(&self) -> f64 {
-        self.shots as f64 * self.closed_form()
+    /// The outcomes that a flip of all data qubits changes, which no parity shows: the logical operator.
+    pub fn logical(self) -> usize {
+        let parities = self.rounds * (self.distance - 1);
+        ((1 << self.distance) - 1) << parities
     }
 
-    /// Failures beyond the expected, in standard deviations.
-    pub fn deviation(&self) -> f64 {
-        (self.failures as f64 - self.expected()) / (self.expected() * (1.0 - self.closed_form())).sqrt()
-    }
-}
-
-/// The probability that more than half of d qubits flip: the sum of C(d, k) p^k (1 - p)^(d - k) over k > d / 2.
-pub fn closed_form(distance: usize, p: f64) -> f64 {
-    let mut choices = 1.0;
-    let mut sum = 0.0;
-    for (k, left) in (0..=distance).zip((0..=distance).rev()) {
-        if k > distance / 2 {
-            sum += choices * p.powi(power(k)) * (1.0 - p).powi(power(left));
-        }
-        choices *= f64::from(power(left)) / f64::from(power(k + 1));
-    }
-    sum
-}
-
-fn power(number: usize) -> i32 {
-    i32::try_from(number).expect("a small number")
-}
-
-/// The job: X with probability p on each qubit, then a measurement of Z.
-pub fn job(distance: usize, p: f64) -> String {
-    let mut job = format!("op=job qubits={distance} outcomes={distance} shots={MAX_SHOTS}\n");
-    for qubit in 0..distance {
-        writeln!(job, "op=n p={:016x} corr=- cond=- parity=0 d=1 x={qubit} z=-", p.to_bits()).expect("a string");
-        writeln!(job, "op=o x=- z={qubit} id={qubit}").expect("a string");
-    }
-    job
-}
-
-/// Run as many jobs as said, each on the next words, and count the shots that the majority decides wrongly.
-pub fn sample(distance: usize, p: f64, jobs: usize, words: &mut Xorshift) -> Result<Point, Refusal> {
-    let job = job(distance, p);
-    let mut frames = Frames::new();
-    // a word for each shot of each noise line
-    let mut main = vec![0; distance * MAX_SHOTS];
-    let noiseless = vec![0; distance * MAX_SHOTS / 64];
-    let mut failures = 0;
-    for _ in 0..jobs {
-        words.fill(&mut main);
-        frames.run(job.as_bytes(), &noiseless, Draws { main: &main, ..Draws::default() })?;
-        failures += wrong_majorities(&frames);
-    }
-    Ok(Point { distance, p, shots: (jobs * MAX_SHOTS) as u64, failures })
-}
-
-/// The shots in which more than half of the outcomes are flipped, 64 shots at a time.
-fn wrong_majorities(frames: &Frames) -> u64 {
-    let header = frames.header();
-    let majority = header.outcomes / 2 + 1;
-    let wrong = |word: usize| {
-        // bit s of at_least[k]: at least k of the outcomes so far are flipped in shot s
-        let mut at_least = vec![0; majority + 1];
-        at_least[0] = u64::MAX;
-        for id in 0..header.outcomes {
-            for k in (1..=majority).rev() {
-                at_least[k] |= at_least[k - 1] & frames.delta_row(id)[word];
+    /// Noise on each data qubit as a round begins, over the qubits of each gate after it, and on each qubit before it is measured.
+    pub fn steps(self) -> Vec<Step> {
+        let data = 0..self.distance;
+        let ancilla = |place: usize| self.distance + place;
+        let mut steps = Vec::new();
+        for _ in 0..self.rounds {
+            steps.extend(data.clone().map(|qubit| Step::Noise(vec![qubit])));
+            for place in 0..self.distance - 1 {
+                for data in [place, place + 1] {
+                    let ancilla = ancilla(place);
+                    steps.extend([Step::Copy { data, ancilla }, Step::Noise(vec![data, ancilla])]);
+                }
+            }
+            for qubit in (0..self.distance - 1).map(ancilla) {
+                steps.extend([Step::Noise(vec![qubit]), Step::Measure(qubit), Step::Reset(qubit)]);
             }
         }
-        u64::from(at_least[majority].count_ones())
-    };
-    (0..header.words_per_row()).map(wrong).sum()
+        steps.extend(data.flat_map(|qubit| [Step::Noise(vec![qubit]), Step::Measure(qubit)]));
+        steps
+    }
+
+    /// The job of these steps.
+    pub fn job(self, basis: Basis, p: f64, shots: usize) -> String {
+        let mut job = format!("op=job qubits={} outcomes={} shots={shots}\n", self.qubits(), self.outcomes());
+        let mut id = 0;
+        for step in self.steps() {
+            match (step, basis) {
+                (Step::Noise(qubits), _) => {
+                    let (bits, qubits) = (p.to_bits(), qubits.iter().map(usize::to_string).collect::<Vec<_>>());
+                    writeln!(job, "op=n p={bits:016x} corr=- cond=- parity=0 d=2 q={}", qubits.join(","))
+                }
+                (Step::Copy { data, ancilla }, Basis::Bit) => writeln!(job, "op=u g=11 q={data},{ancilla}"),
+                (Step::Copy { data, ancilla }, Basis::Phase) => writeln!(job, "op=u g=11 q={ancilla},{data}"),
+                (Step::Measure(qubit), _) => {
+                    id += 1;
+                    let (x, z) = if basis == Basis::Bit {
+                        ("-".into(), qubit.to_string())
+                    } else {
+                        (qubit.to_string(), "-".into())
+                    };
+                    writeln!(job, "op=o x={x} z={z} id={}", id - 1)
+                }
+                (Step::Reset(qubit), _) => writeln!(job, "op=z q={qubit}"),
+            }
+            .expect("a string takes all");
+        }
+        job
+    }
 }
 
 #[cfg(test)]
@@ -100,28 +105,24 @@ mod tests {
     use super::*;
 
     #[test]
-    fn the_closed_form_counts_all_patterns() {
-        for distance in [1, 3, 5, 7] {
-            let p: f64 = 0.3;
-            let weights = (0_u32..1 << distance).map(u32::count_ones);
-            let wrong = weights.filter(|ones| *ones as usize > distance / 2);
-            let sum: f64 = wrong.map(|ones| p.powi(ones as i32) * (1.0 - p).powi(distance as i32 - ones as i32)).sum();
-            assert!((closed_form(distance, p) - sum).abs() < 1e-15);
+    fn the_job_of_distance_2() {
+        let code = Code { distance: 2, rounds: 1 };
+        let noise = |qubits: &str| format!("op=n p=3fe0000000000000 corr=- cond=- parity=0 d=2 q={qubits}\n");
+        let [n0, n1, n2, n02, n12] = ["0", "1", "2", "0,2", "1,2"].map(noise);
+        let job = format!(
+            "op=job qubits=3 outcomes=3 shots=7\n{n0}{n1}op=u g=11 q=0,2\n{n02}op=u g=11 q=1,2\n{n12}{n2}op=o x=- z=2 id=0\nop=z q=2\n\
+             {n0}op=o x=- z=0 id=1\n{n1}op=o x=- z=1 id=2\n"
+        );
+        assert_eq!(code.job(Basis::Bit, 0.5, 7), job);
+        assert_eq!(code.logical(), 0b110);
+        let phase = job.replace("q=0,2\nop=n", "q=2,0\nop=n");
+        assert_ne!(code.job(Basis::Phase, 0.5, 7), phase);
+        assert!(
+            code.job(Basis::Phase, 0.5, 7).contains("op=u g=11 q=2,0\n")
+                && code.job(Basis::Phase, 0.5, 7).contains("op=o x=2 z=- id=0\n")
+        );
+        for basis in [Basis::Bit, Basis::Phase] {
+            assert_eq!(kundatrezo::check(code.job(basis, 0.5, 7).as_bytes()), Ok(()));
         }
-        assert!((closed_form(7, 0.5) - 0.5).abs() < 1e-15);
-    }
-
-    /// The count of a job is what its words say: a qubit flips where floor(w / 2048) / 2^53 is below p.
-    #[test]
-    fn failures_are_those_of_the_words() {
-        let (distance, p) = (5, 0.2);
-        let mut words = Xorshift::new(7_777_777_777_777).expect("not zero");
-        let mut drawn = vec![0; distance * MAX_SHOTS];
-        words.clone().fill(&mut drawn);
-        let flips = |word: u64| ((word / 2048) as f64 / (1_u64 << 53) as f64) < p;
-        let ones = |shot: usize| (0..distance).filter(|qubit| flips(drawn[qubit * MAX_SHOTS + shot])).count();
-        let wrong = (0..MAX_SHOTS).filter(|shot| ones(*shot) > distance / 2).count();
-        let point = sample(distance, p, 1, &mut words).expect("the job runs");
-        assert_eq!((point.shots, point.failures), (MAX_SHOTS as u64, wrong as u64));
     }
 }

@@ -1,6 +1,7 @@
-//! The plot of sampled rates beside their closed form, as SVG.
+//! The plot of sampled rates beside exact ones, as SVG.
 
-use crate::code::{Point, closed_form};
+use crate::code::Basis;
+use crate::sample::Point;
 use crate::statistics::wilson;
 use std::fmt::Write;
 
@@ -12,8 +13,8 @@ const TOP: f64 = 64.0;
 const BOTTOM: f64 = 496.0;
 
 /// The probabilities at the ends of the axis, and its ticks.
-const ENDS: (f64, f64) = (0.025, 0.6);
-const TICKS: [f64; 8] = [0.03, 0.05, 0.07, 0.1, 0.2, 0.3, 0.4, 0.5];
+const ENDS: (f64, f64) = (0.008, 0.2);
+const TICKS: [f64; 7] = [0.01, 0.02, 0.03, 0.05, 0.07, 0.1, 0.2];
 
 const INK: &str = "#222222";
 const GRID: &str = "#dddddd";
@@ -30,17 +31,25 @@ enum Marker {
     Triangle,
 }
 
-/// The plot of these points, both axes logarithmic.
+/// The plot of these points, both axes logarithmic: those of the bit-flip code filled, those of the phase-flip code open.
 pub fn svg(points: &[Point]) -> String {
-    let least = points.iter().map(Point::closed_form).fold(1.0, f64::min);
+    let least = points.iter().map(|point| point.exact).fold(1.0, f64::min);
     let mut plot = Plot { text: String::new(), decades: -least.log10().floor() };
     plot.axes();
-    plot.curve(|p| p, NO_CODE, "5 4");
-    let mut distances: Vec<usize> = points.iter().map(|point| point.distance).collect();
+    plot.curve(&[(ENDS.0, ENDS.0), (ENDS.1, ENDS.1)], NO_CODE, "5 4");
+    let mut distances: Vec<usize> = points.iter().map(|point| point.code.distance).collect();
+    distances.sort_unstable();
     distances.dedup();
     for (distance, (colour, marker)) in distances.iter().zip(STYLES) {
-        plot.curve(|p| closed_form(*distance, p), colour, "none");
-        for point in points.iter().filter(|point| point.distance == *distance) {
+        let own = |point: &&Point| point.code.distance == *distance;
+        let exact: Vec<(f64, f64)> = points
+            .iter()
+            .filter(own)
+            .filter(|point| point.basis == Basis::Bit)
+            .map(|point| (point.p, point.exact))
+            .collect();
+        plot.curve(&exact, colour, "none");
+        for point in points.iter().filter(own) {
             plot.point(point, colour, marker);
         }
     }
@@ -117,28 +126,25 @@ impl Plot {
     fn titles(&mut self, shots: u64) {
         let middle = f64::midpoint(LEFT, RIGHT);
         self.put(&format!(
-            "<text x=\"{LEFT}\" y=\"26\" font-size=\"16\" font-weight=\"bold\">Logical error rate of a repetition code, decided by the majority</text>"
+            "<text x=\"{LEFT}\" y=\"26\" font-size=\"16\" font-weight=\"bold\">Repetition code, two rounds of parity measurements by ancillas</text>"
         ));
         let subtitle = format!(
-            "points: sampled, {} shots each, with 95 % intervals (Wilson); curves: closed form",
+            "points: {} shots each, 95 % intervals (Wilson); filled: bit flips, open: phase flips; lines: exact",
             thousands(shots)
         );
         self.label((LEFT, 46.0), "start", &subtitle);
-        self.label((middle, BOTTOM + 46.0), "middle", "probability p of a flip, for each qubit");
+        self.label((middle, BOTTOM + 46.0), "middle", "probability p of a depolarizing fault, at each place");
         let height = f64::midpoint(TOP, BOTTOM);
         self.put(&format!(
-            "<text transform=\"translate(26 {height}) rotate(-90)\" text-anchor=\"middle\">logical error rate</text>"
+            "<text transform=\"translate(26 {height}) rotate(-90)\" text-anchor=\"middle\">logical error rate per shot</text>"
         ));
     }
 
-    /// A curve over all probabilities of the axis, where it is within the plot.
-    fn curve(&mut self, rate: impl Fn(f64) -> f64, colour: &str, dashes: &str) {
-        let steps = 160;
-        let place = |step: i32| ENDS.0 * (ENDS.1 / ENDS.0).powf(f64::from(step) / f64::from(steps));
-        let shown = (0..=steps).map(place).filter(|p| rate(*p) >= 10_f64.powf(-self.decades));
+    /// A line through exact rates, each at its probability.
+    fn curve(&mut self, rates: &[(f64, f64)], colour: &str, dashes: &str) {
         let mut points = String::new();
-        for p in shown {
-            write!(points, "{:.1},{:.1} ", self.x(p), self.y(rate(p))).expect("a string takes all");
+        for (p, rate) in rates {
+            write!(points, "{:.1},{:.1} ", self.x(*p), self.y(*rate)).expect("a string takes all");
         }
         self.put(&format!(
             "<polyline points=\"{}\" fill=\"none\" stroke=\"{colour}\" stroke-width=\"1.5\" stroke-dasharray=\"{dashes}\"/>",
@@ -156,11 +162,12 @@ impl Plot {
         self.line((x - 4.0, bottom), (x + 4.0, bottom), colour, "none");
         if point.failures > 0 {
             let y = self.y(point.rate());
-            self.marker((x, y), colour, marker);
+            let fill = if point.basis == Basis::Bit { colour } else { "#ffffff" };
+            self.marker((x, y), colour, fill, marker);
         }
     }
 
-    fn marker(&mut self, (x, y): (f64, f64), colour: &str, marker: Marker) {
+    fn marker(&mut self, (x, y): (f64, f64), colour: &str, fill: &str, marker: Marker) {
         let shape = match marker {
             Marker::Circle => format!("<circle cx=\"{x:.1}\" cy=\"{y:.1}\" r=\"4\""),
             Marker::Square => format!("<rect x=\"{:.1}\" y=\"{:.1}\" width=\"7\" height=\"7\"", x - 3.5, y - 3.5),
@@ -169,7 +176,7 @@ impl Plot {
                 format!("<polygon points=\"{left:.1},{low:.1} {right:.1},{low:.1} {x:.1},{:.1}\"", y - 4.5)
             }
         };
-        self.put(&format!("{shape} fill=\"#ffffff\" stroke=\"{colour}\" stroke-width=\"1.5\"/>"));
+        self.put(&format!("{shape} fill=\"{fill}\" stroke=\"{colour}\" stroke-width=\"1.5\"/>"));
     }
 
     /// Below the curves, on the right.
@@ -184,12 +191,13 @@ impl Plot {
         y += 17.0;
         for (distance, (colour, marker)) in distances.iter().zip(STYLES) {
             self.line((left + 12.0, y), (left + 52.0, y), colour, "none");
-            self.marker((left + 32.0, y), colour, marker);
+            self.marker((left + 24.0, y), colour, colour, marker);
+            self.marker((left + 40.0, y), colour, "#ffffff", marker);
             self.label((left + 62.0, y + 4.5), "start", &format!("distance {distance}"));
             y += row;
         }
         self.line((left + 12.0, y), (left + 52.0, y), NO_CODE, "5 4");
-        self.label((left + 62.0, y + 4.5), "start", "one qubit, no code");
+        self.label((left + 62.0, y + 4.5), "start", "rate = p");
     }
 }
 
@@ -226,17 +234,21 @@ mod tests {
         assert_eq!([-1.0, -2.0, -3.0, -4.0, -10.0].map(superscript).join(" "), "⁻¹ ⁻² ⁻³ ⁻⁴ ⁻¹⁰");
     }
 
-    /// Each point lies on its curve's height, within the frame, and every element is closed.
+    /// Each point lies at its height, within the frame, and every element is closed.
     #[test]
     fn a_plot_has_its_points() {
-        let point = |distance, p, failures| Point { distance, p, shots: 1000, failures };
-        let text = svg(&[point(3, 0.1, 28), point(3, 0.2, 104), point(5, 0.1, 0)]);
-        assert_eq!(text.matches("<circle").count(), 3, "two points and the legend's");
+        let point = |distance, p, failures| {
+            let code = crate::code::Code { distance, rounds: 2 };
+            Point { code, basis: Basis::Bit, p, shots: 1000, failures, exact: 0.0015 }
+        };
+        let text = svg(&[point(3, 0.05, 28), point(3, 0.1, 104), point(5, 0.1, 0)]);
+        assert_eq!(text.matches("<circle").count(), 4, "two points and the legend's");
         // 28 failures of 1,000, on an axis of three decades
         let y = TOP + (BOTTOM - TOP) * -0.028_f64.log10() / 3.0;
         assert!(text.contains(&format!("cy=\"{y:.1}\" r=\"4\"")), "{text}");
         // the interval of no failures ends at the axis
         assert!(text.contains(&format!("y1=\"{BOTTOM:.1}\"")));
+        assert!(text.contains(">logical error rate per shot<"));
         for line in text.lines() {
             let closed = line.ends_with("/>") || line.ends_with("</text>") || line.ends_with("</svg>");
             assert!(closed || line.starts_with("<svg "), "{line}");

@@ -1,6 +1,6 @@
 //! Intervals and the chi-square test.
 
-use crate::code::Point;
+use crate::sample::Point;
 use std::fmt;
 
 /// Wilson's interval for a rate, at 95 %.
@@ -15,7 +15,7 @@ pub fn wilson(failures: u64, shots: u64) -> (f64, f64) {
     (((middle - half) / whole).max(0.0), (middle + half) / whole)
 }
 
-/// How well sampled points agree with the closed form.
+/// How well sampled points agree with the exact rates.
 #[derive(Debug)]
 pub struct ChiSquare {
     pub sum: f64,
@@ -31,7 +31,7 @@ impl ChiSquare {
         squares.fold(Self { sum: 0.0, points: 0 }, |all, square| Self { sum: all.sum + square, points: all.points + 1 })
     }
 
-    /// The probability of such a sum or a larger one, if the closed form holds.
+    /// The probability of such a sum or a larger one, if the exact rates hold.
     #[allow(clippy::cast_precision_loss)]
     pub fn probability(&self) -> f64 {
         upper_gamma(self.points as f64 / 2.0, self.sum / 2.0)

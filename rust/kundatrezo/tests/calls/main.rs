@@ -2,4 +2,5 @@
 
 mod names;
 mod refusals;
+mod seeds;
 mod starred;

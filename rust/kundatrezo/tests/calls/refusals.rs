@@ -1,7 +1,7 @@
 //! Every refusal number, what a refusal leaves in lent memory, and that each parameter of a call arrives where it belongs.
 
 use kundatrezo::{
-    Answer, Draws, Frames, Header, MAX_BYTES, Number, Rows, annotate, annotated, check, correlation, locations, run,
+    Answer, Draws, Frames, MAX_BYTES, Number, Rows, annotate, annotated, check, correlation, examine, locations, run,
     settle, settled, walk,
 };
 
@@ -41,8 +41,9 @@ fn numbers_of_the_checks() {
     for (job, expected) in &cases {
         // every call makes these tests, and makes them first
         let short = Draws::default();
-        let rows = Rows { x: &mut [], z: &mut [], deltas: &mut [] };
+        let rows = Rows::new(&mut [], &mut [], &mut []);
         assert_eq!(refused(check(job)), *expected);
+        assert_eq!(refused(examine(job)), *expected);
         assert_eq!(refused(run(job, rows, &[], short)), *expected);
         assert_eq!(refused(settle(job, &[], short, &mut [])), *expected);
         assert_eq!(refused(walk(job, u64::MAX, &[1, 1])), *expected);
@@ -63,7 +64,7 @@ fn numbers_of_the_calls() {
     assert_eq!(refused(Frames::of_run(&noisy, &[0], none)), (14, 3));
     assert_eq!(refused(settled(&noisy, &[], none)), (13, 0));
     assert_eq!(refused(settled(&noisy, &[0], none)), (14, 3));
-    assert_eq!(refused(settle(&noisy, &[0], Draws { main: &[0], ..none }, &mut [0; 60])), (15, 0));
+    assert_eq!(refused(settle(&noisy, &[0], Draws::new(&[0]), &mut [0; 60])), (15, 0));
     assert_eq!(refused(annotate(&job("op=u g=4 q=0"), 0.5, &mut [0; 60])), (15, 0));
     assert_eq!(refused(walk(&noisy, 0, &[])), (16, 3));
     assert_eq!(refused(walk(&noisy, 1, &[])), (17, 0));
@@ -81,8 +82,8 @@ fn refusals_leave_lent_memory() {
     let noisy = job(&format!("op=i shot=0 x=0 z=1\nop=n p={ONE} corr=- cond=- parity=0 d=1 x=0 z=-"));
     let lend = |x: usize, noiseless: &[u64], main: &[u64]| {
         let (mut xs, mut z, mut deltas) = (vec![7; x], [7; 3], [7; 2]);
-        let rows = Rows { x: &mut xs, z: &mut z, deltas: &mut deltas };
-        let answer = run(&noisy, rows, noiseless, Draws { main, ..Draws::default() });
+        let rows = Rows::new(&mut xs, &mut z, &mut deltas);
+        let answer = run(&noisy, rows, noiseless, Draws::new(main));
         (answer.map_err(|refusal| refusal.number), xs, z, deltas)
     };
     assert_eq!(lend(1, &[0], &[0]), (Err(Number::WORDS), vec![7], [7; 3], [7; 2]));
@@ -92,7 +93,7 @@ fn refusals_leave_lent_memory() {
     assert_eq!(lend(3, &[0], &[0]), (Ok(()), vec![0, 0, 7], [0, 1, 7], [0, 7]));
 
     let mut out = [7; 60];
-    let draws = Draws { main: &[0], ..Draws::default() };
+    let draws = Draws::new(&[0]);
     let refusal = settle(&noisy, &[0], draws, &mut out).expect_err("the text is longer");
     assert_eq!(refusal.number, Number::ROOM);
     assert!(refusal.figure >= settled(&noisy, &[0], draws).expect("there is room").len() as u64);
@@ -115,9 +116,14 @@ op=o x=0 z=- id=2
     // The first noise line falls in shot 1 alone, by the bits of outcome 1, and draws Y there; the second draws X in shot 0 and Z in shot 1, from
     // place 4 + 1 of the second list.
     let noiseless = [0b01, 0b10, 0b11];
-    let draws = Draws { main: &[9, 9, 2], second: &[2, 2, 2, 2, 2, 9, 0, 9, 1], base: 4 };
+    let draws = Draws::new(&[9, 9, 2]).with_second(&[2, 2, 2, 2, 2, 9, 0, 9, 1], 4);
     let frames = Frames::of_run(job, &noiseless, draws).expect("the job runs");
-    assert_eq!(frames.header(), Header { qubits: 2, outcomes: 3, shots: 2 });
+    assert_eq!(Ok(frames.job()), examine(job));
+    let numbers = frames.job();
+    assert_eq!((numbers.qubits, numbers.outcomes, numbers.shots), (2, 3, 2));
+    assert_eq!((numbers.recorded, numbers.lines), (3, 6));
+    let used = draws.used(job, &noiseless).expect("the job settles");
+    assert_eq!((used.main, used.second), (3, 9));
     assert_eq!((frames.x(), frames.z()), ([0b10, 0b01].as_slice(), [0b10, 0b10].as_slice()));
     assert_eq!((frames.deltas(), frames.delta_row(2)), ([0, 0, 0b10].as_slice(), [0b10].as_slice()));
 
@@ -125,13 +131,14 @@ op=o x=0 z=- id=2
     let injections: Vec<&[u8]> = text.split(|byte| *byte == b'\n').filter(|line| line.starts_with(b"op=i")).collect();
     let expected = ["op=i shot=1 x=0 z=0", "op=i shot=0 x=1 z=-", "op=i shot=1 x=- z=1"];
     assert_eq!(injections, expected.map(str::as_bytes));
-    assert_eq!(Frames::of_run(&text, &noiseless, Draws::default()), Ok(frames));
+    let again = Frames::of_run(&text, &noiseless, Draws::default()).expect("the settled job runs");
+    assert_eq!((again.x(), again.z(), again.deltas()), (frames.x(), frames.z(), frames.deltas()));
     assert_eq!((walk(&text, 0, &[2]), walk(&text, 1, &[2]), walk(&text, 1, &[])), (Ok(0), Ok(1), Ok(0)));
     assert_eq!(locations(job), Ok(2));
     // the base wraps, and a place past the second list is 14
-    let wrapped = Draws { base: u64::MAX, second: &draws.second[5..], ..draws };
+    let wrapped = draws.with_second(&draws.second[5..], u64::MAX);
     assert_eq!(settled(job, &noiseless, wrapped), Ok(text));
-    assert_eq!(refused(settled(job, &noiseless, Draws { base: 5, ..draws })), (14, 5));
+    assert_eq!(refused(settled(job, &noiseless, draws.with_second(draws.second, 5))), (14, 5));
 }
 
 #[test]

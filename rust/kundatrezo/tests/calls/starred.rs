@@ -1,19 +1,12 @@
-//! The starred cases of document 01, and its limits of shots.
+//! The ten cases that the specification marks, and its limits of shots.
 
 use kundatrezo::{Draws, Frames, Number, check, walk};
 
-const SESSION: &[u8] = b"op=job qubits=2 outcomes=2 shots=3
-op=u g=4 q=0
-op=u g=11 q=0,1
-op=i shot=1 x=0 z=-
-op=o x=- z=0 id=0
-op=o x=- z=1 id=1
-op=t shot=2 id=1
-";
+const SESSION: &[u8] = include_bytes!("../../../../examples/bell.job");
 
 /// The frame of qubit 0 as words of its X and Z rows, after a run of at most 64 shots without outcomes.
 fn frame(job: &str, main: &[u64]) -> Result<(u64, u64), Number> {
-    let frames = Frames::of_run(job.as_bytes(), &[], Draws { main, ..Draws::default() });
+    let frames = Frames::of_run(job.as_bytes(), &[], Draws::new(main));
     frames.map(|frames| (frames.x_row(0)[0], frames.z_row(0)[0])).map_err(|refusal| refusal.number)
 }
 
@@ -78,12 +71,12 @@ fn shots_around_a_word_and_the_most() {
         let job = format!("op=job qubits=1 outcomes=0 shots={shots}\n{noise}\n");
         let words = vec![u64::MAX; shots];
         let mut frames = Frames::new();
-        assert_eq!(frames.run(job.as_bytes(), &[], Draws { main: &words, ..Draws::default() }), Ok(()));
+        assert_eq!(frames.run(job.as_bytes(), &[], Draws::new(&words)), Ok(()));
         let (end, before) = frames.x_row(0).split_last().expect("a row has words");
         assert_eq!((*end, before.len()), (last, (shots - 1) / 64));
         assert!(before.iter().all(|word| *word == u64::MAX));
         // one word less is one draw too few, and leaves nothing of the run before
-        let short = Draws { main: &words[1..], ..Draws::default() };
+        let short = Draws::new(&words[1..]);
         assert_eq!(frames.run(job.as_bytes(), &[], short).map_err(|refusal| refusal.number), Err(Number::DRAWS));
         assert!(frames.x().iter().all(|word| *word == 0));
     }

@@ -1,18 +1,12 @@
 //! The program on files, options and refusals.
 
-use crate::common::{Done, folder, kundatrezo};
+use crate::common::{Done, finish, folder, kundatrezo};
 use kundatrezo::{MAX_BYTES, Xorshift};
 use std::fs;
 use std::path::{Path, PathBuf};
+use std::process::Command;
 
-const SESSION: &str = "op=job qubits=2 outcomes=2 shots=3
-op=u g=4 q=0
-op=u g=11 q=0,1
-op=i shot=1 x=0 z=-
-op=o x=- z=0 id=0
-op=o x=- z=1 id=1
-op=t shot=2 id=1
-";
+const SESSION: &str = include_str!("../../../../examples/bell.job");
 
 /// Noise that reads the main list in its first line and the second one, from base + 3 on, in the other; the first by the bits of outcome 0.
 const NOISY: &str = "op=job qubits=2 outcomes=2 shots=70
@@ -89,7 +83,7 @@ fn words_lie_in_files() {
     let [x, z, deltas] = ["x", "z", "deltas"].map(|name| argument(folder.join(name)));
     let files = format!("--x {x} --z {z} --deltas {deltas}");
     let done = call(&format!("run {options} {files}"), NOISY);
-    assert_eq!(done, Done::printed("ok=1 qubits=2 outcomes=2 shots=70\n"));
+    assert_eq!(done, Done::printed("ok=1 qubits=2 outcomes=2 shots=70\nwords=71 skip=71 second=83\n"));
     let rows = [(x, [0, 0, 0, 1]), (z, [0b10, 0, 0, 0]), (deltas, [0, 0, 0, 1])];
     for (path, words) in &rows {
         assert_eq!(fs::read(path).ok(), Some(bytes_of(words)), "{path}");
@@ -100,37 +94,121 @@ fn words_lie_in_files() {
     assert_eq!(fs::read(&rows[0].0).ok(), Some(bytes_of(&[0, 0, 0, 1])));
 }
 
+/// What a run prints, without the line on words.
+fn session(done: &Done) -> String {
+    let text = String::from_utf8_lossy(&done.stdout);
+    let lines: Vec<&str> =
+        text.lines().filter(|line| !line.starts_with("words=") && !line.starts_with("second=")).collect();
+    lines.join("\n")
+}
+
 #[test]
 fn seeds_make_the_words_of_the_stated_rule() {
     let folder = folder("seeds");
-    let words = |seed, count| -> Vec<u64> { Xorshift::new(seed).expect("not zero").take(count).collect() };
-    let main = file(&folder, "main", bytes_of(&words(123_456_789, 5000)[1000..]));
-    let second = file(&folder, "second", bytes_of(&words(987_654_321, 300)));
-    let lent = format!("--main {main} --second {second} --base 40");
-    let made = "--seed 123456789 --skip 1000 --second-seed 987654321 --base 40";
+    let of_seed = |seed| Xorshift::new(seed);
+    let of_state = |state| Xorshift::from_state(state).expect("not zero");
+    let words = |words: Xorshift, count| -> Vec<u64> { words.take(count).collect() };
     let job = NOISY.replace("cond=0 parity=1", "cond=- parity=0");
-    for command in ["settle", "run"] {
-        let by_file = call(&format!("{command} - {lent}"), &job);
-        assert_eq!(by_file.status, 0);
-        assert_eq!(call(&format!("{command} - {made}"), &job), by_file);
+    let cases = [
+        (words(of_seed(0), 5000), words(of_seed(1), 300), "--seed 0", "--second-seed 1"),
+        (words(of_state(123_456_789), 5000), words(of_state(5), 300), "--state 123456789", "--second-state 5"),
+    ];
+    for (place, (main, second, made, second_made)) in cases.iter().enumerate() {
+        let main = file(&folder, &format!("main{place}"), bytes_of(main));
+        let second = file(&folder, &format!("second{place}"), bytes_of(second));
+        let lent = format!("--main {main} --skip 1000 --second {second} --base 40");
+        let made = format!("{made} --skip 1000 {second_made} --base 40");
+        for command in ["settle", "run"] {
+            let by_file = call(&format!("{command} - {lent}"), &job);
+            assert_eq!(by_file.status, 0, "{by_file:?}");
+            assert_eq!(call(&format!("{command} - {made}"), &job), by_file);
+        }
+        let settled = |options: &str| call(&format!("settle - {options}"), &job).stdout;
+        let others = ["--skip 1000", second_made, "--base 40"];
+        let others = others
+            .map(|option| made.replace(option, &format!("{} 12345", option.split(' ').next().unwrap_or_default())));
+        assert!(others.iter().all(|other| settled(other) != settled(&made)));
     }
-    let settled = |options: &str| call(&format!("settle - {options}"), &job).stdout;
-    let others = ["1000", "987654321", "40"].map(|number| made.replace(number, "12345"));
-    assert!(others.iter().all(|other| settled(other) != settled(made)));
     // each shot faults and reads two words
     let line = "op=n p=3ff0000000000000 corr=- cond=- parity=0 d=2 q=0\n";
     let job = format!("op=job qubits=1 outcomes=0 shots=64\n{}", line.repeat(1000));
-    assert_eq!(call("run - --seed 5", &job), Done::printed("ok=1 qubits=1 outcomes=0 shots=64\n"));
+    let printed = "ok=1 qubits=1 outcomes=0 shots=64\nwords=128000 skip=128000\n";
+    assert_eq!(call("run - --seed 5", &job), Done::printed(printed));
     // a place that no list reaches
     let far = NOISY.replace("corr=3", "corr=18446744073709551615");
     let done = call("run - --seed 5 --second-seed 6", &far);
     assert!(done.stderr.starts_with("refused: 14 (a needed draw lies past its list) at line 4: op=n "), "{done:?}");
+    assert!(done.stderr.contains("\nhint: a list has at most 268435456 words"), "{done:?}");
     assert_eq!(call("run - --seed 5 --second-seed 6 --base 1", &far).status, 0);
+}
+
+/// A run says how many words it has read, and the next one of a series goes on there: two jobs of one noise line draw what a job of two draws.
+#[test]
+fn a_series_goes_on_where_the_last_run_stopped() {
+    let header = "op=job qubits=2 outcomes=2 shots=100\n";
+    let part = |qubit: usize, id: usize| {
+        format!("op=n p=3fd0000000000000 corr=- cond=- parity=0 d=2 q={qubit}\nop=o x=- z={qubit} id={id}\n")
+    };
+    let whole = call("run - --seed 7", format!("{header}{}{}", part(0, 0), part(1, 1)));
+    let first = call("run - --seed 7", format!("{header}{}", part(0, 0)));
+    let printed = String::from_utf8(first.stdout).expect("text");
+    let (_, said) = printed.rsplit_once("words=").expect("it says how many");
+    let (words, skip) = said.trim_end().split_once(" skip=").expect("and how to go on");
+    assert_eq!(words, skip);
+    assert!(words.parse::<u32>().is_ok_and(|words| (101..200).contains(&words)), "{words}");
+    let second = call(&format!("run - --seed 7 --skip {skip}"), format!("{header}{}", part(1, 0)));
+    let second = String::from_utf8(second.stdout).expect("text");
+    let row =
+        |text: &str, id: &str| text.lines().find_map(|line| Some(line.strip_prefix(id)?.to_owned())).expect("a row");
+    let whole = String::from_utf8(whole.stdout).expect("text");
+    assert_eq!(row(&whole, "id=0 "), row(&printed, "id=0 "));
+    assert_eq!(row(&whole, "id=1 "), row(&second, "id=0 "));
+    assert_eq!(
+        row(&whole, "words=").split_once(" skip="),
+        row(&second, "words=").split_once(" skip=").map(|(_, skip)| (skip, skip))
+    );
+    // the second list is said, too
+    let done = call("run - --seed 1 --second-seed 2 --base 10", NOISY);
+    assert!(done.stdout.ends_with(b" second=83\n"), "{done:?}");
+}
+
+#[test]
+fn an_endless_file_is_read_as_far_as_needed() {
+    let noise = "op=job qubits=1 outcomes=0 shots=64\nop=n p=3fe0000000000000 corr=- cond=- parity=0 d=1 x=0 z=-\n";
+    let done = call("run - --main /dev/urandom", noise);
+    assert_eq!((done.status, session(&done).as_str()), (0, "ok=1 qubits=1 outcomes=0 shots=64"));
+    assert!(done.stdout.ends_with(b"words=64 skip=64\n"), "{done:?}");
+    assert_eq!(call("run - --main /dev/zero --second /dev/zero --noiseless /dev/zero", NOISY).status, 0);
+    // a bound, for a file as for a seed
+    for source in ["--main /dev/zero", "--seed 1"] {
+        let done = call(&format!("run - {source} --words 63"), noise);
+        assert!(done.stderr.starts_with("refused: 14 "), "{done:?}");
+        assert!(done.stderr.ends_with("\nhint: --words allows no more than 63 words\n"), "{done:?}");
+        assert_eq!(call(&format!("run - {source} --words 64"), noise).status, 0);
+    }
+    // words from standard input, which can be read once
+    let folder = folder("input");
+    let job = file(&folder, "job", noise);
+    let words: Vec<u64> = Xorshift::new(9).take(64).collect();
+    let by_seed = call(&format!("run {job} --seed 9"), "");
+    assert_eq!(kundatrezo(["run", &job, "--main", "-"], &bytes_of(&words)), by_seed);
+    let done = kundatrezo(["run", &job, "--main", "-"], &bytes_of(&words[1..]));
+    assert!(
+        done.stderr
+            .ends_with("hint: the main list has 63 words and this line needs more: lend a longer one, or --seed N\n"),
+        "{done:?}"
+    );
+    assert_eq!(call("run - --main -", noise).stderr, "kundatrezo: standard input can be read for one thing only\n");
 }
 
 #[test]
 fn refusals_are_said_in_words() {
-    let refused = |arguments: &str, job: &str, text: &str| assert_eq!(call(arguments, job), Done::refused(text));
+    let refused = |arguments: &str, job: &str, text: &str| {
+        let done = call(arguments, job);
+        let (said, hint) = done.stderr.split_once("\nhint: ").expect("a hint");
+        assert_eq!((done.status, done.stdout.as_slice(), said), (1, b"".as_slice(), text));
+        hint.trim_end().to_owned()
+    };
     let header = "op=job qubits=1 outcomes=1 shots=1\n";
     let gate = format!("{header}op=u g=4 q=0\nop=u g=4 q=7\n");
     let text = "refused: 4 (a qubit not below the header's qubits) at line 3: op=u g=4 q=7";
@@ -138,18 +216,31 @@ fn refusals_are_said_in_words() {
         refused(arguments, &gate, text);
     }
     refused("correlation -", &gate, text);
-    refused("annotate - --p nan", header, "refused: 11 (p is NaN or above 1)");
-    refused("walk - --shot 0 --set 1,0", header, &format!("refused: {}", kundatrezo::Number::WALK));
+    let hint = refused("annotate - --p nan", header, "refused: 11 (p is NaN or above 1)");
+    assert_eq!(hint, "the probability of --p or --p-bits is NaN");
+    let walk = format!("refused: {}", kundatrezo::Number::WALK);
+    let hint = refused("walk - --shot 0 --set 1,0", header, &walk);
+    assert_eq!(hint, "the job records no outcome");
+    assert_eq!(refused("walk - --shot 1 --set -", header, &walk), "the job's shots are 0 to 0");
+    let words = "refused: 13 (lent words too few)";
+    let hint = refused("run - --noiseless /dev/null", header, words);
+    assert!(hint.starts_with("--noiseless has 0 words, and needs 1: "), "{hint}");
     let noisy = format!("{header}op=n p=3ff0000000000000 corr=- cond=- parity=0 d=1 x=0 z=-\n");
     let room = "refused: 15 (the text is longer than the lent bytes or 1,048,576)";
     let done = call("settle - --room 10 --seed 9", &noisy);
     assert!(done.stderr.starts_with(&format!("{room}; the text needs ")), "{done:?}");
     refused("annotate - --p 0.5 --room 10", &gate.replace("q=7", "q=0"), room);
+    let spent =
+        format!("refused: 14 (a needed draw lies past its list) at line 2: {}", noisy.lines().last().expect("a line"));
+    let hint = refused("run -", &noisy, &spent);
+    assert_eq!(hint, "there is no main list: --seed N makes as many words as are needed");
+    let hint = refused("run -", &noisy.replace("corr=-", "corr=5"), &spent.replace("corr=-", "corr=5"));
+    assert_eq!(hint, "there is no second list: --second-seed N makes as many words as are needed");
     // bytes that are no text, and a line that is cut
     let done = kundatrezo(["check", "-"], b"op=job qubits=1 outcomes=0 shots=1\nop=z q=\xff\x1b\n");
-    assert!(done.stderr.ends_with(" at line 2: op=z q=\\xff\\x1b\n"), "{done:?}");
+    assert!(done.stderr.contains(" at line 2: op=z q=\\xff\\x1b\n"), "{done:?}");
     let done = call("check -", format!("{header}op=z q={}\n", "9".repeat(1000)));
-    assert!(done.stderr.ends_with(&format!(" at line 2: op=z q={}..\n", "9".repeat(93))), "{done:?}");
+    assert!(done.stderr.contains(&format!(" at line 2: op=z q={}..\n", "9".repeat(93))), "{done:?}");
 }
 
 #[test]
@@ -159,8 +250,9 @@ fn jobs_up_to_the_limits() {
     let noise = "op=n p=3ff0000000000000 corr=- cond=- parity=0 d=1 x=255 z=-\n";
     let done = call("run - --seed 1", format!("{largest}{noise}{recorded}"));
     let printed = String::from_utf8(done.stdout).expect("text");
-    let rows: Vec<&str> = printed.lines().skip(1).collect();
+    let rows: Vec<&str> = printed.lines().filter(|line| line.starts_with("id=")).collect();
     assert_eq!(rows.len(), 1024);
+    assert!(printed.ends_with("\nwords=4096 skip=4096\n"));
     assert_eq!(rows[1023], format!("id=1023 delta={}", "1".repeat(4096)));
     assert_eq!(rows[1022], format!("id=1022 delta={}", "0".repeat(4096)));
     let header = "op=job qubits=1 outcomes=0 shots=1\n";
@@ -169,7 +261,10 @@ fn jobs_up_to_the_limits() {
     assert_eq!(longest.len(), MAX_BYTES);
     assert_eq!(call("settle -", &longest), Done::printed(longest.clone()));
     let done = call("check -", format!("{longest}\n"));
-    assert_eq!(done, Done::refused(&format!("refused: {}", kundatrezo::Number::LENGTH)));
+    assert!(
+        done.stderr.starts_with(&format!("refused: {}\nhint: a job has at most", kundatrezo::Number::LENGTH)),
+        "{done:?}"
+    );
 }
 
 #[test]
@@ -186,10 +281,19 @@ fn arguments_at_fault() {
         ("run - --seed 1 --seed 2", "the option --seed is given twice"),
         ("run - --seed x", "the value of --seed is to be a number below 2^64, not 'x'"),
         ("run - --seed 18446744073709551616", "the value of --seed is to be a number below 2^64"),
-        ("run - --seed 0", "the value of --seed is to be above zero"),
-        ("run - --seed 1 --main /dev/null", "--main and --seed exclude each other"),
-        ("run - --seed 1 --second-seed 1", "--seed and --second-seed are to differ"),
-        ("run - --skip 1", "--skip wants --seed"),
+        ("run - --state 0", "the value of --state is to be above zero"),
+        ("run - --seed 1 --main /dev/null", "of --main, --seed, --state one at most can be given"),
+        ("run - --seed 1 --state 1", "of --main, --seed, --state one at most can be given"),
+        ("run - --seed 1 --second-seed 1", "the words of the two lists are to differ"),
+        ("run - --skip 1", "--skip wants --main, --seed or --state"),
+        ("run -x", "'run' has no option '-x' (after --, a name may begin with -)"),
+        ("run -- -x", "-x: "),
+        ("bits", "NUMBER is missing"),
+        ("bits 0.5 half", "'half' is not a number in decimal"),
+        ("decimal 0.5", "'0.5' is not 16 hexadecimal digits"),
+        ("completions", "SHELL is to be one of bash, zsh, fish"),
+        ("completions sh", "SHELL is to be one of bash, zsh, fish"),
+        ("man man", "no argument is wanted"),
         ("walk - --shot 0", "--shot and --set are wanted"),
         ("walk - --shot 0 --set 1,,2", "the value of --set is to be numbers with commas between"),
         ("annotate -", "either --p or --p-bits is wanted"),
@@ -204,8 +308,44 @@ fn arguments_at_fault() {
         assert_eq!((done.status, done.stdout.as_slice()), (2, b"".as_slice()), "{arguments}");
         assert!(done.stderr.starts_with(&format!("kundatrezo: {text}")), "{arguments}: {}", done.stderr);
     }
-    let done = call(&format!("run - --main {odd}"), SESSION);
-    assert!(done.stderr.ends_with("9 bytes are no whole number of 64-bit words\n"), "{done:?}");
+    let noisy = "op=job qubits=1 outcomes=0 shots=9\nop=n p=3fe0000000000000 corr=- cond=- parity=0 d=1 x=0 z=-\n";
+    let done = call(&format!("run - --main {odd}"), noisy);
+    assert!(done.stderr.ends_with("odd: its bytes are no whole number of 64-bit words\n"), "{done:?}");
+}
+
+#[test]
+fn numbers_are_converted_both_ways() {
+    let cases = [
+        ("0.001", "3f50624dd2f1a9fc"),
+        ("1.0", "3ff0000000000000"),
+        ("5e-324", "0000000000000001"),
+        ("-0.0", "8000000000000000"),
+    ];
+    for (decimal, bits) in cases {
+        assert_eq!(call(&format!("bits -- {decimal}"), ""), Done::printed(format!("{bits}\n")));
+        assert_eq!(call(&format!("decimal {bits}"), ""), Done::printed(format!("{decimal}\n")));
+    }
+    assert_eq!(call("bits 1e-3 0.5", ""), Done::printed("3f50624dd2f1a9fc\n3fe0000000000000\n"));
+}
+
+/// The least rooms to write in: a full device, and a pipe that nobody reads.
+#[test]
+fn output_that_cannot_be_written_fails() {
+    let run = |script: &str| {
+        finish(Command::new("sh").arg("-c").arg(script).env("PROGRAM", env!("CARGO_BIN_EXE_kundatrezo")), b"")
+    };
+    let session = concat!(env!("CARGO_MANIFEST_DIR"), "/../../examples/bell.job");
+    for command in
+        [format!("run {session}"), format!("settle {session}"), "bits 0.5".into(), "man".into(), "--help".into()]
+    {
+        let full = run(&format!("\"$PROGRAM\" {command} >/dev/full"));
+        assert_eq!(full.status, 2, "{command}");
+        assert!(full.stderr.starts_with("kundatrezo: standard output: "), "{full:?}");
+        let unread = run(&format!("{{ \"$PROGRAM\" {command}; echo $? >&2; }} | true"));
+        assert!(["0\n", "2\n"].contains(&unread.stderr.as_str()), "{unread:?}");
+    }
+    let full = run(&format!("\"$PROGRAM\" settle {session} --output /dev/full"));
+    assert_eq!((full.status, full.stderr.starts_with("kundatrezo: /dev/full: ")), (2, true), "{full:?}");
 }
 
 #[test]
@@ -216,23 +356,32 @@ fn help_names_every_command_and_option() {
         String::from_utf8(done.stdout).expect("text")
     };
     let whole = help("--help");
+    let lists = "main seed state skip words second second-seed second-state base noiseless";
+    let drawn: &[&str] = &lists.split(' ').collect::<Vec<_>>();
     let commands = [
         ("check", vec![]),
-        ("run", vec!["main", "seed", "skip", "second", "second-seed", "base", "noiseless", "x", "z", "deltas"]),
-        ("settle", vec!["main", "seed", "skip", "second", "second-seed", "base", "noiseless", "output", "room"]),
+        ("run", [drawn, &["x", "z", "deltas"]].concat()),
+        ("settle", [drawn, &["output", "room"]].concat()),
         ("walk", vec!["shot", "set"]),
         ("annotate", vec!["p", "p-bits", "output", "room"]),
         ("locations", vec![]),
         ("correlation", vec![]),
+        ("bits", vec![]),
+        ("decimal", vec![]),
+        ("completions", vec![]),
+        ("man", vec![]),
     ];
+    let page = help("man");
     for (command, options) in commands {
         assert!(whole.contains(&format!("    {command} ")), "{command}");
         let own = help(&format!("{command} --help"));
-        assert!(own.starts_with(&format!("usage: kundatrezo {command} JOB")), "{own}");
+        assert!(own.starts_with(&format!("usage: kundatrezo {command}")), "{own}");
+        assert!(page.contains(&format!("\n.SS kundatrezo {command}")), "{command}");
         let rows = own.lines().filter(|line| line.starts_with("    --")).count();
         assert_eq!(rows, options.len(), "{own}");
         for option in options {
             assert!(own.contains(&format!("\n    --{option} ")), "{option}: {own}");
+            assert!(page.contains(&format!("\n\\fB\\-\\-{}\\fR ", option.replace('-', "\\-"))), "{option}");
         }
     }
     assert_eq!(help("run -h"), help("run --help"));

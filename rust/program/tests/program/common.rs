@@ -17,11 +17,6 @@ impl Done {
     pub fn printed(text: impl Into<Vec<u8>>) -> Self {
         Self { status: 0, stdout: text.into(), stderr: String::new() }
     }
-
-    /// A refusal, which prints nothing on standard output.
-    pub fn refused(text: &str) -> Self {
-        Self { status: 1, stdout: Vec::new(), stderr: format!("{text}\n") }
-    }
 }
 
 /// Run the program with these arguments and this standard input.

@@ -1,19 +1,19 @@
 //! The sessions of the documents: what a `$` line and its `>` lines say is run by the shell, and must print what stands below.
 
-use crate::common::{Done, finish, folder};
+use crate::common::{Done, finish, folder, kundatrezo};
 use kundatrezo::Number;
 use std::fs;
 use std::path::{Path, PathBuf};
 use std::process::Command;
 
 /// A command of a document and what it prints, standard output and error together.
-struct Step {
-    command: String,
-    printed: String,
+pub struct Step {
+    pub command: String,
+    pub printed: String,
 }
 
 /// The steps of a text: indented lines, from a `$` line on.
-fn steps(text: &str) -> Vec<Step> {
+pub fn steps(text: &str) -> Vec<Step> {
     let mut steps: Vec<Step> = Vec::new();
     let mut in_session = false;
     for line in text.lines() {
@@ -35,7 +35,7 @@ fn steps(text: &str) -> Vec<Step> {
 }
 
 /// Run a step in a folder, with the program in the shell's path, and see that it prints what it should.
-fn run(step: &Step, folder: &Path) -> Done {
+pub fn run(step: &Step, folder: &Path) -> Done {
     let program = Path::new(env!("CARGO_BIN_EXE_kundatrezo"));
     let mut path = program.parent().expect("the program lies in a folder").as_os_str().to_owned();
     path.push(":");
@@ -48,15 +48,23 @@ fn run(step: &Step, folder: &Path) -> Done {
     done
 }
 
-fn document(name: &str) -> String {
+pub fn document(name: &str) -> String {
     let path = PathBuf::from(env!("CARGO_MANIFEST_DIR")).join("../..").join(name);
     fs::read_to_string(path).expect("the document is there")
+}
+
+/// A folder in which sessions run, with the examples of the repository.
+pub fn session_folder(name: &str) -> PathBuf {
+    let folder = folder(name);
+    let examples = PathBuf::from(env!("CARGO_MANIFEST_DIR")).join("../../examples");
+    std::os::unix::fs::symlink(examples, folder.join("examples")).expect("a link can be made");
+    folder
 }
 
 #[test]
 fn refusals() {
     let text = document("docs/REFUSALS.md");
-    let folder = folder("refusals");
+    let folder = session_folder("refusals");
     let mut sections = text.split("\n## ").skip(1);
     for number in Number::ALL {
         let section = sections.next().expect("a section for each number");
@@ -75,10 +83,35 @@ fn refusals() {
 #[test]
 fn read_me() {
     let text = document("rust/README.md");
-    let folder = folder("read_me");
+    let folder = session_folder("read_me");
     let steps = steps(&text);
     assert!(!steps.is_empty());
     for step in &steps {
         run(step, &folder);
     }
+}
+
+/// The session that the printing program is tried on is the example.
+#[test]
+fn one_bell_example() {
+    assert_eq!(document("examples/bell.job"), document("crates/kundatrezo_print/stdin"));
+    let printed = kundatrezo(["run", "-"], document("examples/bell.job").as_bytes());
+    assert_eq!(printed, Done::printed(document("crates/kundatrezo_print/stdout")));
+}
+
+/// The printing program, where the test command names it: the same sessions, and a word on standard error where one could not be written.
+#[test]
+fn the_printing_program() {
+    let Some(print) = std::env::var_os("KUNDATREZO_PRINT") else {
+        return;
+    };
+    let job = document("examples/bell.job");
+    let printed = finish(&mut Command::new(&print), job.as_bytes());
+    assert_eq!(printed, kundatrezo(["run", "-"], job.as_bytes()));
+    let refused = finish(&mut Command::new(&print), job.replace("q=0,1", "q=0,9").as_bytes());
+    assert_eq!(refused, Done::printed("ok=0 refusal=4 line=3\n"));
+    let script = "exec \"$0\" >/dev/full";
+    let full = finish(Command::new("sh").arg("-c").arg(script).arg(&print), job.as_bytes());
+    let said = "kundatrezo_print: the session could not be written whole\n";
+    assert_eq!(full, Done { status: 0, stdout: Vec::new(), stderr: said.into() });
 }

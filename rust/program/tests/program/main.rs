@@ -3,3 +3,5 @@
 mod commands;
 mod common;
 mod documents;
+mod jobs;
+mod shells;

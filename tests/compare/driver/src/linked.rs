@@ -36,7 +36,7 @@ fn written(outcome: kundatrezo::Answer<usize>) -> Answer {
 }
 
 fn words<'a>(draws: Draws<'a>) -> kundatrezo::Draws<'a> {
-    kundatrezo::Draws { main: draws.main, second: draws.second, base: draws.base }
+    kundatrezo::Draws::new(draws.main).with_second(draws.second, draws.base)
 }
 
 /// The engine.
@@ -48,7 +48,7 @@ impl Calls for Linked {
     }
 
     fn run(&self, job: &[u8], draws: Draws<'_>, noiseless: &[u64], rows: Rows<'_>) -> Answer {
-        let rows = kundatrezo::Rows { x: rows.frames_x, z: rows.frames_z, deltas: rows.deltas };
+        let rows = kundatrezo::Rows::new(rows.frames_x, rows.frames_z, rows.deltas);
         plain(kundatrezo::run(job, rows, noiseless, words(draws)))
     }
 

@@ -1,0 +1,3 @@
+-- The whole reply of an examination. Definitions, and laws that proofs cite.
+pub mod Reply
+pub mod Laws

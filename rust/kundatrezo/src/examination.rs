@@ -1,0 +1,73 @@
+//! What a job asks of its caller.
+
+use crate::refusal::answer_of;
+use crate::{Answer, sys};
+
+/// The numbers of an accepted job, which say how many words a run needs. The default, all zero, is that of no job.
+///
+/// ```
+/// use kundatrezo::examine;
+///
+/// let job = examine(b"op=job qubits=2 outcomes=5 shots=100\nop=o x=- z=0 id=0\n")?;
+/// assert_eq!((job.qubits, job.outcomes, job.shots, job.recorded, job.lines), (2, 5, 100, 1, 2));
+/// assert_eq!((job.words_per_row(), job.frame_words(), job.outcome_words()), (2, 4, 10));
+/// # Ok::<(), kundatrezo::Refusal>(())
+/// ```
+#[derive(Debug, Clone, Copy, Default, PartialEq, Eq, Hash)]
+#[non_exhaustive]
+pub struct Examination {
+    /// The header's qubits, from 1 to [`MAX_QUBITS`](crate::MAX_QUBITS).
+    pub qubits: usize,
+    /// The header's outcomes, from 0 to [`MAX_OUTCOMES`](crate::MAX_OUTCOMES).
+    pub outcomes: usize,
+    /// The header's shots, from 1 to [`MAX_SHOTS`](crate::MAX_SHOTS).
+    pub shots: usize,
+    /// The outcomes that the job records: those whose ids are below this number.
+    pub recorded: usize,
+    /// The job's lines, its header's included.
+    pub lines: usize,
+}
+
+impl Examination {
+    /// Words of a row, a bit for each shot.
+    #[must_use]
+    pub fn words_per_row(&self) -> usize {
+        self.shots.div_ceil(64)
+    }
+
+    /// Words that a run needs for the X part of the frames, and as many for the Z part.
+    #[must_use]
+    pub fn frame_words(&self) -> usize {
+        self.qubits * self.words_per_row()
+    }
+
+    /// Words that a run needs for the deltas, and as many for the noiseless bits.
+    #[must_use]
+    pub fn outcome_words(&self) -> usize {
+        self.outcomes * self.words_per_row()
+    }
+}
+
+/// Make tests 1 to 12 of a job, as [`check`](crate::check) does, and say what it asks of its caller.
+///
+/// # Errors
+///
+/// The refusal, at the first bad line and with its lowest number.
+pub fn examine(job: &[u8]) -> Answer<Examination> {
+    let said = sys::examine(job);
+    answer_of(&said.answer, 0)?;
+    let [qubits, outcomes, shots, recorded, lines] =
+        [said.qubits, said.outcomes, said.shots, said.recorded, said.lines].map(crate::size);
+    Ok(Examination { qubits, outcomes, shots, recorded, lines })
+}
+
+#[cfg(test)]
+mod tests {
+    use super::*;
+
+    #[test]
+    fn rows_round_up_to_whole_words() {
+        let words = |shots| Examination { qubits: 3, outcomes: 2, shots, ..Examination::default() }.words_per_row();
+        assert_eq!([1, 63, 64, 65, 4096].map(words), [1, 1, 1, 2, 64]);
+    }
+}

@@ -1,0 +1,207 @@
+//! How many words of the lists are read.
+
+use crate::{Answer, Draws, Examination, Number, bit, examine, settle};
+
+/// How many words a run or settling reads.
+#[derive(Debug, Clone, Copy, Default, PartialEq, Eq, Hash)]
+#[non_exhaustive]
+pub struct Used {
+    /// The first words of the main list that are read. A series of runs goes on with the words after them.
+    pub main: usize,
+    /// The second list is read at no place from this one on.
+    pub second: usize,
+}
+
+impl Draws<'_> {
+    /// How many words a run of this job, or its settling, reads.
+    ///
+    /// A call that has enough words does the same with more of them, so the number is the length of the shortest list that is enough: that length is
+    /// enough for [`settle`], and one less is refused by 14. This takes the time of about five calls of it.
+    ///
+    /// # Errors
+    ///
+    /// The refusal of the run or of settling: by 1 to 12, 13 or 14.
+    ///
+    /// ```
+    /// use kundatrezo::Draws;
+    ///
+    /// // two shots read a word each, and the fault in shot 0 another for the choice of its Pauli
+    /// let job = b"op=job qubits=1 outcomes=0 shots=2\nop=n p=3fe0000000000000 corr=- cond=- parity=0 d=2 q=0\n";
+    /// let draws = Draws::new(&[0, 1, u64::MAX, 8, 9]);
+    /// assert_eq!(draws.used(job, &[])?.main, 3);
+    /// # Ok::<(), kundatrezo::Refusal>(())
+    /// ```
+    pub fn used(&self, job: &[u8], noiseless: &[u64]) -> Answer<Used> {
+        enough(job, noiseless, *self)?;
+        let (main, second) = (self.main, self.second);
+        let main_is = |words: usize| enough(job, noiseless, Draws { main: &main[..words], ..*self }).is_ok();
+        let second_is = |words: usize| enough(job, noiseless, Draws { second: &second[..words], ..*self }).is_ok();
+        let guess = guess(job, examine(job)?, noiseless, self).unwrap_or_default();
+        Ok(Used { main: least(main.len(), guess.main, main_is), second: least(second.len(), guess.second, second_is) })
+    }
+}
+
+/// Settling with no room for the text: where it refuses by 15 alone, the words were enough.
+fn enough(job: &[u8], noiseless: &[u64], draws: Draws<'_>) -> Answer {
+    match settle(job, noiseless, draws, &mut []) {
+        Err(refusal) if refusal.number != Number::ROOM => Err(refusal),
+        _ => Ok(()),
+    }
+}
+
+/// The least number with a property that larger ones have too, as `most` has it: two looks where the guess is right, else by halving.
+fn least(most: usize, guess: usize, has: impl Fn(usize) -> bool) -> usize {
+    let (mut low, mut high) = (0, most);
+    let mut next = guess.min(most);
+    while low < high {
+        if has(next) {
+            high = next;
+        } else {
+            low = next + 1;
+        }
+        next = if next == guess && high == guess && low < guess { guess - 1 } else { low.midpoint(high) };
+    }
+    high
+}
+
+/// How many words the noise lines of an accepted job read, as far as can be told from their text. The calls judge it.
+fn guess(job: &[u8], numbers: Examination, noiseless: &[u64], draws: &Draws<'_>) -> Option<Used> {
+    let text = std::str::from_utf8(job).ok()?;
+    let mut used = Used::default();
+    for line in text.lines().filter(|line| line.starts_with("op=n ")) {
+        let noise = Noise::read(line)?;
+        if noise.p <= 0.0 {
+            continue;
+        }
+        let holds = |shot: usize| {
+            let words = numbers.words_per_row();
+            let sum = noise.condition.iter().fold(false, |sum, id| sum ^ bit(&noiseless[id * words..][..words], shot));
+            noise.condition.is_empty() || sum == noise.parity
+        };
+        match noise.correlation {
+            None => used.main += noise.words(&draws.main[used.main..], numbers.shots, holds)?,
+            Some(correlation) => {
+                let place = usize::try_from(draws.base.wrapping_add(correlation)).ok()?;
+                let end = place + noise.words(draws.second.get(place..)?, numbers.shots, holds)?;
+                used.second = used.second.max(end);
+            }
+        }
+    }
+    Some(used)
+}
+
+/// What says how many words a noise line reads.
+struct Noise {
+    p: f64,
+    correlation: Option<u64>,
+    condition: Vec<usize>,
+    parity: bool,
+    choice: Choice,
+}
+
+/// How an element is chosen: by no word, by one, or by the first word below a bound.
+enum Choice {
+    None,
+    One,
+    Below(u64),
+}
+
+impl Noise {
+    fn read(line: &str) -> Option<Self> {
+        let field = |key: &str| line.split(' ').find_map(|field| field.strip_prefix(key)?.strip_prefix('='));
+        let numbers = |list: &str| list.split(',').map(|number| number.parse().ok()).collect::<Option<Vec<usize>>>();
+        let among = |size: u64| Some(Choice::Below(u64::MAX - u64::MAX.checked_rem(size)?));
+        let choice = match field("d")? {
+            "1" => Choice::None,
+            "2" => among((1 << (2 * numbers(field("q")?)?.len())) - 1)?,
+            "3" => among(field("n")?.parse().ok()?)?,
+            _ => Choice::One,
+        };
+        Some(Self {
+            p: f64::from_bits(u64::from_str_radix(field("p")?, 16).ok()?),
+            correlation: field("corr")?.parse().ok(),
+            condition: if field("cond")? == "-" { Vec::new() } else { numbers(field("cond")?)? },
+            parity: field("parity")? == "1",
+            choice,
+        })
+    }
+
+    /// The words that this line reads from the front of a list, by the shots in which its condition holds.
+    fn words(&self, list: &[u64], shots: usize, holds: impl Fn(usize) -> bool) -> Option<usize> {
+        let mut next = 0;
+        for shot in 0..shots {
+            let word = list.get(next)?;
+            next += 1;
+            #[allow(clippy::cast_precision_loss)]
+            let falls = ((word >> 11) as f64) < self.p * (1_u64 << 53) as f64;
+            if falls && holds(shot) {
+                next += match self.choice {
+                    Choice::None => 0,
+                    Choice::One => 1,
+                    Choice::Below(bound) => 1 + list.get(next..)?.iter().position(|word| *word < bound)?,
+                };
+            }
+        }
+        Some(next)
+    }
+}
+
+#[cfg(test)]
+mod tests {
+    use super::*;
+    use std::cell::Cell;
+
+    /// Looks for the least number from a value on, and counts the looks.
+    fn looks(most: usize, guess: usize, value: usize) -> usize {
+        let looks = Cell::new(0);
+        let has = |number| {
+            looks.set(looks.get() + 1);
+            number >= value
+        };
+        assert_eq!(least(most, guess, has), value);
+        looks.get()
+    }
+
+    #[test]
+    fn a_right_guess_is_seen_by_two_looks() {
+        for most in 0..20 {
+            for value in 0..=most {
+                assert!(looks(most, value, value) <= 2);
+                for guess in 0..25 {
+                    assert!(looks(most, guess, value) <= 7, "{most} {guess} {value}");
+                }
+            }
+        }
+        assert!(looks(1 << 28, 5, 1 << 27) <= 30);
+    }
+
+    /// Every kind of noise line, with and without a condition and a correlation, and words that a choice rejects.
+    #[test]
+    fn guesses_are_right() {
+        let job = b"op=job qubits=2 outcomes=2 shots=70
+op=r id=0 angle=0
+op=r id=1 angle=0
+op=n p=3fe0000000000000 corr=- cond=- parity=0 d=1 x=0 z=-
+op=n p=3fe0000000000000 corr=- cond=0,1 parity=1 d=2 q=0,1
+op=n p=3fd0000000000000 corr=- cond=- parity=0 d=3 n=3
+x=0 z=-
+x=1 z=-
+x=- z=0
+op=n p=0000000000000000 corr=- cond=- parity=0 d=2 q=0
+op=n p=3fe0000000000000 corr=7 cond=1 parity=0 d=4 n=2
+w=3ff0000000000000 x=0 z=-
+w=3ff0000000000000 x=1 z=-
+op=n p=3ff0000000000000 corr=150 cond=- parity=0 d=2 q=1
+";
+        let noiseless = [0x5555_5555_5555_5555, 3, 0xffff_0000_0f0f_3333, 1];
+        for seed in 0..20 {
+            let mut words: Vec<u64> = crate::Xorshift::new(seed).take(1000).collect();
+            // one word in 16 is the last one, which d=2 rejects
+            words.iter_mut().filter(|word| **word % 16 == 0).for_each(|word| *word = u64::MAX);
+            let draws = Draws::new(&words).with_second(&words, 3);
+            let numbers = examine(job).expect("the job is accepted");
+            let guessed = guess(job, numbers, &noiseless, &draws);
+            assert_eq!(Ok(guessed.expect("there is a guess")), draws.used(job, &noiseless));
+        }
+    }
+}

@@ -1,0 +1,141 @@
+//! Scripts by which shells complete commands, options and files.
+
+use crate::arguments::{Arguments, Command, FILE, Flag, Operand};
+use crate::commands::COMMANDS;
+use crate::{Failure, print};
+use std::fmt::Write;
+
+/// The shells that there is a script for.
+pub const SHELLS: &[&str] = &["bash", "zsh", "fish"];
+
+pub const DETAILS: &str = "\
+Prints a script for bash, zsh or fish. For bash: 'source <(kundatrezo completions bash)'. For zsh the script
+is a file _kundatrezo in a folder of fpath, for fish kundatrezo.fish in ~/.config/fish/completions.";
+
+pub fn print_script(arguments: &Arguments) -> Result<(), Failure> {
+    let shell = arguments.operand();
+    print(match SHELLS.iter().position(|known| shell == *known) {
+        Some(0) => bash(),
+        Some(1) => zsh(),
+        _ => fish(),
+    })
+}
+
+fn names(command: &Command) -> Vec<&'static str> {
+    command.flags().map(|flag| flag.name).chain(["--help"]).collect()
+}
+
+/// The words that a command is called on, if there are such.
+fn operands(command: &Command) -> &'static [&'static str] {
+    if let Operand::Word(_, words) = command.operand { words } else { &[] }
+}
+
+fn bash() -> String {
+    let commands: Vec<&str> = COMMANDS.iter().map(|command| command.name).collect();
+    let mut cases = String::new();
+    for command in COMMANDS {
+        let words = [operands(command), &names(command)].concat().join(" ");
+        writeln!(cases, "        {}) words='{words}' ;;", command.name).expect("a string takes all");
+    }
+    let mut files: Vec<&str> = COMMANDS.iter().flat_map(Command::flags).filter(is_file).map(|flag| flag.name).collect();
+    files.sort_unstable();
+    files.dedup();
+    format!(
+        "_kundatrezo() {{
+    local word=${{COMP_WORDS[COMP_CWORD]}} before=${{COMP_WORDS[COMP_CWORD - 1]}} words=
+    if ((COMP_CWORD == 1)); then
+        COMPREPLY=($(compgen -W '{} --help --version' -- \"$word\"))
+        return
+    fi
+    case $before in
+        {}) COMPREPLY=($(compgen -f -- \"$word\")); return ;;
+    esac
+    case ${{COMP_WORDS[1]}} in
+{cases}    esac
+    COMPREPLY=($(compgen -W \"$words\" -- \"$word\"))
+    if [[ $word != -* ]]; then
+        COMPREPLY+=($(compgen -f -- \"$word\"))
+    fi
+}}
+complete -o filenames -F _kundatrezo kundatrezo
+",
+        commands.join(" "),
+        files.join("|"),
+    )
+}
+
+fn is_file(flag: &&'static Flag) -> bool {
+    flag.value == FILE
+}
+
+fn zsh() -> String {
+    let mut commands = String::new();
+    let mut cases = String::new();
+    for command in COMMANDS {
+        writeln!(commands, "        '{}:{}'", command.name, quoted(command.summary)).expect("a string takes all");
+        let option = |flag: &Flag| {
+            let action = if flag.value == FILE { "_files" } else { "" };
+            format!(" \\\n                '{}=[{}]:{}:{action}'", flag.name, quoted(flag.text), flag.value)
+        };
+        let options: String = command.flags().map(option).collect();
+        let operand = match command.operand {
+            Operand::Job => "':job:_files'".into(),
+            Operand::Values(name) => format!("'*:{name}:'"),
+            Operand::Word(name, words) => format!("':{name}:({})'", words.join(" ")),
+            Operand::None => String::new(),
+        };
+        writeln!(
+            cases,
+            "        {})\n            _arguments '--help[say how]'{options} {operand}\n            ;;",
+            command.name
+        )
+        .expect("a string takes all");
+    }
+    format!(
+        "#compdef kundatrezo
+_kundatrezo() {{
+    local -a commands
+    commands=(
+{commands}    )
+    if ((CURRENT == 2)); then
+        _describe command commands
+        return
+    fi
+    local command=$words[2]
+    shift words
+    ((CURRENT--))
+    case $command in
+{cases}    esac
+}}
+_kundatrezo \"$@\"
+"
+    )
+}
+
+fn fish() -> String {
+    let mut script = String::from("complete -c kundatrezo -f -n __fish_use_subcommand -l help -d 'say how'\n");
+    for command in COMMANDS {
+        let (name, summary) = (command.name, quoted(command.summary));
+        let is_chosen = format!("-n '__fish_seen_subcommand_from {name}'");
+        writeln!(script, "complete -c kundatrezo -f -n __fish_use_subcommand -a {name} -d '{summary}'")
+            .expect("a string takes all");
+        for flag in command.flags() {
+            let (value, text) = (if flag.value == FILE { "-rF" } else { "-x" }, quoted(flag.text));
+            let option = flag.name.trim_start_matches('-');
+            writeln!(script, "complete -c kundatrezo {is_chosen} -l {option} {value} -d '{text}'")
+                .expect("a string takes all");
+        }
+        let operand = match command.operand {
+            Operand::Job => "-F".into(),
+            Operand::Word(_, words) => format!("-f -a '{}'", words.join(" ")),
+            Operand::Values(_) | Operand::None => "-f".into(),
+        };
+        writeln!(script, "complete -c kundatrezo {is_chosen} {operand}").expect("a string takes all");
+    }
+    script
+}
+
+/// A text within single quotes of a script, where colons and brackets mean something too.
+fn quoted(text: &str) -> String {
+    text.replace(['\'', ':', '[', ']'], "")
+}

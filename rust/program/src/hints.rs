@@ -1,0 +1,451 @@
+//! The likely cause of a refusal of a job, and what to do about it. The engine has judged the job; here its refused line is looked at once more, for a
+//! sentence that helps.
+
+use crate::numbers::{binary64, bits_of};
+use kundatrezo::{MAX_BYTES, MAX_OUTCOMES, MAX_QUBITS, MAX_SHOTS, Number, Refusal};
+
+/// Most members of a list on a line, and most elements of a distribution.
+const MOST_MEMBERS: usize = 31;
+const MOST_ELEMENTS: u64 = 64;
+
+/// The gates by their codes: the names of pauliverse, and how else they are called.
+const GATES: [&[&str]; 15] = [
+    &["I", "Id"],
+    &["X"],
+    &["Y"],
+    &["Z"],
+    &["Hadamard", "H"],
+    &["SqrtZ", "S"],
+    &["SqrtZInv", "Sdg", "SDag", "S_dag"],
+    &["SqrtX", "SX", "V"],
+    &["SqrtXInv", "SXdg", "Vdg"],
+    &["SqrtY"],
+    &["SqrtYInv"],
+    &["ControlledX", "CX", "CNOT"],
+    &["ControlledZ", "CZ"],
+    &["Swap"],
+    &["PrepareBell", "Bell"],
+];
+
+/// The forms of lines, each field with the kind of its value: a number, a gate code, 16 hexadecimal digits, a bit, a rising list, a list of operands, a
+/// correlation.
+const FORMS: [(&str, &str); 14] = [
+    ("job", "qubits=N outcomes=N shots=N"),
+    ("u", "g=G q=Q"),
+    ("c", "q=Q t=H"),
+    ("p", "x=L z=L"),
+    ("e", "x=L z=L"),
+    ("k", "x=L z=L u=L v=L"),
+    ("m", "s=Q q=Q"),
+    ("o", "x=L z=L id=N"),
+    ("r", "id=N angle=B"),
+    ("f", "x=L z=L id=L parity=B"),
+    ("z", "q=N"),
+    ("i", "shot=N x=L z=L"),
+    ("t", "shot=N id=N"),
+    ("n", "p=H corr=C cond=L parity=B"),
+];
+
+/// The further fields of a noise line, and those of its element lines.
+const KINDS: [(&str, &str); 4] = [("1", "x=L z=L"), ("2", "q=Q"), ("3", "n=N"), ("4", "n=N")];
+const ELEMENTS: [(&str, &str); 2] = [("3", "x=L z=L"), ("4", "w=H x=L z=L")];
+
+fn named<T: Copy>(table: &[(&str, T)], name: &str) -> Option<T> {
+    table.iter().find(|(own, _)| *own == name).map(|(_, entry)| *entry)
+}
+
+/// What a user may do about a refusal of this job, where that can be said.
+pub fn hint(refusal: &Refusal, job: &[u8]) -> Option<String> {
+    if refusal.number == Number::LENGTH {
+        return Some(length(job));
+    }
+    let text = String::from_utf8_lossy(job);
+    let lines: Vec<&str> = text.split_terminator('\n').collect();
+    let place = usize::try_from(refusal.line).ok()?.checked_sub(1)?;
+    Job { before: lines.get(..place)?, line: lines.get(place)?, is_last: place + 1 == lines.len() }.hint(refusal.number)
+}
+
+fn length(job: &[u8]) -> String {
+    match job.len() {
+        0 => "the job is empty: is it the right file?".into(),
+        bytes if bytes > MAX_BYTES => {
+            "a job has at most 1,048,576 bytes: make it two jobs, or write gates together as op=c and op=m lines".into()
+        }
+        _ => "the last line has no line end: add LF".into(),
+    }
+}
+
+/// A job around its refused line.
+struct Job<'a> {
+    before: &'a [&'a str],
+    line: &'a str,
+    is_last: bool,
+}
+
+impl Job<'_> {
+    fn hint(&self, number: Number) -> Option<String> {
+        match number {
+            Number::FORM => self.form(),
+            Number::HEADER => Some(self.header()),
+            Number::QUBIT => self.below("qubits"),
+            Number::SHOT => self.below("shots"),
+            Number::OPERANDS => self.operands(),
+            Number::PERMUTATION => {
+                Some("s= holds each of 0 to k - 1 once, for k qubits in q=: it names places in q=, not qubits".into())
+            }
+            Number::CLIFFORD => {
+                Some("the images of X and Z do not commute as X and Z do, or t= has a bit past the table".into())
+            }
+            Number::NEXT_ID => Some(self.next_id()),
+            Number::NOT_RECORDED => Some(match self.recorded() {
+                0 => "no outcome is recorded before this line".into(),
+                recorded => format!("before this line outcomes 0 to {} are recorded", recorded - 1),
+            }),
+            Number::PROBABILITY => Some(format!("p= is {:?} in decimal", binary64(field(self.line, "p")?)?)),
+            Number::ELEMENTS => self.elements(),
+            Number::NOISE => Some("settle the job first ('kundatrezo settle --help'), and walk the settled job".into()),
+            Number::ANNOTATION => {
+                Some("put noise lines around this line by hand, and annotate the job without it".into())
+            }
+            Number::SIZES => Some("give this line a corr= of its own".into()),
+            _ => None,
+        }
+    }
+
+    /// What a number of the header allows.
+    fn below(&self, key: &str) -> Option<String> {
+        let count = self.limit(key)?;
+        Some(format!("the header has {key}={count}: they are 0 to {}", count.checked_sub(1)?))
+    }
+
+    /// A number of the header.
+    fn limit(&self, key: &str) -> Option<u64> {
+        field(self.before.first()?, key)?.parse().ok()
+    }
+
+    fn recorded(&self) -> usize {
+        self.before.iter().filter(|line| line.starts_with("op=o ") || line.starts_with("op=r ")).count()
+    }
+
+    fn next_id(&self) -> String {
+        let next = self.recorded();
+        match self.limit("outcomes") {
+            Some(outcomes) if outcomes <= next as u64 => {
+                format!("the header has outcomes={outcomes}, and as many are recorded before this line")
+            }
+            _ => format!("the next id is {next}: op=o and op=r lines are numbered together, from 0"),
+        }
+    }
+
+    fn header(&self) -> String {
+        if !self.before.is_empty() {
+            return "the header is the first line alone".into();
+        }
+        let ranges = [("qubits", 1, MAX_QUBITS), ("outcomes", 0, MAX_OUTCOMES), ("shots", 1, MAX_SHOTS)];
+        let out = ranges.iter().find(|(key, least, most)| {
+            let number = field(self.line, key).and_then(|value| value.parse::<usize>().ok());
+            !number.is_some_and(|number| (*least..=*most).contains(&number))
+        });
+        match out {
+            Some((key, least, most)) if self.line.starts_with("op=job ") => format!("{key}= is from {least} to {most}"),
+            _ => "the first line is the header: op=job qubits=N outcomes=N shots=N".into(),
+        }
+    }
+
+    fn operands(&self) -> Option<String> {
+        let lists = self.line.split(' ').filter_map(|field| field.split_once('='));
+        let lists: Vec<(&str, Vec<&str>)> = lists.map(|(key, value)| (key, value.split(',').collect())).collect();
+        if let Some((key, members)) = lists.iter().find(|(_, members)| members.len() > MOST_MEMBERS) {
+            return Some(format!("{key}= has {} members, and a list has at most {MOST_MEMBERS}", members.len()));
+        }
+        let (_, operands) = lists.iter().find(|(key, _)| *key == "q")?;
+        let twice = operands.iter().enumerate().find(|(place, qubit)| operands[..*place].contains(qubit));
+        if let Some((_, qubit)) = twice {
+            return Some(format!("q= names qubit {qubit} twice"));
+        }
+        if self.line.starts_with("op=c ") {
+            return Some("op=c takes one to four qubits".into());
+        }
+        let code: usize = field(self.line, "g")?.parse().ok()?;
+        let count = if code <= 10 { "one qubit" } else { "two qubits" };
+        Some(format!("gate {code}, {}, takes {count}", GATES.get(code)?[0]))
+    }
+
+    fn elements(&self) -> Option<String> {
+        if let Some(count) = field(self.line, "n").filter(|_| self.line.starts_with("op=n ")) {
+            return Some(format!("n={count}: a distribution has 1 to {MOST_ELEMENTS} elements"));
+        }
+        let weight = binary64(field(self.line, "w")?)?;
+        Some(match weight {
+            w if w < 0.0 || !w.is_finite() => format!("this weight is {w:?} in decimal"),
+            _ => "the weights of this noise line sum to zero, or to more than the largest number".into(),
+        })
+    }
+
+    /// The kind of the noise line that wants this line for an element, and how many it wants from here on.
+    fn due(&self) -> Option<(&str, u64)> {
+        let mut due = None;
+        for line in self.before {
+            due = match due {
+                Some((kind, more)) if more > 1 => Some((kind, more - 1)),
+                Some(_) => None,
+                None => wanted(line),
+            };
+        }
+        due
+    }
+
+    /// What is wrong with the form of the line.
+    fn form(&self) -> Option<String> {
+        if let Some(fault) = layout(self.line) {
+            return Some(fault.into());
+        }
+        if let Some((kind, more)) = self.due() {
+            let form = named(&ELEMENTS, kind)?;
+            let fault = fields(self.line, &split(form), &format!("an element line of d={kind}"));
+            let ends = self
+                .is_last
+                .then(|| format!("the job ends here; element lines of d={kind} that are missing: {}", more - 1));
+            return fault.or(ends);
+        }
+        let op = field(self.line, "op").filter(|_| self.line.starts_with("op="));
+        let Some(op) = op else {
+            return Some("a line begins with op=; element lines follow a noise line with d=3 or d=4, n of them".into());
+        };
+        let Some(form) = named(&FORMS, op) else {
+            return Some(no_such_op(op));
+        };
+        if op != "n" {
+            return fields(self.line, &split(form), &format!("op={op}"));
+        }
+        let kind = field(self.line, "d").unwrap_or_default();
+        let Some(more) = named(&KINDS, kind) else {
+            return Some("a noise line is op=n p=H corr= cond= parity= d=, with d= 1, 2, 3 or 4".into());
+        };
+        let whole: Vec<(&str, &str)> = split(form).into_iter().chain([("d", "N")]).chain(split(more)).collect();
+        let fault = fields(self.line, &whole, &format!("op=n with d={kind}"));
+        let condition =
+            || (field(self.line, "cond")? == "-").then(|| "without a condition (cond=-) parity is 0".into());
+        let ends = || wanted(self.line).map(|(_, count)| format!("the job ends before the {count} element lines"));
+        let parity = field(self.line, "parity") == Some("1");
+        fault.or_else(|| if parity { condition() } else { None }).or_else(|| if self.is_last { ends() } else { None })
+    }
+}
+
+/// The kind of a noise line that wants element lines, and how many.
+fn wanted(line: &str) -> Option<(&str, u64)> {
+    let kind = field(line, "d").filter(|kind| line.starts_with("op=n ") && ["3", "4"].contains(kind))?;
+    Some((kind, field(line, "n")?.parse().ok().filter(|count| *count > 0)?))
+}
+
+/// The value of a field of a line.
+fn field<'a>(line: &'a str, key: &str) -> Option<&'a str> {
+    line.split(' ').find_map(|field| field.split_once('=').filter(|(own, _)| *own == key)).map(|(_, value)| value)
+}
+
+/// The keys and kinds of a form.
+fn split(form: &str) -> Vec<(&str, &str)> {
+    form.split(' ').filter_map(|field| field.split_once('=')).collect()
+}
+
+/// What is wrong with a line whatever its fields are.
+fn layout(line: &str) -> Option<&'static str> {
+    if line.ends_with('\r') {
+        Some("the line ends in CR LF: write LF alone, as 'tr -d \"\\r\"' does")
+    } else if line.is_empty() {
+        Some("the line is blank: leave it out")
+    } else if line.starts_with('#') || line.starts_with("//") {
+        Some("a job has no comments")
+    } else if line.contains('\t') || line.contains("  ") || line.starts_with(' ') || line.ends_with(' ') {
+        Some("fields have one space between, and nothing before the first or after the last")
+    } else if !line.is_ascii() {
+        Some("the line has bytes that are no ASCII")
+    } else {
+        None
+    }
+}
+
+fn no_such_op(op: &str) -> String {
+    match gate(op) {
+        Some(code) => format!("there is no op={op}: the gate {} is op=u g={code}", GATES[code][0]),
+        None => {
+            let all: Vec<&str> = FORMS.iter().map(|(op, _)| *op).collect();
+            format!("there is no op={op}: there are {}", all.join(", "))
+        }
+    }
+}
+
+/// The code of a gate by one of its names.
+fn gate(name: &str) -> Option<usize> {
+    GATES.iter().position(|names| names.iter().any(|own| own.eq_ignore_ascii_case(name)))
+}
+
+/// What is wrong with the fields of a line of this form.
+fn fields(line: &str, form: &[(&str, &str)], what: &str) -> Option<String> {
+    let given: Vec<(&str, &str)> = line.split(' ').map(|field| field.split_once('=').unwrap_or((field, ""))).collect();
+    let given = if given.first()?.0 == "op" { &given[1..] } else { &given[..] };
+    let keys = |fields: &[(&str, &str)]| -> Vec<String> { fields.iter().map(|(key, _)| format!("{key}=")).collect() };
+    if keys(given) != keys(form) {
+        return Some(format!("the fields of {what} are {}, in this order", keys(form).join(" ")));
+    }
+    form.iter().zip(given).find_map(|((key, kind), (_, value))| self::value(key, kind, value))
+}
+
+/// What is wrong with the value of a field.
+fn value(key: &str, kind: &str, value: &str) -> Option<String> {
+    let number = |text: &str| text.parse::<u64>().is_ok() && (text == "0" || !text.starts_with(['0', '+']));
+    let numbers = |text: &str| text.split(',').all(number);
+    let rising = |text: &str| {
+        let members: Vec<u64> = text.split(',').filter_map(|member| member.parse().ok()).collect();
+        members.is_sorted_by(|earlier, later| earlier < later)
+    };
+    match kind {
+        "G" if number(value) => (value.parse::<usize>().ok()? >= GATES.len()).then(|| "gate codes are 0 to 14".into()),
+        "G" => Some(match gate(value) {
+            Some(code) => format!("g= is the code of a gate: {} is {code}", GATES[code][0]),
+            None => "g= is the code of a gate, 0 to 14".into(),
+        }),
+        "H" => hexadecimal(key, value),
+        "B" => (value != "0" && value != "1").then(|| format!("{key}= is 0 or 1")),
+        "N" => (!number(value)).then(|| format!("{key}= is one number, in decimal and without leading zeros")),
+        "C" => (value != "-" && !number(value)).then(|| format!("{key}= is a number, or - for none")),
+        "Q" if value == "-" => Some(format!("{key}= is never empty")),
+        "L" if value == "-" => None,
+        "L" if value.is_empty() => Some(format!("{key}= without members is written -")),
+        _ if !numbers(value) => Some(format!("{key}= holds numbers without leading zeros, with commas between")),
+        "L" => (!rising(value)).then(|| format!("the numbers of {key}= rise strictly")),
+        _ => None,
+    }
+}
+
+fn hexadecimal(key: &str, value: &str) -> Option<String> {
+    let is_right = value.len() == 16 && value.bytes().all(|byte| matches!(byte, b'0'..=b'9' | b'a'..=b'f'));
+    let what = if key == "t" { "a table" } else { "a binary64" };
+    let wanted = format!("{key}= is {what} by its 16 hexadecimal digits, in lower case");
+    match value.parse::<f64>() {
+        _ if is_right => None,
+        Ok(number) if key != "t" => Some(format!("{wanted}: {value} is {} (see 'kundatrezo bits')", bits_of(number))),
+        _ => Some(wanted),
+    }
+}
+
+#[cfg(test)]
+mod tests {
+    use super::*;
+
+    fn hint_of(job: &str) -> String {
+        let refusal = kundatrezo::check(job.as_bytes()).expect_err("the job is refused");
+        hint(&refusal, job.as_bytes()).unwrap_or_default()
+    }
+
+    #[test]
+    fn likely_causes_are_named() {
+        let noise = "op=n p=3fe0000000000000 corr=- cond=-";
+        let cases = [
+            ("op=u g=H q=0", "g= is the code of a gate: Hadamard is 4"),
+            ("op=u g=cnot q=0,1", "g= is the code of a gate: ControlledX is 11"),
+            ("op=u g=15 q=0", "gate codes are 0 to 14"),
+            ("op=cx q=0,1", "there is no op=cx: the gate ControlledX is op=u g=11"),
+            ("op=w q=0", "there is no op=w: there are job, u,"),
+            ("op=u q=0 g=4", "the fields of op=u are g= q=, in this order"),
+            ("op=u g=4 q=00", "q= holds numbers without leading zeros"),
+            ("op=z q=0,1", "q= is one number"),
+            ("op=p x=1,0 z=-", "the numbers of x= rise strictly"),
+            ("op=p x= z=-", "x= without members is written -"),
+            ("op=u g=4 q=-", "q= is never empty"),
+            ("op=u g=4 q=0\r", "the line ends in CR LF"),
+            ("", "the line is blank"),
+            ("# a comment", "a job has no comments"),
+            ("op=u  g=4 q=0", "fields have one space between"),
+            ("op=z q=\u{b2}", "the line has bytes that are no ASCII"),
+            ("x=0 z=-", "a line begins with op="),
+            (
+                "op=n p=0.001 corr=- cond=- parity=0 d=2 q=0",
+                "p= is a binary64 by its 16 hexadecimal digits, in lower case: 0.001 is 3f50624dd2f1a9fc",
+            ),
+            (
+                "op=n p=3FE0000000000000 corr=- cond=- parity=0 d=2 q=0",
+                "p= is a binary64 by its 16 hexadecimal digits, in lower case",
+            ),
+            ("op=c q=0 t=9", "t= is a table by its 16 hexadecimal digits"),
+            ("op=n p=3fe0000000000000 corr=-1 cond=- parity=0 d=2 q=0", "corr= is a number, or - for none"),
+            (&format!("{noise} parity=1 d=2 q=0"), "without a condition (cond=-) parity is 0"),
+            (&format!("{noise} parity=0 d=5 q=0"), "a noise line is op=n"),
+            (&format!("{noise} parity=0 d=2 x=0 z=-"), "the fields of op=n with d=2 are p= corr= cond= parity= d= q="),
+            (&format!("{noise} parity=0 d=3 n=2"), "the job ends before the 2 element lines"),
+            (
+                &format!("{noise} parity=0 d=3 n=3\nx=0 z=-"),
+                "the job ends here; element lines of d=3 that are missing: 2",
+            ),
+            (&format!("{noise} parity=0 d=4 n=1\nx=0 z=-"), "the fields of an element line of d=4 are w= x= z="),
+            (
+                &format!("{noise} parity=0 d=4 n=1\nw=0.5 x=0 z=-"),
+                "w= is a binary64 by its 16 hexadecimal digits, in lower case: 0.5 is 3fe0000000000000",
+            ),
+            ("op=job qubits=1 outcomes=0 shots=1", "the header is the first line alone"),
+            ("op=z q=2", "the header has qubits=2"),
+            ("op=u g=11 q=0", "gate 11, ControlledX, takes two qubits"),
+            ("op=u g=4 q=0,1", "gate 4, Hadamard, takes one qubit"),
+            ("op=u g=11 q=1,1", "q= names qubit 1 twice"),
+            ("op=m s=1,2 q=0,1", "s= holds each of 0 to k - 1 once"),
+            ("op=c q=0 t=0000000000000001", "the images of X and Z do not commute"),
+            ("op=o x=- z=0 id=1", "the next id is 0"),
+            ("op=r id=0 angle=0\nop=r id=1 angle=0", "the header has outcomes=1, and as many are recorded"),
+            ("op=t shot=0 id=0", "no outcome is recorded before this line"),
+            ("op=r id=0 angle=0\nop=t shot=0 id=4", "before this line outcomes 0 to 0 are recorded"),
+            ("op=i shot=3 x=0 z=-", "the header has shots=3"),
+            ("op=n p=3ff8000000000000 corr=- cond=- parity=0 d=2 q=0", "p= is 1.5 in decimal"),
+            (&format!("{noise} parity=0 d=3 n=65\nx=0 z=-"), "n=65: a distribution has 1 to 64 elements"),
+            (&format!("{noise} parity=0 d=4 n=1\nw=bff0000000000000 x=0 z=-"), "this weight is -1.0 in decimal"),
+            (
+                &format!("{noise} parity=0 d=4 n=1\nw=0000000000000000 x=0 z=-"),
+                "the weights of this noise line sum to zero",
+            ),
+        ];
+        for (lines, expected) in cases {
+            let said = hint_of(&format!("op=job qubits=2 outcomes=1 shots=3\n{lines}\n"));
+            assert!(said.starts_with(expected), "{lines:?}: {said:?}");
+        }
+        let many: Vec<String> = (0..32).map(|qubit| qubit.to_string()).collect();
+        let said = hint_of(&format!("op=job qubits=99 outcomes=0 shots=1\nop=p x={} z=-\n", many.join(",")));
+        assert_eq!(said, "x= has 32 members, and a list has at most 31");
+    }
+
+    #[test]
+    fn headers_and_lengths() {
+        let cases = [
+            ("", "the job is empty"),
+            ("op=job qubits=1 outcomes=0 shots=1", "the last line has no line end"),
+            ("op=z q=0\n", "the first line is the header"),
+            ("op=job qubits=0 outcomes=0 shots=1\n", "qubits= is from 1 to 256"),
+            ("op=job qubits=1 outcomes=1025 shots=1\n", "outcomes= is from 0 to 1024"),
+            ("op=job qubits=1 outcomes=0 shots=10000\n", "shots= is from 1 to 4096"),
+        ];
+        for (job, expected) in cases {
+            assert!(hint_of(job).starts_with(expected), "{job:?}: {}", hint_of(job));
+        }
+        assert!(hint_of(&"\n".repeat(MAX_BYTES + 1)).starts_with("a job has at most 1,048,576 bytes"));
+    }
+
+    /// Whatever the bytes are, there is a hint or none.
+    #[test]
+    fn damaged_jobs() {
+        let job = include_bytes!("../../../examples/bell.job");
+        let mut words = kundatrezo::Xorshift::new(1);
+        let mut below = |limit: usize| usize::try_from(words.next().unwrap_or(0) % limit as u64).expect("small");
+        for _ in 0..20_000 {
+            let mut damaged = job.to_vec();
+            for _ in 0..=below(3) {
+                let place = below(damaged.len());
+                match below(3) {
+                    0 => damaged[place] = b"\n\r =,-0123456789abopnxz\xff"[below(23)],
+                    1 => drop(damaged.remove(place)),
+                    _ => damaged.insert(place, b" =,\n0"[below(5)]),
+                }
+            }
+            if let Err(refusal) = kundatrezo::check(&damaged) {
+                _ = hint(&refusal, &damaged);
+            }
+        }
+    }
+}

@@ -1,0 +1,156 @@
+/* The stack that each call takes, against what the header states. A call runs on a stack that was painted before, in a process of its own, so that it also
+ * binds the memcpy and memset that it uses. The jobs have every form of line, so that each part of a call runs. */
+#define _XOPEN_SOURCE 700
+#include <stdio.h>
+#include <sys/wait.h>
+#include <ucontext.h>
+#include <unistd.h>
+
+#include "kundatrezo.h"
+
+#define PAINT 0xa5
+
+#define PLAIN \
+    "op=job qubits=40 outcomes=4 shots=130\n" \
+    "op=u g=4 q=0\n" \
+    "op=u g=11 q=0,1\n" \
+    "op=u g=14 q=2,3\n" \
+    "op=c q=3,2,1,0 t=8040201008040201\n" \
+    "op=p x=0,1,2,3,4,5,6,7,8,9,10,11,12,13,14,15,16,17,18,19,20,21,22,23,24,25,26,27,28,29,30 z=3,4\n" \
+    "op=e x=0,1,2 z=3,4\n" \
+    "op=k x=0,1 z=2 u=3 v=4,5\n" \
+    "op=m s=2,1,0,3 q=4,5,6,7\n" \
+    "op=o x=0,1,2,3,4,5,6,7,8,9,10,11,12,13,14,15,16,17,18,19,20,21,22,23,24,25,26,27,28,29,30 z=3,4 id=0\n" \
+    "op=r id=1 angle=1\n" \
+    "op=f x=0 z=1 id=0,1 parity=1\n" \
+    "op=z q=0\n" \
+    "op=i shot=129 x=0 z=1\n" \
+    "op=t shot=64 id=1\n" \
+    "op=o x=- z=0,1 id=2\n"
+
+#define NOISE \
+    "op=n p=3ff0000000000000 corr=- cond=- parity=0 d=1 x=0 z=1\n" \
+    "op=n p=3ff0000000000000 corr=- cond=0,1 parity=0 d=2 q=0,1,2,3,4,5,6,7,8,9,10,11,12,13,14,15,16,17,18,19,20,21,22,23,24,25,26,27,28,29,30\n" \
+    "op=n p=3fe0000000000000 corr=3 cond=- parity=0 d=3 n=2\n" \
+    "x=0 z=-\n" \
+    "x=0,1 z=2\n" \
+    "op=n p=3fe0000000000000 corr=- cond=2 parity=0 d=4 n=3\n" \
+    "w=3fe0000000000000 x=0 z=-\n" \
+    "w=3fd0000000000000 x=1 z=-\n" \
+    "w=0000000000000001 x=2 z=3,4\n" \
+    "op=n p=3fe0000000000000 corr=4 cond=- parity=0 d=2 q=5\n"
+
+static const char plain[] = PLAIN, noisy[] = PLAIN NOISE;
+
+/* a job and its length */
+#define WITHOUT_NOISE (const uint8_t *)plain, sizeof plain - 1
+#define NOISY (const uint8_t *)noisy, sizeof noisy - 1
+
+static uint8_t out[KUNDATREZO_MAX_BYTES];
+static uint64_t x[200], z[200], deltas[40], noiseless[40], main_words[5000], second[5000], set[] = {0, 2};
+
+static void no_call(void) {}
+
+static void check(void) { kundatrezo_check(NOISY); }
+
+static void examine(void) { kundatrezo_examine(NOISY); }
+
+static void run(void)
+{
+    kundatrezo_run(NOISY, x, 200, z, 200, deltas, 40, noiseless, 40, main_words, 5000, second, 5000, 0);
+}
+
+static void settle(void)
+{
+    kundatrezo_settle(NOISY, noiseless, 40, main_words, 5000, second, 5000, 0, out, sizeof out);
+}
+
+static void walk(void) { kundatrezo_walk(WITHOUT_NOISE, 129, set, 2); }
+
+static void annotate(void) { kundatrezo_annotate(NOISY, 0x3fe0000000000000, out, sizeof out); }
+
+static void locations(void) { kundatrezo_locations(NOISY); }
+
+static void correlation(void) { kundatrezo_correlation(NOISY); }
+
+static void line(void) { kundatrezo_line(NOISY, 20); }
+
+static unsigned char stack[1 << 18];
+static ucontext_t here, there;
+
+static size_t taken(void (*call)(void))
+{
+    /* by hand: memset is to be bound by the call */
+    for (volatile unsigned char *place = stack; place < stack + sizeof stack; place++)
+        *place = PAINT;
+    getcontext(&there);
+    there.uc_stack.ss_sp = stack;
+    there.uc_stack.ss_size = sizeof stack;
+    there.uc_link = &here;
+    makecontext(&there, call, 0);
+    swapcontext(&here, &there);
+    size_t untouched = 0;
+    while (untouched < sizeof stack && stack[untouched] == PAINT)
+        untouched++;
+    return sizeof stack - untouched;
+}
+
+static const struct {
+    const char *name;
+    void (*call)(void);
+    size_t stated;
+} calls[] = {
+    {"check", check, KUNDATREZO_OTHER_STACK},
+    {"examine", examine, KUNDATREZO_OTHER_STACK},
+    {"run", run, KUNDATREZO_RUN_STACK},
+    {"settle", settle, KUNDATREZO_SETTLE_STACK},
+    {"walk", walk, KUNDATREZO_OTHER_STACK},
+    {"annotate", annotate, KUNDATREZO_OTHER_STACK},
+    {"locations", locations, KUNDATREZO_OTHER_STACK},
+    {"correlation", correlation, KUNDATREZO_CORRELATION_STACK},
+    {"line", line, KUNDATREZO_OTHER_STACK},
+};
+
+/* 1 where the call takes more than is stated */
+static int exceeds(size_t i)
+{
+    size_t bytes = taken(calls[i].call) - taken(no_call);
+    printf("stack: %s takes %zu of %zu bytes\n", calls[i].name, bytes, calls[i].stated);
+    return bytes > calls[i].stated;
+}
+
+static int exceeds_in_a_process(size_t i)
+{
+    fflush(stdout);
+    pid_t child = fork();
+    if (child == 0) {
+        int status = exceeds(i);
+        fflush(stdout);
+        _exit(status);
+    }
+    int status = 1;
+    return child < 0 || waitpid(child, &status, 0) != child || status != 0;
+}
+
+/* Where a call refused its job, it would stop before its deepest part. */
+static int accepted(void)
+{
+    struct kundatrezo_count_answer walked = kundatrezo_walk(WITHOUT_NOISE, 129, set, 2);
+    struct kundatrezo_text_answer settled = kundatrezo_settle(NOISY, noiseless, 40, main_words, 5000, second, 5000, 0, out, sizeof out);
+    struct kundatrezo_text_answer annotated = kundatrezo_annotate(NOISY, 0, out, sizeof out);
+    return kundatrezo_correlation(NOISY).number == 0 && walked.answer.number == 0 && settled.answer.number == 0 && annotated.answer.number == 0;
+}
+
+int main(void)
+{
+    int failed = 0;
+    for (size_t i = 0; i < sizeof calls / sizeof *calls; i++)
+        failed |= exceeds_in_a_process(i);
+    if (failed)
+        puts("stack: a call takes more than the header states");
+    if (!accepted()) {
+        puts("stack: a job is refused");
+        failed = 1;
+    }
+    return failed;
+}
