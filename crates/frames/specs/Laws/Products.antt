@@ -7,7 +7,7 @@ use Prim.Native.Nat.{ℕ, zero, suc, _+_, _<_}
 use native.Mathlib.Nat.{not-suc-le-zero, add-zero, zero-add}
 use native.Mathlib.Decide.{ℕ-discrete}
 use native.Mathlib.Omega.{arith}
-use Rattle.pauli.specs.Bits.{none, only}
+use Rattle.pauli.specs.Bits.{none}
 use Rattle.pauli.specs.Pauli.{Pauli, identity, X-at, Y-at, Z-at, _∗_, anticommutes}
 use Rattle.pauli.specs.Laws.Parity.{only-here, only-off}
 use Rattle.pauli.specs.Laws.Group.{X-Z}

@@ -3,9 +3,8 @@
 use mathlib.Core.Path.{_≡_, sym, ap, _∙_, subst}
 use mathlib.Core.List.{List}
 use Prim.Native.Nat.{ℕ, _<_}
-use lib.ListN.{length, getD}
 use Rattle.pauli.specs.Pauli.{Pauli, identity, X-at, Z-at, _∗_}
-use Rattle.frames.specs.Conjugation.{timesI^, Sum, product, coefficientOf, pauliSum, Takes, Extends, TakesImages, Within}
+use Rattle.frames.specs.Conjugation.{Sum, coefficientOf, Takes, Extends, TakesImages, Within}
 use Rattle.frames.specs.Laws.Gaussian.{timesI^-zero}
 use Rattle.frames.specs.Laws.Products.{one-product, product-one}
 use Rattle.frames.specs.Laws.Takes.{takes-∗}
