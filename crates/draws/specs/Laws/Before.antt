@@ -3,16 +3,13 @@
 use mathlib.Core.Path.{_≡_, refl, sym, ap, subst, _∙_}
 use mathlib.Core.List.{List, [], _∷_, _++_}
 use Prim.Native.Nat.{ℕ, _+_}
-use native.Mathlib.Omega.{arith}
 use Rattle.text.specs.Bytes.{LF}
-use Rattle.text.specs.Written.{Free, AllFree}
-use Rattle.text.specs.Theorems.{lines-free}
+use Rattle.text.specs.Written.{Free}
 use Rattle.job.specs.declared.Header.{Header}
 use Rattle.job.specs.Line.{Line, Instruction, Placed}
 use Rattle.job.specs.Job.{jobOf, recordedBy, checkJob}
 use Rattle.job.specs.Sound.{Every, InstructionSound, InstructionsSound, SaidBy, LinesSound}
 use Rattle.job.specs.Theorems.{checked-sound}
-use Rattle.job.specs.Laws.Texts.{gathered-free}
 use Rattle.frames.specs.Forward.{State, settingOf, run, start}
 use Rattle.frames.specs.Conjugation.{Within}
 use Rattle.frames.specs.Laws.Within.{within-identity, lines-within}
@@ -20,8 +17,8 @@ use Rattle.draws.specs.Draws.{Lent}
 use Rattle.draws.specs.Settle.{SettledLine, Settled, settle, settledList}
 use Rattle.draws.specs.Execute.{States, starts, forwardAll, Executed, executeOne, Ended, executeThen, execute}
 use Rattle.draws.specs.Known.{runAll, onSettled}
-use Rattle.draws.specs.Laws.Settling.{execute-settle}
-use Rattle.draws.specs.Laws.SettledText.{settled-as, told-sound}
+use Rattle.draws.specs.Laws.Settling.{execute-settle, ended-apart, ended-same}
+use Rattle.draws.specs.Laws.SettledText.{settled-as, told-sound, job-free}
 
 -- ---- some of the instructions
 
@@ -43,9 +40,6 @@ instruction-behind h r (j ∷ before) i after s = instruction-behind h (r + reco
 
 -- ---- the frames that they leave
 
-ended-same : (s t : States) → Ended.ended s ≡ Ended.ended t → s ≡ t
-ended-same s t p = cc
-
 module _ (job : List ℕ) (passes : checkJob job .number ≡ 0) (lent : Lent) (shots : lent .shots ≡ jobOf job .header .shots) (main : List ℕ) where
   abbrev h : Header
   h = jobOf job .header
@@ -54,12 +48,10 @@ module _ (job : List ℕ) (passes : checkJob job .number ≡ 0) (lent : Lent) (s
       → LinesSound h 0 (settledList ls)
   lines-before before after e ls settles =
       let sound = checked-sound job passes in
-      let free : AllFree LF (jobOf job .text ∷ sound .rest) = rw (sound .split) at (lines-free job) in
-      let each : Every (λ (p : Placed). Free LF (p .text)) (jobOf job .instructions) = rw (sound .gathers) (gathered-free 2 (sound .rest) (free .1)) in
       told-sound h 0 ls
       (settled-as h (sound .header) 0 lent main before ls shots (instructions-before h 0 before after (subst (InstructionsSound h 0) e (sound .instructions)))
       (every-before _ before after (subst (Every (λ (p : Placed). SaidBy (p .text) (p .instruction))) e (sound .texts)))
-      (every-before _ before after (subst (Every (λ (p : Placed). Free LF (p .text))) e each)) settles .told)
+      (every-before _ before after (subst (Every (λ (p : Placed). Free LF (p .text))) e (job-free job passes .1))) settles .told)
 
   pub states-within : (before after : List Placed) → jobOf job .instructions ≡ before ++ after → (states : States) → execute h lent before main starts ≡ Ended.ended states
       → (shot : ℕ) → Within (h .qubits) (states shot .frame)
@@ -67,7 +59,7 @@ module _ (job : List ℕ) (passes : checkJob job .number ≡ 0) (lent : Lent) (s
   states-within before after e states ends shot = go (settle lent before main) refl (sym (execute-settle h lent before main starts) ∙ ends)
     where
       go : (o : Settled) → settle lent before main ≡ o → onSettled h starts o ≡ Ended.ended states → Within (h .qubits) (states shot .frame)
-      go (Settled.spentAt k) settles p = let no : _≡_ {A = ℕ} 0 1 = cc in absurd (omega arith)
+      go (Settled.spentAt k) settles p = absurd (ended-apart k states p)
       go (Settled.settled ls) settles p =
           let ran : run (settingOf h shot) (settledList ls) start ≡ states shot = ap (λ (t : States). t shot) (ended-same _ states p) in
           subst (λ (s : State). Within (h .qubits) (s .frame)) ran

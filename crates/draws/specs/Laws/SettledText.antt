@@ -252,13 +252,19 @@ pub record JobSettles (job : List ℕ) (ls : List SettledLine) : Type 0 where
   pub lines : SettledAs (jobOf job .header) 0 (jobOf job .instructions) ls
   pub free : AllFree LF (jobOf job .text ∷ textsOf ls)
 
+-- its header and the text of each instruction are one line
+pub job-free : (job : List ℕ) → checkJob job .number ≡ 0 → Free LF (jobOf job .text) × Every (λ (p : Placed). Free LF (p .text)) (jobOf job .instructions)
+job-free job passes =
+    let sound = checked-sound job passes in
+    let free : AllFree LF (jobOf job .text ∷ sound .rest) = rw (sound .split) at (lines-free job) in
+    (free .0, rw (sound .gathers) (gathered-free 2 (sound .rest) (free .1)))
+
 pub job-settles : (job : List ℕ) → checkJob job .number ≡ 0 → (lent : Lent) → lent .shots ≡ jobOf job .header .shots → (main : List ℕ) (ls : List SettledLine)
     → settle lent (jobOf job .instructions) main ≡ Settled.settled ls → JobSettles job ls
 job-settles job passes lent shots main ls settles =
     let sound = checked-sound job passes in
-    let free : AllFree LF (jobOf job .text ∷ sound .rest) = rw (sound .split) at (lines-free job) in
-    let each : Every (λ (p : Placed). Free LF (p .text)) (jobOf job .instructions) = rw (sound .gathers) (gathered-free 2 (sound .rest) (free .1)) in
-    let settled = settled-as (jobOf job .header) (sound .header) 0 lent main (jobOf job .instructions) ls shots (sound .instructions) (sound .texts) each settles in
+    let free = job-free job passes in
+    let settled = settled-as (jobOf job .header) (sound .header) 0 lent main (jobOf job .instructions) ls shots (sound .instructions) (sound .texts) (free .1) settles in
     record { says = sound .reads; range = sound .header; lines = settled; free = (free .0, told-free (jobOf job .header) 0 ls (settled .told)) }
 
 -- an accepted job ends in LF
