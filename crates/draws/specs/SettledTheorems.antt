@@ -8,7 +8,7 @@ use lib.ListN.{length}
 use Rattle.job.specs.Line.{Line, Placed}
 use Rattle.job.specs.Job.{accepted, Job, jobOf, recordedIn, checkJob}
 use Rattle.job.specs.Sound.{LinesSound}
-use Rattle.job.specs.Laws.Passes.{lines-accepted}
+use Rattle.job.specs.Laws.Said.{instructions-accepted, lines-list}
 use Rattle.job.specs.Laws.Texts.{text-accepted, text-job}
 use Rattle.frames.specs.Forward.{settingOf, forward, run, start}
 use Rattle.frames.specs.Conjugation.{Within, isUnitaryKind, IsConjugate}
@@ -56,7 +56,7 @@ module _ (job : List ℕ) (passes : checkJob job .number ≡ 0) (lent : Lent) (s
     unfolding settledText
     settled-accepted few =
         text-accepted (jobOf job .header) (jobOf job .text) (textsOf ls) (known .says) (known .free) (known .range)
-        (lines-accepted (jobOf job .header) 0 2 (textsOf ls) (settledList ls) (told-says (jobOf job .header) 0 ls (known .lines .told)) settled-sound) few
+        (instructions-accepted (jobOf job .header) 0 2 (textsOf ls) _ (told-says (jobOf job .header) 0 ls (known .lines .told)) (lines-list (jobOf job .header) 0 _ settled-sound)) few
 
     -- Its header is the job's, with its bytes, and its instructions are the settled lines with their texts, one to a line, in order.
     pub settled-job : jobOf (settledText (jobOf job .text) ls) ≡ record { header = jobOf job .header; text = jobOf job .text; instructions = numbered 2 ls }

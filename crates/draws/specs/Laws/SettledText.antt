@@ -19,7 +19,7 @@ use Rattle.job.specs.Line.{SparsePauli, Line, WeightedPauli, Distribution, Nois
 use Rattle.job.specs.Grammar.{Written, injectTemplate, readLine}
 use Rattle.job.specs.Checks.{allBelow, records}
 use Rattle.job.specs.Job.{wellEnded, placedAt, gather, gathered, Job, jobOf, recordedBy, recordedIn, checkJob}
-use Rattle.job.specs.Sound.{RisingBelow, Every, PauliSound, LineSound, ElementSound, DistributionSound, InstructionSound, InstructionsSound, SaidBy, LinesSound, HeaderSound, ReadAs}
+use Rattle.job.specs.Sound.{RisingBelow, Every, PauliSound, LineSound, ElementSound, DistributionSound, InstructionSound, InstructionsSound, SaidBy, LinesSound, HeaderSound, SaidAs}
 use Rattle.job.specs.Theorems.{checked-sound}
 use Rattle.job.specs.Laws.Lists.{below-first}
 use Rattle.job.specs.Laws.Forms.{PauliFits}
@@ -194,10 +194,10 @@ module _ (h : Header) where
   told-sound r [] t = tt
   told-sound r (l ∷ ls) t = (t .0 .sound, told-sound (r + recordedBy (Instruction.line (l .line))) ls (t .1))
 
-  pub told-says : (r : ℕ) (ls : List SettledLine) → AllTold h r ls → ReadAs (textsOf ls) (settledList ls)
-  unfolding AllTold ReadAs
-  told-says r [] t = tt
-  told-says r (l ∷ ls) t = (t .0 .says, told-says (r + recordedBy (Instruction.line (l .line))) ls (t .1))
+  pub told-says : (r : ℕ) (ls : List SettledLine) → AllTold h r ls → SaidAs (textsOf ls) (map Instruction.line (settledList ls))
+  unfolding AllTold
+  told-says r [] t = SaidAs.nothing
+  told-says r (l ∷ ls) t = SaidAs.line _ _ _ _ (t .0 .says) (told-says (r + recordedBy (Instruction.line (l .line))) ls (t .1))
 
   pub told-free : (r : ℕ) (ls : List SettledLine) → AllTold h r ls → AllFree LF (textsOf ls)
   unfolding AllTold
