@@ -14,9 +14,10 @@ use Rattle.job.specs.Grammar.{unitaryLine, optional, noiseLine, forms, said, or
 use Rattle.job.specs.Rising.{including, rising}
 use Rattle.job.specs.Float.{float, isProbability}
 use Rattle.job.specs.Job.{accepted, jobOf, checkJob}
+use Rattle.job.specs.Sound.{instructionsOf}
 use Rattle.job.specs.Reply.{writtenText, writtenBy}
 use Rattle.circuit.specs.Annotate.{noiseQubits, noiseBefore, noiseText, noiseLines, around, annotated, annotatedText, firstUnfit, locationsOf, locationsAt, locations}
-use Rattle.circuit.specs.Annotated.{annotatedList, instructionsOf}
+use Rattle.circuit.specs.Annotated.{annotatedList}
 use Rattle.circuit.specs.Replies.{annotateReply}
 use Rattle.circuit.specs.Laws.Replies.{annotate-writes}
 use Rattle.circuit.specs.Laws.Annotated.{JobAnnotated, job-annotated}

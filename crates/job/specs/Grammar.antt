@@ -73,11 +73,11 @@ pub record Form : Type 0 where
   pub template : List ℕ
   pub says : List Value → Option Written
 
-abbrev pub formOf : List ℕ → (List Value → Option Written) → Form
-formOf template says = record { template = template; says = says }
+abbrev pub formBy : List ℕ → (List Value → Option Written) → Form
+formBy template says = record { template = template; says = says }
 
 abbrev pub form : String → (List Value → Option Written) → Form
-form template = formOf (bytes template)
+form template = formBy (bytes template)
 
 -- the templates that are written too, by settling and by annotation
 abbrev pub injectTemplate : List ℕ
@@ -100,10 +100,10 @@ forms =
     ∷ form "op=r id=N angle=B" (λ v. plain (Line.allocate (numberAt 0 v) (isOne (numberAt 1 v))))
     ∷ form "op=f x=L z=L id=L parity=B" (λ v. plain (Line.conditional (pauliAt 0 1 v) (listAt 2 v) (isOne (numberAt 0 v))))
     ∷ form "op=z q=N" (λ v. plain (Line.reset (numberAt 0 v ∷ [])))
-    ∷ formOf injectTemplate (λ v. plain (Line.inject (numberAt 0 v) (pauliAt 0 1 v)))
+    ∷ formBy injectTemplate (λ v. plain (Line.inject (numberAt 0 v) (pauliAt 0 1 v)))
     ∷ form "op=t shot=N id=N" (λ v. plain (Line.flip (numberAt 0 v) (numberAt 1 v)))
     ∷ form "op=n p=H corr=C cond=L parity=B d=1 x=L z=L" (λ v. noiseLine (Kind.single (pauliAt 2 3 v)) v)
-    ∷ formOf depolarizingTemplate (λ v. noiseLine (Kind.depolarizing (listAt 2 v)) v)
+    ∷ formBy depolarizingTemplate (λ v. noiseLine (Kind.depolarizing (listAt 2 v)) v)
     ∷ form "op=n p=H corr=C cond=L parity=B d=3 n=N" (λ v. noiseLine (Kind.uniform (numberAt 2 v)) v)
     ∷ form "op=n p=H corr=C cond=L parity=B d=4 n=N" (λ v. noiseLine (Kind.weighted (numberAt 2 v)) v)
     ∷ form "x=L z=L" (λ v. some (Written.element none (pauliAt 0 1 v)))
