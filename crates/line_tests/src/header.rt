@@ -4,7 +4,7 @@ ghost use mathlib.Core.List.{List};
 ghost use Prim.Native.Nat.{_≤_};
 ghost use Rattle.text.specs.Template.{Value};
 ghost use Rattle.template.specs.Values.{Whole, heldNumber};
-ghost use Rattle.job.specs.Grammar.{Written};
+ghost use Rattle.job.specs.Grammar.{Written, headerBy};
 ghost use Rattle.job.specs.Checks.{inRange, headerFits, next as Checks·next};
 ghost use Rattle.reader.specs.Parsed.{Said};
 ghost use Rattle.value_tests.specs.Contexts.{contextOf};
@@ -21,7 +21,7 @@ const MAX_SHOTS: u64 = 4096;
 
 fn header_in(f: &[u64]) -> Header
     requires { ⌜ Whole (now f) ⌝ }
-    ensures { λ r. ⌜ r ≡ record { qubits = heldNumber (now (f .entry)) 0; outcomes = heldNumber (now (f .entry)) 1; shots = heldNumber (now (f .entry)) 2 } ⌝ }
+    ensures { λ r. ⌜ r ≡ headerBy (heldNumber (now (f .entry))) ⌝ }
 {
     Header {
         qubits: number(f, 0),
