@@ -12,7 +12,7 @@ use Rattle.text.specs.Bytes.{until, extend, pieces, lines, unlines}
 use Rattle.text.specs.Written.{Free}
 use Rattle.text.specs.Theorems.{lines-unlines}
 use Rattle.instructions.specs.Reading.{lineAt}
-use Rattle.walker.specs.Steps.{LineStart, LineBefore}
+use Rattle.lines_from_last.specs.Line.{LineStart, LineBefore}
 
 -- what stands before an LF has its lines, whatever follows
 joined : (p : List ℕ) → (h : List ℕ) × (t : List (List ℕ)) × ((q : List ℕ) → lines (p ++ 10 ∷ q) ≡ h ∷ (t ++ lines q))

@@ -19,7 +19,7 @@ use Rattle.job.specs.Laws.Accepted.{Passing, accepted-first}
 use Rattle.job.specs.Laws.Begun.{Begun, job-begun}
 use Rattle.job.specs.Laws.Gather.{recorded-more}
 use Rattle.job.specs.Laws.Recorded.{instruction-within}
-use Rattle.walker.specs.Steps.{Known}
+use Rattle.lines_from_last.specs.Line.{Known}
 
 -- a line that passes
 passed-sound : (c : Context) (ls : List (List ℕ)) (l : Line) → WrittenFits (Written.line l) → Passing c ls (Written.line l) → LineSound (c .header) (c .recorded) l

@@ -1,12 +1,12 @@
--- `walker::line_start` meets its contract. Assumes nothing.
+-- `lines_from_last::line_start` meets its contract. Assumes nothing.
 use Prim.Native.Nat.{_-_, _≤_}
 use native.Mathlib.Omega.{arith}
 use mathlib.Core.Path.{_≡_}
 use Rattle.text.specs.Written.{Free}
 use Rattle.instructions.specs.Reading.{lineAt}
-use Rattle.walker.specs.Laws.Starts.{line-before, free-more, free-two, free-none}
-use Rattle.walker.proofs.line_start.Statement.{statement}
-use Rattle.walker.proofs.line_start.Tie as tie
+use Rattle.lines_from_last.specs.Laws.Starts.{line-before, free-more, free-two, free-none}
+use Rattle.lines_from_last.proofs.line_start.Statement.{statement}
+use Rattle.lines_from_last.proofs.line_start.Tie as tie
 
 abbrev Inv-loop : tie.InvT-loop
 Inv-loop job e i₀ i = (i ≤ e) × Free 10 (lineAt job i e)
