@@ -1,4 +1,4 @@
-// Lines going back: each kind of line, as its fields hold it (crate reader), on the observable, the set of outcomes and the count.
+// Lines going back: each kind of line, as its values lie in lent words (crate template), on the observable, the set of outcomes and the count.
 ghost use mathlib.Core.Path.{_≡_};
 ghost use mathlib.Core.Bool.{Bool, false};
 ghost use Prim.Native.Nat.{ℕ, _+_, _^_, _<_};

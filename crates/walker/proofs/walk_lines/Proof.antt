@@ -11,7 +11,7 @@ use Rattle.walker.proofs.walk_lines.Statement.{statement}
 use Rattle.walker.proofs.walk_lines.Tie as tie
 
 abbrev Inv-loop : tie.InvT-loop
-Inv-loop job lines shot set₀ values₀ w₀ e₀ k₀ set values w e k = Going job (shot .0) (inSet set₀) w set k e × (length values ≡ 136)
+Inv-loop job lines shot set₀ values₀ w₀ e₀ k₀ set values w e k = Going job (shot .0) (inSet set₀) w set k e × (length values ≡ length values₀)
 
 abbrev μ-loop : tie.MeasureT-loop
 μ-loop job lines shot set₀ values₀ w₀ e₀ k₀ set values w e k = e
