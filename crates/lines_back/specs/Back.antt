@@ -8,6 +8,7 @@ use Rattle.pauli.specs.declared.Pauli.{Pauli as PauliWords}
 use Rattle.pauli.specs.Bits.{Bits}
 use Rattle.pauli.specs.Fixed.{inSet, asPauli}
 use Rattle.text.specs.Template.{Value}
+use Rattle.template.specs.Values.{Whole}
 use Rattle.job.specs.declared.Header.{Header}
 use Rattle.job.specs.Line.{Line}
 use Rattle.job.specs.Grammar.{Written}
@@ -16,7 +17,7 @@ use Rattle.reader.specs.declared.Form.{Form}
 use Rattle.reader.specs.Parsed.{Said}
 use Rattle.frames.specs.Forward.{Setting}
 use Rattle.backward.specs.Walk.{Carried, carry, counts, Walk, backward}
-use Rattle.lines.specs.Plain.{Plain}
+use Rattle.instructions.specs.Plain.{Plain}
 use Rattle.carry.specs.Full.{full}
 use Rattle.lines_back.specs.declared.Walk.{Walk as WalkWords}
 
@@ -46,7 +47,7 @@ pub record Back (form : Form) (fields : List ℕ) (shot : ℕ) (b : PauliWords) 
 pub record Readable (form : Form) (fields : List ℕ) : Type 0 where
   pub header : Header
   pub range : HeaderSound header
-  pub wide : 136 ≤ length fields
+  pub wide : Whole fields
   pub values : List Value
   pub written : Written
   pub said : Said form fields values written

@@ -1,4 +1,4 @@
-// Lines going back: each kind of line, as its fields hold it (crate reader), on the observable, the set of outcomes and the count.
+// Lines going back: each kind of line, as its values lie in lent words (crate template), on the observable, the set of outcomes and the count.
 ghost use mathlib.Core.Path.{_≡_};
 ghost use mathlib.Core.Bool.{Bool, false};
 ghost use Prim.Native.Nat.{ℕ, _+_, _^_, _<_};
@@ -9,12 +9,13 @@ ghost use Rattle.pauli.specs.declared.Pauli.{Pauli as PauliWords};
 ghost use Rattle.reader.specs.declared.Form.the-variants as Forms;
 ghost use Rattle.backward.specs.Walk.{oneMore};
 ghost use Rattle.lines_back.specs.Back.{Ready, Back, Readable, LineBack};
-use lines::list;
 use pauli::OutcomeId;
 use pauli::Pauli;
 use pauli::QubitId;
 use pauli::Shot;
 use reader::Form;
+use template::values::list;
+use template::values::number;
 
 // ---- Lines that change the observable alone
 
@@ -22,14 +23,14 @@ fn unitary(f: &[u64], b: Pauli) -> Pauli
     requires { ⌜ Ready Forms.Unitary (now f) ⌝ }
     ensures { λ r. ⌜ ((shot : ℕ) (set : Bits) → Back Forms.Unitary (now (f .entry)) shot b set r set false) ⌝ }
 {
-    carry::unitary_back(b, f[0], list(f, 0))
+    carry::unitary_back(b, number(f, 0), list(f, 0))
 }
 
 fn clifford(f: &[u64], b: Pauli) -> Pauli
     requires { ⌜ Ready Forms.Clifford (now f) ⌝ }
     ensures { λ r. ⌜ ((shot : ℕ) (set : Bits) → Back Forms.Clifford (now (f .entry)) shot b set r set false) ⌝ }
 {
-    carry::clifford_back(b, list(f, 0), f[0])
+    carry::clifford_back(b, list(f, 0), number(f, 0))
 }
 
 fn exponential(f: &[u64], b: Pauli) -> Pauli
@@ -57,14 +58,14 @@ fn reset(f: &[u64], b: Pauli) -> Pauli
     requires { ⌜ Ready Forms.Reset (now f) ⌝ }
     ensures { λ r. ⌜ ((shot : ℕ) (set : Bits) → Back Forms.Reset (now (f .entry)) shot b set r set false) ⌝ }
 {
-    b.clear_qubit(QubitId(f[0] as usize))
+    b.clear_qubit(QubitId(number(f, 0) as usize))
 }
 
 fn measure(f: &[u64], b: Pauli, set: &[u64]) -> Pauli
     requires { ⌜ Ready Forms.Measure (now f) ⌝ }
     ensures { λ r. ⌜ ((shot : ℕ) → Back Forms.Measure (now (f .entry)) shot b (inSet (now (set .entry))) r (inSet (now (set .entry))) false) ⌝ }
 {
-    let id = OutcomeId(f[0] as usize);
+    let id = OutcomeId(number(f, 0) as usize);
     carry::measure_back(b, set, list(f, 0), list(f, 1), id)
 }
 
@@ -84,7 +85,7 @@ fn inject(f: &[u64], b: Pauli, shot: Shot) -> bool
     requires { ⌜ Ready Forms.Inject (now f) ⌝ }
     ensures { λ r. ⌜ ((set : Bits) → Back Forms.Inject (now (f .entry)) (shot .0) b set b set r) ⌝ }
 {
-    if f[0] as usize != shot.0 {
+    if number(f, 0) as usize != shot.0 {
         return false;
     }
     carry::injection_counts(b, list(f, 0), list(f, 1))
@@ -95,10 +96,10 @@ fn flip(f: &[u64], set: &[u64], shot: Shot) -> bool
     requires { ⌜ Ready Forms.Flip (now f) ⌝ }
     ensures { λ r. ⌜ ((b : PauliWords) → Back Forms.Flip (now (f .entry)) (shot .0) b (inSet (now (set .entry))) b (inSet (now (set .entry))) r) ⌝ }
 {
-    if f[0] as usize != shot.0 {
+    if number(f, 0) as usize != shot.0 {
         return false;
     }
-    pauli::has_outcome(set, OutcomeId(f[1] as usize))
+    pauli::has_outcome(set, OutcomeId(number(f, 1) as usize))
 }
 
 // ---- Any line
@@ -110,7 +111,7 @@ pub struct Walk {
     pub noise: u64,
 }
 
-fn with_observable(w: Walk, observable: Pauli) -> Walk
+pub fn with_observable(w: Walk, observable: Pauli) -> Walk
     ensures { λ r. ⌜ r ≡ record { observable = observable; count = w .count; noise = w .noise } ⌝ }
 {
     Walk {

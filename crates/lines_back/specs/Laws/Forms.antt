@@ -20,7 +20,7 @@ use Rattle.instructions.specs.Reading.{noiseForm}
 use Rattle.instructions.specs.Laws.Meaning.{some-same, unitary-said, Meaning, meaning}
 use Rattle.frames.specs.Forward.{Setting}
 use Rattle.backward.specs.Walk.{carry, counts, Walk, oneMore, backward}
-use Rattle.lines.specs.Laws.Obey.{Idle}
+use Rattle.instructions.specs.Laws.Read.{Idle}
 use Rattle.carry.specs.Full.{full}
 use Rattle.lines_back.specs.declared.Walk.{Walk as WalkWords}
 use Rattle.lines_back.specs.Back.{Ready, Back, Readable, walkOf, writtenBack, noiseBack, LineBack}
