@@ -7,12 +7,12 @@ use Rattle.pauli.specs.Pauli.{Pauli, addedAt}
 use Rattle.pauli.specs.Fixed.{inSet, asPauli}
 use Rattle.pauli.specs.Laws.Word.{bit-is}
 use Rattle.job.specs.Laws.Lists.{below-at}
-use Rattle.carry.specs.Laws.Parts.{Left, all-left, one-added, none-left}
+use Rattle.carry.specs.Laws.Parts.{PartsToAdd, all-left, one-added, none-left}
 use Rattle.carry.proofs.add_parts.Statement.{statement}
 use Rattle.carry.proofs.add_parts.Tie as tie
 
 abbrev Inv-loop : tie.InvT-loop
-Inv-loop qubits x z r₀ i₀ r i = Left (inSet (r₀ .x)) qubits x i (inSet (r .x)) × Left (inSet (r₀ .z)) qubits z i (inSet (r .z))
+Inv-loop qubits x z r₀ i₀ r i = PartsToAdd (inSet (r₀ .x)) qubits x i (inSet (r .x)) × PartsToAdd (inSet (r₀ .z)) qubits z i (inSet (r .z))
 
 abbrev μ-loop : tie.MeasureT-loop
 μ-loop qubits x z r₀ i₀ r i = length qubits - i

@@ -1,4 +1,4 @@
--- Each kind of line going back, by its fields. Laws. Assumes nothing.
+-- Each kind of line going back, by its values. Laws. Assumes nothing.
 use Prim.Native.Nat.{ℕ, _≤_}
 use mathlib.Core.Path.{_≡_, refl, sym, ap, _∙_, subst}
 use mathlib.Core.Bool.{Bool, true, false, _&&_}
@@ -23,15 +23,15 @@ use Rattle.backward.specs.Walk.{cliffordBack, permuteBack, carry, counts}
 use Rattle.instructions.specs.Plain.{heldPauli}
 use Rattle.instructions.specs.Laws.Read.{unitary-read, clifford-read, exponential-read, controlled-read, permute-read, measure-read, conditional-read, reset-read, inject-read, flip-read}
 use Rattle.carry.specs.Full.{full}
-use Rattle.lines_back.specs.Back.{Ready, carriedOf, Back}
+use Rattle.lines_back.specs.Back.{HeldLine, carriedOf, Back}
 
 -- the lists of a Pauli on at most 256 qubits
 pub pauli-below : {n : ℕ} {P : SparsePauli} → n ≤ 256 → PauliSound n P → (allBelow 256 (P .x) ≡ true) × (allBelow 256 (P .z) ≡ true)
 pauli-below h s = (below-more _ 256 _ h (s .x .below), below-more _ 256 _ h (s .z .below))
 
--- the line by its fields
-by-line : {k : Form} {f : List ℕ} {shot : ℕ} {b b′ : PauliWords} {set set′ : Bits} {counted : Bool} (l : Ready k f → Line) → ((p : Ready k f) → l p ≡ p .line)
-    → ((p : Ready k f) → carry 256 (l p) (carriedOf b set) ≡ carriedOf b′ set′) → ((p : Ready k f) → counts (full shot) (l p) (carriedOf b set) ≡ counted)
+-- the line by its values
+by-line : {k : Form} {f : List ℕ} {shot : ℕ} {b b′ : PauliWords} {set set′ : Bits} {counted : Bool} (l : HeldLine k f → Line) → ((p : HeldLine k f) → l p ≡ p .line)
+    → ((p : HeldLine k f) → carry 256 (l p) (carriedOf b set) ≡ carriedOf b′ set′) → ((p : HeldLine k f) → counts (full shot) (l p) (carriedOf b set) ≡ counted)
     → Back k f shot b set b′ set′ counted
 by-line {shot = shot} {b = b} {b′ = b′} {set = set} {set′ = set′} {counted = counted} l is e c =
     record {

@@ -20,7 +20,7 @@ use Rattle.lines_from_last.specs.Line.{LineStart, LineBefore, Known, OfJ
 use Rattle.lines_from_last.specs.Laws.Known.{job-known}
 
 -- The k lines before place e are left; those from there on are `done`.
-pub record Left (job : List ℕ) (k e : ℕ) (done : List (List ℕ)) : Type 0 where
+pub record LinesLeft (job : List ℕ) (k e : ℕ) (done : List (List ℕ)) : Type 0 where
   pub within : e ≤ length job
   pub starts : LineStart job e
   pub number : k ≡ length (lines (take e job))
@@ -32,7 +32,7 @@ unfolding wellEnded
 job-ends job e = eqb-true _ _ (both (ltb 0 (length job) && leb (length job) maxBytes) (eqb (getD job (length job - 1) 0) LF) e .1)
 
 module _ (job : List ℕ) (passes : checkJob job .number ≡ 0) where
-  pub all-left : {k : ℕ} → k ≡ length (lines job) → Left job k (length job) []
+  pub all-left : {k : ℕ} → k ≡ length (lines job) → LinesLeft job k (length job) []
   all-left number =
       record {
         within = omega arith;
@@ -41,7 +41,7 @@ module _ (job : List ℕ) (passes : checkJob job .number ≡ 0) where
         whole = rw (take-length job) (sym (append-nil (lines job)));
       }
 
-  module _ {k e at : ℕ} {done : List (List ℕ)} (l : Left job k e done) (positive : 0 < e) (b : LineBefore job (e - 1) at) where
+  module _ {k e at : ℕ} {done : List (List ℕ)} (l : LinesLeft job k e done) (positive : 0 < e) (b : LineBefore job (e - 1) at) where
     abbrev text : List ℕ
     text = lineAt job at (e - 1)
 
@@ -58,7 +58,7 @@ module _ (job : List ℕ) (passes : checkJob job .number ≡ 0) where
     pub line-left : 0 < k
     line-left = omega (arith, l .number, lines-left)
 
-    pub one-done : Left job (k - 1) at (text ∷ done)
+    pub one-done : LinesLeft job (k - 1) at (text ∷ done)
     one-done =
         record { within = omega (arith, b .within, l .within); starts = b .starts; number = omega (arith, l .number, lines-left); whole = whole-more }
 
@@ -76,7 +76,7 @@ module _ (job : List ℕ) (passes : checkJob job .number ≡ 0) where
         ap (λ (j : ℕ). gathered j (text ∷ done)) p ∙ ap (λ (o : Option Written). gather k text o (gathered (suc k) done)) (left-known .reads)
 
   -- all lines are done
-  pub none-left : {k e : ℕ} {done : List (List ℕ)} → Left job k e done → e ≡ 0 → gathered (suc k) done .instructions ≡ jobOf job .instructions
+  pub none-left : {k e : ℕ} {done : List (List ℕ)} → LinesLeft job k e done → e ≡ 0 → gathered (suc k) done .instructions ≡ jobOf job .instructions
   unfolding pieces gathered gather
   none-left {k} {e} {done} l z =
       let b = job-begun job passes in

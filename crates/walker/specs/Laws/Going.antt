@@ -26,7 +26,7 @@ use Rattle.backward.specs.Walking.{noiseFirst, firstNoise, lineFirst, plainLine
 use Rattle.carry.specs.Full.{full}
 use Rattle.carry.specs.Laws.Same.{same-backward}
 use Rattle.lines_from_last.specs.Line.{LineBefore, OfJob}
-use Rattle.lines_from_last.specs.Laws.Left.{Left, all-left, line-left, one-done, left-known, line-known, gathered-more, none-left}
+use Rattle.lines_from_last.specs.Laws.Left.{LinesLeft, all-left, line-left, one-done, left-known, line-known, gathered-more, none-left}
 use Rattle.lines_back.specs.declared.Walk.{Walk as WalkWords}
 use Rattle.lines_back.specs.Back.{Readable, walkOf, writtenBack, noiseBack, LineBack}
 use Rattle.walker.specs.Steps.{Started, lineOrNone, WalkedBack, PassedOver, TextBack}
@@ -34,14 +34,14 @@ use Rattle.walker.specs.Steps.{Started, lineOrNone, WalkedBack, PassedOv
 -- ---- one line
 
 -- a line of an accepted job that was read
-pub readable : {text : List ℕ} {form : Form} {fields : List ℕ} → OfJob text → Parsed text form fields → Whole fields → Readable form fields
+pub readable : {text : List ℕ} {form : Form} {words : List ℕ} → OfJob text → Parsed text form words → Whole words → Readable form words
 readable o parsed wide =
     let (vs, said) = read-says parsed (o .known .reads) in
     record { header = o .header; range = o .range; wide = wide; values = vs; written = o .known .written; said = said; sound = o .known .sound }
 
--- by its form and its fields, and by its bytes
-pub read-back : {text : List ℕ} {form : Form} {fields : List ℕ} {shot k : ℕ} {w w′ : WalkWords} {set set′ : List ℕ} → Parsed text form fields → Whole fields
-    → LineBack form fields shot k w w′ set set′ → TextBack text shot k w w′ set set′
+-- by its form and its values, and by its bytes
+pub read-back : {text : List ℕ} {form : Form} {words : List ℕ} {shot k : ℕ} {w w′ : WalkWords} {set set′ : List ℕ} → Parsed text form words → Whole words
+    → LineBack form words shot k w w′ set set′ → TextBack text shot k w w′ set set′
 unfolding readable
 read-back parsed wide l = record { long = l .long; walks = λ o. l .walks (readable o parsed wide); noise = λ o. l .noise (readable o parsed wide) }
 
@@ -107,7 +107,7 @@ startWith S = record { carried = record { observable = identity; set = S }; coun
 -- The lines from place e on were walked back over, those of `done`; the k lines before are left.
 pub record Going (job : List ℕ) (shot : ℕ) (S : Bits) (w : WalkWords) (set : List ℕ) (k e : ℕ) : Type 0 where
   pub done : List (List ℕ)
-  pub left : Left job k e done
+  pub left : LinesLeft job k e done
   pub long : length set ≡ 16
   pub counted : w .count + e ≤ length job
   pub walked : walkOf w set ≡ walkBack (settingOf (jobOf job .header) shot) (plainLines (gathered (suc k) done .instructions)) (startWith S)
