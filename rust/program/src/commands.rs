@@ -30,8 +30,10 @@ pub const COMMANDS: &[Command] = &[
     Command {
         name: "check",
         operand: Operand::Job,
-        summary: "whether a job passes the checks",
-        details: &["Makes tests 1 to 12 of a job, and prints 'ok=1' and the numbers of its header."],
+        summary: "whether a job passes the checks, and its numbers",
+        details: &["\
+Makes tests 1 to 12 of a job. Prints 'ok=1', the numbers of its header, 'recorded=' with the number of
+outcomes that it records, and 'lines=' with that of its lines."],
         options: &[],
         obey: check,
     },
@@ -134,7 +136,7 @@ or --p-bits is wanted."],
 
 fn check(arguments: &Arguments) -> Result<(), Failure> {
     let (_, examined) = examined(arguments)?;
-    print(format!("{}\n", numbers_of(examined)))
+    print(format!("{} recorded={} lines={}\n", numbers_of(examined), examined.recorded, examined.lines))
 }
 
 fn run(arguments: &Arguments) -> Result<(), Failure> {

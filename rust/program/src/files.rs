@@ -45,8 +45,11 @@ pub fn write_words(path: &OsStr, words: &[u64]) -> Result<(), Failure> {
     write(path, &bytes)
 }
 
-/// Write bytes to a file.
+/// Write bytes to a file. `-`, which stands for standard input elsewhere, is no file's name here.
 pub fn write(path: &OsStr, bytes: &[u8]) -> Result<(), Failure> {
+    if path == "-" {
+        return Err(Failure::Other("what is written goes to a file, and - is none".into()));
+    }
     fs::write(path, bytes).map_err(|error| fault(path, &error))
 }
 

@@ -69,7 +69,7 @@ fn length(job: &[u8]) -> String {
     match job.len() {
         0 => "the job is empty: is it the right file?".into(),
         bytes if bytes > MAX_BYTES => {
-            "a job has at most 1,048,576 bytes: make it two jobs, or write gates together as op=c and op=m lines".into()
+            "a job has at most 1,048,576 bytes: write gates together, as op=c and op=m lines".into()
         }
         _ => "the last line has no line end: add LF".into(),
     }
@@ -252,6 +252,8 @@ fn split(form: &str) -> Vec<(&str, &str)> {
 fn layout(line: &str) -> Option<&'static str> {
     if line.ends_with('\r') {
         Some("the line ends in CR LF: write LF alone, as 'tr -d \"\\r\"' does")
+    } else if line.starts_with('\u{feff}') {
+        Some("the file begins with a byte order mark: save it as plain text, without one")
     } else if line.is_empty() {
         Some("the line is blank: leave it out")
     } else if line.starts_with('#') || line.starts_with("//") {
@@ -259,7 +261,7 @@ fn layout(line: &str) -> Option<&'static str> {
     } else if line.contains('\t') || line.contains("  ") || line.starts_with(' ') || line.ends_with(' ') {
         Some("fields have one space between, and nothing before the first or after the last")
     } else if !line.is_ascii() {
-        Some("the line has bytes that are no ASCII")
+        Some("the line has bytes that are not ASCII")
     } else {
         None
     }
@@ -357,7 +359,7 @@ mod tests {
             ("", "the line is blank"),
             ("# a comment", "a job has no comments"),
             ("op=u  g=4 q=0", "fields have one space between"),
-            ("op=z q=\u{b2}", "the line has bytes that are no ASCII"),
+            ("op=z q=\u{b2}", "the line has bytes that are not ASCII"),
             ("x=0 z=-", "a line begins with op="),
             (
                 "op=n p=0.001 corr=- cond=- parity=0 d=2 q=0",
@@ -417,6 +419,7 @@ mod tests {
             ("", "the job is empty"),
             ("op=job qubits=1 outcomes=0 shots=1", "the last line has no line end"),
             ("op=z q=0\n", "the first line is the header"),
+            ("\u{feff}op=job qubits=1 outcomes=0 shots=1\n", "the file begins with a byte order mark"),
             ("op=job qubits=0 outcomes=0 shots=1\n", "qubits= is from 1 to 256"),
             ("op=job qubits=1 outcomes=1025 shots=1\n", "outcomes= is from 0 to 1024"),
             ("op=job qubits=1 outcomes=0 shots=10000\n", "shots= is from 1 to 4096"),

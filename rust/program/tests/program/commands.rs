@@ -41,7 +41,7 @@ fn each_command_does_its_work() {
     let session = file(&folder, "session", SESSION);
     let on_session = |command: &str, options: &str| call(&format!("{command} {session} {options}"), "");
     let first = "ok=1 qubits=2 outcomes=2 shots=3\n";
-    assert_eq!(on_session("check", ""), Done::printed(first));
+    assert_eq!(on_session("check", ""), Done::printed(first.replace('\n', " recorded=2 lines=7\n")));
     assert_eq!(on_session("run", ""), Done::printed(format!("{first}id=0 delta=010\nid=1 delta=001\n")));
     assert_eq!(on_session("settle", ""), Done::printed(SESSION));
     assert_eq!(on_session("walk", "--shot 1 --set 0,1"), Done::printed("ok=1 count=1\n"));
@@ -346,6 +346,8 @@ fn output_that_cannot_be_written_fails() {
     }
     let full = run(&format!("\"$PROGRAM\" settle {session} --output /dev/full"));
     assert_eq!((full.status, full.stderr.starts_with("kundatrezo: /dev/full: ")), (2, true), "{full:?}");
+    let dash = run(&format!("\"$PROGRAM\" settle {session} --output -"));
+    assert_eq!((dash.status, dash.stderr.as_str()), (2, "kundatrezo: what is written goes to a file, and - is none\n"));
 }
 
 #[test]
