@@ -13,7 +13,8 @@ use Rattle.draws.specs.Draws.{Lent}
 use Rattle.draws.specs.Execute.{States, forwardAll, executeOne, Ended, executeThen, execute}
 use Rattle.propagator.specs.Acts.{stateOf}
 use Rattle.faults.specs.Laws.Prepared.{noise-lines}
-use Rattle.lines.specs.Plain.{Plain, Ready, Obeyed}
+use Rattle.instructions.specs.Plain.{Plain}
+use Rattle.lines.specs.Plain.{Ready, Obeyed}
 use Rattle.injection.specs.Holds.{Holds}
 use Rattle.injection.specs.Laws.Holds.{holds-some, holds-line}
 use Rattle.execution.specs.declared.Moved.{Moved}
