@@ -138,6 +138,15 @@ pub fn add_listed(sums: &mut [u64], r: usize, rows: &[u64], w: usize, list: &[u6
     }
 }
 
+// Puts the sum of the listed rows of one matrix for row r of another.
+pub fn sum_listed(sums: &mut [u64], r: usize, rows: &[u64], w: usize, list: &[u64])
+    requires { ⌜ (r * w + w ≤ length (now sums)) × RowsIn w (now list) (now rows) ⌝ }
+    ensures { λ _. ⌜ now (sums .exit) ≡ overList (λ q. xored (r * w) (q * w) w (now (rows .entry))) (now (list .entry)) (cleared (r * w) w (now (sums .entry))) ⌝ }
+{
+    clear(&mut *sums, r * w, w);
+    add_listed(sums, r, rows, w, list);
+}
+
 // Adds row r of one matrix, a mask, to the listed rows of another.
 pub fn add_mask_listed(rows: &mut [u64], w: usize, list: &[u64], masks: &[u64], r: usize)
     requires { ⌜ (r * w + w ≤ length (now masks)) × RowsIn w (now list) (now rows) ⌝ }

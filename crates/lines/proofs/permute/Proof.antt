@@ -8,25 +8,25 @@ use Rattle.lines.proofs.permute.Tie as tie
 
 list-requires : tie.Need-list-requires
 list-requires c κs =
-    let r = permute-read (c .before .before .before .before .before .pre .plain) in
-    let places = r .few 0 (omega arith) in
-    let qubits = r .few 1 (omega arith) in
-    (omega arith, c .before .before .before .before .before .pre .plain .wide, omega arith)
-
-list-requires-2 : tie.Need-list-requires-2
-list-requires-2 c κs =
     let r = permute-read (c .before .before .before .before .before .before .pre .plain) in
     let places = r .few 0 (omega arith) in
     let qubits = r .few 1 (omega arith) in
     (omega arith, c .before .before .before .before .before .before .pre .plain .wide, omega arith)
 
+list-requires-2 : tie.Need-list-requires-2
+list-requires-2 c κs =
+    let r = permute-read (c .before .before .before .before .before .before .before .pre .plain) in
+    let places = r .few 0 (omega arith) in
+    let qubits = r .few 1 (omega arith) in
+    (omega arith, c .before .before .before .before .before .before .before .pre .plain .wide, omega arith)
+
 apply-permutation-requires : tie.Need-apply-permutation-requires
 unfolding LineSound
 apply-permutation-requires c κs =
-    let e = c .before .list .ensures in
-    let e2 = c .list2 .ensures in
-    let s = permute-read (c .before .before .before .before .before .before .before .pre .plain) .sound in
-    (c .before .before .before .before .before .before .before .pre .narrow, c .before .before .before .before .before .before .before .pre .of-x, c .before .before .before .before .before .before .before .pre .of-z, rw e2 (s .operands .few), rw e2 (s .operands .below), rw (e, e2) (s .places))
+    let e = c .before .before .list .ensures in
+    let e2 = c .before .list2 .ensures in
+    let s = permute-read (c .before .before .before .before .before .before .before .before .before .pre .plain) .sound in
+    (c .before .before .before .before .before .before .before .before .before .pre .narrow, c .before .before .before .before .before .before .before .before .before .pre .of-x, c .before .before .before .before .before .before .before .before .before .pre .of-z, rw e2 (s .operands .few), rw e2 (s .operands .below), rw (e, e2) (s .places))
 
 same-length : tie.Need-same-length
 same-length c = search needs
@@ -36,9 +36,9 @@ same-length-2 c = search needs
 
 returns : tie.Need-returns
 returns c =
-    let e = c .before .before .before .before .before .before .list .ensures in
-    let e2 = c .before .before .before .before .before .list2 .ensures in
-    record { acts = λ m line p d. rw (← permute-read p .is, ← e, ← e2) (c .before .before .before .before .apply-permutation .ensures m d) }
+    let e = c .before .before .before .before .before .before .before .before .before .list .ensures in
+    let e2 = c .before .before .before .before .before .before .before .before .list2 .ensures in
+    record { acts = λ m line p d. rw (← permute-read p .is, ← e, ← e2) (c .before .before .before .before .before .before .apply-permutation .ensures m d) }
 
 pub permute-spec : {M : Type 1} → statement M
 permute-spec =

@@ -25,7 +25,6 @@ frame-ready {fields = fields} {w = w} {n = n} {m = m} e r =
       outcomes = m;
       line = r .line;
       plain = subst (λ (g : Form). Plain g fields w n m (r .line)) e (r .plain);
-      narrow = r .narrow;
       of-x = r .of-x;
       of-z = r .of-z;
     }

@@ -12,7 +12,7 @@ use lib.Seq.{getD-set-same, getD-set-other, ext-getD}
 use borrow.Author.Tests.{eqb-true, eqb-false, eq-eqb, ne-eqb}
 use Rattle.pauli.specs.Bits.{Bits, given, replaced, added, outside, _⊕_, _∩_, _△_, sumOver, bit}
 use Rattle.pauli.specs.Gate.{exchanged}
-use Rattle.pauli.specs.Laws.F2.{⊕-false, ⊕-assoc, &&-true, &&-false}
+use Rattle.pauli.specs.Laws.F2.{⊕-false, false-⊕, ⊕-assoc, &&-true, &&-false}
 use Rattle.pauli.specs.Laws.Parity.{bitwise, at-or-off, added-is}
 use Rattle.pauli.specs.Laws.Word.{bit-zero, bit-xor, bit-pow, same-bits}
 use Rattle.pauli.specs.Laws.Sums.{oddMembers}
@@ -39,16 +39,20 @@ added-none : (s : Bits) (r : ℕ) → added s r false ≡ s
 unfolding added
 added-none s r = fun-ext (at-or-off (λ i e. cond e (s i ⊕ false) (s i) ≡ s i) r (⊕-false (s r)) (λ i. refl))
 
-added-twice : (s : Bits) (r : ℕ) (b c : Bool) → added (added s r b) r c ≡ added s r (b ⊕ c)
+pub added-twice : (s : Bits) (r : ℕ) (b c : Bool) → added (added s r b) r c ≡ added s r (b ⊕ c)
 unfolding added
 added-twice s r b c =
     fun-ext (at-or-off (λ i e. cond e (cond e (s i ⊕ b) (s i) ⊕ c) (cond e (s i ⊕ b) (s i)) ≡ cond e (s i ⊕ (b ⊕ c)) (s i)) r (⊕-assoc (s r) b c) (λ i. refl))
 
-replaced-here : (s : Bits) (q : ℕ) (b : Bool) → replaced s q b q ≡ b
+pub added-replaced : (s : Bits) (q : ℕ) (a b : Bool) → added (replaced s q a) q b ≡ replaced s q (a ⊕ b)
+unfolding replaced added
+added-replaced s q a b = fun-ext (at-or-off (λ i e. cond e (cond e a (s i) ⊕ b) (cond e a (s i)) ≡ cond e (a ⊕ b) (s i)) q refl (λ i. refl))
+
+pub replaced-here : (s : Bits) (q : ℕ) (b : Bool) → replaced s q b q ≡ b
 unfolding replaced
 replaced-here s q b = rw (eq-eqb q q refl)
 
-replaced-off : (s : Bits) (q : ℕ) (b : Bool) (i : ℕ) → (i ≡ q → ⊥) → replaced s q b i ≡ s i
+pub replaced-off : (s : Bits) (q : ℕ) (b : Bool) (i : ℕ) → (i ≡ q → ⊥) → replaced s q b i ≡ s i
 unfolding replaced
 replaced-off s q b i ne = rw (ne-eqb i q ne)
 
@@ -189,10 +193,19 @@ module _ (w s : ℕ) (h : s / 64 < w) where
       ∙ ap (λ (t : Bits). added t r (sumOver qs (column w rows s))) (column-xored w s h r q rows l fits)
       ∙ added-twice (column w l s) r (column w rows s q) (sumOver qs (column w rows s))
 
+  -- row r, for which the sum of the listed rows is put
+  pub column-sum-listed : (r : ℕ) (rows qs l : List ℕ) → r * w + w ≤ length l
+      → column w (overList (λ q. xored (r * w) (q * w) w rows) qs (cleared (r * w) w l)) s ≡ replaced (column w l s) r (sumOver qs (column w rows s))
+  column-sum-listed r rows qs l fits =
+      column-add-listed r rows qs (cleared (r * w) w l) (rw length-cleared fits)
+      ∙ ap (λ (t : Bits). added t r (sumOver qs (column w rows s))) (column-cleared w s h r l fits)
+      ∙ added-replaced (column w l s) r false (sumOver qs (column w rows s))
+      ∙ ap (replaced (column w l s) r) (false-⊕ (sumOver qs (column w rows s)))
+
   -- ---- saved rows
 
   -- the rows before them are as they were
-  collected-before : (rows : List ℕ) (r : ℕ) (qs l : List ℕ) → (r + length qs) * w ≤ length l → (d : ℕ) → d < r
+  pub collected-before : (rows : List ℕ) (r : ℕ) (qs l : List ℕ) → (r + length qs) * w ≤ length l → (d : ℕ) → d < r
       → column w (collected w rows r qs l) s d ≡ column w l s d
   unfolding collected
   collected-before rows r [] l fits d k = refl
