@@ -22,7 +22,7 @@ measure-requires c κs =
     let e = c .before .list .ensures in
     let e2 = c .list2 .ensures in
     let s = measure-read (c .before .before .before .before .before .before .before .before .pre .plain) .sound in
-    (c .before .before .before .before .before .before .before .before .pre .narrow, c .before .before .before .before .before .before .before .before .pre .of-x, c .before .before .before .before .before .before .before .before .pre .of-z, c .before .before .before .before .before .before .before .before .pre .of-deltas, rw (e, e2) (sound-in _ _ (s .observable)), s .outcome .below)
+    (c .before .before .before .before .before .before .before .before .pre .of-x, c .before .before .before .before .before .before .before .before .pre .of-z, c .before .before .before .before .before .before .before .before .pre .of-deltas, rw (e, e2) (sound-in _ _ (s .observable)), s .outcome .below)
 
 same-length : tie.Need-same-length
 same-length c = search needs

@@ -1,5 +1,6 @@
 -- Lines by their forms: those that change something, and those that don't. Laws. Assumes nothing.
-use Prim.Native.Nat.{ℕ}
+use Prim.Native.Nat.{ℕ, _*_, _≤_}
+use native.Mathlib.Nat.{mul-le-mul-right}
 use native.Mathlib.Omega.{arith}
 use mathlib.Core.Path.{_≡_, refl, subst}
 use mathlib.Core.List.{List}
@@ -16,6 +17,12 @@ use Rattle.instructions.specs.Laws.Meaning.{noise-said}
 use Rattle.propagator.specs.Acts.{Acts, lineRule}
 use Rattle.lines.specs.Plain.{Plain, Ready, Obeyed, FrameReady, FrameObeyed}
 use Rattle.lines.specs.Laws.Read.{written-line}
+
+-- ---- scratch
+
+-- 31 rows have room for so many
+pub scratch-fits : (w k : ℕ) {l : ℕ} → k ≤ 31 → 31 * w ≤ l → k * w ≤ l
+scratch-fits w k few room = omega (arith, mul-le-mul-right {m = k} {n = 31} w few)
 
 -- ---- a form by its name
 
