@@ -19,7 +19,6 @@ slot f i = heldList f i
 pub record Ready (form : Form) (fields : List ℕ) (w n m : ℕ) (x z d : List ℕ) : Type 0 where
   pub line : Line
   pub plain : Plain form fields w n m line
-  pub narrow : w ≤ 64
   pub of-x : length x ≡ n * w
   pub of-z : length z ≡ n * w
   pub of-deltas : length d ≡ m * w
@@ -34,7 +33,6 @@ pub record FrameReady (form : Form) (fields : List ℕ) (w n : ℕ) (x z : List 
   pub outcomes : ℕ
   pub line : Line
   pub plain : Plain form fields w n outcomes line
-  pub narrow : w ≤ 64
   pub of-x : length x ≡ n * w
   pub of-z : length z ≡ n * w
 

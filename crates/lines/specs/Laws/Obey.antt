@@ -1,5 +1,6 @@
 -- Lines by their forms: those that change something, and those that don't. Laws. Assumes nothing.
-use Prim.Native.Nat.{ℕ}
+use Prim.Native.Nat.{ℕ, _*_, _≤_}
+use native.Mathlib.Nat.{mul-le-mul-right}
 use native.Mathlib.Omega.{arith}
 use mathlib.Core.Path.{_≡_, refl, subst}
 use mathlib.Core.List.{List}
@@ -18,6 +19,12 @@ use Rattle.instructions.specs.Plain.{Plain}
 use Rattle.lines.specs.Plain.{Ready, Obeyed, FrameReady, FrameObeyed}
 use Rattle.instructions.specs.Laws.Read.{written-line, Idle}
 
+-- ---- scratch
+
+-- 31 rows have room for so many
+pub scratch-fits : (w k : ℕ) {l : ℕ} → k ≤ 31 → 31 * w ≤ l → k * w ≤ l
+scratch-fits w k few room = omega (arith, mul-le-mul-right {m = k} {n = 31} w few)
+
 -- ---- a form by its name
 
 pub frame-ready : {f k : Form} {fields : List ℕ} {w n m : ℕ} {x z d : List ℕ} → f ≡ k → Ready f fields w n m x z d → FrameReady k fields w n x z
@@ -26,7 +33,6 @@ frame-ready {fields = fields} {w = w} {n = n} {m = m} e r =
       outcomes = m;
       line = r .line;
       plain = subst (λ (g : Form). Plain g fields w n m (r .line)) e (r .plain);
-      narrow = r .narrow;
       of-x = r .of-x;
       of-z = r .of-z;
     }
