@@ -10,8 +10,8 @@ use crate::put_byte;
 use crate::put_hex;
 use crate::put_list;
 use crate::put_number;
-use template::KEPT;
 use template::is_letter;
+use template::values::KEPT;
 
 // Whether a letter stands for a list: L, Q, C.
 fn is_list(t: u8) -> bool
