@@ -1,5 +1,6 @@
 -- The values that lent words hold for a line that is put by its template, as `template` puts there what it reads: the numbers one after the other; of the
 -- i-th list the count at i, and the members from 31 i on. Definitions. Assumes nothing.
+use mathlib.Core.Path.{_≡_}
 use mathlib.Core.Bool.{Bool, cond, _||_}
 use mathlib.Core.List.{List, [], _∷_}
 use Prim.Native.Nat.{ℕ, _+_, _*_, _≤_, _<_}
@@ -47,3 +48,8 @@ pub record PauliLent (counts members : List ℕ) : Type 0 where
 -- how each line of annotation's noise begins
 unfoldable pub depolarizingStart : ℕ → List ℕ
 depolarizingStart p = lineText (bytes "op=n p=H corr=- cond=- parity=0 d=2") (Value.number p ∷ [])
+
+-- bytes that are such a start
+pub record StartOf (start : List ℕ) : Type 0 where
+  pub probability : ℕ
+  pub text : start ≡ depolarizingStart probability

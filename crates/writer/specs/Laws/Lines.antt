@@ -50,6 +50,12 @@ line-length (t ∷ ts) ds = go (isLetter t) ds (λ es. line-length ts es)
     go true (d ∷ ds) ih = omega (arith, length-append (valueText t d) (lineText ts ds), value-length t d, ih ds)
     go false ds ih = omega (arith, ih ds)
 
+-- ---- a line without lists
+
+pub numbers-lent : (ts numbers : List ℕ) → numbersFor ts ≤ length numbers → listsFor ts ≡ 0 → Lent ts numbers [] []
+numbers-lent ts numbers h e =
+    record { for-numbers = h; for-lists = omega (arith, e); for-members = λ i l. absurd (omega (arith, e, l)); few = λ i l. absurd (omega (arith, e, l)) }
+
 -- ---- injections
 
 module _ (shot : ℕ) {counts members : List ℕ} (h : PauliLent counts members) where
@@ -94,7 +100,7 @@ inject-next shot x z p =
 
 pub start-lent : (p : ℕ) → Lent (bytes "op=n p=H corr=- cond=- parity=0 d=2") (p ∷ []) [] []
 unfolding isList bytes
-start-lent p = record { for-numbers = omega arith; for-lists = omega arith; for-members = λ i h. absurd (omega arith); few = λ i h. absurd (omega arith) }
+start-lent p = numbers-lent (bytes "op=n p=H corr=- cond=- parity=0 d=2") (p ∷ []) (omega arith) refl
 
 pub start-values : (p : ℕ) → valuesIn (bytes "op=n p=H corr=- cond=- parity=0 d=2") (p ∷ []) [] [] ≡ Value.number p ∷ []
 unfolding isList bytes valuesIn
