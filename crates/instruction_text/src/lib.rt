@@ -3,6 +3,7 @@ ghost use mathlib.Core.Path.{_≡_};
 ghost use mathlib.Core.Bool.{true};
 ghost use Prim.Native.Nat.{_+_, _*_, _^_, _<_, _≤_};
 ghost use lib.ListN.{length};
+ghost use Rattle.template.specs.Values.{Whole};
 ghost use Rattle.instructions.specs.Reading.{NextLine, noiseForm};
 ghost use Rattle.instruction_text.specs.Pass.{passOf, Between, InstructionPut};
 use faults::prepare;
@@ -42,7 +43,7 @@ fn put_noise_line<'a>(
     second: &'a [u64],
     base: u64,
 ) -> Moved
-    requires { ⌜ Between (passOf (now job) shots w (now noiseless) (now main) (now second) base) from × (from .byte + 5496832 < 2 ^ 64) × NextLine (now job) (from .at) line (now fields) × (noiseForm (line .form) ≡ true) × (136 ≤ length (now fields)) × (4096 ≤ length (now elements)) ⌝ }
+    requires { ⌜ Between (passOf (now job) shots w (now noiseless) (now main) (now second) base) from × (from .byte + 5496832 < 2 ^ 64) × NextLine (now job) (from .at) line (now fields) × (noiseForm (line .form) ≡ true) × Whole (now fields) × (4096 ≤ length (now elements)) ⌝ }
     ensures { λ r. ⌜ InstructionPut (passOf (now (job .entry)) shots w (now (noiseless .entry)) (now (main .entry)) (now (second .entry)) base) (now (out .entry)) from (now (out .exit)) r ⌝ }
 {
     let mut sums = [0.0; 64];
@@ -99,7 +100,7 @@ pub fn put_instruction<'a>(
     second: &'a [u64],
     base: u64,
 ) -> Moved
-    requires { ⌜ Between (passOf (now job) shots w (now noiseless) (now main) (now second) base) from × (from .at < length (now job)) × (from .byte ≤ 8388608 * from .line) × (136 ≤ length (now fields)) × (4096 ≤ length (now elements)) ⌝ }
+    requires { ⌜ Between (passOf (now job) shots w (now noiseless) (now main) (now second) base) from × (from .at < length (now job)) × (from .byte ≤ 8388608 * from .line) × Whole (now fields) × (4096 ≤ length (now elements)) ⌝ }
     ensures { λ r. ⌜ InstructionPut (passOf (now (job .entry)) shots w (now (noiseless .entry)) (now (main .entry)) (now (second .entry)) base) (now (out .entry)) from (now (out .exit)) r ⌝ }
 {
     let at = from.at;

@@ -13,6 +13,7 @@ use instruction_text::Place;
 use instruction_text::put_instruction;
 use job::Answer;
 use numbers::pieces::find;
+use template::values::WORDS;
 use writer::TextAnswer;
 use writer::put_bytes;
 use writer::refused;
@@ -39,7 +40,7 @@ fn put_settled<'a>(
     requires { ⌜ Fits (passOf (now job) shots w (now noiseless) (now main) (now second) base) ⌝ }
     ensures { λ r. ⌜ SettledPut (passOf (now (job .entry)) shots w (now (noiseless .entry)) (now (main .entry)) (now (second .entry)) base) (now (out .entry)) (now (out .exit)) r ⌝ }
 {
-    let mut fields = [0u64; 136];
+    let mut fields = [0u64; WORDS];
     let mut elements = [0u64; 4096];
     let end = find(job, 0, 10) + 1;
     let byte = put_bytes(&mut *out, 0, &job[..end]);

@@ -127,7 +127,8 @@ fn put_value(t: u8, s: &[u8], n: usize, l: usize, fields: &mut [u64]) -> Put
     }
 }
 
-fn is_letter(t: u8) -> bool
+// Whether a byte of a template is a letter for a value.
+pub fn is_letter(t: u8) -> bool
     ensures { λ r. ⌜ r ≡ isLetter t ⌝ }
 {
     if t < 65 {
