@@ -13,8 +13,7 @@ ghost use Rattle.noise_text.specs.Injections.{StepPut, injected, Ready, 
 pub mod lists;
 
 use crate::lists::select;
-use choice::bound;
-use choice::limit;
+use choice::chooser_of;
 use noise::PauliDistribution;
 use noise::PauliFault;
 use noise::words::part;
@@ -100,13 +99,12 @@ fn put_faults(
 {
     let p = fault.probability;
     let d = fault.distribution;
-    let c = bound(d);
-    let rejected = limit(c);
+    let chooser = chooser_of(d);
     let mut place = from;
     let mut at = 0;
     let mut shot = 0;
     loop {
-        match next_fault(words, at, mask, Shot(shot), shots, p, d, c, rejected, sums) {
+        match next_fault(words, at, mask, Shot(shot), shots, p, chooser, sums) {
             NextFault::Spent => {
                 return Drawn::Spent;
             }
