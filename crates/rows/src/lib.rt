@@ -2,10 +2,32 @@
 // A matrix of bits lies in a slice, w words a row, rows in order. Bit s of row r is bit s mod 64 of word r * w + s / 64.
 // Loops go word by word, so that they are vectorised; no row is copied that need not be.
 ghost use mathlib.Core.Path.{_≡_};
-ghost use Prim.Native.Nat.{_+_, _*_, _<_, _≤_};
+ghost use Prim.Native.Nat.{_+_, _*_, _^_, _<_, _≤_};
 ghost use lib.ListN.{length};
 ghost use Rattle.rows.specs.Overwrite.{cleared, copied, xored, swapped, flipped};
 ghost use Rattle.rows.specs.Listed.{RowsIn, overList, collected};
+ghost use Rattle.rows.specs.Shape.{shapeOf};
+
+// How a job's bits lie in words: a row for each of its qubits or outcomes, in each row a bit for each of its shots. The width is the words of a row.
+pub struct Shape {
+    pub qubits: usize,
+    pub outcomes: usize,
+    pub shots: usize,
+    pub width: usize,
+}
+
+// The shape for so many qubits, outcomes and shots: a row has as many words as its shots need.
+pub fn shape_of(qubits: usize, outcomes: usize, shots: usize) -> Shape
+    requires { ⌜ shots + 63 < 2 ^ 64 ⌝ }
+    ensures { λ r. ⌜ r ≡ shapeOf qubits outcomes shots ⌝ }
+{
+    Shape {
+        qubits,
+        outcomes,
+        shots,
+        width: (shots + 63) / 64,
+    }
+}
 
 // ---- Runs of words
 
