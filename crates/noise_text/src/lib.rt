@@ -31,11 +31,11 @@ fn put_depolarizing(out: &mut [u8], place: usize, shot: Shot, qubits: &[u64], e:
     ensures { λ r. ⌜ Puts place (injectText (shot .0) (depolarizingElement (now (qubits .entry)) e) ++ LF ∷ []) (now (out .entry)) (now (out .exit)) r ⌝ }
 {
     let v = e + 1;
-    let mut x = [0u64; 32];
-    let mut z = [0u64; 32];
-    let m = select(&mut x, qubits, v);
-    let n = select(&mut z, qubits, v / 2);
-    put_inject(out, place, shot, &x[..m], &z[..n])
+    let mut members = [0u64; 62];
+    let x = select(&mut members[..31], qubits, v);
+    let z = select(&mut members[31..], qubits, v / 2);
+    let counts = [x as u64, z as u64];
+    put_inject(out, place, shot, &counts, &members)
 }
 
 // The injection of an element that is kept whole.
@@ -43,12 +43,16 @@ fn put_kept(out: &mut [u8], place: usize, shot: Shot, elements: &[u64], e: usize
     requires { ⌜ (place + 1342 < 2 ^ 64) × Kept (now elements) e ⌝ }
     ensures { λ r. ⌜ Puts place (injectText (shot .0) (keptElement (now (elements .entry)) e) ++ LF ∷ []) (now (out .entry)) (now (out .exit)) r ⌝ }
 {
-    let a = e * 64;
-    let x = a + 2;
-    let z = a + 33;
-    let m = x + elements[a] as usize;
-    let n = z + elements[a + 1] as usize;
-    put_inject(out, place, shot, &elements[x..m], &elements[z..n])
+    let counts = e * 64;
+    let members = counts + 2;
+    let end = counts + 64;
+    put_inject(
+        out,
+        place,
+        shot,
+        &elements[counts..members],
+        &elements[members..end],
+    )
 }
 
 fn put_element(
