@@ -1,16 +1,16 @@
 -- `lines::flip` meets its contract. Assumes nothing.
-use Rattle.lines.specs.Laws.Read.{flip-read}
+use Rattle.instructions.specs.Laws.Read.{flip-read}
 use Rattle.job.specs.Sound.{LineSound}
 use native.Mathlib.Omega.{arith}
 use borrow.Author.Needs.{needs}
 use Rattle.lines.proofs.flip.Statement.{statement}
 use Rattle.lines.proofs.flip.Tie as tie
 
-shared-slice-read-t8 : tie.Need-shared-slice-read-t8
-shared-slice-read-t8 c = let wide = c .before .before .before .pre .0 .2 .wide in omega arith
+shared-slice-read-t7 : tie.Need-shared-slice-read-t7
+shared-slice-read-t7 c = let wide = c .before .before .before .pre .0 .2 .wide in omega arith
 
-shared-slice-read-t8-2 : tie.Need-shared-slice-read-t8-2
-shared-slice-read-t8-2 c = let wide = c .before .before .before .before .pre .0 .2 .wide in omega arith
+shared-slice-read-t7-2 : tie.Need-shared-slice-read-t7-2
+shared-slice-read-t7-2 c = let wide = c .before .before .before .before .pre .0 .2 .wide in omega arith
 
 inject-outcome-flip-requires : tie.Need-inject-outcome-flip-requires
 unfolding LineSound
@@ -33,8 +33,8 @@ pub flip-spec : {M : Type 1} → statement M
 flip-spec =
     tie.close
     (tie.spec
-    shared-slice-read-t8
-    shared-slice-read-t8-2
+    shared-slice-read-t7
+    shared-slice-read-t7-2
     inject-outcome-flip-requires
     same-length
     returns)

@@ -1,5 +1,5 @@
 -- `lines::inject` meets its contract. Assumes nothing.
-use Rattle.lines.specs.Laws.Read.{inject-read}
+use Rattle.instructions.specs.Laws.Read.{inject-read}
 use Rattle.propagator.specs.Laws.Lists.{sound-in}
 use Rattle.job.specs.Sound.{LineSound}
 use native.Mathlib.Omega.{arith}
@@ -7,8 +7,8 @@ use borrow.Author.Needs.{needs}
 use Rattle.lines.proofs.inject.Statement.{statement}
 use Rattle.lines.proofs.inject.Tie as tie
 
-shared-slice-read-t8 : tie.Need-shared-slice-read-t8
-shared-slice-read-t8 c = search needs
+shared-slice-read-t7 : tie.Need-shared-slice-read-t7
+shared-slice-read-t7 c = search needs
 
 list-requires : tie.Need-list-requires
 list-requires c κs = (omega arith, c .before .before .before .before .before .before .pre .plain .wide, inject-read (c .before .before .before .before .before .before .pre .plain) .few 0 (omega arith))
@@ -42,7 +42,7 @@ pub inject-spec : {M : Type 1} → statement M
 inject-spec =
     tie.close
     (tie.spec
-    shared-slice-read-t8
+    shared-slice-read-t7
     list-requires
     list-requires-2
     inject-pauli-requires
