@@ -35,6 +35,14 @@ pub data Written : Type 0 where
 
 -- ---- from the values of a line to what it says; nothing where the line has not its form after all
 
+-- a header by its numbers
+abbrev pub headerWith : ℕ → ℕ → ℕ → Header
+headerWith qubits outcomes shots = record { qubits = qubits; outcomes = outcomes; shots = shots }
+
+-- a header by the numbers of its line, from the first on
+abbrev pub headerBy : (ℕ → ℕ) → Header
+headerBy number = headerWith (number 0) (number 1) (number 2)
+
 -- the Pauli whose lists are the i-th and the j-th of the line
 abbrev pub pauliAt : ℕ → ℕ → List Value → SparsePauli
 pauliAt i j v = record { x = listAt i v; z = listAt j v }
@@ -89,7 +97,7 @@ depolarizingTemplate = bytes "op=n p=H corr=C cond=L parity=B d=2 q=Q"
 unfoldable pub forms : List Form
 unfolding bytes
 forms =
-    form "op=job qubits=N outcomes=N shots=N" (λ v. some (Written.header record { qubits = numberAt 0 v; outcomes = numberAt 1 v; shots = numberAt 2 v }))
+    form "op=job qubits=N outcomes=N shots=N" (λ v. some (Written.header (headerBy (λ i. numberAt i v))))
     ∷ form "op=u g=N q=Q" (λ v. unitaryLine (gateOf (numberAt 0 v)) (listAt 0 v))
     ∷ form "op=c q=Q t=H" (λ v. plain (Line.clifford (listAt 0 v) (numberAt 0 v)))
     ∷ form "op=p x=L z=L" (λ v. plain (Line.pauli (pauliAt 0 1 v)))

@@ -11,7 +11,7 @@ use lib.Dec.{eqb, ltb}
 use lib.ListN.{length, getD, take, drop}
 use Rattle.text.specs.Bytes.{comma, space, until, extend, pieces, split}
 use Rattle.text.specs.Number.{whenever, proper, allDecimal, decimalFrom, numberOf, hexDigit, allHex, hexFrom, hexOf, bitOf}
-use Rattle.text.specs.List.{withFirst, numbersOf, listQ, isRising, onlyRising, isDash, listL, oneMember, listC}
+use Rattle.text.specs.List.{withFirst, piecesOf, listQ, isRising, onlyRising, isDash, listL, oneMember, listC}
 use Rattle.text.specs.Template.{Value, number, list, aNumber, aList, isLetter, valueOf, andThen, sameByte, atEnd, valuesOf, numbersIn, listsIn, numberAt, listAt}
 use Rattle.text.specs.Written.{Small, FitL, FitQ, FitC}
 
@@ -79,11 +79,11 @@ small-more : (n : ℕ) (l : List ℕ) → n < 2 ^ 64 → Small l → Small (n �
 small-more n l h s zero = h
 small-more n l h s (suc i) = s i
 
-numbers-small : (ps : List (List ℕ)) (l : List ℕ) → numbersOf ps ≡ some l → Small l
-unfolding numbersOf withFirst
+numbers-small : (ps : List (List ℕ)) (l : List ℕ) → piecesOf numberOf ps ≡ some l → Small l
+unfolding piecesOf withFirst
 numbers-small [] [] e = λ i. omega arith
 numbers-small [] (n ∷ l) e = let z : _≡_ {A = ℕ} 0 1 = cc in absurd (omega arith)
-numbers-small (p ∷ ps) l e = go (numberOf p) (numbersOf ps) refl (numbers-small ps) e
+numbers-small (p ∷ ps) l e = go (numberOf p) (piecesOf numberOf ps) refl (numbers-small ps) e
   where
     go : (a : Option ℕ) (b : Option (List ℕ)) → numberOf p ≡ a → ((k : List ℕ) → b ≡ some k → Small k) → withFirst a b ≡ some l → Small l
     go none b h ih e = absurd (none-some e)
@@ -91,11 +91,11 @@ numbers-small (p ∷ ps) l e = go (numberOf p) (numbersOf ps) refl (numbers-smal
     go (some n) (some k) h ih e = let same : n ∷ k ≡ l = cc in subst Small same (small-more n k (number-small p n h) (ih k refl))
 
 -- as many numbers as pieces
-numbers-length : (ps : List (List ℕ)) (l : List ℕ) → numbersOf ps ≡ some l → length l ≡ length ps
-unfolding numbersOf withFirst
+numbers-length : (ps : List (List ℕ)) (l : List ℕ) → piecesOf numberOf ps ≡ some l → length l ≡ length ps
+unfolding piecesOf withFirst
 numbers-length [] [] e = refl
 numbers-length [] (n ∷ l) e = let z : _≡_ {A = ℕ} 0 1 = cc in absurd (omega arith)
-numbers-length (p ∷ ps) l e = go (numberOf p) (numbersOf ps) (numbers-length ps) e
+numbers-length (p ∷ ps) l e = go (numberOf p) (piecesOf numberOf ps) (numbers-length ps) e
   where
     go : (a : Option ℕ) (b : Option (List ℕ)) → ((k : List ℕ) → b ≡ some k → length k ≡ length ps) → withFirst a b ≡ some l → length l ≡ suc (length ps)
     go none b ih e = absurd (none-some e)
