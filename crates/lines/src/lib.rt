@@ -9,7 +9,8 @@ ghost use Prim.Native.Nat.{ℕ, _+_, _*_, _<_, _≤_};
 ghost use lib.ListN.{length, getD};
 ghost use Rattle.job.specs.Line.{Line};
 ghost use Rattle.reader.specs.declared.Form.the-variants as Forms;
-ghost use Rattle.lines.specs.Plain.{slot, Plain, Ready, Obeyed, FrameReady, FrameObeyed};
+ghost use Rattle.instructions.specs.Plain.{Plain};
+ghost use Rattle.lines.specs.Plain.{slot, Ready, Obeyed, FrameReady, FrameObeyed};
 
 // The list in slot i of a line's fields.
 pub fn list<'a>(f: &'a [u64], i: usize) -> &'a [u64]

@@ -14,7 +14,8 @@ use Rattle.rows.specs.declared.Shape.{Shape}
 use Rattle.propagator.specs.Acts.{stateOf}
 use Rattle.noise.specs.declared.Place.{Place}
 use Rattle.faults.specs.Laws.Prepared.{noise-lines}
-use Rattle.lines.specs.Plain.{Plain, Ready, Obeyed}
+use Rattle.instructions.specs.Plain.{Plain}
+use Rattle.lines.specs.Plain.{Ready, Obeyed}
 use Rattle.injection.specs.Holds.{Holds}
 use Rattle.injection.specs.Laws.Holds.{holds-some, holds-line}
 use Rattle.execution.specs.declared.Moved.{Moved}

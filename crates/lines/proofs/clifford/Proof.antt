@@ -1,6 +1,6 @@
 -- `lines::clifford` meets its contract. Assumes nothing.
 use Rattle.lines.specs.Laws.Obey.{scratch-fits}
-use Rattle.lines.specs.Laws.Read.{clifford-read}
+use Rattle.instructions.specs.Laws.Read.{clifford-read}
 use Rattle.job.specs.Sound.{LineSound}
 use native.Mathlib.Omega.{arith}
 use borrow.Author.Needs.{needs}

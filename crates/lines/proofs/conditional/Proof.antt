@@ -1,5 +1,5 @@
 -- `lines::conditional` meets its contract. Assumes nothing.
-use Rattle.lines.specs.Laws.Read.{conditional-read}
+use Rattle.instructions.specs.Laws.Read.{conditional-read}
 use Rattle.propagator.specs.Laws.Lists.{sound-in}
 use Rattle.job.specs.Sound.{LineSound}
 use Rattle.job.specs.Laws.Lists.{below-more, rising-distinct}

@@ -1,5 +1,5 @@
 -- `lines::controlled` meets its contract. Assumes nothing.
-use Rattle.lines.specs.Laws.Read.{controlled-read}
+use Rattle.instructions.specs.Laws.Read.{controlled-read}
 use Rattle.propagator.specs.Laws.Lists.{sound-in}
 use Rattle.job.specs.Sound.{LineSound}
 use native.Mathlib.Omega.{arith}

@@ -1,5 +1,5 @@
 -- `lines::exponential` meets its contract. Assumes nothing.
-use Rattle.lines.specs.Laws.Read.{exponential-read}
+use Rattle.instructions.specs.Laws.Read.{exponential-read}
 use Rattle.propagator.specs.Laws.Lists.{sound-in}
 use Rattle.job.specs.Sound.{LineSound}
 use native.Mathlib.Omega.{arith}

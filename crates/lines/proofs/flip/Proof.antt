@@ -1,5 +1,5 @@
 -- `lines::flip` meets its contract. Assumes nothing.
-use Rattle.lines.specs.Laws.Read.{flip-read}
+use Rattle.instructions.specs.Laws.Read.{flip-read}
 use Rattle.job.specs.Sound.{LineSound}
 use native.Mathlib.Omega.{arith}
 use borrow.Author.Needs.{needs}

@@ -1,5 +1,5 @@
 -- `lines::inject` meets its contract. Assumes nothing.
-use Rattle.lines.specs.Laws.Read.{inject-read}
+use Rattle.instructions.specs.Laws.Read.{inject-read}
 use Rattle.propagator.specs.Laws.Lists.{sound-in}
 use Rattle.job.specs.Sound.{LineSound}
 use native.Mathlib.Omega.{arith}

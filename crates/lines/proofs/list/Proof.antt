@@ -1,6 +1,5 @@
 -- `lines::list` meets its contract. Assumes nothing.
 use native.Mathlib.Nat.{add-sub-cancel-left}
-use Rattle.lines.specs.Plain.{slot}
 use borrow.Author.Needs.{needs}
 use Rattle.lines.proofs.list.Statement.{statement}
 use Rattle.lines.proofs.list.Tie as tie
@@ -36,7 +35,6 @@ part-result-end : tie.Need-part-result-end
 part-result-end c = search needs
 
 returns : tie.Need-returns
-unfolding slot
 returns c = rw (add-sub-cancel-left)
 
 pub list-spec : {M : Type 1} → statement M

@@ -4,7 +4,7 @@ use mathlib.Core.Path.{sym}
 use denote.Ref.{now}
 use lib.Seq.{length-take-le}
 -- `lines::reset` meets its contract. Assumes nothing.
-use Rattle.lines.specs.Laws.Read.{reset-read, first-field}
+use Rattle.instructions.specs.Laws.Read.{reset-read, first-field}
 use Rattle.job.specs.Sound.{LineSound}
 use native.Mathlib.Omega.{arith}
 use borrow.Author.Needs.{needs}

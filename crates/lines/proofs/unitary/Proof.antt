@@ -1,5 +1,5 @@
 -- `lines::unitary` meets its contract. Assumes nothing.
-use Rattle.lines.specs.Laws.Read.{unitary-read, gate-small}
+use Rattle.instructions.specs.Laws.Read.{unitary-read, gate-small}
 use Rattle.pauli.specs.Code.{operandCount}
 use Rattle.job.specs.Sound.{LineSound}
 use native.Mathlib.Omega.{arith}

@@ -15,8 +15,9 @@ use Rattle.reader.specs.declared.Form.the-variants as form
 use Rattle.reader.specs.Parsed.{placeOf, noForm}
 use Rattle.instructions.specs.Laws.Meaning.{noise-said}
 use Rattle.propagator.specs.Acts.{Acts, lineRule}
-use Rattle.lines.specs.Plain.{Plain, Ready, Obeyed, FrameReady, FrameObeyed}
-use Rattle.lines.specs.Laws.Read.{written-line}
+use Rattle.instructions.specs.Plain.{Plain}
+use Rattle.lines.specs.Plain.{Ready, Obeyed, FrameReady, FrameObeyed}
+use Rattle.instructions.specs.Laws.Read.{written-line, Idle}
 
 -- ---- scratch
 
@@ -46,19 +47,6 @@ pub obeyed-as : {f k : Form} {fields : List ℕ} {w n m : ℕ} {x z d x′ z′ 
 obeyed-as {fields = fields} {w = w} {n = n} {m = m} e o = record { acts = λ line p. o .acts line (subst (λ (g : Form). Plain g fields w n m line) e p) }
 
 -- ---- lines that do nothing
-
--- a form that is not one of these
-pub record Idle (f : Form) : Type 0 where
-  pub unitary : f ≡ form.Unitary → ⊥
-  pub clifford : f ≡ form.Clifford → ⊥
-  pub exponential : f ≡ form.Exponential → ⊥
-  pub controlled : f ≡ form.Controlled → ⊥
-  pub permute : f ≡ form.Permute → ⊥
-  pub measure : f ≡ form.Measure → ⊥
-  pub conditional : f ≡ form.Conditional → ⊥
-  pub reset : f ≡ form.Reset → ⊥
-  pub inject : f ≡ form.Inject → ⊥
-  pub flip : f ≡ form.Flip → ⊥
 
 -- a noise line is no plain line
 no-noise : (kind : Kind) (vs : List Value) {l : Line} → noiseLine kind vs ≡ some (Written.line l) → ⊥
