@@ -48,12 +48,9 @@ fn put_noise_line<'a>(
     let place = from.place;
     let mut sums = [0.0; 64];
     let mut mask = [0u64; 64];
-    let form = line.form;
-    let next = line.end + 1;
     let ready = prepare(
         job,
-        next,
-        form,
+        line,
         fields,
         noiseless,
         shape.width,

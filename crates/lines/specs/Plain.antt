@@ -3,38 +3,33 @@ use Prim.Native.Nat.{ℕ, _*_, _≤_}
 use mathlib.Core.Path.{_≡_}
 use mathlib.Core.List.{List}
 use lib.ListN.{length}
-use Rattle.template.specs.Values.{heldList}
 use Rattle.job.specs.Line.{Line}
 use Rattle.reader.specs.declared.Form.{Form}
 use Rattle.instructions.specs.Plain.{Plain}
 use Rattle.propagator.specs.Acts.{Acts, lineRule}
 
--- the list in slot i of a line's values
-abbrev pub slot : List ℕ → ℕ → List ℕ
-slot f i = heldList f i
-
 -- ---- lines that change frames and deltas
 
--- the fields say a line, and the words are rows for it
-pub record Ready (form : Form) (fields : List ℕ) (w n m : ℕ) (x z d : List ℕ) : Type 0 where
+-- the values say a line, and the words are rows for it
+pub record Ready (form : Form) (values : List ℕ) (w n m : ℕ) (x z d : List ℕ) : Type 0 where
   pub line : Line
-  pub plain : Plain form fields w n m line
+  pub plain : Plain form values w n m line
   pub of-x : length x ≡ n * w
   pub of-z : length z ≡ n * w
   pub of-deltas : length d ≡ m * w
 
 -- the words after are what the line makes of the words before, in every shot
-pub record Obeyed (form : Form) (fields : List ℕ) (w n m : ℕ) (x z d x′ z′ d′ : List ℕ) : Type 0 where
-  pub acts : (line : Line) → Plain form fields w n m line → Acts w (lineRule n m line) x z d x′ z′ d′
+pub record Obeyed (form : Form) (values : List ℕ) (w n m : ℕ) (x z d x′ z′ d′ : List ℕ) : Type 0 where
+  pub acts : (line : Line) → Plain form values w n m line → Acts w (lineRule n m line) x z d x′ z′ d′
 
 -- ---- lines that change frames alone, whatever the outcomes
 
-pub record FrameReady (form : Form) (fields : List ℕ) (w n : ℕ) (x z : List ℕ) : Type 0 where
+pub record FrameReady (form : Form) (values : List ℕ) (w n : ℕ) (x z : List ℕ) : Type 0 where
   pub outcomes : ℕ
   pub line : Line
-  pub plain : Plain form fields w n outcomes line
+  pub plain : Plain form values w n outcomes line
   pub of-x : length x ≡ n * w
   pub of-z : length z ≡ n * w
 
-pub record FrameObeyed (form : Form) (fields : List ℕ) (w n : ℕ) (x z x′ z′ : List ℕ) : Type 0 where
-  pub acts : (m : ℕ) (line : Line) → Plain form fields w n m line → (d : List ℕ) → Acts w (lineRule n m line) x z d x′ z′ d
+pub record FrameObeyed (form : Form) (values : List ℕ) (w n : ℕ) (x z x′ z′ : List ℕ) : Type 0 where
+  pub acts : (m : ℕ) (line : Line) → Plain form values w n m line → (d : List ℕ) → Acts w (lineRule n m line) x z d x′ z′ d

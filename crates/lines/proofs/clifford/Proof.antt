@@ -10,8 +10,8 @@ use Rattle.lines.proofs.clifford.Tie as tie
 list-requires : tie.Need-list-requires
 list-requires c κs = (omega arith, c .before .before .before .before .before .before .pre .0 .plain .wide, clifford-read (c .before .before .before .before .before .before .pre .0 .plain) .few 0 (omega arith))
 
-shared-slice-read-apply-clifford : tie.Need-shared-slice-read-apply-clifford
-shared-slice-read-apply-clifford c = search needs
+number-requires : tie.Need-number-requires
+number-requires c κs = (omega arith, c .before .before .before .before .before .before .before .pre .0 .plain .wide)
 
 apply-clifford-requires : tie.Need-apply-clifford-requires
 unfolding LineSound
@@ -32,14 +32,14 @@ same-length-3 c = search needs
 returns : tie.Need-returns
 returns c =
     let e = c .before .before .before .before .before .before .before .before .before .list .ensures in
-    record { acts = λ m line p d. rw (← clifford-read p .is, ← e) (c .before .before .before .before .before .before .apply-clifford .ensures m d) }
+    record { acts = λ m line p d. rw (← clifford-read p .is, ← e, ← (c .before .before .before .before .before .before .before .before .number .ensures)) (c .before .before .before .before .before .before .apply-clifford .ensures m d) }
 
 pub clifford-spec : {M : Type 1} → statement M
 clifford-spec =
     tie.close
     (tie.spec
     list-requires
-    shared-slice-read-apply-clifford
+    number-requires
     apply-clifford-requires
     same-length
     same-length-2
