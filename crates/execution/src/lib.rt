@@ -64,16 +64,7 @@ fn apply_noise<'a>(
     }
     let correlation = fault.correlation;
     let words = part(main, second, correlation, base, place.position);
-    let drawn = inject_faults(
-        words,
-        &mask,
-        fault,
-        &sums[..lines],
-        elements,
-        x,
-        z,
-        shape,
-    );
+    let drawn = inject_faults(words, &mask, fault, &sums[..lines], elements, x, z, shape);
     let Drawn::Done(read) = drawn else {
         return Moved::Spent;
     };

@@ -85,15 +85,7 @@ pub fn prepare(
     let form = line.form;
     let n = element_lines(form, f);
     let mut weights = [0.0; 64];
-    let r = read_fault(
-        job,
-        line,
-        n,
-        f,
-        elements,
-        &mut sums[..n],
-        &mut weights[..n],
-    );
+    let r = read_fault(job, line, n, f, elements, &mut sums[..n], &mut weights[..n]);
     let fault = r.fault;
     let condition = fault.condition;
     satisfied_shots(condition, noiseless, width, mask);

@@ -68,14 +68,7 @@ pub fn inject_depolarizing(
 // ---- Any element
 
 // Element e of a distribution, by its two lists: the counts lie in its first two of 64 words, the lists behind them.
-fn inject_listed(
-    x: &mut [u64],
-    z: &mut [u64],
-    shape: Shape,
-    shot: Shot,
-    elements: &[u64],
-    e: u64,
-)
+fn inject_listed(x: &mut [u64], z: &mut [u64], shape: Shape, shot: Shot, elements: &[u64], e: u64)
     requires { ⌜ ListedHeld (shape .qubits) (now elements) e × (length (now x) ≡ shape .qubits * shape .width) × (length (now z) ≡ shape .qubits * shape .width) × (shot .0 < 64 * shape .width) ⌝ }
     ensures { λ _. ⌜ ((P : SparsePauli) → ElementHeld (now (elements .entry)) e P → (m : ℕ) (d : List ℕ) → Acts (shape .width) (lineRule (shape .qubits) m (Line.inject (shot .0) P)) (now (x .entry)) (now (z .entry)) d (now (x .exit)) (now (z .exit)) d) ⌝ }
 {

@@ -83,7 +83,15 @@ fn measure(values: &[u64], x: &[u64], z: &[u64], deltas: &mut [u64], shape: Shap
     ensures { λ _. ⌜ Obeyed Forms.Measure (now (values .entry)) (shape .width) (shape .qubits) (shape .outcomes) (now (x .entry)) (now (z .entry)) (now (deltas .entry)) (now (x .entry)) (now (z .entry)) (now (deltas .exit)) ⌝ }
 {
     let outcome = OutcomeId(number(values, 0) as usize);
-    propagator::paulis::measure(x, z, deltas, shape, list(values, 0), list(values, 1), outcome);
+    propagator::paulis::measure(
+        x,
+        z,
+        deltas,
+        shape,
+        list(values, 0),
+        list(values, 1),
+        outcome,
+    );
 }
 
 fn conditional(

@@ -140,14 +140,7 @@ pub fn reset_qubits(x: &mut [u64], z: &mut [u64], shape: Shape, qubits: &[u64])
 // ---- Single shots
 
 // Adds a Pauli in one shot.
-pub fn inject_pauli(
-    x: &mut [u64],
-    z: &mut [u64],
-    shape: Shape,
-    shot: Shot,
-    px: &[u64],
-    pz: &[u64],
-)
+pub fn inject_pauli(x: &mut [u64], z: &mut [u64], shape: Shape, shot: Shot, px: &[u64], pz: &[u64])
     requires { ⌜ (length (now x) ≡ shape .qubits * shape .width) × (length (now z) ≡ shape .qubits * shape .width) × PauliIn (shape .qubits) (now px) (now pz) × (shot .0 < 64 * shape .width) ⌝ }
     ensures { λ _. ⌜ ((m : ℕ) (d : List ℕ) → Acts (shape .width) (lineRule (shape .qubits) m (Line.inject (shot .0) (written (now (px .entry)) (now (pz .entry))))) (now (x .entry)) (now (z .entry)) d (now (x .exit)) (now (z .exit)) d) ⌝ }
 {

@@ -61,14 +61,7 @@ fn add_image(
 }
 
 // Adds the images of the operands' saved X parts, rows 0 to k-1 of the table, and of their Z parts, the next k. They are saved in this order.
-fn add_images(
-    x: &mut [u64],
-    z: &mut [u64],
-    shape: Shape,
-    qubits: &[u64],
-    t: u64,
-    saved: &[u64],
-)
+fn add_images(x: &mut [u64], z: &mut [u64], shape: Shape, qubits: &[u64], t: u64, saved: &[u64])
     requires { ⌜ (length (now x) ≡ shape .qubits * shape .width) × (length (now z) ≡ shape .qubits * shape .width) × (length (now qubits) ≤ 4) × (allBelow (shape .qubits) (now qubits) ≡ true) × ((length (now qubits) + length (now qubits)) * shape .width ≤ length (now saved)) ⌝ }
     ensures { λ _. ⌜ ImagesAdded (shape .width) (now (qubits .entry)) t (now (saved .entry)) (now (x .entry)) (now (z .entry)) (now (x .exit)) (now (z .exit)) ⌝ }
 {
@@ -103,13 +96,7 @@ pub fn apply_clifford(
 // ---- Permutations
 
 // Adds saved row i to the row of the operand at place s_i.
-fn add_to_places(
-    rows: &mut [u64],
-    shape: Shape,
-    places: &[u64],
-    qubits: &[u64],
-    saved: &[u64],
-)
+fn add_to_places(rows: &mut [u64], shape: Shape, places: &[u64], qubits: &[u64], saved: &[u64])
     requires { ⌜ (length (now rows) ≡ shape .qubits * shape .width) × (allBelow (shape .qubits) (now qubits) ≡ true) × (isPermutation (length (now qubits)) (now places) ≡ true) × (length (now qubits) * shape .width ≤ length (now saved)) ⌝ }
     ensures { λ _. ⌜ PlacesAdded (shape .width) (now (places .entry)) (now (qubits .entry)) (now (saved .entry)) (now (rows .entry)) (now (rows .exit)) ⌝ }
 {
@@ -124,13 +111,7 @@ fn add_to_places(
 }
 
 // Permutes the rows of the operands in one matrix.
-fn permute_rows(
-    rows: &mut [u64],
-    shape: Shape,
-    places: &[u64],
-    qubits: &[u64],
-    saved: &mut [u64],
-)
+fn permute_rows(rows: &mut [u64], shape: Shape, places: &[u64], qubits: &[u64], saved: &mut [u64])
     requires { ⌜ (length (now rows) ≡ shape .qubits * shape .width) × (allBelow (shape .qubits) (now qubits) ≡ true) × (isPermutation (length (now qubits)) (now places) ≡ true) × (length (now qubits) * shape .width ≤ length (now saved)) ⌝ }
     ensures { λ _. ⌜ RowsPermuted (shape .width) (now (places .entry)) (now (qubits .entry)) (now (rows .entry)) (now (rows .exit)) ⌝ }
 {

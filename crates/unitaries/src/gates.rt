@@ -42,13 +42,7 @@ pub fn apply_sqrt_x(x: &mut [u64], z: &[u64], shape: Shape, qubit: QubitId)
 }
 
 // ControlledX adds control X to target X, target Z to control Z.
-pub fn apply_cnot(
-    x: &mut [u64],
-    z: &mut [u64],
-    shape: Shape,
-    control: QubitId,
-    target: QubitId,
-)
+pub fn apply_cnot(x: &mut [u64], z: &mut [u64], shape: Shape, control: QubitId, target: QubitId)
     requires { ⌜ (length (now x) ≡ shape .qubits * shape .width) × (length (now z) ≡ shape .qubits * shape .width) × (control .0 < shape .qubits) × (target .0 < shape .qubits) × (control .0 ≡ target .0 → ⊥) ⌝ }
     ensures { λ _. ⌜ ((d : List ℕ) → Acts (shape .width) (λ s. onFrame (controlledX (control .0) (target .0))) (now (x .entry)) (now (z .entry)) d (now (x .exit)) (now (z .exit)) d) ⌝ }
 {

@@ -31,7 +31,7 @@ slice-aggregate-step-3 : tie.Need-slice-aggregate-step-3 Inv-loop μ-loop
 slice-aggregate-step-3 c = omega (arith, c .before .before .before .before .before .loop .inv .2)
 
 step-requires : tie.Need-step-requires Inv-loop μ-loop
-step-requires c κs = 
+step-requires c κs =
     let i = c .before .before .before .before .before .before .before .before .loop .inv in
     let g = going-some _ _ _ _ (i .6) in
     let rows = c .before .before .before .before .before .before .before .before .before .before .before .before .before .before .before .before .pre .1 in (
@@ -70,19 +70,19 @@ same-length-3 : tie.Need-same-length-3 Inv-loop μ-loop
 same-length-3 c = c .before .before .before .before .before .before .before .before .before .before .before .step .kept .1 .1 .1 .1 .1 .1 .1 .0 ∙ c .before .before .before .before .before .before .before .before .before .before .before .before .before .before .before .before .before .before .before .before .loop .inv .5
 
 returns : tie.Need-returns Inv-loop μ-loop
-returns c = 
+returns c =
     record {
       by = going-stopped _ _ _ _ (c .before .before .before .before .before .before .before .before .before .before .before .before .before .before .before .before .before .before .before .before .loop .inv .6) _ _ _
           (λ recorded ahead states holds. rw (c .enum-told .given .1) at (c .before .before .before .before .before .before .before .before .before .before .before .step .ensures .by recorded ahead states holds));
     }
 
 loop-less : tie.Need-loop-less Inv-loop μ-loop
-loop-less c = 
+loop-less c =
     going-fewer _ _ _ _ (c .before .before .before .before .before .before .before .before .before .before .before .before .before .before .before .before .before .before .before .before .before .loop .inv .6) _ _ _ _
     (λ recorded ahead states holds. rw (c .before .moved .given .1) at (c .before .before .before .before .before .before .before .before .before .before .before .before .step .ensures .by recorded ahead states holds))
 
 loop-again : tie.Need-loop-again Inv-loop μ-loop
-loop-again c = 
+loop-again c =
     let i = c .before .before .before .before .before .before .before .before .before .before .before .before .before .before .before .before .before .before .before .before .before .loop .inv in (
       c .before .before .before .before .before .before .before .before .before .before .before .before .step .kept .1 .1 .0 ∙ i .0,
       c .before .before .before .before .before .before .before .before .before .before .before .before .step .kept .1 .1 .1 .0 ∙ i .1,

@@ -14,7 +14,7 @@ is-noise-requires : tie.Need-is-noise-requires
 is-noise-requires c κs = search needs
 
 apply-noise-requires : tie.Need-apply-noise-requires
-apply-noise-requires c κs = 
+apply-noise-requires c κs =
     let ready = c .before .before .before .before .before .before .before .before .before .before .before .before .before .before .before .before .before .before .before .before .pre .0 in
     let rows = c .before .before .before .before .before .before .before .before .before .before .before .before .before .before .before .before .before .before .before .before .pre .1 in (
       noise-ready _ _ (noise-read (ready .ahead) (c .before .before .before .before .before .before .before .before .next-line .ensures) (sym (c .before .before .before .before .before .is-noise .ensures) ∙ c .before .before .before .before .if1 .taken)) (rows .of-noiseless),
@@ -42,7 +42,7 @@ same-length-4 : tie.Need-same-length-4
 same-length-4 c = search needs
 
 returns : tie.Need-returns
-returns c = 
+returns c =
     record {
       by = λ recorded ahead states holds.
           noise-done _ _ (noise-read ahead (c .before .before .before .before .before .before .before .before .before .before .before .before .before .before .before .next-line .ensures) (sym (c .before .before .before .before .before .before .before .before .before .before .before .before .is-noise .ensures) ∙ c .before .before .before .before .before .before .before .before .before .before .before .if1 .taken)) (c .before .before .before .before .before .before .before .before .before .before .before .before .before .before .before .before .before .before .before .before .before .before .before .before .before .before .before .pre .1 .of-noiseless)
@@ -50,19 +50,19 @@ returns c =
     }
 
 apply-line-requires : tie.Need-apply-line-requires
-apply-line-requires c κs = 
+apply-line-requires c κs =
     let ready = c .before .before .before .before .before .before .before .before .before .before .before .before .before .before .before .before .before .before .before .before .before .pre .0 in
     (plain-ready _ (c .before .before .before .before .before .before .before .before .before .before .before .before .before .before .before .before .before .before .before .before .before .args .place) (plain-read (ready .ahead) (c .before .before .before .before .before .before .before .before .before .next-line .ensures) (sym (c .before .before .before .before .before .before .is-noise .ensures) ∙ c .before .before .before .before .before .if1 .left)) (ready .ahead) (c .before .before .before .before .before .before .before .before .before .before .before .before .before .before .before .before .before .before .before .before .before .pre .1) (omega (arith, ready .of-fields, c .before .before .before .before .before .before .before .before .before .next-line .kept)), c .before .before .before .before .before .before .before .before .before .before .before .before .before .before .before .before .before .before .before .before .before .pre .2)
 
 add-t38 : tie.Need-add-t38
-add-t38 c = 
+add-t38 c =
     let ready = c .before .before .before .before .before .before .before .before .before .before .before .before .before .before .before .before .before .before .before .before .before .before .before .before .before .before .before .before .before .before .before .pre .0 in
     let place = c .before .before .before .before .before .before .before .before .before .before .before .before .before .before .before .before .before .before .before .next-line .ensures .place in
     let inside = place .inside in
     record { fits = omega (arith, c .before .before .before .before .before .before .before .before .before .before .before .before .before .before .before .before .before .before .before .before .before .before .before .before .before .before .before .before .before .before .before .good, plain-small _ (c .before .before .before .before .before .before .before .before .before .before .before .before .before .before .before .before .before .before .before .before .before .before .before .before .before .before .before .before .before .before .before .args .place) (plain-read (ready .ahead) (c .before .before .before .before .before .before .before .before .before .before .before .before .before .before .before .before .before .before .before .next-line .ensures) (sym (c .before .before .before .before .before .before .before .before .before .before .before .before .before .before .before .before .is-noise .ensures) ∙ c .before .before .before .before .before .before .before .before .before .before .before .before .before .before .before .if1 .left)) (ready .ahead) (c .before .before .before .before .before .before .before .before .before .before .before .before .before .before .before .before .before .before .before .before .before .before .before .before .before .before .before .before .before .before .before .pre .1) (omega (arith, ready .of-fields, c .before .before .before .before .before .before .before .before .before .before .before .before .before .before .before .before .before .before .before .next-line .kept))) }
 
 add-t39 : tie.Need-add-t39
-add-t39 c = 
+add-t39 c =
     let ready = c .before .before .before .before .before .before .before .before .before .before .before .before .before .before .before .before .before .before .before .before .before .before .before .before .before .before .before .before .before .before .before .before .pre .0 in
     let place = c .before .before .before .before .before .before .before .before .before .before .before .before .before .before .before .before .before .before .before .before .next-line .ensures .place in
     let inside = place .inside in
@@ -84,7 +84,7 @@ same-length-9 : tie.Need-same-length-9
 same-length-9 c = search needs
 
 returns-2 : tie.Need-returns-2
-returns-2 c = 
+returns-2 c =
     let ready = c .before .before .before .before .before .before .before .before .before .before .before .before .before .before .before .before .before .before .before .before .before .before .before .before .before .before .before .before .before .before .before .before .pre .0 in
     record {
       by = λ recorded ahead states holds.

@@ -58,7 +58,7 @@ slice-aggregate-run-needed-3 : tie.Need-slice-aggregate-run-needed-3
 slice-aggregate-run-needed-3 c = sym (length-take-le _ _ ((enough-words (sym (c .before .before .before .before .before .enough .ensures) ∙ not-false _ (c .before .before .before .before .if2 .left))) .of-deltas))
 
 run-needed-requires : tie.Need-run-needed-requires
-run-needed-requires c κs = 
+run-needed-requires c κs =
     let e = enough-words (rw (c .before .before .before .before .before .before .before .before .shape-of .ensures) at (sym (c .before .before .before .before .before .enough .ensures) ∙ not-false _ (c .before .before .before .before .if2 .left))) in
     rw (c .before .before .before .before .before .before .before .before .shape-of .ensures)
     (needed-ready (passed-at (c .before .before .before .before .before .before .before .before .before .before .before .before .before .examine .ensures) (c .before .before .before .before .before .before .before .before .before .before .if1 .left) (c .before .before .before .find .ensures .0))
@@ -77,7 +77,7 @@ same-length-3 : tie.Need-same-length-3
 same-length-3 c = search needs
 
 returns-3 : tie.Need-returns-3
-returns-3 c = 
+returns-3 c =
     rw (c .before .before .before .before .before .before .before .before .before .before .before .before .before .before .before .shape-of .ensures)
     (needed-reply (passed-at (c .before .before .before .before .before .before .before .before .before .before .before .before .before .before .before .before .before .before .before .before .examine .ensures) (c .before .before .before .before .before .before .before .before .before .before .before .before .before .before .before .before .before .if1 .left) (c .before .before .before .before .before .before .before .before .before .before .find .ensures .0)) _
     (sym (same-test _ _) ∙ rw (c .before .before .before .before .before .before .before .before .before .before .before .before .before .before .before .shape-of .ensures) at (sym (c .before .before .before .before .before .before .before .before .before .before .before .before .enough .ensures) ∙ not-false _ (c .before .before .before .before .before .before .before .before .before .before .before .if2 .left)))
