@@ -5,5 +5,3 @@ pub mod Sums
 pub mod Cases
 -- The replies of the calls, one after the other.
 pub mod Replies
--- The header of a job that passed, read from its first line.
-pub mod Header

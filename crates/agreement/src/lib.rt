@@ -8,7 +8,7 @@ ghost use Rattle.rows.specs.Words.{wordsPerRow};
 ghost use Rattle.rows.specs.Listed.{RowsIn};
 ghost use Rattle.run.specs.Run.{Source, Memory};
 ghost use Rattle.agreement.specs.Agree.{deltaSum, refusedBy, AgreeReply, agreeReply};
-use instructions::next_line;
+use checker::examine;
 use job::Answer;
 use pauli::Shot;
 use runner::run;
@@ -51,9 +51,9 @@ fn row_words(job: &[u8]) -> usize
     requires { ⌜ checkJob (now job) .number ≡ 0 ⌝ }
     ensures { λ r. ⌜ r ≡ wordsPerRow (jobOf (now (job .entry)) .header .shots) ⌝ }
 {
-    let mut fields = [0u64; 136];
-    next_line(job, 0, &mut fields);
-    (fields[2] as usize + 63) / 64
+    let found = examine(job);
+    let header = found.header;
+    (header.shots as usize + 63) / 64
 }
 
 // The sum modulo 2 of the listed outcomes' deltas in a shot, where a row has w words. Whole words are added, and the shot's bit is taken at the end.

@@ -2,7 +2,7 @@
 ghost use mathlib.Core.Path.{_≡_};
 ghost use mathlib.Core.List.{List};
 ghost use mathlib.Core.Option.{some};
-ghost use Prim.Native.Nat.{_+_, _*_, _^_, _<_};
+ghost use Prim.Native.Nat.{ℕ, _+_, _*_, _^_, _<_, _≤_};
 ghost use lib.ListN.{length};
 ghost use Rattle.text.specs.Bytes.{unlines};
 ghost use Rattle.text.specs.Template.{Value};
@@ -10,37 +10,47 @@ ghost use Rattle.job.specs.Grammar.{Written};
 ghost use Rattle.job.specs.Job.{checkJob};
 ghost use Rattle.reader.specs.Parsed.{formOf};
 ghost use Rattle.writer.specs.Placed.{Puts};
+ghost use Rattle.writer.specs.Line.{depolarizingStart, StartOf};
 ghost use Rattle.circuit.specs.Annotate.{noiseLines};
 ghost use Rattle.annotation.specs.Lines.{beforeIt, aroundText, Annotates};
 use instructions::next_line;
 use line_qubits::fit;
 use line_qubits::noise_qubits;
 use reader::Form;
+use template::values::WORDS;
 use writer::noise_lines::put_depolarizing;
+use writer::noise_lines::put_start;
 use writer::put_bytes;
 
-// A line's noise: none over no qubits.
-fn put_noise(out: &mut [u8], at: usize, p: u64, qubits: &[u64]) -> usize
-    requires { ⌜ at + (21 * length (now qubits) + 60) < 2 ^ 64 ⌝ }
-    ensures { λ r. ⌜ Puts at (unlines (noiseLines p (now (qubits .entry)))) (now (out .entry)) (now (out .exit)) r ⌝ }
+// A line's noise, from how its line begins: none over no qubits.
+fn put_noise(out: &mut [u8], at: usize, start: &[u8], qubits: &[u64]) -> usize
+    requires { ⌜ (length (now qubits) ≤ 31) × (at + (length (now start) + (21 * length (now qubits) + 5)) < 2 ^ 64) ⌝ }
+    ensures { λ r. ⌜ ((p : ℕ) → now (start .entry) ≡ depolarizingStart p → Puts at (unlines (noiseLines p (now (qubits .entry)))) (now (out .entry)) (now (out .exit)) r) ⌝ }
 {
     if qubits.len() == 0 {
         return at;
     }
-    put_depolarizing(out, at, p, qubits)
+    put_depolarizing(out, at, start, qubits)
 }
 
 // A line with its LF, and its noise before or after it.
-fn put_around(out: &mut [u8], at: usize, line: &[u8], before: bool, p: u64, qubits: &[u64]) -> usize
-    requires { ⌜ at + (length (now line) + (21 * length (now qubits) + 60)) < 2 ^ 64 ⌝ }
-    ensures { λ r. ⌜ Puts at (aroundText before (now (line .entry)) (unlines (noiseLines p (now (qubits .entry))))) (now (out .entry)) (now (out .exit)) r ⌝ }
+fn put_around(
+    out: &mut [u8],
+    at: usize,
+    line: &[u8],
+    before: bool,
+    start: &[u8],
+    qubits: &[u64],
+) -> usize
+    requires { ⌜ StartOf (now start) × (length (now qubits) ≤ 31) × (at + (length (now line) + (21 * length (now qubits) + 60)) < 2 ^ 64) ⌝ }
+    ensures { λ r. ⌜ ((p : ℕ) → now (start .entry) ≡ depolarizingStart p → Puts at (aroundText before (now (line .entry)) (unlines (noiseLines p (now (qubits .entry))))) (now (out .entry)) (now (out .exit)) r) ⌝ }
 {
     if before {
-        let next = put_noise(&mut *out, at, p, qubits);
+        let next = put_noise(&mut *out, at, start, qubits);
         return put_bytes(out, next, line);
     }
     let next = put_bytes(&mut *out, at, line);
-    put_noise(out, next, p, qubits)
+    put_noise(out, next, start, qubits)
 }
 
 // Noise goes before a measurement, and after the other lines.
@@ -64,8 +74,10 @@ pub fn put_annotated(out: &mut [u8], job: &[u8], p: u64) -> Progress
     requires { ⌜ checkJob (now job) .number ≡ 0 ⌝ }
     ensures { λ r. ⌜ Annotates (now (job .entry)) p r (now (out .entry)) (now (out .exit)) ⌝ }
 {
-    let mut fields = [0u64; 136];
+    let mut fields = [0u64; WORDS];
     let mut qubits = [0u64; 124];
+    let mut start = [0u8; 50];
+    put_start(&mut start, p);
     let mut at = 0;
     let mut k: u64 = 1;
     let mut next = 0;
@@ -79,7 +91,7 @@ pub fn put_annotated(out: &mut [u8], job: &[u8], p: u64) -> Progress
             return Progress { unfit: k, bytes: 0 };
         }
         let before = noise_before(form);
-        next = put_around(&mut *out, next, &job[at..end], before, p, over);
+        next = put_around(&mut *out, next, &job[at..end], before, &start, over);
         at = end;
         k += 1;
     }

@@ -13,7 +13,7 @@ use Rattle.job.specs.Checks.{allBelow}
 use Rattle.job.specs.Job.{answer, accepted, jobOf, recordedIn, checkJob}
 use Rattle.job.specs.declared.CountReply.{CountReply}
 use Rattle.job.specs.Reply.{TextReply, textFits, writtenBy, writtenText, refusedText, refusedCount}
-use Rattle.draws.specs.Settle.{SettledLine, Settled, settledList, settledText, numbered}
+use Rattle.draws.specs.Settle.{SettledLine, Settled, settledList, settledText, placedFrom}
 use Rattle.rows.specs.Words.{wordsPerRow, bitIn}
 use Rattle.run.specs.Run.{Source, Memory, outcomeWords, enoughWords, lentOf, spentReply, runReply}
 use Rattle.backward.specs.Settling.{settleReply}
@@ -22,7 +22,7 @@ use Rattle.backward.specs.Calls.{settlingOf, countOf, withSource}
 use Rattle.backward.specs.Theorems.{demand-3}
 use Rattle.backward.specs.Laws.Replies.{settle-writes, writes-these, run-ends}
 use Rattle.backward.specs.Laws.CallsAgree as calls
-use Rattle.backward.specs.Laws.CallsAgree.{numbered-quiet, numbered-lines, text-accepted, text-job, text-again, text-walked, text-run, reply-sum, walkable-true, walkable-parts}
+use Rattle.backward.specs.Laws.CallsAgree.{placed-quiet, placed-lines, text-accepted, text-job, text-again, text-walked, text-run, reply-sum, walkable-true, walkable-parts}
 
 -- ---- the settled text
 
@@ -50,13 +50,13 @@ module _ (job : List ℕ) (s : Source) (out : List ℕ) (done : settleReply job 
   -- For the lines to which the job settles:
   module _ (ls : List SettledLine) (settles : settlingOf job s ≡ Settled.settled ls) where
     -- The bytes are a job of the same header, and its instructions are the lines with their texts, one to a line, in order.
-    pub written-job : jobOf (writtenBy (settleReply job s out)) ≡ record { header = jobOf job .header; text = jobOf job .text; instructions = numbered 2 ls }
+    pub written-job : jobOf (writtenBy (settleReply job s out)) ≡ record { header = jobOf job .header; text = jobOf job .text; instructions = placedFrom 2 ls }
     written-job = let w = writes-these job s out done ls settles in rw (w .text) (text-job job (w .passes) s ls settles (w .few))
 
     -- There is no noise, and its lines are the settled list.
     pub written-quiet : (firstNoise (jobOf (writtenBy (settleReply job s out)) .instructions) ≡ none)
         × (plainLines (jobOf (writtenBy (settleReply job s out)) .instructions) ≡ settledList ls)
-    written-quiet = rw written-job (numbered-quiet 2 ls, numbered-lines 2 ls)
+    written-quiet = rw written-job (placed-quiet 2 ls, placed-lines 2 ls)
 
     -- A walk on them counts, for a shot of the job and a set of its recorded outcomes, what the walk of the lines counts. For any other shot or set it
     -- answers 17, and never 16.

@@ -1,8 +1,7 @@
--- Laws, for the proofs that cite them: transposes under the commutation form, what run and walk keep, sums over lists, the walk's shots apart, settled
+-- Laws, for the proofs that cite them: transposes under the commutation form, what run and walk keep, the walk's shots apart, settled
 -- lines, replies and how they agree. Nothing here has to be believed.
 pub mod Transpose
 pub mod Duality
-pub mod Sums
 pub mod WalkShots
 pub mod Settled
 pub mod Replies

@@ -17,7 +17,7 @@ use Rattle.job.specs.Job.{jobOf, recordedIn, checkJob}
 use Rattle.job.specs.InRange.{AllInRange}
 use Rattle.job.specs.Sound.{JobSound}
 use Rattle.job.specs.Theorems.{checked-sound}
-use Rattle.job.specs.Laws.Lists.{below-more}
+use Rattle.job.specs.Laws.Lists.{below-more, sumOver-members}
 use Rattle.frames.specs.Forward.{controlledPauli, imageSum, transformed, Setting, settingOf, run, start}
 use Rattle.frames.specs.Conjugation.{same, controlledSum, Takes}
 use Rattle.frames.specs.Shots.{restricted, within}
@@ -27,10 +27,10 @@ use Rattle.draws.specs.Draws.{Lent}
 use Rattle.draws.specs.Settle.{SettledLine, Settled, settle, settledList}
 use Rattle.draws.specs.Execute.{States, starts, Ended, execute}
 use Rattle.draws.specs.Theorems.{executed-spent, executed-ended}
+use Rattle.draws.specs.Laws.Settling.{ended-apart, ended-same}
 use Rattle.backward.specs.Walk.{Walk, walkBack, walk}
 use Rattle.backward.specs.Laws.Duality.{run-walk, total-start, total-end}
-use Rattle.backward.specs.Laws.Sums.{sumOver-members}
-use Rattle.backward.specs.Laws.Settled.{ended-apart, ended-same, settled-in-range}
+use Rattle.backward.specs.Laws.Settled.{settled-in-range}
 use Rattle.backward.specs.Laws.WalkShots.{walkBack-restricted, walkBack-quiet, same-carried}
 
 module _ (c : Setting) (ls : List Line) where

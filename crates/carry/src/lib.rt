@@ -6,7 +6,7 @@ ghost use mathlib.Core.Path.{_≡_};
 ghost use mathlib.Core.Bool.{true};
 ghost use Prim.Native.Nat.{_+_, _*_, _^_, _<_, _≤_};
 ghost use lib.ListN.{length, getD};
-ghost use Rattle.pauli.specs.Bits.{Bits, _△_, given, added, members, bit};
+ghost use Rattle.pauli.specs.Bits.{Bits, _△_, given, members, bit};
 ghost use Rattle.pauli.specs.Pauli.{_∗_ as _times_, when, anticommutes as Pauli·anticommutes};
 ghost use Rattle.pauli.specs.Gate.{gateOf, conjugatedBack};
 ghost use Rattle.pauli.specs.Code.{byGate};
@@ -99,19 +99,6 @@ fn parts_at(set: [u64; 4], qubits: &[u64]) -> u64
     w
 }
 
-// Adds to the parts on one qubit.
-fn add_part(b: Pauli, q: QubitId, x: bool, z: bool) -> Pauli
-    requires { ⌜ q .0 < 256 ⌝ }
-    ensures { λ r. ⌜ (inSet (r .x) ≡ added (inSet (b .x)) (q .0) x) × (inSet (r .z) ≡ added (inSet (b .z)) (q .0) z) ⌝ }
-{
-    let bx = b.x;
-    let bz = b.z;
-    Pauli {
-        x: pauli::add_qubit(bx, q, x),
-        z: pauli::add_qubit(bz, q, z),
-    }
-}
-
 // Adds the bits of x to the X parts on the operands, the bits of z to the Z parts.
 fn add_parts(b: Pauli, qubits: &[u64], x: u64, z: u64) -> Pauli
     requires { ⌜ (length (now qubits) ≤ 31) × (allBelow 256 (now qubits) ≡ true) ⌝ }
@@ -121,7 +108,7 @@ fn add_parts(b: Pauli, qubits: &[u64], x: u64, z: u64) -> Pauli
     let mut i = 0;
     while i < qubits.len() {
         let q = QubitId(qubits[i] as usize);
-        r = add_part(r, q, (x >> i) % 2 == 1, (z >> i) % 2 == 1);
+        r = r.add_at(q, (x >> i) % 2 == 1, (z >> i) % 2 == 1);
         i += 1;
     }
     r

@@ -10,6 +10,7 @@ use crate::tests::refusal;
 use instructions::next_line;
 use job::Answer;
 use job::Header;
+use template::values::WORDS;
 use value_tests::context::no_context;
 
 const MAX_BYTES: usize = 1048576;
@@ -59,7 +60,7 @@ pub fn examine(job: &[u8]) -> Examined
     if !well_ended(job) {
         return refused(1, 0);
     }
-    let mut fields = [0u64; 136];
+    let mut fields = [0u64; WORDS];
     let mut c = no_context();
     let mut at = 0;
     let mut k: u64 = 0;

@@ -4,8 +4,8 @@ ghost use mathlib.Core.Bool.{Bool, true};
 ghost use mathlib.Core.List.{List};
 ghost use mathlib.Core.Option.{some};
 ghost use Prim.Native.Nat.{_+_, _^_, _≤_, _<_};
-ghost use lib.ListN.{length};
 ghost use Rattle.text.specs.Template.{Value};
+ghost use Rattle.template.specs.Values.{Whole};
 ghost use Rattle.job.specs.Grammar.{Written};
 ghost use Rattle.job.specs.Checks.{lowest, ownTests, expected as Checks·expected, next as Checks·next, refusalOf};
 ghost use Rattle.reader.specs.Parsed.{isUnread, Said};
@@ -32,11 +32,12 @@ use noise_tests::noise_lines::depolarizing_number;
 use noise_tests::noise_lines::listed_number;
 use noise_tests::noise_lines::single_number;
 use reader::Form;
+use template::values::number;
 use value_tests::context::Context;
 use value_tests::lists::pauli_number;
 
 fn own_number(c: Context, form: Form, f: &[u64]) -> u64
-    requires { ⌜ 136 ≤ length (now f) ⌝ }
+    requires { ⌜ Whole (now f) ⌝ }
     ensures { λ r. ⌜ ((vs : List Value) (w : Written) → Said form (now (f .entry)) vs w → Checks·expected (contextOf c) w ≡ true → r ≡ lowest (ownTests (contextOf c) w)) ⌝ }
 {
     match form {
@@ -49,7 +50,7 @@ fn own_number(c: Context, form: Form, f: &[u64]) -> u64
         Form::Controlled => pauli_number(f, 0, 4, c.header.qubits),
         Form::Permute => permute_number(c, f),
         Form::Measure => measure_number(c, f),
-        Form::Allocate => id_number(c, f[0]),
+        Form::Allocate => id_number(c, number(f, 0)),
         Form::Conditional => conditional_number(c, f),
         Form::Reset => reset_number(c, f),
         Form::Inject => inject_number(c, f),
@@ -65,7 +66,7 @@ fn own_number(c: Context, form: Form, f: &[u64]) -> u64
 
 // The number that refuses a line, 0 where none does.
 pub fn refusal(c: Context, last: bool, form: Form, f: &[u64]) -> u64
-    requires { ⌜ 136 ≤ length (now f) ⌝ }
+    requires { ⌜ Whole (now f) ⌝ }
     ensures { λ r. ⌜ (isUnread form ≡ true → r ≡ 2) × ((vs : List Value) (w : Written) → Said form (now (f .entry)) vs w → r ≡ refusalOf (contextOf c) last (some w)) ⌝ }
 {
     if !expected(c, form, f) {
@@ -81,7 +82,7 @@ pub fn refusal(c: Context, last: bool, form: Form, f: &[u64]) -> u64
 }
 
 pub fn next(c: Context, form: Form, f: &[u64]) -> Context
-    requires { ⌜ (136 ≤ length (now f)) × (c .recorded + 1 < 2 ^ 64) ⌝ }
+    requires { ⌜ Whole (now f) × (c .recorded + 1 < 2 ^ 64) ⌝ }
     ensures { λ r. ⌜ ((last : Bool) (vs : List Value) (w : Written) → Said form (now (f .entry)) vs w → refusalOf (contextOf c) last (some w) ≡ 0 → contextOf r ≡ Checks·next (contextOf c) w) ⌝ }
 {
     Context {

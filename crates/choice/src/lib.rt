@@ -8,7 +8,7 @@ ghost use lib.ListN.{length, drop};
 ghost use Rattle.job.specs.Float.{zeroFloat, totalFrom};
 ghost use Rattle.draws.specs.Draws.{limitOf, bounded, runningSums, placeOf, byWeight};
 ghost use Rattle.noise.specs.Kinds.{boundOf, Small};
-ghost use Rattle.choice.specs.Choice.{Chose, ElementChosen};
+ghost use Rattle.choice.specs.Choice.{Chose, Sized, ElementChosen, Totals, SumsOf};
 
 // An element, with the place of the next word; or a word was needed past the end.
 pub enum Choice {
@@ -16,10 +16,17 @@ pub enum Choice {
     Spent,
 }
 
+// A kind of distribution, with the number of elements of which each is as likely as another, and the limit of that choice, which takes a division.
+pub struct Chooser {
+    pub kind: PauliDistribution,
+    pub size: u64,
+    pub limit: u64,
+}
+
 // ---- A choice in which each element is as likely as another
 
 // How many elements are chosen from so: none where the kind chooses otherwise.
-pub fn bound(d: PauliDistribution) -> u64
+fn bound(d: PauliDistribution) -> u64
     requires { ⌜ Small d ⌝ }
     ensures { λ r. ⌜ r ≡ boundOf d ⌝ }
 {
@@ -32,7 +39,7 @@ pub fn bound(d: PauliDistribution) -> u64
 }
 
 // Words from this one up are rejected.
-pub fn limit(c: u64) -> u64
+fn limit(c: u64) -> u64
     ensures { λ r. ⌜ r ≡ limitOf c ⌝ }
 {
     if c == 0 {
@@ -87,6 +94,17 @@ pub fn running_sums(sums: &mut [f64], weights: &[f64], total: f64)
     sums[weights.len() - 1] = 1.0;
 }
 
+// The running sums by which a distribution chooses: the weighted one's, by the total that it carries. The others have none.
+pub fn fill_sums(d: PauliDistribution, sums: &mut [f64], weights: &[f64])
+    requires { ⌜ (length (now sums) ≡ length (now weights)) × Totals d (now weights) ⌝ }
+    ensures { λ _. ⌜ SumsOf d (now (weights .entry)) (now (sums .exit)) ⌝ }
+{
+    match d {
+        PauliDistribution::Weighted(total) => running_sums(sums, weights, total),
+        _ => {}
+    }
+}
+
 // The first place whose running sum is not below u, else the last.
 fn place(sums: &[f64], u: f64) -> usize
     ensures { λ r. ⌜ r ≡ placeOf u (now (sums .entry)) ⌝ }
@@ -115,22 +133,29 @@ pub fn weigh(words: &[u64], at: usize, sums: &[f64]) -> Choice
 
 // ---- A choice by the kind of distribution
 
-// The element that the words from a place on choose. c is the bound of the kind, with its limit.
-pub fn element(
-    words: &[u64],
-    at: usize,
-    d: PauliDistribution,
-    c: u64,
-    limit: u64,
-    sums: &[f64],
-) -> Choice
-    requires { ⌜ (at ≤ length (now words)) × (c ≡ boundOf d) × (limit ≡ limitOf c) ⌝ }
-    ensures { λ r. ⌜ ElementChosen (now (words .entry)) at d (now (sums .entry)) r ⌝ }
+// The kind of a distribution with its numbers, which are the same for all shots of a line.
+pub fn chooser_of(d: PauliDistribution) -> Chooser
+    requires { ⌜ Small d ⌝ }
+    ensures { λ r. ⌜ (r .kind ≡ d) × Sized r ⌝ }
 {
+    let size = bound(d);
+    Chooser {
+        kind: d,
+        size,
+        limit: limit(size),
+    }
+}
+
+// The element that the words from a place on choose.
+pub fn element(words: &[u64], at: usize, chooser: Chooser, sums: &[f64]) -> Choice
+    requires { ⌜ (at ≤ length (now words)) × Sized chooser ⌝ }
+    ensures { λ r. ⌜ ElementChosen (now (words .entry)) at (chooser .kind) (now (sums .entry)) r ⌝ }
+{
+    let d = chooser.kind;
     match d {
         PauliDistribution::Single => Choice::Chosen(0, at),
-        PauliDistribution::Depolarizing(_) => choose(words, at, c, limit),
-        PauliDistribution::Uniform(_) => choose(words, at, c, limit),
+        PauliDistribution::Depolarizing(_) => choose(words, at, chooser.size, chooser.limit),
+        PauliDistribution::Uniform(_) => choose(words, at, chooser.size, chooser.limit),
         PauliDistribution::Weighted(_) => weigh(words, at, sums),
     }
 }

@@ -1,9 +1,9 @@
 -- Definitions. Annotation of a list of instructions, as the annotated text is to say it. Assumes nothing.
 use mathlib.Core.Bool.{false, cond}
-use mathlib.Core.List.{List, [], _∷_, _++_, map}
+use mathlib.Core.List.{List, [], _∷_, _++_}
 use mathlib.Core.Option.{none}
 use Prim.Native.Nat.{ℕ}
-use Rattle.job.specs.Line.{Distribution, Noise, Instruction, Placed}
+use Rattle.job.specs.Line.{Distribution, Noise, Instruction}
 use Rattle.circuit.specs.Annotate.{noiseQubits, noiseBefore}
 
 -- depolarizing noise without correlation and condition; p by its bits
@@ -25,7 +25,3 @@ withNoise p (Instruction.noise n) = Instruction.noise n ∷ []
 unfoldable pub annotatedList : ℕ → List Instruction → List Instruction
 annotatedList p [] = []
 annotatedList p (i ∷ is) = withNoise p i ++ annotatedList p is
-
--- instructions without their places
-abbrev pub instructionsOf : List Placed → List Instruction
-instructionsOf = map (λ (i : Placed). i .instruction)

@@ -6,7 +6,7 @@ use mathlib.Core.Option.{none}
 use Prim.Native.Nat.{ℕ, _^_, _<_, _≤_}
 use lib.ListN.{length}
 use Rattle.text.specs.Bytes.{bytes, until, extend, pieces, lines, unlines}
-use Rattle.text.specs.List.{withFirst, numbersOf, listQ, risesFrom, isRising, onlyRising, listL, oneMember, listC, commas, listText}
+use Rattle.text.specs.List.{withFirst, piecesOf, listQ, risesFrom, isRising, onlyRising, listL, oneMember, listC, commas, listText}
 use Rattle.text.specs.Number.{allDecimal, decimalFrom, numberOf, allHex, hexFrom, hexOf, bitOf, decimalDigits, hexDigits}
 use Rattle.text.specs.Template.{aNumber, aList, valueOf, andThen, sameByte, atEnd, valuesOf, numbersIn, listsIn, valueText, firstText, lineText}
 use Rattle.pauli.specs.Gate.{gates, gateFrom, gateOf}
@@ -14,9 +14,10 @@ use Rattle.job.specs.Grammar.{unitaryLine, optional, noiseLine, forms, said, or
 use Rattle.job.specs.Rising.{including, rising}
 use Rattle.job.specs.Float.{float, isProbability}
 use Rattle.job.specs.Job.{accepted, jobOf, checkJob}
+use Rattle.job.specs.Sound.{instructionsOf}
 use Rattle.job.specs.Reply.{writtenText, writtenBy}
 use Rattle.circuit.specs.Annotate.{noiseQubits, noiseBefore, noiseText, noiseLines, around, annotated, annotatedText, firstUnfit, locationsOf, locationsAt, locations}
-use Rattle.circuit.specs.Annotated.{annotatedList, instructionsOf}
+use Rattle.circuit.specs.Annotated.{annotatedList}
 use Rattle.circuit.specs.Replies.{annotateReply}
 use Rattle.circuit.specs.Laws.Replies.{annotate-writes}
 use Rattle.circuit.specs.Laws.Annotated.{JobAnnotated, job-annotated}
@@ -61,7 +62,7 @@ module _ (job : List ℕ) (p : ℕ) (small : p < 2 ^ 64) (out : List ℕ) (done 
 
 -- opens what lines are read and written with
 reading : Unit {0}
-unfolding bytes until extend pieces unlines withFirst numbersOf listQ risesFrom isRising onlyRising listL oneMember listC commas listText allDecimal decimalFrom numberOf allHex hexFrom hexOf bitOf decimalDigits hexDigits aNumber aList valueOf andThen sameByte atEnd valuesOf numbersIn listsIn valueText firstText lineText gates gateFrom gateOf unitaryLine optional noiseLine forms said orLater readBy readLine including rising
+unfolding bytes until extend pieces unlines withFirst piecesOf listQ risesFrom isRising onlyRising listL oneMember listC commas listText allDecimal decimalFrom numberOf allHex hexFrom hexOf bitOf decimalDigits hexDigits aNumber aList valueOf andThen sameByte atEnd valuesOf numbersIn listsIn valueText firstText lineText gates gateFrom gateOf unitaryLine optional noiseLine forms said orLater readBy readLine including rising
 reading = tt
 
 -- p = 2^-10: operands as written; a Y counts once and the support rises; control's support, then target's; none for the identity; before a measurement; none

@@ -1,5 +1,5 @@
 -- The correlation and the size that a line says. Definitions. Assumes nothing.
-use Prim.Native.Nat.{ℕ, _-_, _^_, _≤_}
+use Prim.Native.Nat.{ℕ, _≤_}
 use mathlib.Core.Bool.{Bool, true, false, cond}
 use mathlib.Core.List.{List, [], _∷_, _++_}
 use mathlib.Core.Option.{Option, none, some}
@@ -7,6 +7,7 @@ use lib.Dec.{eqb}
 use lib.ListN.{length}
 use Rattle.text.specs.Template.{Value}
 use Rattle.job.specs.Grammar.{Kind, Written}
+use Rattle.job.specs.Checks.{kindSize}
 use Rattle.reader.specs.declared.Form.{Form}
 use Rattle.reader.specs.Parsed.{Said}
 use Rattle.circuit.specs.Correlation.{Seen}
@@ -19,13 +20,7 @@ correlationIn (Written.line i) = none
 correlationIn (Written.noise n) = n .correlation
 correlationIn (Written.element w P) = none
 
--- the size of a distribution by its kind: 1, 4^k - 1 or n
-unfoldable pub kindSize : Kind → ℕ
-kindSize (Kind.single P) = 1
-kindSize (Kind.depolarizing qs) = 4 ^ length qs - 1
-kindSize (Kind.uniform n) = n
-kindSize (Kind.weighted n) = n
-
+-- the size of its distribution
 unfoldable pub sizeIn : Written → ℕ
 sizeIn (Written.header h) = 0
 sizeIn (Written.line i) = 0

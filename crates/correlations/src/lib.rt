@@ -8,33 +8,39 @@ ghost use lib.Dec.{eqb};
 ghost use lib.ListN.{length};
 ghost use Rattle.text.specs.Bytes.{until};
 ghost use Rattle.text.specs.Template.{Value};
+ghost use Rattle.template.specs.Values.{Whole};
 ghost use Rattle.job.specs.Grammar.{NoiseLine, Written};
+ghost use Rattle.job.specs.Checks.{kindSize};
 ghost use Rattle.job.specs.Job.{checkJob, jobOf};
 ghost use Rattle.reader.specs.Parsed.{Said};
 ghost use Rattle.instructions.specs.Lines.{Left, numbered};
 ghost use Rattle.instructions.specs.Ahead.{instructionsAt};
 ghost use Rattle.circuit.specs.Correlation.{firstDiffering};
 ghost use Rattle.circuit.specs.Replies.{correlationReply};
-ghost use Rattle.correlations.specs.Sizes.{correlationIn, kindSize, sizeIn, FewRead, present, tableOf, lookOf};
+ghost use Rattle.correlations.specs.Sizes.{correlationIn, sizeIn, FewRead, present, tableOf, lookOf};
 ghost use Rattle.correlations.specs.Rounds.{unlike, earliest, Remembers, Collects, RoundOf};
 use checker::check;
 use instructions::is_noise;
 use instructions::next_line;
 use job::Answer;
 use reader::Form;
+use template::values::WORDS;
+use template::values::count;
+use template::values::member;
+use template::values::number;
 
 // How many correlations the table holds.
 const SEEN: usize = 256;
 
 // Whether a line is noise with a corr.
 fn is_correlated(form: Form, f: &[u64]) -> bool
-    requires { ⌜ 136 ≤ length (now f) ⌝ }
+    requires { ⌜ Whole (now f) ⌝ }
     ensures { λ r. ⌜ ((vs : List Value) (w : Written) → Said form (now (f .entry)) vs w → r ≡ present (correlationIn w)) ⌝ }
 {
     if !is_noise(form) {
         return false;
     }
-    f[4] != 0
+    count(f, 0) != 0
 }
 
 fn power_of_four(k: u64) -> u64
@@ -52,13 +58,13 @@ fn power_of_four(k: u64) -> u64
 
 // How many elements the distribution of a noise line has.
 fn size(form: Form, f: &[u64]) -> u64
-    requires { ⌜ FewRead form (now f) × (136 ≤ length (now f)) ⌝ }
+    requires { ⌜ FewRead form (now f) × Whole (now f) ⌝ }
     ensures { λ r. ⌜ ((vs : List Value) (n : NoiseLine) → Said form (now (f .entry)) vs (Written.noise n) → r ≡ kindSize (n .kind)) ⌝ }
 {
     match form {
-        Form::Depolarizing => power_of_four(f[6]) - 1,
-        Form::Uniform => f[2],
-        Form::Weighted => f[2],
+        Form::Depolarizing => power_of_four(count(f, 2)) - 1,
+        Form::Uniform => number(f, 2),
+        Form::Weighted => number(f, 2),
         _ => 1,
     }
 }
@@ -86,7 +92,7 @@ struct Looked {
 }
 
 fn look(form: Form, f: &[u64], seen: &[u64], sizes: &[u64]) -> Looked
-    requires { ⌜ FewRead form (now f) × (136 ≤ length (now f)) × (length (now seen) ≡ length (now sizes)) ⌝ }
+    requires { ⌜ FewRead form (now f) × Whole (now f) × (length (now seen) ≡ length (now sizes)) ⌝ }
     ensures { λ r. ⌜ ((vs : List Value) (w : Written) → Said form (now (f .entry)) vs w → r ≡ lookOf (tableOf (now (seen .entry)) (now (sizes .entry))) (correlationIn w) (sizeIn w)) ⌝ }
 {
     if !is_correlated(form, f) {
@@ -97,7 +103,7 @@ fn look(form: Form, f: &[u64], seen: &[u64], sizes: &[u64]) -> Looked
             size: 0,
         };
     }
-    let correlation = f[12];
+    let correlation = member(f, 0, 0);
     let size = size(form, f);
     let i = place(seen, correlation);
     if i == seen.len() {
@@ -152,7 +158,7 @@ fn collect(job: &[u8], from: usize, number: u64, seen: &mut [u64], sizes: &mut [
     requires { ⌜ Left (now job) number from × (from < length (now job)) × (0 < length (now seen)) × (length (now seen) ≡ length (now sizes)) ⌝ }
     ensures { λ r. ⌜ Collects (now (job .entry)) number from r (now (seen .exit)) (now (sizes .exit)) ⌝ }
 {
-    let mut fields = [0u64; 136];
+    let mut fields = [0u64; WORDS];
     let mut at = from;
     let mut k = number;
     let mut n = 0;
@@ -193,7 +199,7 @@ fn compare(job: &[u8], from: usize, number: u64, seen: &[u64], sizes: &[u64]) ->
     requires { ⌜ Left (now job) number from × (length (now seen) ≡ length (now sizes)) ⌝ }
     ensures { λ r. ⌜ numbered r ≡ unlike (tableOf (now (seen .entry)) (now (sizes .entry))) (instructionsAt (now (job .entry)) number from) ⌝ }
 {
-    let mut fields = [0u64; 136];
+    let mut fields = [0u64; WORDS];
     let mut at = from;
     let mut k = number;
     while at < job.len() {

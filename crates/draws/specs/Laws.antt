@@ -1,5 +1,5 @@
 -- Laws, for the proofs that cite them: execution and settling; which words are read, which suffice and where they are spent; faults, u and the
--- elements; the lines that stand for noise; the settled text as a job. Nothing here has to be believed.
+-- elements; the lines that stand for noise; the settled text as a job; a run up to an instruction. Nothing here has to be believed.
 pub mod Tests
 pub mod Settling
 pub mod Words
@@ -11,3 +11,4 @@ pub mod Elements
 pub mod Depolarizing
 pub mod Within
 pub mod SettledText
+pub mod Before

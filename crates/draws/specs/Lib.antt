@@ -9,3 +9,4 @@ pub mod Laws
 -- Theorems on them.
 pub mod Theorems
 pub mod SettledTheorems
+pub mod RunTheorems

@@ -62,6 +62,6 @@ unfoldable pub settledText : List ℕ → List SettledLine → List ℕ
 settledText header ls = unlines (header ∷ map (λ (l : SettledLine). l .text) ls)
 
 -- settled lines as the instructions of a job, one to a line, from line k on
-unfoldable pub numbered : ℕ → List SettledLine → List Placed
-numbered k [] = []
-numbered k (l ∷ ls) = placedAt k (l .text) (Instruction.line (l .line)) ∷ numbered (suc k) ls
+unfoldable pub placedFrom : ℕ → List SettledLine → List Placed
+placedFrom k [] = []
+placedFrom k (l ∷ ls) = placedAt k (l .text) (Instruction.line (l .line)) ∷ placedFrom (suc k) ls

@@ -8,17 +8,17 @@ use lib.ListN.{length}
 use Rattle.job.specs.Line.{Line, Placed}
 use Rattle.job.specs.Job.{accepted, Job, jobOf, recordedIn, checkJob}
 use Rattle.job.specs.Sound.{LinesSound}
-use Rattle.job.specs.Laws.Passes.{lines-accepted}
+use Rattle.job.specs.Laws.Said.{instructions-accepted, lines-list}
 use Rattle.job.specs.Laws.Texts.{text-accepted, text-job}
 use Rattle.frames.specs.Forward.{settingOf, forward, run, start}
 use Rattle.frames.specs.Conjugation.{Within, isUnitaryKind, IsConjugate}
 use Rattle.frames.specs.Theorems.{sound-conjugates}
 use Rattle.frames.specs.Laws.Within.{within-identity, lines-within, sound-before, sound-here}
 use Rattle.draws.specs.Draws.{Lent}
-use Rattle.draws.specs.Settle.{SettledLine, Settled, settle, settledList, settledText, numbered}
+use Rattle.draws.specs.Settle.{SettledLine, Settled, settle, settledList, settledText, placedFrom}
 use Rattle.draws.specs.Known.{noiseFree, copies}
 use Rattle.draws.specs.Laws.Settling.{run-append}
-use Rattle.draws.specs.Laws.SettledText.{textsOf, told-sound, told-says, told-gathers, settle-numbered, JobSettles, job-settles, job-copied}
+use Rattle.draws.specs.Laws.SettledText.{textsOf, told-sound, told-says, told-gathers, settle-placed, JobSettles, job-settles, job-copied}
 
 -- An accepted job that settles to the lines ls, whatever is lent for its shots.
 module _ (job : List ℕ) (passes : checkJob job .number ≡ 0) (lent : Lent) (shots : lent .shots ≡ jobOf job .header .shots) (main : List ℕ) (ls : List SettledLine)
@@ -56,10 +56,10 @@ module _ (job : List ℕ) (passes : checkJob job .number ≡ 0) (lent : Lent) (s
     unfolding settledText
     settled-accepted few =
         text-accepted (jobOf job .header) (jobOf job .text) (textsOf ls) (known .says) (known .free) (known .range)
-        (lines-accepted (jobOf job .header) 0 2 (textsOf ls) (settledList ls) (told-says (jobOf job .header) 0 ls (known .lines .told)) settled-sound) few
+        (instructions-accepted (jobOf job .header) 0 2 (textsOf ls) _ (told-says (jobOf job .header) 0 ls (known .lines .told)) (lines-list (jobOf job .header) 0 _ settled-sound)) few
 
     -- Its header is the job's, with its bytes, and its instructions are the settled lines with their texts, one to a line, in order.
-    pub settled-job : jobOf (settledText (jobOf job .text) ls) ≡ record { header = jobOf job .header; text = jobOf job .text; instructions = numbered 2 ls }
+    pub settled-job : jobOf (settledText (jobOf job .text) ls) ≡ record { header = jobOf job .header; text = jobOf job .text; instructions = placedFrom 2 ls }
     unfolding settledText
     settled-job =
         text-job (jobOf job .header) (jobOf job .text) (textsOf ls) (known .says) (known .free)
@@ -71,7 +71,7 @@ module _ (job : List ℕ) (passes : checkJob job .number ≡ 0) (lent : Lent) (s
 
     -- It settles to the same lines, and so to itself, whatever is lent then.
     pub settled-again : (other : Lent) (words : List ℕ) → settle other (jobOf (settledText (jobOf job .text) ls) .instructions) words ≡ Settled.settled ls
-    settled-again other words = ap (λ (j : Job). settle other (j .instructions) words) settled-job ∙ settle-numbered other words 2 ls
+    settled-again other words = ap (λ (j : Job). settle other (j .instructions) words) settled-job ∙ settle-placed other words 2 ls
 
 -- An accepted job without noise settles to itself, whatever is lent (`settle-copies` says that it settles to the copies of its lines).
 pub noiseless-settled : (job : List ℕ) → checkJob job .number ≡ 0 → noiseFree (jobOf job .instructions) ≡ true

@@ -1,28 +1,28 @@
 -- A noise line with its element lines, made ready for its draws. Definitions. Assumes nothing.
 use Prim.Native.Nat.{ℕ, _+_, _*_, _≤_, _<_}
 use mathlib.Core.Path.{_≡_}
-use mathlib.Core.Bool.{Bool, true}
+use mathlib.Core.Bool.{Bool}
 use mathlib.Core.List.{List}
 use lib.ListN.{length, getD, take}
 use lib.Ieee.{Float}
 use Rattle.text.specs.Template.{Value}
 use Rattle.job.specs.declared.Header.{Header}
 use Rattle.job.specs.Line.{WeightedPauli, Noise, Placed}
-use Rattle.job.specs.Float.{zeroFloat, totalFrom}
 use Rattle.job.specs.Grammar.{NoiseLine, Written}
 use Rattle.job.specs.Checks.{elementLines}
 use Rattle.job.specs.Job.{noiseOf}
 use Rattle.job.specs.Sound.{NoiseSound, weightsOf}
 use Rattle.reader.specs.declared.Form.{Form}
 use Rattle.reader.specs.Parsed.{Said}
+use Rattle.instructions.specs.declared.Next.{Next}
 use Rattle.instructions.specs.Ahead.{instructionsAt, Ahead, Among, hasWeights}
-use Rattle.draws.specs.Draws.{noPauli, runningSums}
+use Rattle.draws.specs.Draws.{noPauli}
 use Rattle.rows.specs.Words.{bitIn}
 use Rattle.noise.specs.Kinds.{correlationOf, Small, Represents}
 use Rattle.noise.specs.Condition.{Masks}
-use Rattle.faults.specs.declared.ElementsRead.{ElementsRead}
 use Rattle.faults.specs.declared.Prepared.{Prepared}
 use Rattle.faults.specs.Elements.{ElementHeld, DistributionHeld}
+use Rattle.faults.specs.Line.{FaultOf}
 
 -- ---- element lines
 
@@ -43,14 +43,6 @@ pub record Gathered {job : List ℕ} {at n : ℕ} {weighted : Bool} (q : Element
   pub weighed : take i weights ≡ weightsOf (take i (q .elements))
   pub held : (e : ℕ) → e < i → ElementHeld elements e (getD (q .elements) e (record { weight = 0; pauli = noPauli }) .pauli)
 
--- All of them were read: the elements are kept, and their weights summed up.
-pub record ElementsKept {job : List ℕ} {at n : ℕ} {weighted : Bool} (q : ElementLines job at n weighted) (elements : List ℕ) (sums : List Float) (r : ElementsRead)
-    : Type 0 where
-  pub among : Among job (q .header) (q .recorded) weighted (q .elements) (q .rest) (q .line) (r .next) n
-  pub held : (e : ℕ) → e < n → ElementHeld elements e (getD (q .elements) e (record { weight = 0; pauli = noPauli }) .pauli)
-  pub total : r .total ≡ totalFrom zeroFloat (weightsOf (q .elements))
-  pub running : weighted ≡ true → sums ≡ runningSums (weightsOf (q .elements))
-
 -- ---- a noise line
 
 -- The fields hold a noise line of an accepted job. Its element lines begin at `at`, with the line of that number, and behind them stand the instructions
@@ -70,7 +62,21 @@ pub record NoiseLines (job : List ℕ) (at : ℕ) (form : Form) (fields noiseles
   pub among : Among job header recorded (hasWeights (noise .kind)) elements rest line at 0
   pub rows : header .outcomes * w ≤ length noiseless
 
--- the lent words and floats suffice
+-- a noise line of an accepted job was read, with so many element lines behind it
+pub record SomeNoise (job : List ℕ) (line : Next) (fields : List ℕ) (n : ℕ) : Type 0 where
+  pub noiseless : List ℕ
+  pub width : ℕ
+  pub lines : NoiseLines job (line .end + 1) (line .form) fields noiseless width
+  pub count : (vs : List Value) (k : NoiseLine) → Said (line .form) fields vs (Written.noise k) → n ≡ elementLines (k .kind)
+
+-- the lent words and floats suffice for n elements
+pub record FaultRoom (n : ℕ) (fields elements : List ℕ) (sums weights : List Float) : Type 0 where
+  pub of-fields : 136 ≤ length fields
+  pub of-elements : 4096 ≤ length elements
+  pub of-sums : length sums ≡ n
+  pub of-weights : length weights ≡ n
+
+-- and for any noise line and its mask
 pub record Room (fields elements : List ℕ) (sums : List Float) (mask : List ℕ) (w : ℕ) : Type 0 where
   pub of-fields : 136 ≤ length fields
   pub of-elements : 4096 ≤ length elements
@@ -81,6 +87,16 @@ module _ {job : List ℕ} {at : ℕ} {form : Form} {fields noiseless : List ℕ}
   -- the noise instruction
   abbrev pub noiseIn : Noise
   noiseIn = noiseOf (q .noise) (q .elements)
+
+  -- Its values and its elements were read, and the job can be read on behind them.
+  pub record FaultRead (elements : List ℕ) (sums : List Float) (r : Prepared) : Type 0 where
+    pub lines : r .lines ≡ length (q .elements)
+    pub ahead : Ahead job (q .header) (q .recorded) (q .line + r .lines) (r .next)
+    pub instructions : instructionsAt job (q .line + r .lines) (r .next) ≡ q .rest
+    pub total : Float
+    pub fault : FaultOf (q .noise) total (r .fault)
+    pub stands : Represents noiseIn (r .fault .probability) (r .fault .distribution) sums
+    pub held : DistributionHeld (noiseIn .distribution) elements
 
   -- It is ready for its draws, and the job can be read on behind it.
   pub record PreparedAs (elements : List ℕ) (sums : List Float) (mask : List ℕ) (r : Prepared) : Type 0 where

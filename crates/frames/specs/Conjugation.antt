@@ -191,6 +191,21 @@ abbrev pub ExtendsPlaces : ℕ → List ℕ → List ℕ → (Pauli → Pauli) �
 ExtendsPlaces n s qs =
     Extends n qs (λ i P. P ≡ X-at (getD qs (getD s i 0) 0)) (λ i P. P ≡ Z-at (getD qs (getD s i 0) 0))
 
+-- A sum takes X on operand i to a Pauli that is as `isX i` says and Z to one that is as `isZ i` says; X and Z on every other of the n qubits it
+-- takes to themselves.
+pub record TakesImages (n : ℕ) (qs : List ℕ) (isX isZ : ℕ → Pauli → Type 0) (U : Sum) : Type 0 where
+  pub of-X : (i : ℕ) → i < length qs → (P : Pauli) × isX i P × Takes n U (X-at (getD qs i 0)) P
+  pub of-Z : (i : ℕ) → i < length qs → (P : Pauli) × isZ i P × Takes n U (Z-at (getD qs i 0)) P
+  pub other-X : (q : ℕ) → q < n → outside qs q ≡ true → Takes n U (X-at q) (X-at q)
+  pub other-Z : (q : ℕ) → q < n → outside qs q ≡ true → Takes n U (Z-at q) (Z-at q)
+
+-- the images of a table, and those of places
+abbrev pub TakesTable : ℕ → List ℕ → ℕ → Sum → Type 0
+TakesTable n qs t = TakesImages n qs (IsRow qs t) (λ i. IsRow qs t (length qs + i))
+
+abbrev pub TakesPlaces : ℕ → List ℕ → List ℕ → Sum → Type 0
+TakesPlaces n s qs = TakesImages n qs (λ i P. P ≡ X-at (getD qs (getD s i 0) 0)) (λ i P. P ≡ Z-at (getD qs (getD s i 0) 0))
+
 -- P has no parts but on the n qubits
 pub record Within (n : ℕ) (P : Pauli) : Type 0 where
   pub in-x : (i : ℕ) → n ≤ i → P .x i ≡ false
@@ -233,6 +248,22 @@ Conjugates n (Line.reset qs) Q Q′ = ⊥
 Conjugates n (Line.inject shot P) Q Q′ = ⊥
 Conjugates n (Line.flip shot id) Q Q′ = ⊥
 
+-- The line's unitary is one: its sum is a unitary up to a factor; of a Clifford and a permutation, which are given by images, every map that extends
+-- these keeps commutation. Nothing is claimed of the other lines.
+unfoldable pub HasUnitary : ℕ → Line → Type 0
+HasUnitary n (Line.unitary g qs) = IsUnitary n (gateSum n g (getD qs 0 0) (getD qs 1 0))
+HasUnitary n (Line.clifford qs t) = (f : Pauli → Pauli) → ExtendsTable n qs t f → KeepsCommutation n f
+HasUnitary n (Line.pauli P) = IsUnitary n (pauliSum (pauliOf P))
+HasUnitary n (Line.exponential P) = IsUnitary n (exponentialSum (pauliOf P))
+HasUnitary n (Line.controlled C T) = IsUnitary n (controlledSum n (pauliOf C) (pauliOf T))
+HasUnitary n (Line.permute s qs) = (f : Pauli → Pauli) → ExtendsPlaces n s qs f → KeepsCommutation n f
+HasUnitary n (Line.measure P id) = ⊥
+HasUnitary n (Line.allocate id angle) = ⊥
+HasUnitary n (Line.conditional P ids par) = ⊥
+HasUnitary n (Line.reset qs) = ⊥
+HasUnitary n (Line.inject shot P) = ⊥
+HasUnitary n (Line.flip shot id) = ⊥
+
 -- Which lines of an accepted job are unitaries: u, c, p, e and m, and k if control and target commute; the tests see to the rest.
 unfoldable pub isUnitaryKind : ℕ → Line → Bool
 isUnitaryKind n (Line.unitary g qs) = true
@@ -248,8 +279,9 @@ isUnitaryKind n (Line.reset qs) = false
 isUnitaryKind n (Line.inject shot P) = false
 isUnitaryKind n (Line.flip shot id) = false
 
--- Q′ is Q conjugated by the line's unitary, phases dropped: the unitary takes Q to Q′, and on the n qubits to no other Pauli.
+-- Q′ is Q conjugated by the line's unitary, phases dropped: the line has a unitary, which takes Q to Q′, and on the n qubits to no other Pauli.
 pub record IsConjugate (n : ℕ) (l : Line) (Q Q′ : Pauli) : Type 0 where
+  pub unitary : HasUnitary n l
   pub takes : Conjugates n l Q Q′
   pub alone : (R : Pauli) → Conjugates n l Q R → same n Q′ R ≡ true
 

@@ -1,13 +1,13 @@
 -- Theorems on conjugation: what the lines do to a frame is conjugation by the unitaries that document 01 gives, and these determine it. Nothing
 -- here has to be believed.
 use mathlib.Core.Path.{_≡_, refl, sym, ap₂, _∙_}
-use mathlib.Core.Bool.{true, false, _&&_, true≢false}
+use mathlib.Core.Bool.{true, false, _&&_, _||_, cond, true≢false}
 use mathlib.Core.Logic.{_↔_}
 use mathlib.Core.List.{List, [], _∷_}
 use Prim.Native.Nat.{ℕ, _+_, _*_, _^_, _<_}
 use lib.ListN.{length, getD}
 use borrow.Author.Tests.{not-true, eq-eqb}
-use Rattle.pauli.specs.Pauli.{Pauli, X-at, Z-at, _∗_, anticommutes}
+use Rattle.pauli.specs.Pauli.{Pauli, identity, X-at, Y-at, Z-at, _∗_, anticommutes}
 use Rattle.pauli.specs.Gate.{Gate, operandsOf}
 use Rattle.pauli.specs.Laws.Pairing.{anti-comm}
 use Rattle.job.specs.declared.Header.{Header}
@@ -18,7 +18,10 @@ use Rattle.job.specs.Job.{jobOf, recordedBy, checkJob}
 use Rattle.job.specs.Sound.{UnitarySound, CliffordSound, PermuteSound, Every, LineSound, InstructionSound, InstructionsSound}
 use Rattle.job.specs.Theorems.{checked-sound}
 use Rattle.frames.specs.Forward.{imagesOf, placesOf, transformed, State, Setting, settingOf, forward}
-use Rattle.frames.specs.Conjugation.{Sum, same, pauliSum, exponentialSum, controlledSum, gateSum, Takes, IsUnitary, ExtendsTable, ExtendsPlaces, Within, KeepsCommutation, isUnitaryLine, Conjugates, isUnitaryKind, IsConjugate, ConjugatesFrames}
+use Rattle.frames.specs.Conjugation.{Sum, product, same, phased, pauliSum, exponentialSum, controlledSum, gateSum, Takes, IsUnitary, IsRow, ExtendsTable, ExtendsPlaces, TakesTable, TakesPlaces, Within, KeepsCommutation, isUnitaryLine, Conjugates, HasUnitary, isUnitaryKind, IsConjugate, ConjugatesFrames}
+use Rattle.frames.specs.Laws.Gaussian.{twice}
+use Rattle.frames.specs.Laws.Sums.{product-assoc}
+use Rattle.frames.specs.Laws.Products as Products
 use Rattle.frames.specs.Laws.Takes as Takings
 use Rattle.frames.specs.Laws.Unitary as Unitary
 use Rattle.frames.specs.Laws.Roots as Roots
@@ -28,6 +31,7 @@ use Rattle.frames.specs.Laws.Generators as Generators
 use Rattle.frames.specs.Laws.Commutation.{generators-keep, keeps-generators, images-unique, images-commute}
 use Rattle.frames.specs.Laws.Clifford as Clifford
 use Rattle.frames.specs.Laws.Permutation as Permutation
+use Rattle.frames.specs.Laws.Taken.{images-taken}
 use Rattle.frames.specs.Laws.Lines.{tested, operands}
 use Rattle.frames.specs.Laws.Within.{line-within}
 
@@ -67,6 +71,34 @@ sound-clifford n qs t s = ap₂ _&&_ (ap₂ _&&_ (s .operands .below) (s .operan
 pub sound-permutation : (n : ℕ) (s qs : List ℕ) → PermuteSound n s qs → isUnitaryLine n (Line.permute s qs) ≡ true
 unfolding isUnitaryLine
 sound-permutation n s qs e = ap₂ _&&_ (ap₂ _&&_ (e .operands .below) (e .operands .apart)) (e .places)
+
+-- ---- products of Paulis
+
+module _ (n : ℕ) where
+  -- The product of sums of Paulis, by which a unitary is given, is associative with its phases,
+  pub product-associative : (U M W : Sum) → product n (product n U M) W ≡ product n U (product n M W)
+  product-associative = product-assoc n
+
+  -- 1 changes nothing,
+  pub one-unit : (U : Sum) → (product n (pauliSum identity) U ≡ U) × (product n U (pauliSum identity) ≡ U)
+  one-unit U = (Products.one-product n U, Products.product-one n U)
+
+  -- a Pauli's square is 1,
+  pub pauli-square : (P : Pauli) → product n (pauliSum P) (pauliSum P) ≡ pauliSum identity
+  pauli-square = Products.pauli-square n
+
+  -- PQ is QP where the two commute and -QP where they anticommute,
+  pub pauli-swap : (P Q : Pauli) → product n (pauliSum P) (pauliSum Q) ≡ product n (phased (cond (anticommutes n P Q) 2 0) Q ∷ []) (pauliSum P)
+  unfolding twice
+  pauli-swap = Products.pauli-swap n
+
+  -- Paulis that share no qubit are put side by side,
+  pub apart-product : (P Q : Pauli) → ((i : ℕ) → i < n → (P .x i || P .z i) && (Q .x i || Q .z i) ≡ false) → product n (pauliSum P) (pauliSum Q) ≡ pauliSum (P ∗ Q)
+  apart-product = Products.apart-product n
+
+  -- and Y is iXZ.
+  pub Y-is-iXZ : (q : ℕ) → q < n → pauliSum (Y-at q) ≡ product n (phased 1 (X-at q) ∷ []) (pauliSum (Z-at q))
+  Y-is-iXZ = Products.Y-is-iXZ n
 
 -- ---- the sums
 
@@ -118,6 +150,35 @@ clifford-extends n qs t d = Clifford.clifford-extends n qs d t
 pub permutation-extends : (n : ℕ) (s qs : List ℕ) → distinct qs ≡ true → length s ≡ length qs → ExtendsPlaces n s qs (transformed qs (placesOf qs s qs))
 permutation-extends n s qs d = Permutation.permutation-extends n s qs d
 
+-- So a unitary with the images of a Clifford line, whatever sum it is, takes every frame on the n qubits to what the line makes of it, and to no other
+-- Pauli there.
+pub clifford-taken : (c : Setting) (qs : List ℕ) (t : ℕ) → isUnitaryLine (c .qubits) (Line.clifford qs t) ≡ true
+    → (U : Sum) → IsUnitary (c .qubits) U → TakesTable (c .qubits) qs t U → (s : State) → Within (c .qubits) (s .frame)
+    → Takes (c .qubits) U (s .frame) (forward c (Line.clifford qs t) s .frame)
+    × ((R : Pauli) → Takes (c .qubits) U (s .frame) R → same (c .qubits) (forward c (Line.clifford qs t) s .frame) R ≡ true)
+unfolding isUnitaryLine forward
+clifford-taken c qs t test U u images s w =
+    let once = tested (c .qubits) qs (isClifford (length qs) t) test .once in
+    let taken =
+    images-taken (c .qubits) U (transformed qs (imagesOf qs t)) qs (IsRow qs t) (λ i. IsRow qs t (length qs + i))
+    (λ i P Q p q. Clifford.row-is qs once t i P p ∙ sym (Clifford.row-is qs once t i Q q))
+    (λ i P Q p q. Clifford.row-is qs once t (length qs + i) P p ∙ sym (Clifford.row-is qs once t (length qs + i) Q q))
+    (clifford-extends (c .qubits) qs t once) images (s .frame) w in
+    (taken, λ R r. takes-unique (c .qubits) U u (s .frame) _ R taken r)
+
+-- The same of a permutation line.
+pub permutation-taken : (c : Setting) (p qs : List ℕ) → isUnitaryLine (c .qubits) (Line.permute p qs) ≡ true
+    → (U : Sum) → IsUnitary (c .qubits) U → TakesPlaces (c .qubits) p qs U → (s : State) → Within (c .qubits) (s .frame)
+    → Takes (c .qubits) U (s .frame) (forward c (Line.permute p qs) s .frame)
+    × ((R : Pauli) → Takes (c .qubits) U (s .frame) R → same (c .qubits) (forward c (Line.permute p qs) s .frame) R ≡ true)
+unfolding isUnitaryLine forward
+permutation-taken c p qs test U u images s w =
+    let l = tested (c .qubits) qs (isPermutation (length qs) p) test in
+    let taken =
+    images-taken (c .qubits) U (transformed qs (placesOf qs p qs)) qs _ _ (λ i P Q a b. a ∙ sym b) (λ i P Q a b. a ∙ sym b)
+    (permutation-extends (c .qubits) p qs (l .once) (Permutation.test-permutes (length qs) p (l .last) .as-many)) images (s .frame) w in
+    (taken, λ R r. takes-unique (c .qubits) U u (s .frame) _ R taken r)
+
 -- A table passes test 7 exactly where it has no bits from 4k² up and the map that extends it keeps commutation: 7 refuses no Clifford.
 pub clifford-test : (n : ℕ) (qs : List ℕ) (t : ℕ) → allBelow n qs ≡ true → distinct qs ≡ true → (f : Pauli → Pauli) → ExtendsTable n qs t f
     → (isClifford (length qs) t ≡ true) ↔ ((t < 2 ^ (4 * (length qs * length qs))) × KeepsCommutation n f)
@@ -135,6 +196,27 @@ permutation-test n s qs b d l b′ f e = (
 )
 
 -- ---- all lines
+
+-- A line that is a unitary by its tests has a unitary.
+pub line-unitary : (n : ℕ) (l : Line) → isUnitaryLine n l ≡ true → HasUnitary n l
+unfolding isUnitaryLine HasUnitary
+line-unitary n (Line.unitary g qs) u = gate-unitary n g qs u
+line-unitary n (Line.clifford qs t) u =
+    λ f e. let l = tested n qs (isClifford (length qs) t) u in clifford-test n qs t (l .below) (l .once) f e .0 (l .last) .1
+line-unitary n (Line.pauli P) u = pauli-unitary n (pauliOf P)
+line-unitary n (Line.exponential P) u = exponential-unitary n (pauliOf P)
+line-unitary n (Line.controlled C T) u = controlled-unitary n (pauliOf C) (pauliOf T) (not-true _ u)
+line-unitary n (Line.permute s qs) u =
+    λ f e.
+    let l = tested n qs (isPermutation (length qs) s) u in
+    let r = Permutation.test-permutes (length qs) s (l .last) in
+    permutation-test n s qs (l .below) (l .once) (r .as-many) (r .below) f e .0 (l .last)
+line-unitary n (Line.measure P id) u = absurd (true≢false (sym u))
+line-unitary n (Line.allocate id angle) u = absurd (true≢false (sym u))
+line-unitary n (Line.conditional P ids par) u = absurd (true≢false (sym u))
+line-unitary n (Line.reset qs) u = absurd (true≢false (sym u))
+line-unitary n (Line.inject shot P) u = absurd (true≢false (sym u))
+line-unitary n (Line.flip shot id) u = absurd (true≢false (sym u))
 
 -- What a unitary line takes a Pauli on the n qubits to is determined on them: with `forward-conjugates`, it is what `forward` makes of it.
 pub conjugation-unique : (n : ℕ) (l : Line) → isUnitaryLine n l ≡ true → (Q Q₁ Q₂ : Pauli) → Within n Q → Conjugates n l Q Q₁ → Conjugates n l Q Q₂
@@ -209,7 +291,7 @@ pub sound-conjugates : (h : Header) (r : ℕ) (l : Line) → LineSound h r l →
 sound-conjugates h r l o kind shot s w =
     let u = sound-unitary h r l o kind in
     let c = forward-conjugates (settingOf h shot) l u s .0 in
-    record { takes = c; alone = λ R k. conjugation-unique (h .qubits) l u (s .frame) _ R w c k }
+    record { unitary = line-unitary (h .qubits) l u; takes = c; alone = λ R k. conjugation-unique (h .qubits) l u (s .frame) _ R w c k }
 
 -- of an instruction
 instruction-conjugates : (h : Header) (r : ℕ) (i : Instruction) → InstructionSound h r i → ConjugatesFrames h i
@@ -225,7 +307,7 @@ instructions-conjugate h r (i ∷ is) o =
     (instruction-conjugates h r (i .instruction) (o .0), instructions-conjugate h (r + recordedBy (i .instruction)) is (o .1))
 
 -- Demand 2: for every job that passes the checks, each unitary line's effect on a frame is conjugation, phases dropped. Each of its instructions that is
--- u, c, p, e or m, or k with a control and a target that commute, takes every frame on the job's qubits to its conjugate by the line's unitary.
+-- u, c, p, e or m, or k with a control and a target that commute, has a unitary and takes every frame on the job's qubits to its conjugate by it.
 -- (`frames-within` of crate draws: every frame of a run is one on the job's qubits.)
 pub job-conjugates : (job : List ℕ) → checkJob job .number ≡ 0
     → Every (λ (i : Placed). ConjugatesFrames (jobOf job .header) (i .instruction)) (jobOf job .instructions)

@@ -1,9 +1,9 @@
 // The faults of a noise line, injected in their shots.
-use choice::bound;
-use choice::limit;
+use choice::chooser_of;
 use noise::PauliDistribution;
 use noise::PauliFault;
 use pauli::Shot;
+use rows::Shape;
 use shots::NextFault;
 use shots::next_fault;
 ghost use mathlib.Core.Path.{_≡_};
@@ -52,63 +52,53 @@ fn flip_selected(rows: &mut [u64], w: usize, qubits: &[u64], v: u64, shot: Shot)
 pub fn inject_depolarizing(
     x: &mut [u64],
     z: &mut [u64],
-    w: usize,
-    n: usize,
+    shape: Shape,
     shot: Shot,
     qubits: &[u64],
     e: u64,
 )
-    requires { ⌜ (length (now x) ≡ n * w) × (length (now z) ≡ n * w) × (allBelow n (now qubits) ≡ true) × (distinct (now qubits) ≡ true) × (e + 1 < 2 ^ 64) × (shot .0 < 64 * w) ⌝ }
-    ensures { λ _. ⌜ ((m : ℕ) (d : List ℕ) → Acts w (lineRule n m (Line.inject (shot .0) (depolarizingElement (now (qubits .entry)) e))) (now (x .entry)) (now (z .entry)) d (now (x .exit)) (now (z .exit)) d) ⌝ }
+    requires { ⌜ (length (now x) ≡ shape .qubits * shape .width) × (length (now z) ≡ shape .qubits * shape .width) × (allBelow (shape .qubits) (now qubits) ≡ true) × (distinct (now qubits) ≡ true) × (e + 1 < 2 ^ 64) × (shot .0 < 64 * shape .width) ⌝ }
+    ensures { λ _. ⌜ ((m : ℕ) (d : List ℕ) → Acts (shape .width) (lineRule (shape .qubits) m (Line.inject (shot .0) (depolarizingElement (now (qubits .entry)) e))) (now (x .entry)) (now (z .entry)) d (now (x .exit)) (now (z .exit)) d) ⌝ }
 {
     let v = e + 1;
-    flip_selected(x, w, qubits, v, shot);
-    flip_selected(z, w, qubits, v / 2, shot);
+    flip_selected(x, shape.width, qubits, v, shot);
+    flip_selected(z, shape.width, qubits, v / 2, shot);
 }
 
 // ---- Any element
 
 // Element e of a distribution, by its two lists: the counts lie in its first two of 64 words, the lists behind them.
-fn inject_listed(
-    x: &mut [u64],
-    z: &mut [u64],
-    w: usize,
-    n: usize,
-    shot: Shot,
-    elements: &[u64],
-    e: u64,
-)
-    requires { ⌜ ListedHeld n (now elements) e × (length (now x) ≡ n * w) × (length (now z) ≡ n * w) × (shot .0 < 64 * w) ⌝ }
-    ensures { λ _. ⌜ ((P : SparsePauli) → ElementHeld (now (elements .entry)) e P → (m : ℕ) (d : List ℕ) → Acts w (lineRule n m (Line.inject (shot .0) P)) (now (x .entry)) (now (z .entry)) d (now (x .exit)) (now (z .exit)) d) ⌝ }
+fn inject_listed(x: &mut [u64], z: &mut [u64], shape: Shape, shot: Shot, elements: &[u64], e: u64)
+    requires { ⌜ ListedHeld (shape .qubits) (now elements) e × (length (now x) ≡ shape .qubits * shape .width) × (length (now z) ≡ shape .qubits * shape .width) × (shot .0 < 64 * shape .width) ⌝ }
+    ensures { λ _. ⌜ ((P : SparsePauli) → ElementHeld (now (elements .entry)) e P → (m : ℕ) (d : List ℕ) → Acts (shape .width) (lineRule (shape .qubits) m (Line.inject (shot .0) P)) (now (x .entry)) (now (z .entry)) d (now (x .exit)) (now (z .exit)) d) ⌝ }
 {
     let a = e as usize * 64;
     let xs = a + 2;
     let xe = xs + elements[a] as usize;
     let zs = a + 33;
     let ze = zs + elements[a + 1] as usize;
-    propagator::paulis::inject_pauli(x, z, w, n, shot, &elements[xs..xe], &elements[zs..ze]);
+    propagator::paulis::inject_pauli(x, z, shape, shot, &elements[xs..xe], &elements[zs..ze]);
 }
 
 // Element e of a distribution. The qubits of d=2 stand as the first list of element 0.
 pub fn inject_element(
     x: &mut [u64],
     z: &mut [u64],
-    w: usize,
-    n: usize,
+    shape: Shape,
     shot: Shot,
     d: PauliDistribution,
     elements: &[u64],
     e: u64,
 )
-    requires { ⌜ ElementReady n d (now elements) e × (length (now x) ≡ n * w) × (length (now z) ≡ n * w) × (shot .0 < 64 * w) ⌝ }
-    ensures { λ _. ⌜ ElementInjected w n (shot .0) d (now (elements .entry)) e (now (x .entry)) (now (z .entry)) (now (x .exit)) (now (z .exit)) ⌝ }
+    requires { ⌜ ElementReady (shape .qubits) d (now elements) e × (length (now x) ≡ shape .qubits * shape .width) × (length (now z) ≡ shape .qubits * shape .width) × (shot .0 < 64 * shape .width) ⌝ }
+    ensures { λ _. ⌜ ElementInjected (shape .width) (shape .qubits) (shot .0) d (now (elements .entry)) e (now (x .entry)) (now (z .entry)) (now (x .exit)) (now (z .exit)) ⌝ }
 {
     match d {
         PauliDistribution::Depolarizing(k) => {
             let end = 2 + k as usize;
-            inject_depolarizing(x, z, w, n, shot, &elements[2..end], e)
+            inject_depolarizing(x, z, shape, shot, &elements[2..end], e)
         }
-        _ => inject_listed(x, z, w, n, shot, elements, e),
+        _ => inject_listed(x, z, shape, shot, elements, e),
     }
 }
 
@@ -129,21 +119,19 @@ pub fn inject_faults(
     elements: &[u64],
     x: &mut [u64],
     z: &mut [u64],
-    w: usize,
-    n: usize,
-    shots: usize,
+    shape: Shape,
 ) -> Drawn
-    requires { ⌜ FaultsReady n shots w (fault .probability) (fault .distribution) (now sums) (now elements) (now mask) (now x) (now z) ⌝ }
-    ensures { λ r. ⌜ FaultsInjected n shots w (fault .probability) (fault .distribution) (now (sums .entry)) (now (elements .entry)) (now (mask .entry)) (now (words .entry)) (now (x .entry)) (now (z .entry)) (now (x .exit)) (now (z .exit)) r ⌝ }
+    requires { ⌜ FaultsReady (shape .qubits) (shape .shots) (shape .width) (fault .probability) (fault .distribution) (now sums) (now elements) (now mask) (now x) (now z) ⌝ }
+    ensures { λ r. ⌜ FaultsInjected (shape .qubits) (shape .shots) (shape .width) (fault .probability) (fault .distribution) (now (sums .entry)) (now (elements .entry)) (now (mask .entry)) (now (words .entry)) (now (x .entry)) (now (z .entry)) (now (x .exit)) (now (z .exit)) r ⌝ }
 {
     let p = fault.probability;
     let d = fault.distribution;
-    let c = bound(d);
-    let most = limit(c);
+    let chooser = chooser_of(d);
+    let shots = shape.shots;
     let mut at = 0;
     let mut shot = 0;
     loop {
-        match next_fault(words, at, mask, Shot(shot), shots, p, d, c, most, sums) {
+        match next_fault(words, at, mask, Shot(shot), shots, p, chooser, sums) {
             NextFault::Spent => {
                 return Drawn::Spent;
             }
@@ -151,7 +139,7 @@ pub fn inject_faults(
                 return Drawn::Done(next);
             }
             NextFault::At(s, e, next) => {
-                inject_element(x, z, w, n, s, d, elements, e);
+                inject_element(x, z, shape, s, d, elements, e);
                 at = next;
                 shot = s.0 + 1;
             }

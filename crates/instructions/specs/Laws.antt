@@ -9,3 +9,5 @@ pub mod Steps
 pub mod Elements
 -- The lines of an accepted job, one after the other.
 pub mod Lines
+-- What the values of a plain line say.
+pub mod Read

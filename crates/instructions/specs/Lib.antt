@@ -2,4 +2,5 @@
 pub mod Reading
 pub mod Ahead
 pub mod Lines
+pub mod Plain
 pub mod Laws

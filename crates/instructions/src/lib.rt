@@ -1,20 +1,22 @@
-// An accepted job read line by line gives its instructions one after the other. The layers above know a line by its form and its fields, not by its text.
+// An accepted job read line by line gives its instructions one after the other. The layers above know a line by its form and its values, not by its text.
 ghost use mathlib.Core.Path.{_≡_};
 ghost use mathlib.Core.Bool.{true};
 ghost use mathlib.Core.List.{List};
 ghost use mathlib.Core.Option.{some};
-ghost use Prim.Native.Nat.{_≤_, _<_};
+ghost use Prim.Native.Nat.{_<_};
 ghost use lib.ListN.{length};
 ghost use Rattle.text.specs.Template.{Value};
 ghost use Rattle.job.specs.Grammar.{NoiseLine, Written};
 ghost use Rattle.job.specs.Checks.{elementLines};
 ghost use Rattle.job.specs.Job.{wellEnded};
+ghost use Rattle.template.specs.Values.{Whole};
 ghost use Rattle.reader.specs.Parsed.{formOf, Said};
 ghost use Rattle.instructions.specs.Reading.{NextLine, noiseForm};
 ghost use Rattle.instructions.specs.Ahead.{hasWeights};
-use numbers::pieces::find;
+use line_reader::line_at;
 use reader::Form;
 use reader::read_line;
+use template::values::number;
 
 // A line that was read: its form, and the place of the LF that ends it. The next line begins behind that.
 pub struct Next {
@@ -24,11 +26,11 @@ pub struct Next {
 
 // Reads the line that begins at a place. Its values go into the lent words.
 pub fn next_line(job: &[u8], at: usize, fields: &mut [u64]) -> Next
-    requires { ⌜ (wellEnded (now job) ≡ true) × (at < length (now job)) × (136 ≤ length (now fields)) ⌝ }
+    requires { ⌜ (wellEnded (now job) ≡ true) × (at < length (now job)) × Whole (now fields) ⌝ }
     ensures { λ r. ⌜ NextLine (now (job .entry)) at r (now (fields .exit)) ⌝ }
 {
-    let end = find(job, at, 10);
-    let line = &job[at..end];
+    let line = line_at(job, at);
+    let end = at + line.len();
     let form = read_line(line, fields);
     Next { form, end }
 }
@@ -47,12 +49,12 @@ pub fn is_noise(form: Form) -> bool
 
 // How many element lines follow a noise line.
 pub fn element_lines(form: Form, f: &[u64]) -> usize
-    requires { ⌜ 136 ≤ length (now f) ⌝ }
+    requires { ⌜ Whole (now f) ⌝ }
     ensures { λ r. ⌜ ((vs : List Value) (n : NoiseLine) → Said form (now (f .entry)) vs (Written.noise n) → r ≡ elementLines (n .kind)) ⌝ }
 {
     match form {
-        Form::Uniform => f[2] as usize,
-        Form::Weighted => f[2] as usize,
+        Form::Uniform => number(f, 2) as usize,
+        Form::Weighted => number(f, 2) as usize,
         _ => 0,
     }
 }

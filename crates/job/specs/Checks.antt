@@ -1,6 +1,6 @@
 -- Definitions. Tests 2 to 12, line by line: each is a Bool on what the whole line says and on what the lines before it said. The first that fails,
 -- in document 01's order, is the number that refuses the line. Assumes nothing.
-use Prim.Native.Nat.{ℕ, suc, _-_}
+use Prim.Native.Nat.{ℕ, suc, _-_, _^_}
 use mathlib.Core.Bool.{Bool, true, false, cond, not, _&&_, _||_}
 use mathlib.Core.List.{List, [], _∷_, _++_}
 use mathlib.Core.Option.{Option, none, some}
@@ -61,6 +61,13 @@ elementLines (Kind.single P) = 0
 elementLines (Kind.depolarizing qs) = 0
 elementLines (Kind.uniform n) = n
 elementLines (Kind.weighted n) = n
+
+-- how many elements the distribution has: 1, 4^k - 1 or n
+unfoldable pub kindSize : Kind → ℕ
+kindSize (Kind.single P) = 1
+kindSize (Kind.depolarizing qs) = 4 ^ length qs - 1
+kindSize (Kind.uniform n) = n
+kindSize (Kind.weighted n) = n
 
 unfoldable pub firstTotal : Kind → Option Float
 firstTotal (Kind.single P) = none

@@ -35,6 +35,14 @@ pub data Written : Type 0 where
 
 -- ---- from the values of a line to what it says; nothing where the line has not its form after all
 
+-- a header by its numbers
+abbrev pub headerWith : ℕ → ℕ → ℕ → Header
+headerWith qubits outcomes shots = record { qubits = qubits; outcomes = outcomes; shots = shots }
+
+-- a header by the numbers of its line, from the first on
+abbrev pub headerBy : (ℕ → ℕ) → Header
+headerBy number = headerWith (number 0) (number 1) (number 2)
+
 -- the Pauli whose lists are the i-th and the j-th of the line
 abbrev pub pauliAt : ℕ → ℕ → List Value → SparsePauli
 pauliAt i j v = record { x = listAt i v; z = listAt j v }
@@ -73,11 +81,11 @@ pub record Form : Type 0 where
   pub template : List ℕ
   pub says : List Value → Option Written
 
-abbrev pub formOf : List ℕ → (List Value → Option Written) → Form
-formOf template says = record { template = template; says = says }
+abbrev pub formBy : List ℕ → (List Value → Option Written) → Form
+formBy template says = record { template = template; says = says }
 
 abbrev pub form : String → (List Value → Option Written) → Form
-form template = formOf (bytes template)
+form template = formBy (bytes template)
 
 -- the templates that are written too, by settling and by annotation
 abbrev pub injectTemplate : List ℕ
@@ -89,7 +97,7 @@ depolarizingTemplate = bytes "op=n p=H corr=C cond=L parity=B d=2 q=Q"
 unfoldable pub forms : List Form
 unfolding bytes
 forms =
-    form "op=job qubits=N outcomes=N shots=N" (λ v. some (Written.header record { qubits = numberAt 0 v; outcomes = numberAt 1 v; shots = numberAt 2 v }))
+    form "op=job qubits=N outcomes=N shots=N" (λ v. some (Written.header (headerBy (λ i. numberAt i v))))
     ∷ form "op=u g=N q=Q" (λ v. unitaryLine (gateOf (numberAt 0 v)) (listAt 0 v))
     ∷ form "op=c q=Q t=H" (λ v. plain (Line.clifford (listAt 0 v) (numberAt 0 v)))
     ∷ form "op=p x=L z=L" (λ v. plain (Line.pauli (pauliAt 0 1 v)))
@@ -100,10 +108,10 @@ forms =
     ∷ form "op=r id=N angle=B" (λ v. plain (Line.allocate (numberAt 0 v) (isOne (numberAt 1 v))))
     ∷ form "op=f x=L z=L id=L parity=B" (λ v. plain (Line.conditional (pauliAt 0 1 v) (listAt 2 v) (isOne (numberAt 0 v))))
     ∷ form "op=z q=N" (λ v. plain (Line.reset (numberAt 0 v ∷ [])))
-    ∷ formOf injectTemplate (λ v. plain (Line.inject (numberAt 0 v) (pauliAt 0 1 v)))
+    ∷ formBy injectTemplate (λ v. plain (Line.inject (numberAt 0 v) (pauliAt 0 1 v)))
     ∷ form "op=t shot=N id=N" (λ v. plain (Line.flip (numberAt 0 v) (numberAt 1 v)))
     ∷ form "op=n p=H corr=C cond=L parity=B d=1 x=L z=L" (λ v. noiseLine (Kind.single (pauliAt 2 3 v)) v)
-    ∷ formOf depolarizingTemplate (λ v. noiseLine (Kind.depolarizing (listAt 2 v)) v)
+    ∷ formBy depolarizingTemplate (λ v. noiseLine (Kind.depolarizing (listAt 2 v)) v)
     ∷ form "op=n p=H corr=C cond=L parity=B d=3 n=N" (λ v. noiseLine (Kind.uniform (numberAt 2 v)) v)
     ∷ form "op=n p=H corr=C cond=L parity=B d=4 n=N" (λ v. noiseLine (Kind.weighted (numberAt 2 v)) v)
     ∷ form "x=L z=L" (λ v. some (Written.element none (pauliAt 0 1 v)))

@@ -25,6 +25,9 @@ pub mod Recorded
 pub mod Instructions
 -- Sound lines pass: the other way round.
 pub mod Passes
+-- Texts that say instructions, noise with its element lines: they are accepted, and say what is gathered of them.
+pub mod Said
+pub mod SaidGathered
 -- Sound lines are in range, as theorems about lists of lines ask.
 pub mod Range
 -- Lines that are written by a form's template, and texts of lines as jobs.

@@ -2,7 +2,7 @@
 -- they do not depend on the tests' own. `checked-sound` (Theorems) proves all of it of a job that passes tests 1 to 12. Assumes nothing.
 use Prim.Native.Nat.{ℕ, zero, suc, _+_, _^_, _≤_, _<_}
 use mathlib.Core.Path.{_≡_}
-use mathlib.Core.Bool.{true, false}
+use mathlib.Core.Bool.{Bool, true, false}
 use mathlib.Core.List.{List, [], _∷_, _++_, map}
 use mathlib.Core.Option.{Option, none, some}
 use lib.Ieee.{Float}
@@ -14,7 +14,7 @@ use Rattle.job.specs.declared.Header.{Header}
 use Rattle.job.specs.Line.{SparsePauli, Line, WeightedPauli, Distribution, Noise, Instruction, Placed}
 use Rattle.job.specs.Float.{float, zeroFloat, totalFrom, isProbability, isWeight, isTotal}
 use Rattle.job.specs.Clifford.{isClifford}
-use Rattle.job.specs.Grammar.{NoiseLine, Written, readLine}
+use Rattle.job.specs.Grammar.{Kind, NoiseLine, Written, readLine}
 use Rattle.job.specs.Checks.{elementLines, allBelow, distinct, isPermutation}
 use Rattle.job.specs.Job.{wellEnded, noiseOf, gathered, Job, recordedBy, recordedIn}
 
@@ -175,12 +175,47 @@ unfoldable pub SaidBy : List ℕ → Instruction → Type 0
 SaidBy text (Instruction.line l) = readLine text ≡ some (Written.line l)
 SaidBy text (Instruction.noise i) = NoiseSaid text i
 
--- texts that say lines, one to a line
-unfoldable pub ReadAs : List (List ℕ) → List Line → Type 0
-ReadAs [] [] = Unit {0}
-ReadAs [] (l ∷ ls) = ⊥
-ReadAs (t ∷ ts) [] = ⊥
-ReadAs (t ∷ ts) (l ∷ ls) = (readLine t ≡ some (Written.line l)) × ReadAs ts ls
+-- ---- lists of instructions, without their places
+
+abbrev pub instructionsOf : List Placed → List Instruction
+instructionsOf = map (λ (i : Placed). i .instruction)
+
+-- the instructions in order, each with the number of outcomes recorded before it
+unfoldable pub ListSound : Header → ℕ → List Instruction → Type 0
+ListSound h r [] = Unit {0}
+ListSound h r (i ∷ is) = InstructionSound h r i × ListSound h (r + recordedBy i) is
+
+-- whether the element lines of a kind have weights, and the weight as such a line says it
+unfoldable pub hasWeights : Kind → Bool
+hasWeights (Kind.single P) = false
+hasWeights (Kind.depolarizing qs) = false
+hasWeights (Kind.uniform n) = false
+hasWeights (Kind.weighted n) = true
+
+unfoldable pub saidWeight : Bool → ℕ → Option ℕ
+saidWeight true w = some w
+saidWeight false w = none
+
+-- texts that say elements, one to a line
+unfoldable pub ElementsSaid : Bool → List (List ℕ) → List WeightedPauli → Type 0
+ElementsSaid weights [] [] = Unit {0}
+ElementsSaid weights [] (e ∷ es) = ⊥
+ElementsSaid weights (t ∷ ts) [] = ⊥
+ElementsSaid weights (t ∷ ts) (e ∷ es) = (readLine t ≡ some (Written.element (saidWeight weights (e .weight)) (e .pauli))) × ElementsSaid weights ts es
+
+-- a noise line with its elements
+pub record NoiseRead (t : List ℕ) (us : List (List ℕ)) (n : NoiseLine) (es : List WeightedPauli) : Type 0 where
+  pub line : readLine t ≡ some (Written.noise n)
+  pub count : length es ≡ elementLines (n .kind)
+  pub elements : ElementsSaid (hasWeights (n .kind)) us es
+
+-- Texts that say instructions in order: a line is one text; noise is the text of its line and, behind it, those of as many elements as the line says.
+pub data SaidAs : List (List ℕ) → List Instruction → Type 0 where
+  nothing : SaidAs [] []
+  line : (t : List ℕ) (ts : List (List ℕ)) (l : Line) (is : List Instruction) → readLine t ≡ some (Written.line l) → SaidAs ts is
+      → SaidAs (t ∷ ts) (Instruction.line l ∷ is)
+  noise : (t : List ℕ) (us ts : List (List ℕ)) (n : NoiseLine) (es : List WeightedPauli) (is : List Instruction) → NoiseRead t us n es → SaidAs ts is
+      → SaidAs (t ∷ us ++ ts) (Instruction.noise (noiseOf n es) ∷ is)
 
 -- lines in order, for jobs without noise
 unfoldable pub LinesSound : Header → ℕ → List Line → Type 0

@@ -8,19 +8,21 @@ use mathlib.Core.List.{List, _∷_}
 use mathlib.Core.Option.{some}
 use Rattle.text.specs.Bytes.{lines}
 use Rattle.job.specs.declared.Header.{Header}
-use Rattle.job.specs.Line.{Line}
+use Rattle.job.specs.Line.{Instruction}
 use Rattle.job.specs.Grammar.{Written, readLine}
 use Rattle.job.specs.Checks.{Context, noContext, next, Test, tests, refusalOf}
-use Rattle.job.specs.Job.{accepted, wellEnded, checkJob, gathered, Job, jobOf, recordedIn}
+use Rattle.job.specs.Job.{accepted, wellEnded, checkJob, gathered, Job, jobOfLines, jobOf, recordedIn}
 use Rattle.job.specs.Marks.{markOf, readAs, formByMark}
 use Rattle.job.specs.Contexts.{contextAfter, between}
-use Rattle.job.specs.Sound.{Every, InstructionsSound, ReadAs, LinesSound, HeaderSound, JobSound}
+use Rattle.job.specs.Sound.{Every, InstructionsSound, instructionsOf, ListSound, SaidAs, HeaderSound, JobSound}
 use Rattle.job.specs.Laws.Lines.{header-sound}
 use Rattle.job.specs.Laws.Begun.{ended-parts, job-passes, Begun, job-begun}
 use Rattle.job.specs.Laws.Gather.{gathered-sound, gathered-said}
 use Rattle.job.specs.Laws.Recorded.{recorded-within, ids-count, after-first, recorded-after, header-after}
 use Rattle.job.specs.Laws.Tests.{tests-rise, lowest-least}
-use Rattle.job.specs.Laws.Passes.{lines-accepted, header-accepted}
+use Rattle.job.specs.Laws.Passes.{header-accepted}
+use Rattle.job.specs.Laws.Said.{instructions-accepted}
+use Rattle.job.specs.Laws.SaidGathered.{said-gathers}
 use Rattle.job.specs.Laws.Dispatch.{read-by-mark}
 
 -- what stands behind the header is sound
@@ -51,13 +53,18 @@ checked-sound job e =
       recorded = rw zero-add at (recorded-within (b .header) 0 _ sound (omega arith));
     }
 
--- The tests refuse no job of sound lines: a header in range and, behind it, texts of lines that are sound in their order pass tests 1 to 12 where the
--- bytes pass test 1.
-pub sound-checked : (job text : List ℕ) (texts : List (List ℕ)) (h : Header) (ls : List Line) → wellEnded job ≡ true → lines job ≡ text ∷ texts
-    → readLine text ≡ some (Written.header h) → HeaderSound h → ReadAs texts ls → LinesSound h 0 ls → checkJob job ≡ accepted
-unfolding checkJob
-sound-checked job text texts h ls ended split reads range said sound =
-    rw (ended, split) (header-accepted h text texts reads range (lines-accepted h 0 2 texts ls said sound))
+-- The tests refuse no job of sound instructions: a header in range and, behind it, texts of instructions that are sound in their order, noise with its
+-- element lines among them, pass tests 1 to 12 where the bytes pass test 1; and they are the job's instructions.
+module _ (job text : List ℕ) (texts : List (List ℕ)) (h : Header) (is : List Instruction) (split : lines job ≡ text ∷ texts)
+    (reads : readLine text ≡ some (Written.header h)) (said : SaidAs texts is)
+  where
+    pub sound-checked : wellEnded job ≡ true → HeaderSound h → ListSound h 0 is → checkJob job ≡ accepted
+    unfolding checkJob
+    sound-checked ended range sound = rw (ended, split) (header-accepted h text texts reads range (instructions-accepted h 0 2 texts is said sound))
+
+    pub said-instructions : instructionsOf (jobOf job .instructions) ≡ is
+    unfolding jobOfLines
+    said-instructions = rw split (said-gathers texts is said .instructions 2)
 
 -- The number that refuses a line is the lowest: no bad test of the line has a lower one.
 pub refusal-lowest : (c : Context) (last : Bool) (w : Written) → Every (λ (t : Test). t .bad ≡ true → refusalOf c last (some w) ≤ t .number) (tests c last w)

@@ -131,3 +131,18 @@ pub fn line_part(job: &[u8], number: u64) -> LinePart
         len: line.len(),
     }
 }
+
+// The reader at another place.
+pub fn moved<'a>(r: Reader<'a>, at: usize) -> Reader<'a>
+    ensures { λ q. ⌜ (q .job ≡ r .entry .job) × (q .at ≡ at) ⌝ }
+{
+    Reader { job: r.job, at }
+}
+
+// The line that a reader at a place hands out.
+pub fn line_at<'a>(job: &'a [u8], at: usize) -> &'a [u8]
+    ensures { λ line. ⌜ now line ≡ lineFrom (now (job .entry)) at ⌝ }
+{
+    let mut r = moved(new(job), at);
+    next_line(&mut r)
+}

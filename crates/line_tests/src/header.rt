@@ -2,14 +2,15 @@
 ghost use mathlib.Core.Path.{_≡_};
 ghost use mathlib.Core.List.{List};
 ghost use Prim.Native.Nat.{_≤_};
-ghost use lib.ListN.{length, getD};
 ghost use Rattle.text.specs.Template.{Value};
-ghost use Rattle.job.specs.Grammar.{Written};
+ghost use Rattle.template.specs.Values.{Whole, heldNumber};
+ghost use Rattle.job.specs.Grammar.{Written, headerBy};
 ghost use Rattle.job.specs.Checks.{inRange, headerFits, next as Checks·next};
 ghost use Rattle.reader.specs.Parsed.{Said};
 ghost use Rattle.value_tests.specs.Contexts.{contextOf};
 use job::Header;
 use reader::Form;
+use template::values::number;
 use value_tests::context::Context;
 
 const MAX_QUBITS: u64 = 256;
@@ -19,13 +20,13 @@ const MAX_OUTCOMES: u64 = 1024;
 const MAX_SHOTS: u64 = 4096;
 
 fn header_in(f: &[u64]) -> Header
-    requires { ⌜ 136 ≤ length (now f) ⌝ }
-    ensures { λ r. ⌜ r ≡ record { qubits = getD (now (f .entry)) 0 0; outcomes = getD (now (f .entry)) 1 0; shots = getD (now (f .entry)) 2 0 } ⌝ }
+    requires { ⌜ Whole (now f) ⌝ }
+    ensures { λ r. ⌜ r ≡ headerBy (heldNumber (now (f .entry))) ⌝ }
 {
     Header {
-        qubits: f[0],
-        outcomes: f[1],
-        shots: f[2],
+        qubits: number(f, 0),
+        outcomes: number(f, 1),
+        shots: number(f, 2),
     }
 }
 
@@ -48,7 +49,7 @@ fn in_range(h: Header) -> bool
 }
 
 pub fn header_fits(c: Context, form: Form, f: &[u64]) -> bool
-    requires { ⌜ 136 ≤ length (now f) ⌝ }
+    requires { ⌜ Whole (now f) ⌝ }
     ensures { λ r. ⌜ ((vs : List Value) (w : Written) → Said form (now (f .entry)) vs w → r ≡ headerFits (contextOf c) w) ⌝ }
 {
     match form {
@@ -63,7 +64,7 @@ pub fn header_fits(c: Context, form: Form, f: &[u64]) -> bool
 }
 
 pub fn header_after(c: Context, form: Form, f: &[u64]) -> Header
-    requires { ⌜ 136 ≤ length (now f) ⌝ }
+    requires { ⌜ Whole (now f) ⌝ }
     ensures { λ r. ⌜ ((vs : List Value) (w : Written) → Said form (now (f .entry)) vs w → r ≡ Checks·next (contextOf c) w .header) ⌝ }
 {
     match form {

@@ -3,8 +3,8 @@ ghost use mathlib.Core.Path.{_≡_};
 ghost use mathlib.Core.List.{List, [], _∷_};
 ghost use mathlib.Core.Option.{some};
 ghost use Prim.Native.Nat.{_+_, _^_, _≤_, _<_};
-ghost use lib.ListN.{length};
 ghost use Rattle.text.specs.Template.{Value};
+ghost use Rattle.template.specs.Values.{Whole};
 ghost use Rattle.job.specs.Grammar.{Written};
 ghost use Rattle.job.specs.Checks.{idTest, lowest, ownTests, next as Checks·next};
 ghost use Rattle.reader.specs.declared.Form.the-variants as form;
@@ -14,6 +14,8 @@ ghost use Rattle.value_tests.specs.Contexts.{contextOf};
 pub mod header;
 
 use reader::Form;
+use template::values::count;
+use template::values::number;
 use value_tests::clifford::is_clifford;
 use value_tests::context::Context;
 use value_tests::lists::below;
@@ -24,14 +26,13 @@ use value_tests::lists::slot_distinct;
 const MAX_CLIFFORD_QUBITS: u64 = 4;
 
 pub fn unitary_number(c: Context, f: &[u64]) -> u64
-    requires { ⌜ 136 ≤ length (now f) ⌝ }
+    requires { ⌜ Whole (now f) ⌝ }
     ensures { λ r. ⌜ ((vs : List Value) (w : Written) → Said form.Unitary (now (f .entry)) vs w → r ≡ lowest (ownTests (contextOf c) w)) ⌝ }
 {
     if !below(f, 0, 1, c.header.qubits) {
         return 4;
     }
-    let count = f[4];
-    if count != pauli::operands(f[0]) as u64 {
+    if count(f, 0) != pauli::operands(number(f, 0)) as u64 {
         return 5;
     }
     if !slot_distinct(f, 0) {
@@ -41,27 +42,27 @@ pub fn unitary_number(c: Context, f: &[u64]) -> u64
 }
 
 pub fn clifford_number(c: Context, f: &[u64]) -> u64
-    requires { ⌜ 136 ≤ length (now f) ⌝ }
+    requires { ⌜ Whole (now f) ⌝ }
     ensures { λ r. ⌜ ((vs : List Value) (w : Written) → Said form.Clifford (now (f .entry)) vs w → r ≡ lowest (ownTests (contextOf c) w)) ⌝ }
 {
     if !below(f, 0, 1, c.header.qubits) {
         return 4;
     }
-    let count = f[4];
-    if MAX_CLIFFORD_QUBITS < count {
+    let k = count(f, 0);
+    if MAX_CLIFFORD_QUBITS < k {
         return 5;
     }
     if !slot_distinct(f, 0) {
         return 5;
     }
-    if !is_clifford(f[0], count) {
+    if !is_clifford(number(f, 0), k) {
         return 7;
     }
     0
 }
 
 pub fn permute_number(c: Context, f: &[u64]) -> u64
-    requires { ⌜ 136 ≤ length (now f) ⌝ }
+    requires { ⌜ Whole (now f) ⌝ }
     ensures { λ r. ⌜ ((vs : List Value) (w : Written) → Said form.Permute (now (f .entry)) vs w → r ≡ lowest (ownTests (contextOf c) w)) ⌝ }
 {
     if !below(f, 1, 2, c.header.qubits) {
@@ -70,14 +71,14 @@ pub fn permute_number(c: Context, f: &[u64]) -> u64
     if !short(f, 0, 2) {
         return 5;
     }
-    let count = f[5];
+    let k = count(f, 1);
     if !slot_distinct(f, 1) {
         return 5;
     }
-    if f[4] != count {
+    if count(f, 0) != k {
         return 6;
     }
-    if !below(f, 0, 1, count) {
+    if !below(f, 0, 1, k) {
         return 6;
     }
     if !slot_distinct(f, 0) {
@@ -100,18 +101,18 @@ pub fn id_number(c: Context, id: u64) -> u64
 }
 
 pub fn measure_number(c: Context, f: &[u64]) -> u64
-    requires { ⌜ 136 ≤ length (now f) ⌝ }
+    requires { ⌜ Whole (now f) ⌝ }
     ensures { λ r. ⌜ ((vs : List Value) (w : Written) → Said form.Measure (now (f .entry)) vs w → r ≡ lowest (ownTests (contextOf c) w)) ⌝ }
 {
     let n = pauli_number(f, 0, 2, c.header.qubits);
     if n != 0 {
         return n;
     }
-    id_number(c, f[0])
+    id_number(c, number(f, 0))
 }
 
 pub fn conditional_number(c: Context, f: &[u64]) -> u64
-    requires { ⌜ 136 ≤ length (now f) ⌝ }
+    requires { ⌜ Whole (now f) ⌝ }
     ensures { λ r. ⌜ ((vs : List Value) (w : Written) → Said form.Conditional (now (f .entry)) vs w → r ≡ lowest (ownTests (contextOf c) w)) ⌝ }
 {
     if !below(f, 0, 2, c.header.qubits) {
@@ -127,37 +128,37 @@ pub fn conditional_number(c: Context, f: &[u64]) -> u64
 }
 
 pub fn reset_number(c: Context, f: &[u64]) -> u64
-    requires { ⌜ 136 ≤ length (now f) ⌝ }
+    requires { ⌜ Whole (now f) ⌝ }
     ensures { λ r. ⌜ ((vs : List Value) (w : Written) → Said form.Reset (now (f .entry)) vs w → r ≡ lowest (ownTests (contextOf c) w)) ⌝ }
 {
-    if c.header.qubits <= f[0] {
+    if c.header.qubits <= number(f, 0) {
         return 4;
     }
     0
 }
 
 pub fn inject_number(c: Context, f: &[u64]) -> u64
-    requires { ⌜ 136 ≤ length (now f) ⌝ }
+    requires { ⌜ Whole (now f) ⌝ }
     ensures { λ r. ⌜ ((vs : List Value) (w : Written) → Said form.Inject (now (f .entry)) vs w → r ≡ lowest (ownTests (contextOf c) w)) ⌝ }
 {
     let n = pauli_number(f, 0, 2, c.header.qubits);
     if n != 0 {
         return n;
     }
-    if c.header.shots <= f[0] {
+    if c.header.shots <= number(f, 0) {
         return 10;
     }
     0
 }
 
 pub fn flip_number(c: Context, f: &[u64]) -> u64
-    requires { ⌜ 136 ≤ length (now f) ⌝ }
+    requires { ⌜ Whole (now f) ⌝ }
     ensures { λ r. ⌜ ((vs : List Value) (w : Written) → Said form.Flip (now (f .entry)) vs w → r ≡ lowest (ownTests (contextOf c) w)) ⌝ }
 {
-    if c.recorded <= f[1] {
+    if c.recorded <= number(f, 1) {
         return 9;
     }
-    if c.header.shots <= f[0] {
+    if c.header.shots <= number(f, 0) {
         return 10;
     }
     0

@@ -1,157 +1,157 @@
-// Lines that are no noise, on the frames and deltas of many shots: each kind of line, as its fields hold it (crate reader), goes to the propagator.
+// Lines that are no noise, on the frames and deltas of many shots: each kind of line, by its values in lent words (crate template), goes to the propagator.
 use pauli::OutcomeId;
 use pauli::Shot;
 use reader::Form;
+use rows::Shape;
+use template::values::list;
+use template::values::number;
+use template::values::numbers;
 ghost use mathlib.Core.Path.{_≡_};
 ghost use mathlib.Core.List.{List};
-ghost use Prim.Native.Nat.{ℕ, _+_, _*_, _<_, _≤_};
-ghost use lib.ListN.{length, getD};
+ghost use Prim.Native.Nat.{ℕ, _*_, _≤_};
+ghost use lib.ListN.{length};
 ghost use Rattle.job.specs.Line.{Line};
 ghost use Rattle.reader.specs.declared.Form.the-variants as Forms;
-ghost use Rattle.lines.specs.Plain.{slot, Plain, Ready, Obeyed, FrameReady, FrameObeyed};
-
-// The list in slot i of a line's fields.
-pub fn list<'a>(f: &'a [u64], i: usize) -> &'a [u64]
-    requires { ⌜ (i < 4) × (136 ≤ length (now f)) × (getD (now f) (4 + i) 0 ≤ 31) ⌝ }
-    ensures { λ r. ⌜ now r ≡ slot (now (f .entry)) i ⌝ }
-{
-    let a = 12 + i * 31;
-    let e = a + f[4 + i] as usize;
-    &f[a..e]
-}
+ghost use Rattle.instructions.specs.Plain.{Plain};
+ghost use Rattle.lines.specs.Plain.{Ready, Obeyed, FrameReady, FrameObeyed};
 
 // ---- Lines on frames alone
 
-fn unitary(f: &[u64], x: &mut [u64], z: &mut [u64], w: usize, n: usize)
-    requires { ⌜ FrameReady Forms.Unitary (now f) w n (now x) (now z) ⌝ }
-    ensures { λ _. ⌜ FrameObeyed Forms.Unitary (now (f .entry)) w n (now (x .entry)) (now (z .entry)) (now (x .exit)) (now (z .exit)) ⌝ }
+fn unitary(values: &[u64], x: &mut [u64], z: &mut [u64], shape: Shape)
+    requires { ⌜ FrameReady Forms.Unitary (now values) (shape .width) (shape .qubits) (now x) (now z) ⌝ }
+    ensures { λ _. ⌜ FrameObeyed Forms.Unitary (now (values .entry)) (shape .width) (shape .qubits) (now (x .entry)) (now (z .entry)) (now (x .exit)) (now (z .exit)) ⌝ }
 {
-    unitaries::gates::apply_unitary_op(x, z, w, n, f[0], list(f, 0));
+    unitaries::gates::apply_unitary_op(x, z, shape, number(values, 0), list(values, 0));
 }
 
-fn clifford(f: &[u64], x: &mut [u64], z: &mut [u64], w: usize, n: usize)
-    requires { ⌜ FrameReady Forms.Clifford (now f) w n (now x) (now z) ⌝ }
-    ensures { λ _. ⌜ FrameObeyed Forms.Clifford (now (f .entry)) w n (now (x .entry)) (now (z .entry)) (now (x .exit)) (now (z .exit)) ⌝ }
+fn clifford(values: &[u64], x: &mut [u64], z: &mut [u64], scratch: &mut [u64], shape: Shape)
+    requires { ⌜ FrameReady Forms.Clifford (now values) (shape .width) (shape .qubits) (now x) (now z) × (31 * shape .width ≤ length (now scratch)) ⌝ }
+    ensures { λ _. ⌜ FrameObeyed Forms.Clifford (now (values .entry)) (shape .width) (shape .qubits) (now (x .entry)) (now (z .entry)) (now (x .exit)) (now (z .exit)) ⌝ }
 {
-    unitaries::cliffords::apply_clifford(x, z, w, n, list(f, 0), f[0]);
+    unitaries::cliffords::apply_clifford(x, z, shape, list(values, 0), number(values, 0), scratch);
 }
 
-fn exponential(f: &[u64], x: &mut [u64], z: &mut [u64], w: usize, n: usize)
-    requires { ⌜ FrameReady Forms.Exponential (now f) w n (now x) (now z) ⌝ }
-    ensures { λ _. ⌜ FrameObeyed Forms.Exponential (now (f .entry)) w n (now (x .entry)) (now (z .entry)) (now (x .exit)) (now (z .exit)) ⌝ }
+fn exponential(values: &[u64], x: &mut [u64], z: &mut [u64], scratch: &mut [u64], shape: Shape)
+    requires { ⌜ FrameReady Forms.Exponential (now values) (shape .width) (shape .qubits) (now x) (now z) × (31 * shape .width ≤ length (now scratch)) ⌝ }
+    ensures { λ _. ⌜ FrameObeyed Forms.Exponential (now (values .entry)) (shape .width) (shape .qubits) (now (x .entry)) (now (z .entry)) (now (x .exit)) (now (z .exit)) ⌝ }
 {
-    propagator::paulis::apply_pauli_exp(x, z, w, n, list(f, 0), list(f, 1));
+    propagator::paulis::apply_pauli_exp(x, z, shape, list(values, 0), list(values, 1), scratch);
 }
 
-fn controlled(f: &[u64], x: &mut [u64], z: &mut [u64], w: usize, n: usize)
-    requires { ⌜ FrameReady Forms.Controlled (now f) w n (now x) (now z) ⌝ }
-    ensures { λ _. ⌜ FrameObeyed Forms.Controlled (now (f .entry)) w n (now (x .entry)) (now (z .entry)) (now (x .exit)) (now (z .exit)) ⌝ }
+fn controlled(values: &[u64], x: &mut [u64], z: &mut [u64], scratch: &mut [u64], shape: Shape)
+    requires { ⌜ FrameReady Forms.Controlled (now values) (shape .width) (shape .qubits) (now x) (now z) × (31 * shape .width ≤ length (now scratch)) ⌝ }
+    ensures { λ _. ⌜ FrameObeyed Forms.Controlled (now (values .entry)) (shape .width) (shape .qubits) (now (x .entry)) (now (z .entry)) (now (x .exit)) (now (z .exit)) ⌝ }
 {
     propagator::paulis::apply_controlled_pauli(
         x,
         z,
-        w,
-        n,
-        list(f, 0),
-        list(f, 1),
-        list(f, 2),
-        list(f, 3),
+        shape,
+        list(values, 0),
+        list(values, 1),
+        list(values, 2),
+        list(values, 3),
+        scratch,
     );
 }
 
-fn permute(f: &[u64], x: &mut [u64], z: &mut [u64], w: usize, n: usize)
-    requires { ⌜ FrameReady Forms.Permute (now f) w n (now x) (now z) ⌝ }
-    ensures { λ _. ⌜ FrameObeyed Forms.Permute (now (f .entry)) w n (now (x .entry)) (now (z .entry)) (now (x .exit)) (now (z .exit)) ⌝ }
+fn permute(values: &[u64], x: &mut [u64], z: &mut [u64], scratch: &mut [u64], shape: Shape)
+    requires { ⌜ FrameReady Forms.Permute (now values) (shape .width) (shape .qubits) (now x) (now z) × (31 * shape .width ≤ length (now scratch)) ⌝ }
+    ensures { λ _. ⌜ FrameObeyed Forms.Permute (now (values .entry)) (shape .width) (shape .qubits) (now (x .entry)) (now (z .entry)) (now (x .exit)) (now (z .exit)) ⌝ }
 {
-    unitaries::cliffords::apply_permutation(x, z, w, n, list(f, 0), list(f, 1));
+    unitaries::cliffords::apply_permutation(x, z, shape, list(values, 0), list(values, 1), scratch);
 }
 
-fn reset(f: &[u64], x: &mut [u64], z: &mut [u64], w: usize, n: usize)
-    requires { ⌜ FrameReady Forms.Reset (now f) w n (now x) (now z) ⌝ }
-    ensures { λ _. ⌜ FrameObeyed Forms.Reset (now (f .entry)) w n (now (x .entry)) (now (z .entry)) (now (x .exit)) (now (z .exit)) ⌝ }
+fn reset(values: &[u64], x: &mut [u64], z: &mut [u64], shape: Shape)
+    requires { ⌜ FrameReady Forms.Reset (now values) (shape .width) (shape .qubits) (now x) (now z) ⌝ }
+    ensures { λ _. ⌜ FrameObeyed Forms.Reset (now (values .entry)) (shape .width) (shape .qubits) (now (x .entry)) (now (z .entry)) (now (x .exit)) (now (z .exit)) ⌝ }
 {
-    propagator::paulis::reset_qubits(x, z, w, n, &f[..1]);
+    propagator::paulis::reset_qubits(x, z, shape, numbers(values, 1));
 }
 
-fn inject(f: &[u64], x: &mut [u64], z: &mut [u64], w: usize, n: usize)
-    requires { ⌜ FrameReady Forms.Inject (now f) w n (now x) (now z) ⌝ }
-    ensures { λ _. ⌜ FrameObeyed Forms.Inject (now (f .entry)) w n (now (x .entry)) (now (z .entry)) (now (x .exit)) (now (z .exit)) ⌝ }
+fn inject(values: &[u64], x: &mut [u64], z: &mut [u64], shape: Shape)
+    requires { ⌜ FrameReady Forms.Inject (now values) (shape .width) (shape .qubits) (now x) (now z) ⌝ }
+    ensures { λ _. ⌜ FrameObeyed Forms.Inject (now (values .entry)) (shape .width) (shape .qubits) (now (x .entry)) (now (z .entry)) (now (x .exit)) (now (z .exit)) ⌝ }
 {
-    let shot = Shot(f[0] as usize);
-    propagator::paulis::inject_pauli(x, z, w, n, shot, list(f, 0), list(f, 1));
+    let shot = Shot(number(values, 0) as usize);
+    propagator::paulis::inject_pauli(x, z, shape, shot, list(values, 0), list(values, 1));
 }
 
 // ---- Lines on deltas, or by them
 
-fn measure(f: &[u64], x: &[u64], z: &[u64], deltas: &mut [u64], w: usize, n: usize, m: usize)
-    requires { ⌜ Ready Forms.Measure (now f) w n m (now x) (now z) (now deltas) ⌝ }
-    ensures { λ _. ⌜ Obeyed Forms.Measure (now (f .entry)) w n m (now (x .entry)) (now (z .entry)) (now (deltas .entry)) (now (x .entry)) (now (z .entry)) (now (deltas .exit)) ⌝ }
+fn measure(values: &[u64], x: &[u64], z: &[u64], deltas: &mut [u64], shape: Shape)
+    requires { ⌜ Ready Forms.Measure (now values) (shape .width) (shape .qubits) (shape .outcomes) (now x) (now z) (now deltas) ⌝ }
+    ensures { λ _. ⌜ Obeyed Forms.Measure (now (values .entry)) (shape .width) (shape .qubits) (shape .outcomes) (now (x .entry)) (now (z .entry)) (now (deltas .entry)) (now (x .entry)) (now (z .entry)) (now (deltas .exit)) ⌝ }
 {
-    let outcome = OutcomeId(f[0] as usize);
-    propagator::paulis::measure(x, z, deltas, w, n, m, list(f, 0), list(f, 1), outcome);
+    let outcome = OutcomeId(number(values, 0) as usize);
+    propagator::paulis::measure(
+        x,
+        z,
+        deltas,
+        shape,
+        list(values, 0),
+        list(values, 1),
+        outcome,
+    );
 }
 
 fn conditional(
-    f: &[u64],
+    values: &[u64],
     x: &mut [u64],
     z: &mut [u64],
     deltas: &[u64],
-    w: usize,
-    n: usize,
-    m: usize,
+    scratch: &mut [u64],
+    shape: Shape,
 )
-    requires { ⌜ Ready Forms.Conditional (now f) w n m (now x) (now z) (now deltas) ⌝ }
-    ensures { λ _. ⌜ Obeyed Forms.Conditional (now (f .entry)) w n m (now (x .entry)) (now (z .entry)) (now (deltas .entry)) (now (x .exit)) (now (z .exit)) (now (deltas .entry)) ⌝ }
+    requires { ⌜ Ready Forms.Conditional (now values) (shape .width) (shape .qubits) (shape .outcomes) (now x) (now z) (now deltas) × (31 * shape .width ≤ length (now scratch)) ⌝ }
+    ensures { λ _. ⌜ Obeyed Forms.Conditional (now (values .entry)) (shape .width) (shape .qubits) (shape .outcomes) (now (x .entry)) (now (z .entry)) (now (deltas .entry)) (now (x .exit)) (now (z .exit)) (now (deltas .entry)) ⌝ }
 {
     propagator::paulis::apply_conditional_pauli(
         x,
         z,
         deltas,
-        w,
-        n,
-        m,
-        list(f, 0),
-        list(f, 1),
-        list(f, 2),
+        shape,
+        list(values, 0),
+        list(values, 1),
+        list(values, 2),
+        scratch,
     );
 }
 
-fn flip(f: &[u64], deltas: &mut [u64], w: usize, m: usize)
-    requires { ⌜ ((n : ℕ) × (line : Line) × Plain Forms.Flip (now f) w n m line) × (length (now deltas) ≡ m * w) ⌝ }
-    ensures { λ _. ⌜ ((n : ℕ) (x z : List ℕ) → Obeyed Forms.Flip (now (f .entry)) w n m x z (now (deltas .entry)) x z (now (deltas .exit))) ⌝ }
+fn flip(values: &[u64], deltas: &mut [u64], shape: Shape)
+    requires { ⌜ ((n : ℕ) × (line : Line) × Plain Forms.Flip (now values) (shape .width) n (shape .outcomes) line) × (length (now deltas) ≡ shape .outcomes * shape .width) ⌝ }
+    ensures { λ _. ⌜ ((n : ℕ) (x z : List ℕ) → Obeyed Forms.Flip (now (values .entry)) (shape .width) n (shape .outcomes) x z (now (deltas .entry)) x z (now (deltas .exit))) ⌝ }
 {
-    let shot = Shot(f[0] as usize);
-    let outcome = OutcomeId(f[1] as usize);
-    propagator::paulis::inject_outcome_flip(deltas, w, m, shot, outcome);
+    let shot = Shot(number(values, 0) as usize);
+    let outcome = OutcomeId(number(values, 1) as usize);
+    propagator::paulis::inject_outcome_flip(deltas, shape, shot, outcome);
 }
 
 // ---- Any of them
 
-// A line of a form. Those that are not named do nothing.
+// A line of a form. Those that are not named do nothing. A line takes at most 31 rows of scratch: a permutation's.
 pub fn apply_line(
     form: Form,
-    f: &[u64],
+    values: &[u64],
     x: &mut [u64],
     z: &mut [u64],
     deltas: &mut [u64],
-    w: usize,
-    n: usize,
-    m: usize,
+    scratch: &mut [u64],
+    shape: Shape,
 )
-    requires { ⌜ Ready form (now f) w n m (now x) (now z) (now deltas) ⌝ }
-    ensures { λ _. ⌜ Obeyed form (now (f .entry)) w n m (now (x .entry)) (now (z .entry)) (now (deltas .entry)) (now (x .exit)) (now (z .exit)) (now (deltas .exit)) ⌝ }
+    requires { ⌜ Ready form (now values) (shape .width) (shape .qubits) (shape .outcomes) (now x) (now z) (now deltas) × (31 * shape .width ≤ length (now scratch)) ⌝ }
+    ensures { λ _. ⌜ Obeyed form (now (values .entry)) (shape .width) (shape .qubits) (shape .outcomes) (now (x .entry)) (now (z .entry)) (now (deltas .entry)) (now (x .exit)) (now (z .exit)) (now (deltas .exit)) ⌝ }
 {
     match form {
-        Form::Unitary => unitary(f, x, z, w, n),
-        Form::Clifford => clifford(f, x, z, w, n),
-        Form::Exponential => exponential(f, x, z, w, n),
-        Form::Controlled => controlled(f, x, z, w, n),
-        Form::Permute => permute(f, x, z, w, n),
-        Form::Measure => measure(f, x, z, deltas, w, n, m),
-        Form::Conditional => conditional(f, x, z, deltas, w, n, m),
-        Form::Reset => reset(f, x, z, w, n),
-        Form::Inject => inject(f, x, z, w, n),
-        Form::Flip => flip(f, deltas, w, m),
+        Form::Unitary => unitary(values, x, z, shape),
+        Form::Clifford => clifford(values, x, z, scratch, shape),
+        Form::Exponential => exponential(values, x, z, scratch, shape),
+        Form::Controlled => controlled(values, x, z, scratch, shape),
+        Form::Permute => permute(values, x, z, scratch, shape),
+        Form::Measure => measure(values, x, z, deltas, shape),
+        Form::Conditional => conditional(values, x, z, deltas, scratch, shape),
+        Form::Reset => reset(values, x, z, shape),
+        Form::Inject => inject(values, x, z, shape),
+        Form::Flip => flip(values, deltas, shape),
         _ => {}
     }
 }

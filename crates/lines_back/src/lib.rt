@@ -1,4 +1,4 @@
-// Lines going back: each kind of line, as its fields hold it (crate reader), on the observable, the set of outcomes and the count.
+// Lines going back: each kind of line, as its values lie in lent words (crate template), on the observable, the set of outcomes and the count.
 ghost use mathlib.Core.Path.{_≡_};
 ghost use mathlib.Core.Bool.{Bool, false};
 ghost use Prim.Native.Nat.{ℕ, _+_, _^_, _<_};
@@ -8,97 +8,104 @@ ghost use Rattle.pauli.specs.Fixed.{inSet};
 ghost use Rattle.pauli.specs.declared.Pauli.{Pauli as PauliWords};
 ghost use Rattle.reader.specs.declared.Form.the-variants as Forms;
 ghost use Rattle.backward.specs.Walk.{oneMore};
-ghost use Rattle.lines_back.specs.Back.{Ready, Back, Readable, LineBack};
-use lines::list;
+ghost use Rattle.lines_back.specs.Back.{HeldLine, Back, Readable, LineBack};
 use pauli::OutcomeId;
 use pauli::Pauli;
 use pauli::QubitId;
 use pauli::Shot;
 use reader::Form;
+use template::values::list;
+use template::values::number;
 
 // ---- Lines that change the observable alone
 
-fn unitary(f: &[u64], b: Pauli) -> Pauli
-    requires { ⌜ Ready Forms.Unitary (now f) ⌝ }
-    ensures { λ r. ⌜ ((shot : ℕ) (set : Bits) → Back Forms.Unitary (now (f .entry)) shot b set r set false) ⌝ }
+fn unitary(values: &[u64], b: Pauli) -> Pauli
+    requires { ⌜ HeldLine Forms.Unitary (now values) ⌝ }
+    ensures { λ r. ⌜ ((shot : ℕ) (set : Bits) → Back Forms.Unitary (now (values .entry)) shot b set r set false) ⌝ }
 {
-    carry::unitary_back(b, f[0], list(f, 0))
+    carry::unitary_back(b, number(values, 0), list(values, 0))
 }
 
-fn clifford(f: &[u64], b: Pauli) -> Pauli
-    requires { ⌜ Ready Forms.Clifford (now f) ⌝ }
-    ensures { λ r. ⌜ ((shot : ℕ) (set : Bits) → Back Forms.Clifford (now (f .entry)) shot b set r set false) ⌝ }
+fn clifford(values: &[u64], b: Pauli) -> Pauli
+    requires { ⌜ HeldLine Forms.Clifford (now values) ⌝ }
+    ensures { λ r. ⌜ ((shot : ℕ) (set : Bits) → Back Forms.Clifford (now (values .entry)) shot b set r set false) ⌝ }
 {
-    carry::clifford_back(b, list(f, 0), f[0])
+    carry::clifford_back(b, list(values, 0), number(values, 0))
 }
 
-fn exponential(f: &[u64], b: Pauli) -> Pauli
-    requires { ⌜ Ready Forms.Exponential (now f) ⌝ }
-    ensures { λ r. ⌜ ((shot : ℕ) (set : Bits) → Back Forms.Exponential (now (f .entry)) shot b set r set false) ⌝ }
+fn exponential(values: &[u64], b: Pauli) -> Pauli
+    requires { ⌜ HeldLine Forms.Exponential (now values) ⌝ }
+    ensures { λ r. ⌜ ((shot : ℕ) (set : Bits) → Back Forms.Exponential (now (values .entry)) shot b set r set false) ⌝ }
 {
-    carry::exponential_back(b, list(f, 0), list(f, 1))
+    carry::exponential_back(b, list(values, 0), list(values, 1))
 }
 
-fn controlled(f: &[u64], b: Pauli) -> Pauli
-    requires { ⌜ Ready Forms.Controlled (now f) ⌝ }
-    ensures { λ r. ⌜ ((shot : ℕ) (set : Bits) → Back Forms.Controlled (now (f .entry)) shot b set r set false) ⌝ }
+fn controlled(values: &[u64], b: Pauli) -> Pauli
+    requires { ⌜ HeldLine Forms.Controlled (now values) ⌝ }
+    ensures { λ r. ⌜ ((shot : ℕ) (set : Bits) → Back Forms.Controlled (now (values .entry)) shot b set r set false) ⌝ }
 {
-    carry::controlled_back(b, list(f, 0), list(f, 1), list(f, 2), list(f, 3))
+    carry::controlled_back(
+        b,
+        list(values, 0),
+        list(values, 1),
+        list(values, 2),
+        list(values, 3),
+    )
 }
 
-fn permute(f: &[u64], b: Pauli) -> Pauli
-    requires { ⌜ Ready Forms.Permute (now f) ⌝ }
-    ensures { λ r. ⌜ ((shot : ℕ) (set : Bits) → Back Forms.Permute (now (f .entry)) shot b set r set false) ⌝ }
+fn permute(values: &[u64], b: Pauli) -> Pauli
+    requires { ⌜ HeldLine Forms.Permute (now values) ⌝ }
+    ensures { λ r. ⌜ ((shot : ℕ) (set : Bits) → Back Forms.Permute (now (values .entry)) shot b set r set false) ⌝ }
 {
-    carry::permute_back(b, list(f, 0), list(f, 1))
+    carry::permute_back(b, list(values, 0), list(values, 1))
 }
 
-fn reset(f: &[u64], b: Pauli) -> Pauli
-    requires { ⌜ Ready Forms.Reset (now f) ⌝ }
-    ensures { λ r. ⌜ ((shot : ℕ) (set : Bits) → Back Forms.Reset (now (f .entry)) shot b set r set false) ⌝ }
+fn reset(values: &[u64], b: Pauli) -> Pauli
+    requires { ⌜ HeldLine Forms.Reset (now values) ⌝ }
+    ensures { λ r. ⌜ ((shot : ℕ) (set : Bits) → Back Forms.Reset (now (values .entry)) shot b set r set false) ⌝ }
 {
-    b.clear_qubit(QubitId(f[0] as usize))
+    b.clear_qubit(QubitId(number(values, 0) as usize))
 }
 
-fn measure(f: &[u64], b: Pauli, set: &[u64]) -> Pauli
-    requires { ⌜ Ready Forms.Measure (now f) ⌝ }
-    ensures { λ r. ⌜ ((shot : ℕ) → Back Forms.Measure (now (f .entry)) shot b (inSet (now (set .entry))) r (inSet (now (set .entry))) false) ⌝ }
+fn measure(values: &[u64], b: Pauli, set: &[u64]) -> Pauli
+    requires { ⌜ HeldLine Forms.Measure (now values) ⌝ }
+    ensures { λ r. ⌜ ((shot : ℕ) → Back Forms.Measure (now (values .entry)) shot b (inSet (now (set .entry))) r (inSet (now (set .entry))) false) ⌝ }
 {
-    let id = OutcomeId(f[0] as usize);
-    carry::measure_back(b, set, list(f, 0), list(f, 1), id)
+    let id = OutcomeId(number(values, 0) as usize);
+    carry::measure_back(b, set, list(values, 0), list(values, 1), id)
 }
 
 // ---- Conditionals, which change the set alone
 
-fn conditional(f: &[u64], b: Pauli, set: &mut [u64])
-    requires { ⌜ Ready Forms.Conditional (now f) × (length (now set) ≡ 16) ⌝ }
-    ensures { λ _. ⌜ (length (now (set .exit)) ≡ 16) × ((shot : ℕ) → Back Forms.Conditional (now (f .entry)) shot b (inSet (now (set .entry))) b (inSet (now (set .exit))) false) ⌝ }
+fn conditional(values: &[u64], b: Pauli, set: &mut [u64])
+    requires { ⌜ HeldLine Forms.Conditional (now values) × (length (now set) ≡ 16) ⌝ }
+    ensures { λ _. ⌜ (length (now (set .exit)) ≡ 16) × ((shot : ℕ) → Back Forms.Conditional (now (values .entry)) shot b (inSet (now (set .entry))) b (inSet (now (set .exit))) false) ⌝ }
 {
-    carry::conditional_back(set, b, list(f, 0), list(f, 1), list(f, 2));
+    carry::conditional_back(set, b, list(values, 0), list(values, 1), list(values, 2));
 }
 
 // ---- Lines that are counted, or not
 
 // An injection in the shot, where it anticommutes with the observable.
-fn inject(f: &[u64], b: Pauli, shot: Shot) -> bool
-    requires { ⌜ Ready Forms.Inject (now f) ⌝ }
-    ensures { λ r. ⌜ ((set : Bits) → Back Forms.Inject (now (f .entry)) (shot .0) b set b set r) ⌝ }
+fn inject(values: &[u64], b: Pauli, shot: Shot) -> bool
+    requires { ⌜ HeldLine Forms.Inject (now values) ⌝ }
+    ensures { λ r. ⌜ ((set : Bits) → Back Forms.Inject (now (values .entry)) (shot .0) b set b set r) ⌝ }
 {
-    if f[0] as usize != shot.0 {
+    if number(values, 0) as usize != shot.0 {
         return false;
     }
-    carry::injection_counts(b, list(f, 0), list(f, 1))
+    carry::injection_counts(b, list(values, 0), list(values, 1))
 }
 
 // A flip in the shot, where its outcome is in the set.
-fn flip(f: &[u64], set: &[u64], shot: Shot) -> bool
-    requires { ⌜ Ready Forms.Flip (now f) ⌝ }
-    ensures { λ r. ⌜ ((b : PauliWords) → Back Forms.Flip (now (f .entry)) (shot .0) b (inSet (now (set .entry))) b (inSet (now (set .entry))) r) ⌝ }
+fn flip(values: &[u64], set: &[u64], shot: Shot) -> bool
+    requires { ⌜ HeldLine Forms.Flip (now values) ⌝ }
+    ensures { λ r. ⌜ ((b : PauliWords) → Back Forms.Flip (now (values .entry)) (shot .0) b (inSet (now (set .entry))) b (inSet (now (set .entry))) r) ⌝ }
 {
-    if f[0] as usize != shot.0 {
+    if number(values, 0) as usize != shot.0 {
         return false;
     }
-    pauli::has_outcome(set, OutcomeId(f[1] as usize))
+    pauli::has_outcome(set, OutcomeId(number(values, 1) as usize))
 }
 
 // ---- Any line
@@ -110,7 +117,7 @@ pub struct Walk {
     pub noise: u64,
 }
 
-fn with_observable(w: Walk, observable: Pauli) -> Walk
+pub fn with_observable(w: Walk, observable: Pauli) -> Walk
     ensures { λ r. ⌜ r ≡ record { observable = observable; count = w .count; noise = w .noise } ⌝ }
 {
     Walk {
@@ -147,25 +154,25 @@ fn with_noise(w: Walk, k: u64) -> Walk
 }
 
 // One line back, of number k. Noise is remembered by its line; lines of the other forms that are not named do nothing.
-pub fn line_back(w: Walk, form: Form, f: &[u64], set: &mut [u64], shot: Shot, k: u64) -> Walk
-    requires { ⌜ Readable form (now f) × (length (now set) ≡ 16) × (w .count + 1 < 2 ^ 64) ⌝ }
-    ensures { λ r. ⌜ LineBack form (now (f .entry)) (shot .0) k w r (now (set .entry)) (now (set .exit)) ⌝ }
+pub fn line_back(w: Walk, form: Form, values: &[u64], set: &mut [u64], shot: Shot, k: u64) -> Walk
+    requires { ⌜ Readable form (now values) × (length (now set) ≡ 16) × (w .count + 1 < 2 ^ 64) ⌝ }
+    ensures { λ r. ⌜ LineBack form (now (values .entry)) (shot .0) k w r (now (set .entry)) (now (set .exit)) ⌝ }
 {
     let b = w.observable;
     match form {
-        Form::Unitary => with_observable(w, unitary(f, b)),
-        Form::Clifford => with_observable(w, clifford(f, b)),
-        Form::Exponential => with_observable(w, exponential(f, b)),
-        Form::Controlled => with_observable(w, controlled(f, b)),
-        Form::Permute => with_observable(w, permute(f, b)),
-        Form::Measure => with_observable(w, measure(f, b, set)),
+        Form::Unitary => with_observable(w, unitary(values, b)),
+        Form::Clifford => with_observable(w, clifford(values, b)),
+        Form::Exponential => with_observable(w, exponential(values, b)),
+        Form::Controlled => with_observable(w, controlled(values, b)),
+        Form::Permute => with_observable(w, permute(values, b)),
+        Form::Measure => with_observable(w, measure(values, b, set)),
         Form::Conditional => {
-            conditional(f, b, set);
+            conditional(values, b, set);
             w
         }
-        Form::Reset => with_observable(w, reset(f, b)),
-        Form::Inject => with_count(w, inject(f, b, shot)),
-        Form::Flip => with_count(w, flip(f, set, shot)),
+        Form::Reset => with_observable(w, reset(values, b)),
+        Form::Inject => with_count(w, inject(values, b, shot)),
+        Form::Flip => with_count(w, flip(values, set, shot)),
         Form::Single => with_noise(w, k),
         Form::Depolarizing => with_noise(w, k),
         Form::Uniform => with_noise(w, k),

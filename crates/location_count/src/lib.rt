@@ -9,13 +9,14 @@ use instructions::next_line;
 use job::Answer;
 use job::CountReply;
 use line_qubits::noise_qubits;
+use template::values::WORDS;
 
 // The locations of an accepted job.
 fn count(job: &[u8]) -> u64
     requires { ⌜ checkJob (now job) .number ≡ 0 ⌝ }
     ensures { λ r. ⌜ r ≡ Annotate·locations (Bytes·lines (now (job .entry))) ⌝ }
 {
-    let mut fields = [0u64; 136];
+    let mut fields = [0u64; WORDS];
     let mut qubits = [0u64; 124];
     let mut at = 0;
     let mut total: u64 = 0;

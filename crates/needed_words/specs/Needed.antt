@@ -9,7 +9,9 @@ use Rattle.job.specs.Job.{answer, accepted}
 use Rattle.job.specs.Sound.{InstructionsSound}
 use Rattle.instructions.specs.Ahead.{instructionsAt, Ahead}
 use Rattle.draws.specs.Execute.{starts, Ended, execute}
+use Rattle.rows.specs.declared.Shape.{Shape}
 use Rattle.rows.specs.Words.{wordsPerRow, pack}
+use Rattle.execution.specs.Went.{headerOf}
 use Rattle.run.specs.Run.{Source, RunReply, frameWords, outcomeWords, lentOf}
 
 -- zero words where draws were spent, else the packed states
@@ -27,14 +29,14 @@ neededReply h (Ended.ended states) =
 -- ---- a run over exactly the words that it needs
 
 -- the header was read, and the lines behind it begin at `from`; the words are rows for the job
-pub record NeededReady (job : List ℕ) (h : Header) (from w : ℕ) (x z d noiseless : List ℕ) : Type 0 where
-  pub ahead : Ahead job h 0 2 from
-  pub sound : InstructionsSound h 0 (instructionsAt job 2 from)
-  pub words : w ≡ wordsPerRow (h .shots)
-  pub of-x : length x ≡ frameWords h
-  pub of-z : length z ≡ frameWords h
-  pub of-deltas : length d ≡ outcomeWords h
-  pub of-noiseless : outcomeWords h ≤ length noiseless
+pub record NeededReady (job : List ℕ) (shape : Shape) (from : ℕ) (x z d noiseless : List ℕ) : Type 0 where
+  pub ahead : Ahead job (headerOf shape) 0 2 from
+  pub sound : InstructionsSound (headerOf shape) 0 (instructionsAt job 2 from)
+  pub words : shape .width ≡ wordsPerRow (shape .shots)
+  pub of-x : length x ≡ frameWords (headerOf shape)
+  pub of-z : length z ≡ frameWords (headerOf shape)
+  pub of-deltas : length d ≡ outcomeWords (headerOf shape)
+  pub of-noiseless : outcomeWords (headerOf shape) ≤ length noiseless
 
 -- the answer and the words after it are the reply
 pub record NeededRun (job : List ℕ) (h : Header) (source : Source) (from : ℕ) (x z d : List ℕ) (r : Answer) : Type 0 where

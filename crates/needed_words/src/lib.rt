@@ -1,11 +1,12 @@
 // A run of a job over exactly the words that it needs.
 use execution::execute;
 use job::Answer;
-use job::Header;
+use rows::Shape;
 ghost use mathlib.Core.Path.{_≡_};
 ghost use lib.ListN.{length};
 ghost use Rattle.rows.specs.Overwrite.{cleared};
 ghost use Rattle.run.specs.Run.{Source};
+ghost use Rattle.execution.specs.Went.{headerOf};
 ghost use Rattle.needed_words.specs.Needed.{NeededReady, NeededRun};
 
 fn clear_all(x: &mut [u64], z: &mut [u64], deltas: &mut [u64])
@@ -26,15 +27,14 @@ pub fn run_needed<'a>(
     x: &mut [u64],
     z: &mut [u64],
     deltas: &mut [u64],
-    w: usize,
-    h: Header,
+    shape: Shape,
     noiseless: &[u64],
     main: &'a [u64],
     second: &'a [u64],
     base: u64,
 ) -> Answer
-    requires { ⌜ NeededReady (now job) h from w (now x) (now z) (now deltas) (now noiseless) ⌝ }
-    ensures { λ r. ⌜ NeededRun (now (job .entry)) h (record { noiseless = now (noiseless .entry); main = now (main .entry); second = now (second .entry); base = base }) from (now (x .exit)) (now (z .exit)) (now (deltas .exit)) r ⌝ }
+    requires { ⌜ NeededReady (now job) shape from (now x) (now z) (now deltas) (now noiseless) ⌝ }
+    ensures { λ r. ⌜ NeededRun (now (job .entry)) (headerOf shape) (record { noiseless = now (noiseless .entry); main = now (main .entry); second = now (second .entry); base = base }) from (now (x .exit)) (now (z .exit)) (now (deltas .exit)) r ⌝ }
 {
     clear_all(&mut *x, &mut *z, &mut *deltas);
     let r = execute(
@@ -43,8 +43,7 @@ pub fn run_needed<'a>(
         &mut *x,
         &mut *z,
         &mut *deltas,
-        w,
-        h,
+        shape,
         noiseless,
         main,
         second,

@@ -42,5 +42,5 @@ pub fn condition_mask(mask: &mut [u64], outcomes: &[u64], parity: u64, noiseless
     ensures { λ _. ⌜ Masks w (now (mask .exit)) (conditionOf (now (outcomes .entry)) parity) (bitIn w (now (noiseless .entry))) ⌝ }
 {
     fill(&mut *mask, w, first_word(outcomes.len(), parity));
-    rows::add_listed(mask, noiseless, w, outcomes);
+    rows::add_listed(mask, 0, noiseless, w, outcomes);
 }

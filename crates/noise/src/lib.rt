@@ -31,3 +31,10 @@ pub struct PauliFault {
     pub correlation: Correlation,
     pub condition: OutcomeCondition,
 }
+
+// Where a pass over a job's instructions stands: the next byte of the job, the number of its line, from 1, and the position of the next word of the main list.
+pub struct Place {
+    pub byte: usize,
+    pub line: u64,
+    pub position: usize,
+}

@@ -6,15 +6,16 @@ ghost use mathlib.Core.Option.{some};
 ghost use Prim.Native.Nat.{_-_, _≤_};
 ghost use lib.Dec.{ltb};
 ghost use lib.Ieee.{Float};
-ghost use lib.ListN.{length};
 ghost use Rattle.text.specs.Template.{Value};
 ghost use Rattle.job.specs.Grammar.{Written};
 ghost use Rattle.job.specs.Checks.{Context as Checks·Context, lowest, ownTests, expected as Checks·expected, next as Checks·next, refusalOf};
+ghost use Rattle.template.specs.Values.{Whole};
 ghost use Rattle.reader.specs.declared.Form.the-variants as form;
 ghost use Rattle.reader.specs.Parsed.{formOf, isUnread, Said};
 ghost use Rattle.value_tests.specs.Contexts.{contextOf};
 ghost use Rattle.instructions.specs.Reading.{hasTotal};
 use reader::Form;
+use template::values::number;
 use value_tests::context::Context;
 use value_tests::floats::Checked;
 use value_tests::floats::is_total;
@@ -23,14 +24,14 @@ use value_tests::lists::pauli_number;
 
 // The number that refuses an element line with a weight, after 2 and 3.
 pub fn weighted_element_number(c: Context, f: &[u64]) -> u64
-    requires { ⌜ 136 ≤ length (now f) ⌝ }
+    requires { ⌜ Whole (now f) ⌝ }
     ensures { λ r. ⌜ ((vs : List Value) (w : Written) → Said form.WeightedElement (now (f .entry)) vs w → c .weighted ≡ true → r ≡ lowest (ownTests (contextOf c) w)) ⌝ }
 {
     let n = pauli_number(f, 0, 2, c.header.qubits);
     if n != 0 {
         return n;
     }
-    let Checked::Accepted(w) = weight(f[0]) else {
+    let Checked::Accepted(w) = weight(number(f, 0)) else {
         return 12;
     };
     if c.due != 1 {
@@ -78,12 +79,12 @@ fn one_less(n: u64) -> u64
 
 // How many element lines are due after the line.
 pub fn due_after(c: Context, form: Form, f: &[u64]) -> u64
-    requires { ⌜ 136 ≤ length (now f) ⌝ }
+    requires { ⌜ Whole (now f) ⌝ }
     ensures { λ r. ⌜ ((vs : List Value) (w : Written) → Said form (now (f .entry)) vs w → r ≡ Checks·next (contextOf c) w .due) ⌝ }
 {
     match form {
-        Form::Uniform => f[2],
-        Form::Weighted => f[2],
+        Form::Uniform => number(f, 2),
+        Form::Weighted => number(f, 2),
         Form::Element => one_less(c.due),
         Form::WeightedElement => one_less(c.due),
         _ => 0,
@@ -92,7 +93,7 @@ pub fn due_after(c: Context, form: Form, f: &[u64]) -> u64
 
 // Whether the job ends before the element lines that are due.
 pub fn missing(c: Context, last: bool, form: Form, f: &[u64]) -> bool
-    requires { ⌜ 136 ≤ length (now f) ⌝ }
+    requires { ⌜ Whole (now f) ⌝ }
     ensures { λ r. ⌜ ((vs : List Value) (w : Written) → Said form (now (f .entry)) vs w → r ≡ (last && ltb 0 (Checks·next (contextOf c) w .due))) ⌝ }
 {
     if !last {
@@ -103,13 +104,13 @@ pub fn missing(c: Context, last: bool, form: Form, f: &[u64]) -> bool
 
 // The sum of the weights after the line: of an element line that passed, with its weight.
 pub fn total_after(c: Context, form: Form, f: &[u64]) -> f64
-    requires { ⌜ 136 ≤ length (now f) ⌝ }
+    requires { ⌜ Whole (now f) ⌝ }
     ensures { λ r. ⌜ ((last : Bool) (vs : List Value) (w : Written) → Said form (now (f .entry)) vs w → refusalOf (contextOf c) last (some w) ≡ 0 → (t : Float) → Checks·next (contextOf c) w .total ≡ some t → r ≡ t) ⌝ }
 {
     let Form::WeightedElement = form else {
         return 0.0;
     };
-    match weight(f[0]) {
+    match weight(number(f, 0)) {
         Checked::Accepted(w) => c.total + w,
         Checked::Refused => c.total,
     }

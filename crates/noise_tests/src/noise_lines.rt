@@ -2,16 +2,17 @@
 ghost use mathlib.Core.Path.{_≡_};
 ghost use mathlib.Core.List.{List, [], _∷_};
 ghost use Prim.Native.Nat.{ℕ, _≤_, _<_};
-ghost use lib.ListN.{length};
 ghost use Rattle.text.specs.Template.{Value, numberAt, listAt};
 ghost use Rattle.template.specs.Fields.{Held};
 ghost use Rattle.job.specs.Float.{float, isProbability};
 ghost use Rattle.job.specs.Grammar.{Written};
 ghost use Rattle.job.specs.Checks.{test, outcomeTest, lowest, ownTests};
+ghost use Rattle.template.specs.Values.{Whole};
 ghost use Rattle.reader.specs.declared.Form.the-variants as form;
 ghost use Rattle.reader.specs.Parsed.{Said};
 ghost use Rattle.value_tests.specs.Contexts.{contextOf};
 ghost use Rattle.noise_tests.specs.Listed.{listedTests};
+use template::values::number;
 use value_tests::context::Context;
 use value_tests::floats::Checked;
 use value_tests::floats::probability;
@@ -23,20 +24,20 @@ const MAX_ELEMENTS: u64 = 64;
 
 // 9 and 11, which every noise line has: cond in slot 1, p the first number.
 fn noise_number(c: Context, f: &[u64]) -> u64
-    requires { ⌜ 136 ≤ length (now f) ⌝ }
+    requires { ⌜ Whole (now f) ⌝ }
     ensures { λ r. ⌜ ((numbers lists : ℕ) (vs : List Value) → Held (now (f .entry)) numbers lists vs → 0 < numbers → 1 < lists → r ≡ lowest (outcomeTest (contextOf c) (listAt 1 vs) ∷ test 11 (isProbability (float (numberAt 0 vs))) ∷ [])) ⌝ }
 {
     if !below(f, 1, 2, c.recorded) {
         return 9;
     }
-    let Checked::Accepted(_) = probability(f[0]) else {
+    let Checked::Accepted(_) = probability(number(f, 0)) else {
         return 11;
     };
     0
 }
 
 pub fn single_number(c: Context, f: &[u64]) -> u64
-    requires { ⌜ 136 ≤ length (now f) ⌝ }
+    requires { ⌜ Whole (now f) ⌝ }
     ensures { λ r. ⌜ ((vs : List Value) (w : Written) → Said form.Single (now (f .entry)) vs w → r ≡ lowest (ownTests (contextOf c) w)) ⌝ }
 {
     if !below(f, 2, 4, c.header.qubits) {
@@ -49,7 +50,7 @@ pub fn single_number(c: Context, f: &[u64]) -> u64
 }
 
 pub fn depolarizing_number(c: Context, f: &[u64]) -> u64
-    requires { ⌜ 136 ≤ length (now f) ⌝ }
+    requires { ⌜ Whole (now f) ⌝ }
     ensures { λ r. ⌜ ((vs : List Value) (w : Written) → Said form.Depolarizing (now (f .entry)) vs w → r ≡ lowest (ownTests (contextOf c) w)) ⌝ }
 {
     if !below(f, 2, 3, c.header.qubits) {
@@ -66,7 +67,7 @@ pub fn depolarizing_number(c: Context, f: &[u64]) -> u64
 
 // d=3 and d=4: n is the third number.
 pub fn listed_number(c: Context, f: &[u64]) -> u64
-    requires { ⌜ 136 ≤ length (now f) ⌝ }
+    requires { ⌜ Whole (now f) ⌝ }
     ensures { λ r. ⌜ ((vs : List Value) → Held (now (f .entry)) 3 2 vs → r ≡ lowest (listedTests (contextOf c) vs)) ⌝ }
 {
     if !short(f, 1, 2) {
@@ -76,10 +77,11 @@ pub fn listed_number(c: Context, f: &[u64]) -> u64
     if n != 0 {
         return n;
     }
-    if f[2] == 0 {
+    let elements = number(f, 2);
+    if elements == 0 {
         return 12;
     }
-    if MAX_ELEMENTS < f[2] {
+    if MAX_ELEMENTS < elements {
         return 12;
     }
     0

@@ -2,3 +2,4 @@
 pub mod Lists
 pub mod Elements
 pub mod Injections
+pub mod Members

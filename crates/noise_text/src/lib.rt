@@ -13,8 +13,7 @@ ghost use Rattle.noise_text.specs.Injections.{StepPut, injected, Ready, 
 pub mod lists;
 
 use crate::lists::select;
-use choice::bound;
-use choice::limit;
+use choice::chooser_of;
 use noise::PauliDistribution;
 use noise::PauliFault;
 use noise::words::part;
@@ -32,11 +31,11 @@ fn put_depolarizing(out: &mut [u8], place: usize, shot: Shot, qubits: &[u64], e:
     ensures { λ r. ⌜ Puts place (injectText (shot .0) (depolarizingElement (now (qubits .entry)) e) ++ LF ∷ []) (now (out .entry)) (now (out .exit)) r ⌝ }
 {
     let v = e + 1;
-    let mut x = [0u64; 32];
-    let mut z = [0u64; 32];
-    let m = select(&mut x, qubits, v);
-    let n = select(&mut z, qubits, v / 2);
-    put_inject(out, place, shot, &x[..m], &z[..n])
+    let mut members = [0u64; 62];
+    let x = select(&mut members[..31], qubits, v);
+    let z = select(&mut members[31..], qubits, v / 2);
+    let counts = [x as u64, z as u64];
+    put_inject(out, place, shot, &counts, &members)
 }
 
 // The injection of an element that is kept whole.
@@ -44,12 +43,16 @@ fn put_kept(out: &mut [u8], place: usize, shot: Shot, elements: &[u64], e: usize
     requires { ⌜ (place + 1342 < 2 ^ 64) × Kept (now elements) e ⌝ }
     ensures { λ r. ⌜ Puts place (injectText (shot .0) (keptElement (now (elements .entry)) e) ++ LF ∷ []) (now (out .entry)) (now (out .exit)) r ⌝ }
 {
-    let a = e * 64;
-    let x = a + 2;
-    let z = a + 33;
-    let m = x + elements[a] as usize;
-    let n = z + elements[a + 1] as usize;
-    put_inject(out, place, shot, &elements[x..m], &elements[z..n])
+    let counts = e * 64;
+    let members = counts + 2;
+    let end = counts + 64;
+    put_inject(
+        out,
+        place,
+        shot,
+        &elements[counts..members],
+        &elements[members..end],
+    )
 }
 
 fn put_element(
@@ -96,13 +99,12 @@ fn put_faults(
 {
     let p = fault.probability;
     let d = fault.distribution;
-    let c = bound(d);
-    let rejected = limit(c);
+    let chooser = chooser_of(d);
     let mut place = from;
     let mut at = 0;
     let mut shot = 0;
     loop {
-        match next_fault(words, at, mask, Shot(shot), shots, p, d, c, rejected, sums) {
+        match next_fault(words, at, mask, Shot(shot), shots, p, chooser, sums) {
             NextFault::Spent => {
                 return Drawn::Spent;
             }

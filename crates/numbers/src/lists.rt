@@ -6,9 +6,11 @@ ghost use mathlib.Core.Option.{none, some};
 ghost use Prim.Native.Nat.{ℕ, _+_, _^_, _<_, max};
 ghost use lib.Dec.{eqb, ltb};
 ghost use lib.ListN.{set};
-ghost use Rattle.text.specs.List.{listQ, listL, listC, isDash};
-ghost use Rattle.numbers.specs.Read.{listedAs, ListRead};
+ghost use Rattle.text.specs.Bytes.{comma, split};
+ghost use Rattle.text.specs.List.{piecesOf, pieceOf, listQ, listL, listC, isDash};
+ghost use Rattle.numbers.specs.Read.{read, listedAs, ListRead};
 use crate::Value;
+use crate::hex16;
 use crate::number;
 use crate::pieces::find;
 
@@ -81,15 +83,25 @@ pub fn empty() -> Listed
     }
 }
 
-// Q: a list in any order, never empty.
-pub fn list_q(s: &[u8], out: &mut [u64]) -> Listed
-    ensures { λ r. ⌜ ListRead (listQ (now (s .entry))) r (now (out .entry)) (now (out .exit)) ⌝ }
+// A piece: a word by its 16 hexadecimal digits, or a number.
+fn piece(s: &[u8], hex: bool) -> Value
+    ensures { λ r. ⌜ read r ≡ pieceOf hex (now (s .entry)) ⌝ }
+{
+    if hex {
+        return hex16(s);
+    }
+    number(s)
+}
+
+// A list of pieces in any order, never empty.
+pub fn list_by(s: &[u8], hex: bool, out: &mut [u64]) -> Listed
+    ensures { λ r. ⌜ ListRead (piecesOf (pieceOf hex) (split comma (now (s .entry)))) r (now (out .entry)) (now (out .exit)) ⌝ }
 {
     let mut l = empty();
     let mut at = 0;
     loop {
         let e = find(s, at, 44);
-        let Value::Of(n) = number(&s[at..e]) else {
+        let Value::Of(n) = piece(&s[at..e], hex) else {
             return no_list();
         };
         store(&mut *out, l.count, n);
@@ -99,6 +111,13 @@ pub fn list_q(s: &[u8], out: &mut [u64]) -> Listed
         }
         at = e + 1;
     }
+}
+
+// Q: numbers in any order, never empty.
+pub fn list_q(s: &[u8], out: &mut [u64]) -> Listed
+    ensures { λ r. ⌜ ListRead (listQ (now (s .entry))) r (now (out .entry)) (now (out .exit)) ⌝ }
+{
+    list_by(s, false, out)
 }
 
 fn is_dash(s: &[u8]) -> bool

@@ -2,7 +2,7 @@
 use mathlib.Core.Bool.{Bool}
 use mathlib.Core.List.{List}
 use Prim.Native.Nat.{ℕ}
-use Rattle.pauli.specs.Bits.{Bits, _⊕_, _∩_, _△_, none, only, given, outside, parity}
+use Rattle.pauli.specs.Bits.{Bits, _⊕_, _∩_, _△_, none, only, given, added, outside, parity}
 
 infixl 40 _∗_
 pub record Pauli : Type 0 where
@@ -37,3 +37,7 @@ anticommutes n P Q = parity n (P .x ∩ Q .z) ⊕ parity n (P .z ∩ Q .x)
 -- without its parts on the listed qubits
 unfoldable pub cleared : List ℕ → Pauli → Pauli
 cleared qs P = record { x = P .x ∩ outside qs; z = P .z ∩ outside qs }
+
+-- with x and z added to its parts on q
+unfoldable pub addedAt : ℕ → Bool → Bool → Pauli → Pauli
+addedAt q x z P = record { x = added (P .x) q x; z = added (P .z) q z }

@@ -2,18 +2,16 @@
 mod sets;
 
 pub use sets::add_outcomes;
-pub use sets::add_qubit;
 pub use sets::has_outcome;
 pub use sets::has_qubit;
 pub use sets::outcomes;
-pub use sets::put_qubit;
 pub use sets::qubits;
 pub use sets::sum_of_qubits;
 ghost use mathlib.Core.Path.{_≡_};
 ghost use mathlib.Core.List.{[], _∷_};
 ghost use Prim.Native.Nat.{_<_};
 ghost use Rattle.pauli.specs.Bits.{members};
-ghost use Rattle.pauli.specs.Pauli.{_∗_ as _times_, identity as Pauli·identity, anticommutes as Pauli·anticommutes, cleared};
+ghost use Rattle.pauli.specs.Pauli.{_∗_ as _times_, identity as Pauli·identity, anticommutes as Pauli·anticommutes, addedAt, cleared};
 ghost use Rattle.pauli.specs.Gate.{swapXZ, addXtoZ, addZtoX, controlledX, controlledZ, swapRows, gateOf, conjugated, conjugatedBack};
 ghost use Rattle.pauli.specs.Code.{byGate, operandCount};
 ghost use Rattle.pauli.specs.Fixed.{asPauli, AllBelow};
@@ -98,52 +96,69 @@ impl Pauli {
         u64::count_ones(w) % 2 == 1
     }
 
-    // Without its parts on q.
-    pub fn clear_qubit(self, q: QubitId) -> Pauli
-        ensures { λ r. ⌜ asPauli r ≡ cleared (q .0 ∷ []) (asPauli self) ⌝ }
+    // ---- Parts on single qubits. The gates read those at their operands and add to them, with no branch on a bit.
+
+    // Whether there is an X part on q.
+    pub fn has_x(self, q: QubitId) -> bool
+        ensures { λ r. ⌜ r ≡ asPauli self .x (q .0) ⌝ }
     {
         let x = self.x;
-        let z = self.z;
-        Pauli {
-            x: put_qubit(x, q, false),
-            z: put_qubit(z, q, false),
-        }
+        has_qubit(x, q)
     }
+
+    // Whether there is a Z part on q.
+    pub fn has_z(self, q: QubitId) -> bool
+        ensures { λ r. ⌜ r ≡ asPauli self .z (q .0) ⌝ }
+    {
+        let z = self.z;
+        has_qubit(z, q)
+    }
+
+    // With x and z added to the parts on q.
+    pub fn add_at(mut self, q: QubitId, x: bool, z: bool) -> Pauli
+        requires { ⌜ q .0 < 256 ⌝ }
+        ensures { λ r. ⌜ asPauli r ≡ addedAt (q .0) x z (asPauli self) ⌝ }
+    {
+        let q = q.0;
+        let k = q / 64;
+        self.x[k] ^= (x as u64) << (q % 64);
+        self.z[k] ^= (z as u64) << (q % 64);
+        self
+    }
+
+    // Without its parts on q.
+    pub fn clear_qubit(self, q: QubitId) -> Pauli
+        requires { ⌜ q .0 < 256 ⌝ }
+        ensures { λ r. ⌜ asPauli r ≡ cleared (q .0 ∷ []) (asPauli self) ⌝ }
+    {
+        self.add_at(q, self.has_x(q), self.has_z(q))
+    }
+
+    // ---- Gates
 
     // X and Z part of q exchanged: Hadamard and SqrtY.
     pub fn swap_parts(self, q: QubitId) -> Pauli
+        requires { ⌜ q .0 < 256 ⌝ }
         ensures { λ r. ⌜ asPauli r ≡ swapXZ (q .0) (asPauli self) ⌝ }
     {
-        let x = self.x;
-        let z = self.z;
-        Pauli {
-            x: put_qubit(x, q, has_qubit(z, q)),
-            z: put_qubit(z, q, has_qubit(x, q)),
-        }
+        let differ = self.has_x(q) != self.has_z(q);
+        self.add_at(q, differ, differ)
     }
 
     // The X part of q added to its Z part: SqrtZ.
     pub fn add_x_to_z(self, q: QubitId) -> Pauli
+        requires { ⌜ q .0 < 256 ⌝ }
         ensures { λ r. ⌜ asPauli r ≡ addXtoZ (q .0) (asPauli self) ⌝ }
     {
-        let x = self.x;
-        let z = self.z;
-        Pauli {
-            x,
-            z: add_qubit(z, q, has_qubit(x, q)),
-        }
+        self.add_at(q, false, self.has_x(q))
     }
 
     // The Z part of q added to its X part: SqrtX.
     pub fn add_z_to_x(self, q: QubitId) -> Pauli
+        requires { ⌜ q .0 < 256 ⌝ }
         ensures { λ r. ⌜ asPauli r ≡ addZtoX (q .0) (asPauli self) ⌝ }
     {
-        let x = self.x;
-        let z = self.z;
-        Pauli {
-            x: add_qubit(x, q, has_qubit(z, q)),
-            z,
-        }
+        self.add_at(q, self.has_z(q), false)
     }
 
     // ControlledX: the X part of the control a is added to the target b's, the target's Z part to the
@@ -152,12 +167,9 @@ impl Pauli {
         requires { ⌜ (a .0 < 256) × (b .0 < 256) ⌝ }
         ensures { λ r. ⌜ asPauli r ≡ controlledX (a .0) (b .0) (asPauli self) ⌝ }
     {
-        let x = self.x;
-        let z = self.z;
-        Pauli {
-            x: add_qubit(x, b, has_qubit(x, a)),
-            z: add_qubit(z, a, has_qubit(z, b)),
-        }
+        let x = self.has_x(a);
+        let z = self.has_z(b);
+        self.add_at(b, x, false).add_at(a, false, z)
     }
 
     // ControlledZ: each X part is added to the other's Z part.
@@ -165,13 +177,9 @@ impl Pauli {
         requires { ⌜ (a .0 < 256) × (b .0 < 256) ⌝ }
         ensures { λ r. ⌜ asPauli r ≡ controlledZ (a .0) (b .0) (asPauli self) ⌝ }
     {
-        let x = self.x;
-        let z = self.z;
-        let with_b = add_qubit(z, b, has_qubit(x, a));
-        Pauli {
-            x,
-            z: add_qubit(with_b, a, has_qubit(x, b)),
-        }
+        let at_a = self.has_x(a);
+        let at_b = self.has_x(b);
+        self.add_at(b, false, at_a).add_at(a, false, at_b)
     }
 
     // Swap: a and b exchanged.
@@ -179,12 +187,9 @@ impl Pauli {
         requires { ⌜ (a .0 < 256) × (b .0 < 256) ⌝ }
         ensures { λ r. ⌜ asPauli r ≡ swapRows (a .0) (b .0) (asPauli self) ⌝ }
     {
-        let x = self.x;
-        let z = self.z;
-        Pauli {
-            x: sets::exchange(x, a, b),
-            z: sets::exchange(z, a, b),
-        }
+        let x = self.has_x(a) != self.has_x(b);
+        let z = self.has_z(a) != self.has_z(b);
+        self.add_at(b, x, z).add_at(a, x, z)
     }
 
     // Conjugated by the gate of a code on its operands a and b, of which a gate on one qubit has

@@ -9,8 +9,7 @@ ghost use mathlib.Core.Path.{_≡_};
 ghost use mathlib.Core.Bool.{true};
 ghost use Prim.Native.Nat.{_*_, _/_, _<_};
 ghost use lib.ListN.{length};
-ghost use Rattle.pauli.specs.Bits.{_△_, _∪_, replaced, added, members};
-ghost use Rattle.pauli.specs.Gate.{exchanged};
+ghost use Rattle.pauli.specs.Bits.{_△_, _∪_, replaced, members};
 ghost use Rattle.pauli.specs.Fixed.{inSet, AllBelow};
 
 // Whether q is in a set. A number past the last word is not.
@@ -22,15 +21,6 @@ fn contains(set: &[u64], q: usize) -> bool
         return false;
     }
     (set[k] >> (q % 64)) % 2 == 1
-}
-
-// Puts q into a set where it is not, and takes it out where it is.
-fn toggle(set: &mut [u64], q: usize)
-    requires { ⌜ q / 64 < length (now set) ⌝ }
-    ensures { λ _. ⌜ (length (now (set .exit)) ≡ length (now (set .entry))) × (inSet (now (set .exit)) ≡ added (inSet (now (set .entry))) q true) ⌝ }
-{
-    let k = q / 64;
-    set[k] ^= 1u64 << (q % 64);
 }
 
 // Adds a set of as many words to another: the symmetric difference.
@@ -118,37 +108,4 @@ pub fn add_outcomes(set: &mut [u64], ids: &[u64])
 {
     let other = outcomes(ids);
     add_set(set, &other);
-}
-
-// The set with b added to the bit of q.
-pub fn add_qubit(set: [u64; 4], q: QubitId, b: bool) -> [u64; 4]
-    requires { ⌜ (b ≡ true → q .0 < 256) ⌝ }
-    ensures { λ r. ⌜ inSet r ≡ added (inSet set) (q .0) b ⌝ }
-{
-    if !b {
-        return set;
-    }
-    let q = q.0;
-    let mut r = set;
-    toggle(&mut r, q);
-    r
-}
-
-// The set with b put for the bit of q: what the two differ by is added.
-pub fn put_qubit(set: [u64; 4], q: QubitId, b: bool) -> [u64; 4]
-    requires { ⌜ (b ≡ true → q .0 < 256) ⌝ }
-    ensures { λ r. ⌜ inSet r ≡ replaced (inSet set) (q .0) b ⌝ }
-{
-    let differs = has_qubit(set, q) != b;
-    add_qubit(set, q, differs)
-}
-
-// The set with the bits of a and b exchanged.
-pub fn exchange(set: [u64; 4], a: QubitId, b: QubitId) -> [u64; 4]
-    requires { ⌜ (a .0 < 256) × (b .0 < 256) ⌝ }
-    ensures { λ r. ⌜ inSet r ≡ exchanged (a .0) (b .0) (inSet set) ⌝ }
-{
-    let at_b = has_qubit(set, b);
-    let at_a = has_qubit(set, a);
-    put_qubit(put_qubit(set, a, at_b), b, at_a)
 }

@@ -73,9 +73,9 @@ fn put_reply(out: &mut [u8], job: &[u8], h: Header, n: usize) -> usize
     let mut z = [0u64; 64];
     let mut deltas = [0u64; 256];
     let noiseless = [0u64; 256];
-    let w = (h.shots as usize + 63) / 64;
-    let frame = h.qubits as usize * w;
-    let outcomes = h.outcomes as usize * w;
+    let shape = rows::shape_of(h.qubits as usize, h.outcomes as usize, h.shots as usize);
+    let frame = shape.qubits * shape.width;
+    let outcomes = shape.outcomes * shape.width;
     put_run(
         out,
         job,

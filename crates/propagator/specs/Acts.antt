@@ -4,11 +4,10 @@ use mathlib.Core.Bool.{true}
 use mathlib.Core.List.{List}
 use Prim.Native.Nat.{ℕ, _/_, _<_}
 use Rattle.pauli.specs.Pauli.{Pauli, anticommutes}
-use Rattle.pauli.specs.Bits.{_⊕_}
+use Rattle.pauli.specs.Bits.{replaced}
 use Rattle.job.specs.Line.{SparsePauli, Line, pauliOf}
 use Rattle.job.specs.Checks.{allBelow, distinct}
 use Rattle.frames.specs.Forward.{State, forward}
-use Rattle.rows.specs.Words.{bitIn}
 use Rattle.rows.specs.Column.{column}
 
 -- the frame of shot s in the words of X and Z, w words a row
@@ -38,6 +37,6 @@ pub record PauliIn (n : ℕ) (px pz : List ℕ) : Type 0 where
   pub z-below : allBelow n pz ≡ true
   pub z-once : distinct pz ≡ true
 
--- To a mask of w words was added, in every shot, whether the frame anticommutes with P.
-pub record MaskAdded (w n : ℕ) (P : SparsePauli) (x z mask mask′ : List ℕ) : Type 0 where
-  pub shots : (s : ℕ) → s / 64 < w → bitIn w mask′ 0 s ≡ bitIn w mask 0 s ⊕ anticommutes n (frameOf w x z s) (pauliOf P)
+-- For row r was put, in every shot, whether the frame anticommutes with P.
+pub record MaskPut (w n : ℕ) (P : SparsePauli) (r : ℕ) (x z masks masks′ : List ℕ) : Type 0 where
+  pub shots : (s : ℕ) → s / 64 < w → column w masks′ s ≡ replaced (column w masks s) r (anticommutes n (frameOf w x z s) (pauliOf P))

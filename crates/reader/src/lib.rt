@@ -1,16 +1,19 @@
-// What a line says: its form. Its values go into lent words, the fields of the line (crate template).
+// What a line says: its form. Its values go into lent words (crate template).
 ghost use mathlib.Core.Path.{_≡_};
 ghost use Prim.Native.Nat.{_≤_, _<_};
 ghost use mathlib.Core.Bool.{_&&_};
 ghost use lib.Dec.{eqb};
 ghost use lib.ListN.{length, getD};
 ghost use Rattle.job.specs.Grammar.{isOne};
+ghost use Rattle.template.specs.Values.{Whole};
 ghost use Rattle.reader.specs.declared.Form.the-variants as Forms;
 ghost use Rattle.reader.specs.Parsed.{Parsed};
 ghost use Rattle.reader.specs.Tried.{Tried, FormBy, KindBy, NoiseBegun, only, noiseForms};
 use template::Progress;
 use template::read_all;
 use template::read_on;
+use template::values::count;
+use template::values::number;
 
 // The forms of lines, in the order of document 01; `Unread` where a line has none.
 pub enum Form {
@@ -38,7 +41,7 @@ pub enum Form {
 
 // The form of a line that has a template's form, and else none.
 fn form_by(line: &[u8], template: &[u8], form: Form, fields: &mut [u64]) -> Form
-    requires { ⌜ 136 ≤ length (now fields) ⌝ }
+    requires { ⌜ Whole (now fields) ⌝ }
     ensures { λ r. ⌜ FormBy (now (line .entry)) (now (template .entry)) form r (now (fields .exit)) ⌝ }
 {
     if read_all(line, template, fields) {
@@ -49,7 +52,7 @@ fn form_by(line: &[u8], template: &[u8], form: Form, fields: &mut [u64]) -> Form
 
 // The same of a line that was read up to its d.
 fn kind_by(line: &[u8], template: &[u8], p: Progress, form: Form, fields: &mut [u64]) -> Form
-    requires { ⌜ (p .at ≤ length (now line)) × (136 ≤ length (now fields)) ⌝ }
+    requires { ⌜ (p .at ≤ length (now line)) × Whole (now fields) ⌝ }
     ensures { λ r. ⌜ KindBy (now (line .entry)) (now (template .entry)) p form r (now (fields .entry)) (now (fields .exit)) ⌝ }
 {
     let r = read_on(line, template, p.at, p.numbers, p.lists, fields);
@@ -64,41 +67,41 @@ fn kind_by(line: &[u8], template: &[u8], p: Progress, form: Form, fields: &mut [
 
 // A gate code above 14 is no gate.
 fn unitary(line: &[u8], fields: &mut [u64]) -> Form
-    requires { ⌜ 136 ≤ length (now fields) ⌝ }
+    requires { ⌜ Whole (now fields) ⌝ }
     ensures { λ r. ⌜ Tried (only Forms.Unitary) (now (line .entry)) r (now (fields .exit)) ⌝ }
 {
     if !read_all(line, b"op=u g=N q=Q", &mut *fields) {
         return Form::Unread;
     }
-    if 14 < fields[0] {
+    if 14 < number(fields, 0) {
         return Form::Unread;
     }
     Form::Unitary
 }
 
 fn single(line: &[u8], p: Progress, fields: &mut [u64]) -> Form
-    requires { ⌜ NoiseBegun (now line) p (now fields) × (136 ≤ length (now fields)) ⌝ }
+    requires { ⌜ NoiseBegun (now line) p (now fields) × Whole (now fields) ⌝ }
     ensures { λ r. ⌜ Tried (only Forms.Single) (now (line .entry)) r (now (fields .exit)) ⌝ }
 {
     kind_by(line, b"1 x=L z=L", p, Form::Single, fields)
 }
 
 fn depolarizing(line: &[u8], p: Progress, fields: &mut [u64]) -> Form
-    requires { ⌜ NoiseBegun (now line) p (now fields) × (136 ≤ length (now fields)) ⌝ }
+    requires { ⌜ NoiseBegun (now line) p (now fields) × Whole (now fields) ⌝ }
     ensures { λ r. ⌜ Tried (only Forms.Depolarizing) (now (line .entry)) r (now (fields .exit)) ⌝ }
 {
     kind_by(line, b"2 q=Q", p, Form::Depolarizing, fields)
 }
 
 fn uniform(line: &[u8], p: Progress, fields: &mut [u64]) -> Form
-    requires { ⌜ NoiseBegun (now line) p (now fields) × (136 ≤ length (now fields)) ⌝ }
+    requires { ⌜ NoiseBegun (now line) p (now fields) × Whole (now fields) ⌝ }
     ensures { λ r. ⌜ Tried (only Forms.Uniform) (now (line .entry)) r (now (fields .exit)) ⌝ }
 {
     kind_by(line, b"3 n=N", p, Form::Uniform, fields)
 }
 
 fn weighted(line: &[u8], p: Progress, fields: &mut [u64]) -> Form
-    requires { ⌜ NoiseBegun (now line) p (now fields) × (136 ≤ length (now fields)) ⌝ }
+    requires { ⌜ NoiseBegun (now line) p (now fields) × Whole (now fields) ⌝ }
     ensures { λ r. ⌜ Tried (only Forms.Weighted) (now (line .entry)) r (now (fields .exit)) ⌝ }
 {
     kind_by(line, b"4 n=N", p, Form::Weighted, fields)
@@ -106,7 +109,7 @@ fn weighted(line: &[u8], p: Progress, fields: &mut [u64]) -> Form
 
 // The last fields of a noise line, by its digit of d.
 fn noise_kind(line: &[u8], digit: u8, p: Progress, fields: &mut [u64]) -> Form
-    requires { ⌜ NoiseBegun (now line) p (now fields) × (digit ≡ getD (now line) (p .at) 0) × (136 ≤ length (now fields)) ⌝ }
+    requires { ⌜ NoiseBegun (now line) p (now fields) × (digit ≡ getD (now line) (p .at) 0) × Whole (now fields) ⌝ }
     ensures { λ r. ⌜ Tried noiseForms (now (line .entry)) r (now (fields .exit)) ⌝ }
 {
     match digit {
@@ -130,7 +133,7 @@ fn parity_alone(count: u64, parity: u64) -> bool
 
 // A noise line: what all of them begin with, and then by its digit of d.
 fn noise(line: &[u8], fields: &mut [u64]) -> Form
-    requires { ⌜ 136 ≤ length (now fields) ⌝ }
+    requires { ⌜ Whole (now fields) ⌝ }
     ensures { λ r. ⌜ Tried noiseForms (now (line .entry)) r (now (fields .exit)) ⌝ }
 {
     let p = read_on(
@@ -148,14 +151,14 @@ fn noise(line: &[u8], fields: &mut [u64]) -> Form
     if line.len() <= at {
         return Form::Unread;
     }
-    if parity_alone(fields[5], fields[1]) {
+    if parity_alone(count(fields, 1), number(fields, 1)) {
         return Form::Unread;
     }
     noise_kind(line, line[at], p, fields)
 }
 
 fn header(line: &[u8], fields: &mut [u64]) -> Form
-    requires { ⌜ 136 ≤ length (now fields) ⌝ }
+    requires { ⌜ Whole (now fields) ⌝ }
     ensures { λ r. ⌜ Tried (only Forms.Header) (now (line .entry)) r (now (fields .exit)) ⌝ }
 {
     form_by(
@@ -167,56 +170,56 @@ fn header(line: &[u8], fields: &mut [u64]) -> Form
 }
 
 fn clifford(line: &[u8], fields: &mut [u64]) -> Form
-    requires { ⌜ 136 ≤ length (now fields) ⌝ }
+    requires { ⌜ Whole (now fields) ⌝ }
     ensures { λ r. ⌜ Tried (only Forms.Clifford) (now (line .entry)) r (now (fields .exit)) ⌝ }
 {
     form_by(line, b"op=c q=Q t=H", Form::Clifford, fields)
 }
 
 fn pauli(line: &[u8], fields: &mut [u64]) -> Form
-    requires { ⌜ 136 ≤ length (now fields) ⌝ }
+    requires { ⌜ Whole (now fields) ⌝ }
     ensures { λ r. ⌜ Tried (only Forms.Pauli) (now (line .entry)) r (now (fields .exit)) ⌝ }
 {
     form_by(line, b"op=p x=L z=L", Form::Pauli, fields)
 }
 
 fn exponential(line: &[u8], fields: &mut [u64]) -> Form
-    requires { ⌜ 136 ≤ length (now fields) ⌝ }
+    requires { ⌜ Whole (now fields) ⌝ }
     ensures { λ r. ⌜ Tried (only Forms.Exponential) (now (line .entry)) r (now (fields .exit)) ⌝ }
 {
     form_by(line, b"op=e x=L z=L", Form::Exponential, fields)
 }
 
 fn controlled(line: &[u8], fields: &mut [u64]) -> Form
-    requires { ⌜ 136 ≤ length (now fields) ⌝ }
+    requires { ⌜ Whole (now fields) ⌝ }
     ensures { λ r. ⌜ Tried (only Forms.Controlled) (now (line .entry)) r (now (fields .exit)) ⌝ }
 {
     form_by(line, b"op=k x=L z=L u=L v=L", Form::Controlled, fields)
 }
 
 fn permute(line: &[u8], fields: &mut [u64]) -> Form
-    requires { ⌜ 136 ≤ length (now fields) ⌝ }
+    requires { ⌜ Whole (now fields) ⌝ }
     ensures { λ r. ⌜ Tried (only Forms.Permute) (now (line .entry)) r (now (fields .exit)) ⌝ }
 {
     form_by(line, b"op=m s=Q q=Q", Form::Permute, fields)
 }
 
 fn measure(line: &[u8], fields: &mut [u64]) -> Form
-    requires { ⌜ 136 ≤ length (now fields) ⌝ }
+    requires { ⌜ Whole (now fields) ⌝ }
     ensures { λ r. ⌜ Tried (only Forms.Measure) (now (line .entry)) r (now (fields .exit)) ⌝ }
 {
     form_by(line, b"op=o x=L z=L id=N", Form::Measure, fields)
 }
 
 fn allocate(line: &[u8], fields: &mut [u64]) -> Form
-    requires { ⌜ 136 ≤ length (now fields) ⌝ }
+    requires { ⌜ Whole (now fields) ⌝ }
     ensures { λ r. ⌜ Tried (only Forms.Allocate) (now (line .entry)) r (now (fields .exit)) ⌝ }
 {
     form_by(line, b"op=r id=N angle=B", Form::Allocate, fields)
 }
 
 fn conditional(line: &[u8], fields: &mut [u64]) -> Form
-    requires { ⌜ 136 ≤ length (now fields) ⌝ }
+    requires { ⌜ Whole (now fields) ⌝ }
     ensures { λ r. ⌜ Tried (only Forms.Conditional) (now (line .entry)) r (now (fields .exit)) ⌝ }
 {
     form_by(
@@ -228,35 +231,35 @@ fn conditional(line: &[u8], fields: &mut [u64]) -> Form
 }
 
 fn reset(line: &[u8], fields: &mut [u64]) -> Form
-    requires { ⌜ 136 ≤ length (now fields) ⌝ }
+    requires { ⌜ Whole (now fields) ⌝ }
     ensures { λ r. ⌜ Tried (only Forms.Reset) (now (line .entry)) r (now (fields .exit)) ⌝ }
 {
     form_by(line, b"op=z q=N", Form::Reset, fields)
 }
 
 fn inject(line: &[u8], fields: &mut [u64]) -> Form
-    requires { ⌜ 136 ≤ length (now fields) ⌝ }
+    requires { ⌜ Whole (now fields) ⌝ }
     ensures { λ r. ⌜ Tried (only Forms.Inject) (now (line .entry)) r (now (fields .exit)) ⌝ }
 {
     form_by(line, b"op=i shot=N x=L z=L", Form::Inject, fields)
 }
 
 fn flip(line: &[u8], fields: &mut [u64]) -> Form
-    requires { ⌜ 136 ≤ length (now fields) ⌝ }
+    requires { ⌜ Whole (now fields) ⌝ }
     ensures { λ r. ⌜ Tried (only Forms.Flip) (now (line .entry)) r (now (fields .exit)) ⌝ }
 {
     form_by(line, b"op=t shot=N id=N", Form::Flip, fields)
 }
 
 fn element(line: &[u8], fields: &mut [u64]) -> Form
-    requires { ⌜ 136 ≤ length (now fields) ⌝ }
+    requires { ⌜ Whole (now fields) ⌝ }
     ensures { λ r. ⌜ Tried (only Forms.Element) (now (line .entry)) r (now (fields .exit)) ⌝ }
 {
     form_by(line, b"x=L z=L", Form::Element, fields)
 }
 
 fn weighted_element(line: &[u8], fields: &mut [u64]) -> Form
-    requires { ⌜ 136 ≤ length (now fields) ⌝ }
+    requires { ⌜ Whole (now fields) ⌝ }
     ensures { λ r. ⌜ Tried (only Forms.WeightedElement) (now (line .entry)) r (now (fields .exit)) ⌝ }
 {
     form_by(line, b"w=H x=L z=L", Form::WeightedElement, fields)
@@ -264,7 +267,7 @@ fn weighted_element(line: &[u8], fields: &mut [u64]) -> Form
 
 // A line that begins with `op=`, by the letter after that.
 fn operation(line: &[u8], letter: u8, fields: &mut [u64]) -> Form
-    requires { ⌜ (getD (now line) 0 0 ≡ 111) × (letter ≡ getD (now line) 3 0) × (136 ≤ length (now fields)) ⌝ }
+    requires { ⌜ (getD (now line) 0 0 ≡ 111) × (letter ≡ getD (now line) 3 0) × Whole (now fields) ⌝ }
     ensures { λ r. ⌜ Parsed (now (line .entry)) r (now (fields .exit)) ⌝ }
 {
     match letter {
@@ -288,7 +291,7 @@ fn operation(line: &[u8], letter: u8, fields: &mut [u64]) -> Form
 
 // What a line says: its form, and its values in the lent words.
 pub fn read_line(line: &[u8], fields: &mut [u64]) -> Form
-    requires { ⌜ 136 ≤ length (now fields) ⌝ }
+    requires { ⌜ Whole (now fields) ⌝ }
     ensures { λ r. ⌜ Parsed (now (line .entry)) r (now (fields .exit)) ⌝ }
 {
     if line.len() < 4 {

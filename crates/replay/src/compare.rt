@@ -2,7 +2,9 @@
 ghost use mathlib.Core.Path.{_≡_};
 ghost use Prim.Native.Nat.{_+_, _≤_, _<_, _^_};
 ghost use lib.ListN.{length};
+ghost use Rattle.template.specs.Values.{Whole};
 use libc::STDOUT_FILENO;
+use template::values;
 
 // How many cases there were, and how many of them differ.
 pub struct Tally {
@@ -53,18 +55,21 @@ fn differs(at: usize, number: u64, must: u64) -> bool {
     false
 }
 
-// Whether an answer, with its count or byte figure, is what the first fields of the record say.
+// Whether an answer, with its count or byte figure, is what the first numbers of the record say.
 pub fn same_answer(at: usize, fields: &[u64], number: u64, line: u64, figure: u64) -> bool
-    requires { ⌜ 136 ≤ length (now fields) ⌝ }
+    requires { ⌜ Whole (now fields) ⌝ }
 {
-    if number != fields[0] {
-        return differs(at, number, fields[0]);
+    let must = values::number(fields, 0);
+    if number != must {
+        return differs(at, number, must);
     }
-    if line != fields[1] {
-        return differs(at, line, fields[1]);
+    let must = values::number(fields, 1);
+    if line != must {
+        return differs(at, line, must);
     }
-    if figure != fields[2] {
-        return differs(at, figure, fields[2]);
+    let must = values::number(fields, 2);
+    if figure != must {
+        return differs(at, figure, must);
     }
     true
 }

@@ -4,10 +4,12 @@
 ghost use mathlib.Core.Path.{_≡_};
 ghost use Prim.Native.Nat.{_+_, _≤_, _<_};
 ghost use lib.ListN.{length};
+ghost use Rattle.template.specs.Values.{Whole};
 use numbers::Value;
 use numbers::hex16;
 use numbers::pieces::find;
 use template::read_all;
+use template::values;
 
 pub mod compare;
 
@@ -48,7 +50,7 @@ fn put_times(src: &[u8], times: u64, held: usize, dst: &mut [u8]) -> usize
 }
 
 fn is_add(line: &[u8], fields: &mut [u64]) -> bool
-    requires { ⌜ 136 ≤ length (now fields) ⌝ }
+    requires { ⌜ Whole (now fields) ⌝ }
 {
     read_all(line, b"add bytes=N times=N", fields)
 }
@@ -58,17 +60,17 @@ fn add(list: &[u8], g: Gathered, dst: &mut [u8]) -> Gathered
     requires { ⌜ (g .at ≤ length (now list)) × (g .held ≤ length (now dst)) ⌝ }
     ensures { λ r. ⌜ (g .at ≤ r .at) × (r .at ≤ length (now (list .entry))) × (r .held ≤ length (now (dst .entry))) ⌝ }
 {
-    let mut fields = [0u64; 136];
+    let mut fields = [0u64; values::WORDS];
     let at = g.at;
     let e = find(list, at, 10);
     if !is_add(&list[at..e], &mut fields) {
         return g;
     }
     let a = part_end(e, 1, list.len());
-    let b = part_end(a, fields[0], list.len());
+    let b = part_end(a, values::number(&fields, 0), list.len());
     Gathered {
         at: b,
-        held: put_times(&list[a..b], fields[1], g.held, dst),
+        held: put_times(&list[a..b], values::number(&fields, 1), g.held, dst),
     }
 }
 

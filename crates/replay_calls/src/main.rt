@@ -3,6 +3,7 @@
 ghost use mathlib.Core.Path.{_≡_};
 ghost use Prim.Native.Nat.{_≤_};
 ghost use lib.ListN.{length};
+ghost use Rattle.template.specs.Values.{Whole};
 use annotation::annotate;
 use checker::check;
 use correlations::correlation;
@@ -21,6 +22,7 @@ use replay::words;
 use runner::run;
 use settling::settle;
 use template::read_all;
+use template::values;
 use walker::walk;
 use writer::TextAnswer;
 
@@ -41,39 +43,39 @@ fn words_buffer() -> [u64; 32768]
 // ---- Calls that write nothing.
 
 fn is_check(line: &[u8], fields: &mut [u64]) -> bool
-    requires { ⌜ 136 ≤ length (now fields) ⌝ }
+    requires { ⌜ Whole (now fields) ⌝ }
 {
     read_all(line, b"check number=N line=N", fields)
 }
 
 fn replay_check(at: usize, fields: &[u64], job: &[u8]) -> bool
-    requires { ⌜ 136 ≤ length (now fields) ⌝ }
+    requires { ⌜ Whole (now fields) ⌝ }
 {
     let a = check(job);
     same_answer(at, fields, a.number, a.line, 0)
 }
 
 fn is_correlation(line: &[u8], fields: &mut [u64]) -> bool
-    requires { ⌜ 136 ≤ length (now fields) ⌝ }
+    requires { ⌜ Whole (now fields) ⌝ }
 {
     read_all(line, b"correlation number=N line=N", fields)
 }
 
 fn replay_correlation(at: usize, fields: &[u64], job: &[u8]) -> bool
-    requires { ⌜ 136 ≤ length (now fields) ⌝ }
+    requires { ⌜ Whole (now fields) ⌝ }
 {
     let a = correlation(job);
     same_answer(at, fields, a.number, a.line, 0)
 }
 
 fn is_locations(line: &[u8], fields: &mut [u64]) -> bool
-    requires { ⌜ 136 ≤ length (now fields) ⌝ }
+    requires { ⌜ Whole (now fields) ⌝ }
 {
     read_all(line, b"locations number=N line=N count=N", fields)
 }
 
 fn replay_locations(at: usize, fields: &[u64], job: &[u8]) -> bool
-    requires { ⌜ 136 ≤ length (now fields) ⌝ }
+    requires { ⌜ Whole (now fields) ⌝ }
 {
     let r = locations(job);
     let a = r.answered;
@@ -81,18 +83,18 @@ fn replay_locations(at: usize, fields: &[u64], job: &[u8]) -> bool
 }
 
 fn is_walk(line: &[u8], fields: &mut [u64]) -> bool
-    requires { ⌜ 136 ≤ length (now fields) ⌝ }
+    requires { ⌜ Whole (now fields) ⌝ }
 {
     read_all(line, b"walk number=N line=N count=N shot=N bytes=Q", fields)
 }
 
 fn replay_walk(at: usize, fields: &[u64], bytes: &[u8]) -> bool
-    requires { ⌜ 136 ≤ length (now fields) ⌝ }
+    requires { ⌜ Whole (now fields) ⌝ }
 {
     let mut set = words_buffer();
-    let a = part_end(0, fields[12], bytes.len());
+    let a = part_end(0, values::member(fields, 0, 0), bytes.len());
     let n = words(&bytes[a..], &mut set);
-    let r = walk(&bytes[..a], fields[3], &set[..n]);
+    let r = walk(&bytes[..a], values::number(fields, 3), &set[..n]);
     let answer = r.answered;
     same_answer(at, fields, answer.number, answer.line, r.count)
 }
@@ -101,7 +103,7 @@ fn replay_walk(at: usize, fields: &[u64], bytes: &[u8]) -> bool
 
 // Whether a call that writes text answers and leaves what it must.
 fn same_text(at: usize, fields: &[u64], r: TextAnswer, out: &[u8], text: &[u8]) -> bool
-    requires { ⌜ (136 ≤ length (now fields)) × (length (now text) ≤ length (now out)) ⌝ }
+    requires { ⌜ Whole (now fields) × (length (now text) ≤ length (now out)) ⌝ }
 {
     let a = r.answer;
     if !same_answer(at, fields, a.number, a.line, r.figure) {
@@ -111,7 +113,7 @@ fn same_text(at: usize, fields: &[u64], r: TextAnswer, out: &[u8], text: &[u8]) 
 }
 
 fn is_annotate(line: &[u8], fields: &mut [u64]) -> bool
-    requires { ⌜ 136 ≤ length (now fields) ⌝ }
+    requires { ⌜ Whole (now fields) ⌝ }
 {
     read_all(
         line,
@@ -121,21 +123,21 @@ fn is_annotate(line: &[u8], fields: &mut [u64]) -> bool
 }
 
 fn annotated(at: usize, fields: &[u64], job: &[u8], text: &[u8], out: &mut [u8]) -> bool
-    requires { ⌜ 136 ≤ length (now fields) ⌝ }
+    requires { ⌜ Whole (now fields) ⌝ }
 {
     let n = text.len();
     if out.len() < n {
         return unreadable(at);
     }
-    let r = annotate(job, fields[3], &mut out[..n]);
+    let r = annotate(job, values::number(fields, 3), &mut out[..n]);
     same_text(at, fields, r, out, text)
 }
 
 fn replay_annotate(at: usize, fields: &[u64], bytes: &[u8]) -> bool
-    requires { ⌜ 136 ≤ length (now fields) ⌝ }
+    requires { ⌜ Whole (now fields) ⌝ }
 {
     let mut out = bytes_buffer();
-    let a = part_end(0, fields[12], bytes.len());
+    let a = part_end(0, values::member(fields, 0, 0), bytes.len());
     annotated(at, fields, &bytes[..a], &bytes[a..], &mut out)
 }
 
@@ -150,26 +152,26 @@ struct Ends {
 }
 
 fn list_ends(fields: &[u64], whole: usize) -> Ends
-    requires { ⌜ 136 ≤ length (now fields) ⌝ }
+    requires { ⌜ Whole (now fields) ⌝ }
     ensures { λ r. ⌜ (r .noiseless ≤ r .main) × (r .main ≤ r .second) × (r .second ≤ r .x) × (r .x ≤ r .z) × (r .z ≤ r .deltas) × (r .deltas ≤ whole) ⌝ }
 {
-    let noiseless = part_end(0, fields[43], whole);
-    let main = part_end(noiseless, fields[44], whole);
-    let second = part_end(main, fields[45], whole);
-    let x = part_end(second, fields[46], whole);
-    let z = part_end(x, fields[47], whole);
+    let noiseless = part_end(0, values::member(fields, 1, 0), whole);
+    let main = part_end(noiseless, values::member(fields, 1, 1), whole);
+    let second = part_end(main, values::member(fields, 1, 2), whole);
+    let x = part_end(second, values::member(fields, 1, 3), whole);
+    let z = part_end(x, values::member(fields, 1, 4), whole);
     Ends {
         noiseless,
         main,
         second,
         x,
         z,
-        deltas: part_end(z, fields[48], whole),
+        deltas: part_end(z, values::member(fields, 1, 5), whole),
     }
 }
 
 fn is_settle(line: &[u8], fields: &mut [u64]) -> bool
-    requires { ⌜ 136 ≤ length (now fields) ⌝ }
+    requires { ⌜ Whole (now fields) ⌝ }
 {
     read_all(
         line,
@@ -179,7 +181,7 @@ fn is_settle(line: &[u8], fields: &mut [u64]) -> bool
 }
 
 fn settled(at: usize, fields: &[u64], job: &[u8], lent: &[u64], text: &[u8], out: &mut [u8]) -> bool
-    requires { ⌜ 136 ≤ length (now fields) ⌝ }
+    requires { ⌜ Whole (now fields) ⌝ }
 {
     let n = text.len();
     if out.len() < n {
@@ -194,19 +196,19 @@ fn settled(at: usize, fields: &[u64], job: &[u8], lent: &[u64], text: &[u8], out
         &lent[..a],
         &lent[a..b],
         &lent[b..c],
-        fields[3],
+        values::number(fields, 3),
         &mut out[..n],
     );
     same_text(at, fields, r, out, text)
 }
 
 fn replay_settle(at: usize, fields: &[u64], bytes: &[u8]) -> bool
-    requires { ⌜ 136 ≤ length (now fields) ⌝ }
+    requires { ⌜ Whole (now fields) ⌝ }
 {
     let mut lent = words_buffer();
     let mut out = bytes_buffer();
-    let a = part_end(0, fields[12], bytes.len());
-    let e = part_end(a, fields[13], bytes.len());
+    let a = part_end(0, values::member(fields, 0, 0), bytes.len());
+    let e = part_end(a, values::member(fields, 0, 1), bytes.len());
     let n = words(&bytes[e..], &mut lent);
     settled(at, fields, &bytes[..a], &lent[..n], &bytes[a..e], &mut out)
 }
@@ -214,7 +216,7 @@ fn replay_settle(at: usize, fields: &[u64], bytes: &[u8]) -> bool
 // ---- The call that writes words.
 
 fn is_run(line: &[u8], fields: &mut [u64]) -> bool
-    requires { ⌜ 136 ≤ length (now fields) ⌝ }
+    requires { ⌜ Whole (now fields) ⌝ }
 {
     read_all(
         line,
@@ -280,10 +282,18 @@ fn ran(
     z: &mut [u64],
     deltas: &mut [u64],
 ) -> bool
-    requires { ⌜ (136 ≤ length (now fields)) × (n ≤ length (now lent)) × (n ≤ length (now x)) × (n ≤ length (now z)) × (n ≤ length (now deltas)) ⌝ }
+    requires { ⌜ Whole (now fields) × (n ≤ length (now lent)) × (n ≤ length (now x)) × (n ≤ length (now z)) × (n ≤ length (now deltas)) ⌝ }
 {
     let e = list_ends(fields, n);
-    let r = run_lent(job, lent, e, fields[3], &mut *x, &mut *z, &mut *deltas);
+    let r = run_lent(
+        job,
+        lent,
+        e,
+        values::number(fields, 3),
+        &mut *x,
+        &mut *z,
+        &mut *deltas,
+    );
     if !same_answer(at, fields, r.number, r.line, 0) {
         return false;
     }
@@ -291,13 +301,13 @@ fn ran(
 }
 
 fn replay_run(at: usize, fields: &[u64], bytes: &[u8]) -> bool
-    requires { ⌜ 136 ≤ length (now fields) ⌝ }
+    requires { ⌜ Whole (now fields) ⌝ }
 {
     let mut lent = words_buffer();
     let mut x = words_buffer();
     let mut z = words_buffer();
     let mut deltas = words_buffer();
-    let a = part_end(0, fields[12], bytes.len());
+    let a = part_end(0, values::member(fields, 0, 0), bytes.len());
     let n = words(&bytes[a..], &mut lent);
     ran(
         at,
@@ -314,7 +324,7 @@ fn replay_run(at: usize, fields: &[u64], bytes: &[u8]) -> bool
 // ---- The cases.
 
 fn replay_writing(at: usize, line: &[u8], bytes: &[u8]) -> bool {
-    let mut fields = [0u64; 136];
+    let mut fields = [0u64; values::WORDS];
     if is_annotate(line, &mut fields) {
         return replay_annotate(at, &fields, bytes);
     }
@@ -329,7 +339,7 @@ fn replay_writing(at: usize, line: &[u8], bytes: &[u8]) -> bool {
 
 // Whether the call that a record names answers and leaves what it must.
 fn replay_case(at: usize, line: &[u8], bytes: &[u8]) -> bool {
-    let mut fields = [0u64; 136];
+    let mut fields = [0u64; values::WORDS];
     if is_check(line, &mut fields) {
         return replay_check(at, &fields, bytes);
     }

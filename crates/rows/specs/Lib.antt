@@ -1,5 +1,6 @@
--- Definitions, to be believed: bits in words.
+-- Definitions, to be believed: bits in words, and the shape of a job's rows.
 pub mod Words
+pub mod Shape
 -- Definitions that the contracts of this crate cite: runs of words, listed rows, and the rows as one shot sees them.
 pub mod Overwrite
 pub mod Listed

@@ -2,10 +2,32 @@
 // A matrix of bits lies in a slice, w words a row, rows in order. Bit s of row r is bit s mod 64 of word r * w + s / 64.
 // Loops go word by word, so that they are vectorised; no row is copied that need not be.
 ghost use mathlib.Core.Path.{_≡_};
-ghost use Prim.Native.Nat.{_+_, _*_, _<_, _≤_};
+ghost use Prim.Native.Nat.{_+_, _*_, _^_, _<_, _≤_};
 ghost use lib.ListN.{length};
 ghost use Rattle.rows.specs.Overwrite.{cleared, copied, xored, swapped, flipped};
 ghost use Rattle.rows.specs.Listed.{RowsIn, overList, collected};
+ghost use Rattle.rows.specs.Shape.{shapeOf};
+
+// How a job's bits lie in words: a row for each of its qubits or outcomes, in each row a bit for each of its shots. The width is the words of a row.
+pub struct Shape {
+    pub qubits: usize,
+    pub outcomes: usize,
+    pub shots: usize,
+    pub width: usize,
+}
+
+// The shape for so many qubits, outcomes and shots: a row has as many words as its shots need.
+pub fn shape_of(qubits: usize, outcomes: usize, shots: usize) -> Shape
+    requires { ⌜ shots + 63 < 2 ^ 64 ⌝ }
+    ensures { λ r. ⌜ r ≡ shapeOf qubits outcomes shots ⌝ }
+{
+    Shape {
+        qubits,
+        outcomes,
+        shots,
+        width: (shots + 63) / 64,
+    }
+}
 
 // ---- Runs of words
 
@@ -102,28 +124,39 @@ pub fn flip_bit(rows: &mut [u64], w: usize, r: usize, s: usize)
 
 // ---- Rows that are listed
 
-// Adds the listed rows to a mask of w words.
-pub fn add_listed(mask: &mut [u64], rows: &[u64], w: usize, list: &[u64])
-    requires { ⌜ (w ≤ length (now mask)) × RowsIn w (now list) (now rows) ⌝ }
-    ensures { λ _. ⌜ now (mask .exit) ≡ overList (λ q. xored 0 (q * w) w (now (rows .entry))) (now (list .entry)) (now (mask .entry)) ⌝ }
+// Adds the listed rows of one matrix to row r of another.
+pub fn add_listed(sums: &mut [u64], r: usize, rows: &[u64], w: usize, list: &[u64])
+    requires { ⌜ (r * w + w ≤ length (now sums)) × RowsIn w (now list) (now rows) ⌝ }
+    ensures { λ _. ⌜ now (sums .exit) ≡ overList (λ q. xored (r * w) (q * w) w (now (rows .entry))) (now (list .entry)) (now (sums .entry)) ⌝ }
 {
+    let at = r * w;
     let mut i = 0;
     while i < list.len() {
         let q = list[i] as usize;
-        xor_words(mask, 0, rows, q * w, w);
+        xor_words(sums, at, rows, q * w, w);
         i += 1;
     }
 }
 
-// Adds a mask of w words to the listed rows.
-pub fn add_mask_listed(rows: &mut [u64], w: usize, list: &[u64], mask: &[u64])
-    requires { ⌜ (w ≤ length (now mask)) × RowsIn w (now list) (now rows) ⌝ }
-    ensures { λ _. ⌜ now (rows .exit) ≡ overList (λ q. xored (q * w) 0 w (now (mask .entry))) (now (list .entry)) (now (rows .entry)) ⌝ }
+// Puts the sum of the listed rows of one matrix for row r of another.
+pub fn sum_listed(sums: &mut [u64], r: usize, rows: &[u64], w: usize, list: &[u64])
+    requires { ⌜ (r * w + w ≤ length (now sums)) × RowsIn w (now list) (now rows) ⌝ }
+    ensures { λ _. ⌜ now (sums .exit) ≡ overList (λ q. xored (r * w) (q * w) w (now (rows .entry))) (now (list .entry)) (cleared (r * w) w (now (sums .entry))) ⌝ }
 {
+    clear(&mut *sums, r * w, w);
+    add_listed(sums, r, rows, w, list);
+}
+
+// Adds row r of one matrix, a mask, to the listed rows of another.
+pub fn add_mask_listed(rows: &mut [u64], w: usize, list: &[u64], masks: &[u64], r: usize)
+    requires { ⌜ (r * w + w ≤ length (now masks)) × RowsIn w (now list) (now rows) ⌝ }
+    ensures { λ _. ⌜ now (rows .exit) ≡ overList (λ q. xored (q * w) (r * w) w (now (masks .entry))) (now (list .entry)) (now (rows .entry)) ⌝ }
+{
+    let from = r * w;
     let mut i = 0;
     while i < list.len() {
         let q = list[i] as usize;
-        xor_words(rows, q * w, mask, 0, w);
+        xor_words(rows, q * w, masks, from, w);
         i += 1;
     }
 }
@@ -154,15 +187,15 @@ pub fn flip_listed(rows: &mut [u64], w: usize, list: &[u64], s: usize)
     }
 }
 
-// Saves the listed rows: they become the first rows of `saved`, in the list's order.
-pub fn save_listed(saved: &mut [u64], rows: &[u64], w: usize, list: &[u64])
-    requires { ⌜ (length (now list) * w ≤ length (now saved)) × RowsIn w (now list) (now rows) ⌝ }
-    ensures { λ _. ⌜ now (saved .exit) ≡ collected w (now (rows .entry)) 0 (now (list .entry)) (now (saved .entry)) ⌝ }
+// Saves the listed rows of one matrix: they become the rows of another from `first` on, in the list's order.
+pub fn save_listed(saved: &mut [u64], first: usize, rows: &[u64], w: usize, list: &[u64])
+    requires { ⌜ (first + length (now list) < 2 ^ 64) × ((first + length (now list)) * w ≤ length (now saved)) × RowsIn w (now list) (now rows) ⌝ }
+    ensures { λ _. ⌜ now (saved .exit) ≡ collected w (now (rows .entry)) first (now (list .entry)) (now (saved .entry)) ⌝ }
 {
     let mut i = 0;
     while i < list.len() {
         let q = list[i] as usize;
-        copy(saved, i * w, rows, q * w, w);
+        copy(saved, (first + i) * w, rows, q * w, w);
         i += 1;
     }
 }

@@ -60,9 +60,9 @@ pub fn run<'a>(
         return answer;
     }
     let h = examined.header;
-    let w = (h.shots as usize + 63) / 64;
-    let frame = h.qubits as usize * w;
-    let outcomes = h.outcomes as usize * w;
+    let shape = rows::shape_of(h.qubits as usize, h.outcomes as usize, h.shots as usize);
+    let frame = shape.qubits * shape.width;
+    let outcomes = shape.outcomes * shape.width;
     if !enough(
         frame,
         outcomes,
@@ -80,8 +80,7 @@ pub fn run<'a>(
         &mut x[..frame],
         &mut z[..frame],
         &mut deltas[..outcomes],
-        w,
-        h,
+        shape,
         noiseless,
         main,
         second,

@@ -13,32 +13,25 @@ use job::Answer;
 use job::Header;
 use pauli::OutcomeId;
 use pauli::Shot;
+use writer::line::put_numbers;
 use writer::put_byte;
-use writer::put_bytes;
-use writer::put_number;
 
 // `ok=0 refusal=N line=N`
 pub fn put_refusal(out: &mut [u8], a: Answer) -> usize
     ensures { λ r. ⌜ Puts 0 (unlines (refusalLines a)) (now (out .entry)) (now (out .exit)) r ⌝ }
 {
-    let number = put_bytes(&mut *out, 0, b"ok=0 refusal=");
-    let b = put_number(&mut *out, number, a.number);
-    let line = put_bytes(&mut *out, b, b" line=");
-    let d = put_number(&mut *out, line, a.line);
-    put_byte(out, d, 10)
+    let numbers = [a.number, a.line];
+    let next = put_numbers(&mut *out, 0, b"ok=0 refusal=N line=N", &numbers);
+    put_byte(out, next, 10)
 }
 
 // `ok=1 qubits=N outcomes=N shots=N`
 fn put_header(out: &mut [u8], h: Header) -> usize
     ensures { λ r. ⌜ Puts 0 (headerText h ++ LF ∷ []) (now (out .entry)) (now (out .exit)) r ⌝ }
 {
-    let qubits = put_bytes(&mut *out, 0, b"ok=1 qubits=");
-    let b = put_number(&mut *out, qubits, h.qubits);
-    let outcomes = put_bytes(&mut *out, b, b" outcomes=");
-    let d = put_number(&mut *out, outcomes, h.outcomes);
-    let shots = put_bytes(&mut *out, d, b" shots=");
-    let f = put_number(&mut *out, shots, h.shots);
-    put_byte(out, f, 10)
+    let numbers = [h.qubits, h.outcomes, h.shots];
+    let next = put_numbers(&mut *out, 0, b"ok=1 qubits=N outcomes=N shots=N", &numbers);
+    put_byte(out, next, 10)
 }
 
 // The delta of an outcome in a shot, as 0 or 1, where a row has w words.
@@ -75,11 +68,10 @@ fn put_delta(out: &mut [u8], at: usize, deltas: &[u64], id: OutcomeId, shots: us
     requires { ⌜ (shots ≤ 64) × (at + 104 < 2 ^ 64) × (id .0 * wordsPerRow shots + wordsPerRow shots ≤ length (now deltas)) ⌝ }
     ensures { λ r. ⌜ Puts at (deltaText shots (now (deltas .entry)) (id .0) ++ LF ∷ []) (now (out .entry)) (now (out .exit)) r ⌝ }
 {
-    let a = put_bytes(&mut *out, at, b"id=");
-    let b = put_number(&mut *out, a, id.0 as u64);
-    let c = put_bytes(&mut *out, b, b" delta=");
-    let d = put_bits(&mut *out, c, deltas, id, shots);
-    put_byte(out, d, 10)
+    let numbers = [id.0 as u64];
+    let bits = put_numbers(&mut *out, at, b"id=N delta=", &numbers);
+    let next = put_bits(&mut *out, bits, deltas, id, shots);
+    put_byte(out, next, 10)
 }
 
 // The deltas of so many outcomes, a line each.

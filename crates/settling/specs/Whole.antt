@@ -18,9 +18,9 @@ settledBy p = settle (lentBy p) (jobOf (p .job) .instructions) (p .main)
 -- the job is accepted, and the noiseless bits suffice
 pub record Fits (p : Pass) : Type 0 where
   pub passes : checkJob (p .job) .number ≡ 0
-  pub shots-are : jobOf (p .job) .header .shots ≡ p .shots
-  pub words-are : p .w ≡ wordsPerRow (p .shots)
-  pub rows : jobOf (p .job) .header .outcomes * p .w ≤ length (p .noiseless)
+  pub shots-are : jobOf (p .job) .header .shots ≡ p .shape .shots
+  pub words-are : p .shape .width ≡ wordsPerRow (p .shape .shots)
+  pub rows : jobOf (p .job) .header .outcomes * p .shape .width ≤ length (p .noiseless)
 
 -- the settled text was put from place 0 on, and is so long; or the draws of a line were spent
 pub record TextPut (p : Pass) (out : List ℕ) (ls : List SettledLine) (after : List ℕ) (r : TextLength) : Type 0 where

@@ -9,10 +9,14 @@ ghost use Rattle.instruction_text.specs.Pass.{passOf};
 ghost use Rattle.settling.specs.Whole.{Fits, SettledPut};
 use checker::examine;
 use instruction_text::Moved;
-use instruction_text::Place;
+use instruction_text::Reached;
 use instruction_text::put_instruction;
 use job::Answer;
+use noise::Place;
 use numbers::pieces::find;
+use rows::Shape;
+use rows::shape_of;
+use template::values::WORDS;
 use writer::TextAnswer;
 use writer::put_bytes;
 use writer::refused;
@@ -29,49 +33,49 @@ pub enum TextLength {
 fn put_settled<'a>(
     out: &mut [u8],
     job: &[u8],
-    shots: usize,
-    w: usize,
+    shape: Shape,
     noiseless: &[u64],
     main: &'a [u64],
     second: &'a [u64],
     base: u64,
 ) -> TextLength
-    requires { ⌜ Fits (passOf (now job) shots w (now noiseless) (now main) (now second) base) ⌝ }
-    ensures { λ r. ⌜ SettledPut (passOf (now (job .entry)) shots w (now (noiseless .entry)) (now (main .entry)) (now (second .entry)) base) (now (out .entry)) (now (out .exit)) r ⌝ }
+    requires { ⌜ Fits (passOf (now job) shape (now noiseless) (now main) (now second) base) ⌝ }
+    ensures { λ r. ⌜ SettledPut (passOf (now (job .entry)) shape (now (noiseless .entry)) (now (main .entry)) (now (second .entry)) base) (now (out .entry)) (now (out .exit)) r ⌝ }
 {
-    let mut fields = [0u64; 136];
+    let mut fields = [0u64; WORDS];
     let mut elements = [0u64; 4096];
     let end = find(job, 0, 10) + 1;
-    let byte = put_bytes(&mut *out, 0, &job[..end]);
-    let mut here = Place {
-        at: end,
-        line: 2,
-        position: 0,
-        byte,
+    let text = put_bytes(&mut *out, 0, &job[..end]);
+    let mut here = Reached {
+        place: Place {
+            byte: end,
+            line: 2,
+            position: 0,
+        },
+        text,
     };
-    while here.at < job.len() {
+    while here.place.byte < job.len() {
         match put_instruction(
             &mut *out,
             here,
             job,
             &mut fields,
             &mut elements,
-            shots,
-            w,
+            shape,
             noiseless,
             main,
             second,
             base,
         ) {
             Moved::Spent => {
-                return TextLength::SpentAt(here.line);
+                return TextLength::SpentAt(here.place.line);
             }
             Moved::To(next) => {
                 here = next;
             }
         }
     }
-    TextLength::Length(here.byte)
+    TextLength::Length(here.text)
 }
 
 // Whether a text of so many bytes fits the lent ones and the limit.
@@ -112,25 +116,19 @@ pub fn settle<'a>(
         return refused(answer);
     }
     let header = examined.header;
-    let shots = header.shots as usize;
-    let w = (shots + 63) / 64;
-    if noiseless.len() < header.outcomes as usize * w {
+    let shape = shape_of(
+        header.qubits as usize,
+        header.outcomes as usize,
+        header.shots as usize,
+    );
+    if noiseless.len() < shape.outcomes * shape.width {
         return refused(Answer {
             number: 13,
             line: 0,
         });
     }
     let mut nothing = [0u8; 1];
-    match put_settled(
-        &mut nothing[..0],
-        job,
-        shots,
-        w,
-        noiseless,
-        main,
-        second,
-        base,
-    ) {
+    match put_settled(&mut nothing[..0], job, shape, noiseless, main, second, base) {
         TextLength::SpentAt(k) => refused(Answer {
             number: 14,
             line: k,
@@ -139,16 +137,7 @@ pub fn settle<'a>(
             if !text_fits(need, out.len()) {
                 return measured(15, need);
             }
-            put_settled(
-                &mut out[..need],
-                job,
-                shots,
-                w,
-                noiseless,
-                main,
-                second,
-                base,
-            );
+            put_settled(&mut out[..need], job, shape, noiseless, main, second, base);
             measured(0, need)
         }
     }

@@ -1,7 +1,7 @@
 // What the shots of a noise line draw, one after the other.
 use choice::Choice;
+use choice::Chooser;
 use choice::element;
-use noise::PauliDistribution;
 use noise::words::is_fault;
 use noise::words::next_skip;
 use pauli::Shot;
@@ -9,8 +9,7 @@ ghost use mathlib.Core.Path.{_≡_};
 ghost use Prim.Native.Nat.{_*_, _/_, _%_, _<_, _≤_};
 ghost use lib.ListN.{length, getD};
 ghost use Rattle.pauli.specs.Bits.{bit};
-ghost use Rattle.draws.specs.Draws.{limitOf};
-ghost use Rattle.noise.specs.Kinds.{boundOf};
+ghost use Rattle.choice.specs.Choice.{Sized};
 ghost use Rattle.shots.specs.Shots.{ShotDrawn, FaultFound};
 
 // What one shot draws: no fault, or an element, each with the place of the next word; or a word was needed past the end.
@@ -25,14 +24,12 @@ pub fn draw_shot(
     words: &[u64],
     at: usize,
     p: f64,
-    d: PauliDistribution,
-    c: u64,
-    limit: u64,
+    chooser: Chooser,
     sums: &[f64],
     satisfied: bool,
 ) -> ShotDraw
-    requires { ⌜ (c ≡ boundOf d) × (limit ≡ limitOf c) ⌝ }
-    ensures { λ r. ⌜ ShotDrawn (now (words .entry)) at p d (now (sums .entry)) satisfied r ⌝ }
+    requires { ⌜ Sized chooser ⌝ }
+    ensures { λ r. ⌜ ShotDrawn (now (words .entry)) at p (chooser .kind) (now (sums .entry)) satisfied r ⌝ }
 {
     if words.len() <= at {
         return ShotDraw::Spent;
@@ -43,7 +40,7 @@ pub fn draw_shot(
     if !satisfied {
         return ShotDraw::Quiet(at + 1);
     }
-    match element(words, at + 1, d, c, limit, sums) {
+    match element(words, at + 1, chooser, sums) {
         Choice::Chosen(e, next) => ShotDraw::Fault(e, next),
         Choice::Spent => ShotDraw::Spent,
     }
@@ -74,13 +71,11 @@ pub fn next_fault(
     shot: Shot,
     shots: usize,
     p: f64,
-    d: PauliDistribution,
-    c: u64,
-    limit: u64,
+    chooser: Chooser,
     sums: &[f64],
 ) -> NextFault
-    requires { ⌜ (at ≤ length (now words)) × (shot .0 ≤ shots) × (shots ≤ 64 * length (now mask)) × (c ≡ boundOf d) × (limit ≡ limitOf c) ⌝ }
-    ensures { λ r. ⌜ FaultFound (now (words .entry)) at (now (mask .entry)) (shot .0) shots p d (now (sums .entry)) r ⌝ }
+    requires { ⌜ (at ≤ length (now words)) × (shot .0 ≤ shots) × (shots ≤ 64 * length (now mask)) × Sized chooser ⌝ }
+    ensures { λ r. ⌜ FaultFound (now (words .entry)) at (now (mask .entry)) (shot .0) shots p (chooser .kind) (now (sums .entry)) r ⌝ }
 {
     let mut i = at;
     let mut s = shot.0;
@@ -91,7 +86,7 @@ pub fn next_fault(
         if s == shots {
             return NextFault::Done(i);
         }
-        match draw_shot(words, i, p, d, c, limit, sums, is_set(mask, Shot(s))) {
+        match draw_shot(words, i, p, chooser, sums, is_set(mask, Shot(s))) {
             ShotDraw::Spent => {
                 return NextFault::Spent;
             }

@@ -1,5 +1,5 @@
 -- How lent words hold the values of a line, and what reading a line by its template says. Definitions. Assumes nothing.
-use Prim.Native.Nat.{ℕ, _+_, _*_, _≤_, _<_}
+use Prim.Native.Nat.{ℕ, _+_, _≤_, _<_}
 use mathlib.Core.Path.{_≡_}
 use mathlib.Core.Bool.{Bool, true, false, cond, _||_}
 use mathlib.Core.List.{List, [], _∷_, _++_}
@@ -9,6 +9,7 @@ use lib.ListN.{length, getD, drop}
 use Rattle.text.specs.List.{listL, listQ, listC}
 use Rattle.text.specs.Template.{Value, valuesOf, numbersIn, listsIn, numberAt, listAt}
 use Rattle.numbers.specs.Read.{largestOf, inFront}
+use Rattle.template.specs.Values.{heldNumber, heldCount, heldLargest, heldMember}
 use Rattle.template.specs.declared.Progress.{Progress}
 use Rattle.template.specs.declared.Put.{Put}
 
@@ -34,17 +35,16 @@ abbrev pub listLetters : List ℕ → ℕ
 listLetters [] = 0
 listLetters (t ∷ ts) = listLetter t + listLetters ts
 
--- Lent words hold the values of a line, so many numbers and so many lists, at most 4 of each. The i-th number stands at i; of the i-th list the count
--- at 4 + i, the largest member at 8 + i, and the members, of which the first 31 are kept, from 12 + 31 i on.
-pub record Held (fields : List ℕ) (numbers lists : ℕ) (vs : List Value) : Type 0 where
+-- Lent words hold the values of a line, so many numbers and so many lists, at most 4 of each.
+pub record Held (words : List ℕ) (numbers lists : ℕ) (vs : List Value) : Type 0 where
   pub few-numbers : numbers ≤ 4
   pub few-lists : lists ≤ 4
   pub numbers-in : length (numbersIn vs) ≡ numbers
   pub lists-in : length (listsIn vs) ≡ lists
-  pub number : (i : ℕ) → i < numbers → getD fields i 0 ≡ numberAt i vs
-  pub count : (i : ℕ) → i < lists → getD fields (4 + i) 0 ≡ length (listAt i vs)
-  pub largest : (i : ℕ) → i < lists → getD fields (8 + i) 0 ≡ largestOf (listAt i vs)
-  pub member : (i j : ℕ) → i < lists → j < 31 → j < length (listAt i vs) → getD fields (12 + i * 31 + j) 0 ≡ getD (listAt i vs) j 0
+  pub number : (i : ℕ) → i < numbers → heldNumber words i ≡ numberAt i vs
+  pub count : (i : ℕ) → i < lists → heldCount words i ≡ length (listAt i vs)
+  pub largest : (i : ℕ) → i < lists → heldLargest words i ≡ largestOf (listAt i vs)
+  pub member : (i j : ℕ) → i < lists → j < 31 → j < length (listAt i vs) → heldMember words i j ≡ getD (listAt i vs) j 0
 
 -- there is room for the values of a template after so many numbers and lists
 pub record Room (numbers lists : ℕ) (template : List ℕ) : Type 0 where

@@ -1,4 +1,5 @@
--- Definitions that contracts cite: how lent words hold the values of a line, and what reading by a template says.
+-- Definitions that contracts cite: where the values of a line lie in lent words, how the words hold them, and what reading by a template says.
+pub mod Values
 pub mod Fields
 -- Laws of these definitions.
 pub mod Laws

@@ -1,11 +1,15 @@
-// A line by its template: `op=i shot=N x=L z=L`. What is read goes into lent words, the fields of the line.
+// A line by its template: `op=i shot=N x=L z=L`. What is read goes into lent words (module `values`).
 ghost use mathlib.Core.Path.{_≡_};
 ghost use mathlib.Core.Bool.{false};
 ghost use Prim.Native.Nat.{_≤_};
 ghost use lib.ListN.{length};
 ghost use Rattle.text.specs.Template.{aNumber, aList, valueOf, isLetter};
 ghost use Rattle.numbers.specs.Read.{read, ListRead};
+ghost use Rattle.template.specs.Values.{Whole};
 ghost use Rattle.template.specs.Fields.{listBy, numberLetter, listLetter, PutAs, ReadOn, ReadAs};
+
+pub mod values;
+
 use numbers::Value;
 use numbers::bit;
 use numbers::hex16;
@@ -15,20 +19,10 @@ use numbers::lists::list_l;
 use numbers::lists::list_q;
 use numbers::number;
 use numbers::pieces::find;
-
-// The fields of a line: its numbers, at most 4; of each of its lists, at most 4, how many members it has, the largest of them (0 of none), and the members,
-// of which the first 31 are kept.
-pub const NUMBERS: usize = 0;
-
-pub const COUNTS: usize = 4;
-
-pub const LARGEST: usize = 8;
-
-pub const MEMBERS: usize = 12;
-
-pub const KEPT: usize = 31;
-
-pub const FIELDS: usize = 136;
+use values::COUNTS;
+use values::KEPT;
+use values::LARGEST;
+use values::MEMBERS;
 
 // How far a line was read: whether it has its template's form so far, up to which place, and how many numbers and lists it had.
 pub struct Progress {
@@ -67,7 +61,7 @@ fn not_put() -> Put
 }
 
 fn put_number(v: Value, n: usize, l: usize, fields: &mut [u64]) -> Put
-    requires { ⌜ 136 ≤ length (now fields) ⌝ }
+    requires { ⌜ Whole (now fields) ⌝ }
     ensures { λ r. ⌜ PutAs 1 0 (aNumber (read v)) n l r (now (fields .entry)) (now (fields .exit)) ⌝ }
 {
     let Value::Of(x) = v else {
@@ -96,7 +90,7 @@ fn list(t: u8, s: &[u8], out: &mut [u64]) -> Listed
 }
 
 fn put_list(t: u8, s: &[u8], n: usize, l: usize, fields: &mut [u64]) -> Put
-    requires { ⌜ 136 ≤ length (now fields) ⌝ }
+    requires { ⌜ Whole (now fields) ⌝ }
     ensures { λ r. ⌜ PutAs 0 1 (aList (listBy t (now (s .entry)))) n l r (now (fields .entry)) (now (fields .exit)) ⌝ }
 {
     if 4 <= l {
@@ -119,7 +113,7 @@ fn put_list(t: u8, s: &[u8], n: usize, l: usize, fields: &mut [u64]) -> Put
 
 // One value more, which the bytes s are by the letter t of a template.
 fn put_value(t: u8, s: &[u8], n: usize, l: usize, fields: &mut [u64]) -> Put
-    requires { ⌜ 136 ≤ length (now fields) ⌝ }
+    requires { ⌜ Whole (now fields) ⌝ }
     ensures { λ r. ⌜ PutAs (numberLetter t) (listLetter t) (valueOf t (now (s .entry))) n l r (now (fields .entry)) (now (fields .exit)) ⌝ }
 {
     match t {
@@ -133,7 +127,8 @@ fn put_value(t: u8, s: &[u8], n: usize, l: usize, fields: &mut [u64]) -> Put
     }
 }
 
-fn is_letter(t: u8) -> bool
+// Whether a byte of a template is a letter for a value.
+pub fn is_letter(t: u8) -> bool
     ensures { λ r. ⌜ r ≡ isLetter t ⌝ }
 {
     if t < 65 {
@@ -151,7 +146,7 @@ pub fn read_on(
     lists: usize,
     fields: &mut [u64],
 ) -> Progress
-    requires { ⌜ (from ≤ length (now line)) × (136 ≤ length (now fields)) ⌝ }
+    requires { ⌜ (from ≤ length (now line)) × Whole (now fields) ⌝ }
     ensures { λ r. ⌜ ReadOn (now (line .entry)) (now (template .entry)) from numbers lists r (now (fields .entry)) (now (fields .exit)) ⌝ }
 {
     let mut at = from;
@@ -190,7 +185,7 @@ pub fn read_on(
 
 // A line read by a template to its end.
 pub fn read_all(line: &[u8], template: &[u8], fields: &mut [u64]) -> bool
-    requires { ⌜ 136 ≤ length (now fields) ⌝ }
+    requires { ⌜ Whole (now fields) ⌝ }
     ensures { λ r. ⌜ ReadAs (now (line .entry)) (now (template .entry)) r (now (fields .exit)) ⌝ }
 {
     let p = read_on(line, template, 0, 0, 0, fields);

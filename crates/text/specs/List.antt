@@ -1,13 +1,13 @@
 -- Definitions. Lists of numbers with commas. L is strictly rising, `-` when empty. Q is in any order and never empty, and so is the s of a
 -- permutation. Every list is read to its end, however long it is. Assumes nothing.
 use Prim.Native.Nat.{ℕ}
-use mathlib.Core.Bool.{Bool, true, cond, _&&_}
+use mathlib.Core.Bool.{Bool, true, false, cond, _&&_}
 use mathlib.Core.List.{List, [], _∷_, _++_}
 use mathlib.Core.Option.{Option, none, some}
 use lib.Dec.{eqb, ltb}
 use lib.ListN.{length, getD}
 use Rattle.text.specs.Bytes.{comma, split}
-use Rattle.text.specs.Number.{numberOf, decimal}
+use Rattle.text.specs.Number.{numberOf, hexOf, decimal}
 
 -- ---- read
 
@@ -16,14 +16,19 @@ withFirst none o = none
 withFirst (some n) none = none
 withFirst (some n) (some l) = some (n ∷ l)
 
--- the numbers that some pieces are, and nothing where one of them is none
-unfoldable pub numbersOf : List (List ℕ) → Option (List ℕ)
-numbersOf [] = some []
-numbersOf (p ∷ ps) = withFirst (numberOf p) (numbersOf ps)
+-- what some pieces are by a reader of one, and nothing where one of them is none
+unfoldable pub piecesOf : (List ℕ → Option ℕ) → List (List ℕ) → Option (List ℕ)
+piecesOf one [] = some []
+piecesOf one (p ∷ ps) = withFirst (one p) (piecesOf one ps)
+
+-- a piece: a word by its 16 hexadecimal digits, or a number
+abbrev pub pieceOf : Bool → List ℕ → Option ℕ
+pieceOf true = hexOf
+pieceOf false = numberOf
 
 -- Q
 unfoldable pub listQ : List ℕ → Option (List ℕ)
-listQ v = numbersOf (split comma v)
+listQ v = piecesOf numberOf (split comma v)
 
 unfoldable pub risesFrom : ℕ → List ℕ → Bool
 risesFrom a [] = true

@@ -10,23 +10,23 @@ use Rattle.text.specs.List.{isRising}
 use Rattle.text.specs.Template.{Value, isLetter}
 
 -- every member is below 2^64; past the end getD gives 0
-abbrev pub Small : List ℕ → Type 0
-Small l = (i : ℕ) → getD l i 0 < 2 ^ 64
+abbrev pub AllSmall : List ℕ → Type 0
+AllSmall l = (i : ℕ) → getD l i 0 < 2 ^ 64
 
 -- L is strictly rising
 pub record FitL (l : List ℕ) : Type 0 where
   pub rising : isRising l ≡ true
-  pub small : Small l
+  pub small : AllSmall l
 
 -- Q is never empty
 pub record FitQ (l : List ℕ) : Type 0 where
   pub filled : 0 < length l
-  pub small : Small l
+  pub small : AllSmall l
 
 -- C has at most one member
 pub record FitC (l : List ℕ) : Type 0 where
   pub single : length l ≤ 1
-  pub small : Small l
+  pub small : AllSmall l
 
 -- What may stand for each letter: for N and H a number below 2^64, for B 0 or 1, and lists of numbers below 2^64: for L a strictly rising one, for Q one
 -- that is not empty, for C one of at most one member.

@@ -1,4 +1,6 @@
-// Cliffords by their tables, and permutations. The operands' rows are saved and cleared, and then what each saved row goes to is added.
+// Cliffords by their tables, and permutations. The operands' rows are saved in lent words, the scratch, and cleared; then what each saved row goes to is
+// added.
+use rows::Shape;
 ghost use mathlib.Core.Path.{_≡_};
 ghost use mathlib.Core.Bool.{true};
 ghost use mathlib.Core.List.{List};
@@ -35,82 +37,70 @@ fn add_row_if(dst: &mut [u64], w: usize, q: usize, src: &[u64], i: usize, on: bo
     rows::xor_words(dst, q * w, src, i * w, w);
 }
 
-// Adds row r of the table on the operands in the shots of row i of src.
+// Adds row r of the table on the operands in the shots of saved row r.
 fn add_image(
     x: &mut [u64],
     z: &mut [u64],
-    w: usize,
-    n: usize,
+    shape: Shape,
     qubits: &[u64],
     t: u64,
+    saved: &[u64],
     r: usize,
-    src: &[u64],
-    i: usize,
 )
-    requires { ⌜ (length (now x) ≡ n * w) × (length (now z) ≡ n * w) × (length (now qubits) ≤ 4) × (allBelow n (now qubits) ≡ true) × (r < 2 * length (now qubits)) × (i * w + w ≤ length (now src)) ⌝ }
-    ensures { λ _. ⌜ ((d : List ℕ) → Acts w (λ s. onFrame (λ F. F times when (column w (now (src .entry)) s i) (tableRow (now (qubits .entry)) t r))) (now (x .entry)) (now (z .entry)) d (now (x .exit)) (now (z .exit)) d) ⌝ }
+    requires { ⌜ (length (now x) ≡ shape .qubits * shape .width) × (length (now z) ≡ shape .qubits * shape .width) × (length (now qubits) ≤ 4) × (allBelow (shape .qubits) (now qubits) ≡ true) × (r < 2 * length (now qubits)) × (r * shape .width + shape .width ≤ length (now saved)) ⌝ }
+    ensures { λ _. ⌜ ((d : List ℕ) → Acts (shape .width) (λ s. onFrame (λ F. F times when (column (shape .width) (now (saved .entry)) s r) (tableRow (now (qubits .entry)) t r))) (now (x .entry)) (now (z .entry)) d (now (x .exit)) (now (z .exit)) d) ⌝ }
 {
     let k = qubits.len();
     let mut j = 0;
     while j < k {
         let q = qubits[j] as usize;
-        add_row_if(x, w, q, src, i, table_bit(t, k, r, j));
-        add_row_if(z, w, q, src, i, table_bit(t, k, r, k + j));
+        add_row_if(x, shape.width, q, saved, r, table_bit(t, k, r, j));
+        add_row_if(z, shape.width, q, saved, r, table_bit(t, k, r, k + j));
         j += 1;
     }
 }
 
-// Adds the images of the operands' saved X parts, rows 0 to k-1 of the table, and of their Z parts, the next k.
-fn add_images(
-    x: &mut [u64],
-    z: &mut [u64],
-    w: usize,
-    n: usize,
-    qubits: &[u64],
-    t: u64,
-    xs: &[u64],
-    zs: &[u64],
-)
-    requires { ⌜ (length (now x) ≡ n * w) × (length (now z) ≡ n * w) × (length (now qubits) ≤ 4) × (allBelow n (now qubits) ≡ true) × (length (now qubits) * w ≤ length (now xs)) × (length (now qubits) * w ≤ length (now zs)) ⌝ }
-    ensures { λ _. ⌜ ImagesAdded w (now (qubits .entry)) t (now (xs .entry)) (now (zs .entry)) (now (x .entry)) (now (z .entry)) (now (x .exit)) (now (z .exit)) ⌝ }
+// Adds the images of the operands' saved X parts, rows 0 to k-1 of the table, and of their Z parts, the next k. They are saved in this order.
+fn add_images(x: &mut [u64], z: &mut [u64], shape: Shape, qubits: &[u64], t: u64, saved: &[u64])
+    requires { ⌜ (length (now x) ≡ shape .qubits * shape .width) × (length (now z) ≡ shape .qubits * shape .width) × (length (now qubits) ≤ 4) × (allBelow (shape .qubits) (now qubits) ≡ true) × ((length (now qubits) + length (now qubits)) * shape .width ≤ length (now saved)) ⌝ }
+    ensures { λ _. ⌜ ImagesAdded (shape .width) (now (qubits .entry)) t (now (saved .entry)) (now (x .entry)) (now (z .entry)) (now (x .exit)) (now (z .exit)) ⌝ }
 {
     let k = qubits.len();
     let mut i = 0;
     while i < k {
-        add_image(x, z, w, n, qubits, t, i, xs, i);
-        add_image(x, z, w, n, qubits, t, k + i, zs, i);
+        add_image(x, z, shape, qubits, t, saved, i);
+        add_image(x, z, shape, qubits, t, saved, k + i);
         i += 1;
     }
 }
 
-// A Clifford sums the images of the frame's parts.
-pub fn apply_clifford(x: &mut [u64], z: &mut [u64], w: usize, n: usize, qubits: &[u64], t: u64)
-    requires { ⌜ (w ≤ 64) × (length (now x) ≡ n * w) × (length (now z) ≡ n * w) × (length (now qubits) ≤ 4) × (allBelow n (now qubits) ≡ true) ⌝ }
-    ensures { λ _. ⌜ ((m : ℕ) (d : List ℕ) → Acts w (lineRule n m (Line.clifford (now (qubits .entry)) t)) (now (x .entry)) (now (z .entry)) d (now (x .exit)) (now (z .exit)) d) ⌝ }
+// A Clifford sums the images of the frame's parts. Two rows are saved for each operand.
+pub fn apply_clifford(
+    x: &mut [u64],
+    z: &mut [u64],
+    shape: Shape,
+    qubits: &[u64],
+    t: u64,
+    scratch: &mut [u64],
+)
+    requires { ⌜ ((length (now qubits) + length (now qubits)) * shape .width ≤ length (now scratch)) × (length (now x) ≡ shape .qubits * shape .width) × (length (now z) ≡ shape .qubits * shape .width) × (length (now qubits) ≤ 4) × (allBelow (shape .qubits) (now qubits) ≡ true) ⌝ }
+    ensures { λ _. ⌜ ((m : ℕ) (d : List ℕ) → Acts (shape .width) (lineRule (shape .qubits) m (Line.clifford (now (qubits .entry)) t)) (now (x .entry)) (now (z .entry)) d (now (x .exit)) (now (z .exit)) d) ⌝ }
 {
-    let mut xs = [0u64; 256];
-    let mut zs = [0u64; 256];
-    rows::save_listed(&mut xs, x, w, qubits);
-    rows::save_listed(&mut zs, z, w, qubits);
-    rows::clear_listed(x, w, qubits);
-    rows::clear_listed(z, w, qubits);
-    add_images(x, z, w, n, qubits, t, &xs, &zs);
+    rows::save_listed(&mut *scratch, 0, x, shape.width, qubits);
+    rows::save_listed(&mut *scratch, qubits.len(), z, shape.width, qubits);
+    rows::clear_listed(x, shape.width, qubits);
+    rows::clear_listed(z, shape.width, qubits);
+    add_images(x, z, shape, qubits, t, scratch);
 }
 
 // ---- Permutations
 
 // Adds saved row i to the row of the operand at place s_i.
-fn add_to_places(
-    rows: &mut [u64],
-    w: usize,
-    n: usize,
-    places: &[u64],
-    qubits: &[u64],
-    saved: &[u64],
-)
-    requires { ⌜ (length (now rows) ≡ n * w) × (allBelow n (now qubits) ≡ true) × (isPermutation (length (now qubits)) (now places) ≡ true) × (length (now qubits) * w ≤ length (now saved)) ⌝ }
-    ensures { λ _. ⌜ PlacesAdded w (now (places .entry)) (now (qubits .entry)) (now (saved .entry)) (now (rows .entry)) (now (rows .exit)) ⌝ }
+fn add_to_places(rows: &mut [u64], shape: Shape, places: &[u64], qubits: &[u64], saved: &[u64])
+    requires { ⌜ (length (now rows) ≡ shape .qubits * shape .width) × (allBelow (shape .qubits) (now qubits) ≡ true) × (isPermutation (length (now qubits)) (now places) ≡ true) × (length (now qubits) * shape .width ≤ length (now saved)) ⌝ }
+    ensures { λ _. ⌜ PlacesAdded (shape .width) (now (places .entry)) (now (qubits .entry)) (now (saved .entry)) (now (rows .entry)) (now (rows .exit)) ⌝ }
 {
+    let w = shape.width;
     let mut i = 0;
     while i < places.len() {
         let place = places[i] as usize;
@@ -121,35 +111,27 @@ fn add_to_places(
 }
 
 // Permutes the rows of the operands in one matrix.
-fn permute_rows(
-    rows: &mut [u64],
-    w: usize,
-    n: usize,
-    places: &[u64],
-    qubits: &[u64],
-    saved: &mut [u64],
-)
-    requires { ⌜ (length (now rows) ≡ n * w) × (allBelow n (now qubits) ≡ true) × (isPermutation (length (now qubits)) (now places) ≡ true) × (length (now qubits) * w ≤ length (now saved)) ⌝ }
-    ensures { λ _. ⌜ RowsPermuted w (now (places .entry)) (now (qubits .entry)) (now (rows .entry)) (now (rows .exit)) ⌝ }
+fn permute_rows(rows: &mut [u64], shape: Shape, places: &[u64], qubits: &[u64], saved: &mut [u64])
+    requires { ⌜ (length (now rows) ≡ shape .qubits * shape .width) × (allBelow (shape .qubits) (now qubits) ≡ true) × (isPermutation (length (now qubits)) (now places) ≡ true) × (length (now qubits) * shape .width ≤ length (now saved)) ⌝ }
+    ensures { λ _. ⌜ RowsPermuted (shape .width) (now (places .entry)) (now (qubits .entry)) (now (rows .entry)) (now (rows .exit)) ⌝ }
 {
-    rows::save_listed(saved, rows, w, qubits);
-    rows::clear_listed(rows, w, qubits);
-    add_to_places(rows, w, n, places, qubits, saved);
+    rows::save_listed(&mut *saved, 0, rows, shape.width, qubits);
+    rows::clear_listed(rows, shape.width, qubits);
+    add_to_places(rows, shape, places, qubits, saved);
 }
 
-// A permutation takes what stands at place i to place s_i. At most 31 rows of 64 words are saved.
+// A permutation takes what stands at place i to place s_i. A row is saved for each operand.
 pub fn apply_permutation(
     x: &mut [u64],
     z: &mut [u64],
-    w: usize,
-    n: usize,
+    shape: Shape,
     places: &[u64],
     qubits: &[u64],
+    scratch: &mut [u64],
 )
-    requires { ⌜ (w ≤ 64) × (length (now x) ≡ n * w) × (length (now z) ≡ n * w) × (length (now qubits) ≤ 31) × (allBelow n (now qubits) ≡ true) × (isPermutation (length (now qubits)) (now places) ≡ true) ⌝ }
-    ensures { λ _. ⌜ ((m : ℕ) (d : List ℕ) → Acts w (lineRule n m (Line.permute (now (places .entry)) (now (qubits .entry)))) (now (x .entry)) (now (z .entry)) d (now (x .exit)) (now (z .exit)) d) ⌝ }
+    requires { ⌜ (length (now qubits) * shape .width ≤ length (now scratch)) × (length (now x) ≡ shape .qubits * shape .width) × (length (now z) ≡ shape .qubits * shape .width) × (allBelow (shape .qubits) (now qubits) ≡ true) × (isPermutation (length (now qubits)) (now places) ≡ true) ⌝ }
+    ensures { λ _. ⌜ ((m : ℕ) (d : List ℕ) → Acts (shape .width) (lineRule (shape .qubits) m (Line.permute (now (places .entry)) (now (qubits .entry)))) (now (x .entry)) (now (z .entry)) d (now (x .exit)) (now (z .exit)) d) ⌝ }
 {
-    let mut saved = [0u64; 1984];
-    permute_rows(x, w, n, places, qubits, &mut saved);
-    permute_rows(z, w, n, places, qubits, &mut saved);
+    permute_rows(x, shape, places, qubits, &mut *scratch);
+    permute_rows(z, shape, places, qubits, scratch);
 }

@@ -1,31 +1,34 @@
-// The lists of a line, as they lie in its fields: of list i the count is at 4 + i, the largest member at 8 + i, the members from 12 + 31 i on.
+// The lists among the values of a line (crate template).
 ghost use mathlib.Core.Path.{_≡_};
 ghost use mathlib.Core.Bool.{true};
 ghost use mathlib.Core.List.{List, [], _∷_};
-ghost use Prim.Native.Nat.{ℕ, _+_, _-_, _≤_, _<_};
-ghost use lib.ListN.{length, getD};
+ghost use Prim.Native.Nat.{ℕ, _-_, _≤_, _<_};
 ghost use Rattle.pauli.specs.Bits.{members as among};
 ghost use Rattle.text.specs.Template.{Value, listAt};
+ghost use Rattle.template.specs.Values.{Whole, AllKept};
 ghost use Rattle.template.specs.Fields.{Held};
 ghost use Rattle.job.specs.Checks.{test, allBelow, eachBelow, eachShort, lowest, distinct as Checks·distinct};
 ghost use Rattle.value_tests.specs.Slots.{listsFrom};
+use template::values::count;
+use template::values::largest;
+use template::values::list;
 
 const MAX_MEMBERS: u64 = 31;
 
 // Whether every member of the list in a slot is below n.
 fn slot_below(f: &[u64], slot: usize, n: u64) -> bool
-    requires { ⌜ (slot < 4) × (12 ≤ length (now f)) ⌝ }
+    requires { ⌜ (slot < 4) × Whole (now f) ⌝ }
     ensures { λ r. ⌜ ((numbers lists : ℕ) (vs : List Value) → Held (now (f .entry)) numbers lists vs → slot < lists → r ≡ allBelow n (listAt slot vs)) ⌝ }
 {
-    if f[4 + slot] == 0 {
+    if count(f, slot) == 0 {
         return true;
     }
-    f[8 + slot] < n
+    largest(f, slot) < n
 }
 
 // Whether every member of the lists from slot a up to slot e is below n.
 pub fn below(f: &[u64], a: usize, e: usize, n: u64) -> bool
-    requires { ⌜ (e ≤ 4) × (12 ≤ length (now f)) ⌝ }
+    requires { ⌜ (e ≤ 4) × Whole (now f) ⌝ }
     ensures { λ r. ⌜ ((numbers lists : ℕ) (vs : List Value) → Held (now (f .entry)) numbers lists vs → e ≤ lists → r ≡ eachBelow n (listsFrom a (e - a) vs)) ⌝ }
 {
     let mut i = a;
@@ -40,13 +43,13 @@ pub fn below(f: &[u64], a: usize, e: usize, n: u64) -> bool
 
 // Whether the lists from slot a up to slot e hold at most 31 each.
 pub fn short(f: &[u64], a: usize, e: usize) -> bool
-    requires { ⌜ (e ≤ 4) × (12 ≤ length (now f)) ⌝ }
+    requires { ⌜ (e ≤ 4) × Whole (now f) ⌝ }
     ensures { λ r. ⌜ ((numbers lists : ℕ) (vs : List Value) → Held (now (f .entry)) numbers lists vs → e ≤ lists → r ≡ eachShort (listsFrom a (e - a) vs)) ⌝ }
-    ensures { λ r. ⌜ (r ≡ true → (i : ℕ) → a ≤ i → i < e → getD (now (f .entry)) (4 + i) 0 ≤ 31) ⌝ }
+    ensures { λ r. ⌜ (r ≡ true → (i : ℕ) → a ≤ i → i < e → AllKept (now (f .entry)) i) ⌝ }
 {
     let mut i = a;
     while i < e {
-        if MAX_MEMBERS < f[4 + i] {
+        if MAX_MEMBERS < count(f, i) {
             return false;
         }
         i += 1;
@@ -86,17 +89,15 @@ pub fn distinct(members: &[u64]) -> bool
 
 // Whether a list of at most 31 in a slot has no member twice.
 pub fn slot_distinct(f: &[u64], slot: usize) -> bool
-    requires { ⌜ (slot < 4) × (136 ≤ length (now f)) × (getD (now f) (4 + slot) 0 ≤ 31) ⌝ }
+    requires { ⌜ (slot < 4) × Whole (now f) × AllKept (now f) slot ⌝ }
     ensures { λ r. ⌜ ((numbers lists : ℕ) (vs : List Value) → Held (now (f .entry)) numbers lists vs → slot < lists → r ≡ Checks·distinct (listAt slot vs)) ⌝ }
 {
-    let a = 12 + slot * 31;
-    let e = a + f[4 + slot] as usize;
-    distinct(&f[a..e])
+    distinct(list(f, slot))
 }
 
 // The number that refuses Paulis: 4 and 5 of the lists from slot a up to slot e; n is the number of qubits.
 pub fn pauli_number(f: &[u64], a: usize, e: usize, n: u64) -> u64
-    requires { ⌜ (e ≤ 4) × (12 ≤ length (now f)) ⌝ }
+    requires { ⌜ (e ≤ 4) × Whole (now f) ⌝ }
     ensures { λ r. ⌜ ((numbers lists : ℕ) (vs : List Value) → Held (now (f .entry)) numbers lists vs → e ≤ lists → r ≡ lowest (test 4 (eachBelow n (listsFrom a (e - a) vs)) ∷ test 5 (eachShort (listsFrom a (e - a) vs)) ∷ [])) ⌝ }
 {
     if !below(f, a, e, n) {

@@ -1,35 +1,21 @@
--- The steps of the walk: a job's lines from the last to the first. Definitions. Assumes nothing.
-use Prim.Native.Nat.{ℕ, zero, suc, _+_, _-_, _≤_, _<_}
+-- The steps of the walk. Definitions. Assumes nothing.
+use Prim.Native.Nat.{ℕ, zero, suc}
 use mathlib.Core.Path.{_≡_}
-use mathlib.Core.List.{List, [], _∷_, _++_}
+use mathlib.Core.List.{List}
 use mathlib.Core.Option.{Option, none, some}
-use lib.ListN.{length, getD, take}
+use lib.ListN.{length, getD}
 use Rattle.pauli.specs.Bits.{Bits}
 use Rattle.pauli.specs.Pauli.{identity}
 use Rattle.pauli.specs.Fixed.{asPauli}
-use Rattle.text.specs.Bytes.{LF, lines}
-use Rattle.job.specs.declared.Header.{Header}
-use Rattle.job.specs.Line.{Line}
-use Rattle.job.specs.Grammar.{Written, readLine}
+use Rattle.job.specs.Grammar.{Written}
 use Rattle.job.specs.Job.{jobOf}
-use Rattle.job.specs.Sound.{LineSound, HeaderSound}
-use Rattle.instructions.specs.Reading.{lineAt}
 use Rattle.frames.specs.Forward.{settingOf}
 use Rattle.backward.specs.Walk.{Walk, walk}
 use Rattle.backward.specs.Walking.{firstNoise, plainLines}
 use Rattle.carry.specs.Full.{full}
 use Rattle.lines_back.specs.declared.Walk.{Walk as WalkWords}
+use Rattle.lines_from_last.specs.Line.{OfJob}
 use Rattle.lines_back.specs.Back.{walkOf, writtenBack, noiseBack}
-
--- a line starts at this place: it is 0, or LF stands before it
-abbrev pub LineStart : List ℕ → ℕ → Type 0
-LineStart job at = 0 < at → getD job (at - 1) 0 ≡ LF
-
--- The line whose LF stands at e starts at r. The lines up to there are those before it, and it.
-pub record LineBefore (job : List ℕ) (e r : ℕ) : Type 0 where
-  pub within : r ≤ e
-  pub starts : LineStart job r
-  pub splits : lines (take (e + 1) job) ≡ lines (take r job) ++ lineAt job r e ∷ []
 
 -- B starts as identity, the count at 0, and no noise was seen
 pub record Started (w : WalkWords) : Type 0 where
@@ -49,18 +35,6 @@ pub record WalkedBack (job : List ℕ) (shot : ℕ) (S : Bits) (r : WalkWords) :
 
 -- ---- a line by its bytes
 
--- a line of a job with this header: it says something, and a plain line is sound
-pub record Known (h : Header) (text : List ℕ) : Type 0 where
-  pub written : Written
-  pub reads : readLine text ≡ some written
-  pub sound : (l : Line) → written ≡ Written.line l → (r : ℕ) × (r ≤ h .outcomes) × LineSound h r l
-
--- a line of an accepted job
-pub record OfJob (text : List ℕ) : Type 0 where
-  pub header : Header
-  pub range : HeaderSound header
-  pub known : Known header text
-
 -- what a line says does nothing in a walk of this shot
 pub record PassedOver (shot : ℕ) (v : Written) : Type 0 where
   pub walks : (w : Walk) → w ≡ writtenBack (full shot) v w
@@ -76,13 +50,3 @@ pub record TextBack (text : List ℕ) (shot k : ℕ) (w w′ : WalkWords) (set s
   pub long : length set′ ≡ 16
   pub walks : (o : OfJob text) → walkOf w′ set′ ≡ writtenBack (full shot) (o .known .written) (walkOf w set)
   pub noise : (o : OfJob text) → w′ .noise ≡ noiseBack k (o .known .written) (w .noise)
-
--- the walk with its observable in words
-abbrev pub walkWith : List ℕ → List ℕ → ℕ → ℕ → WalkWords
-walkWith x z count noise = record { observable = record { x = x; z = z }; count = count; noise = noise }
-
--- a gate line changes the words of the observable alone
-pub record GateBack (text x z x′ z′ : List ℕ) : Type 0 where
-  pub long-x : length x′ ≡ 4
-  pub long-z : length z′ ≡ 4
-  pub back : (shot k count noise : ℕ) (set : List ℕ) → length set ≡ 16 → TextBack text shot k (walkWith x z count noise) (walkWith x′ z′ count noise) set set

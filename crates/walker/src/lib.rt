@@ -1,8 +1,9 @@
 // The walk back over a job without noise: for a set of outcomes and a shot, the count of the injections and flips that change the sum of the set's deltas.
 ghost use mathlib.Core.Path.{_≡_};
 ghost use mathlib.Core.Bool.{true};
+ghost use mathlib.Core.List.{List};
 ghost use mathlib.Core.Option.{some};
-ghost use Prim.Native.Nat.{_+_, _^_, _<_, _≤_};
+ghost use Prim.Native.Nat.{ℕ, _+_, _^_, _<_};
 ghost use lib.ListN.{length, getD};
 ghost use Rattle.pauli.specs.Fixed.{inSet, AllBelow};
 ghost use Rattle.text.specs.Bytes.{lines as Bytes·lines};
@@ -11,61 +12,42 @@ ghost use Rattle.job.specs.Grammar.{Written, readLine};
 ghost use Rattle.job.specs.Checks.{allBelow};
 ghost use Rattle.job.specs.Job.{checkJob};
 ghost use Rattle.backward.specs.Walking.{walkReply};
-ghost use Rattle.walker.specs.Steps.{LineBefore, WalkedBack, OfJob, PassedOver, GateBytes, walkWith, GateBack, TextBack};
+ghost use Rattle.template.specs.Values.{Whole};
+ghost use Rattle.lines_from_last.specs.Line.{OfJob};
+ghost use Rattle.walker.specs.Steps.{Started, WalkedBack, PassedOver, GateBytes, TextBack};
 use checker::examine;
 use gate_text::read_gate;
 use job::Answer;
 use job::CountReply;
 use lines_back::Walk;
 use lines_back::line_back;
-use observable::conjugate_back;
+use lines_back::with_observable;
+use lines_from_last::line_start;
 use pauli::Pauli;
 use pauli::QubitId;
 use pauli::Shot;
 use reader::read_line;
 use template::read_on;
+use template::values::WORDS;
+use template::values::number;
 
-// ---- The lines from last to first
-
-// The place where the line starts whose LF is at e. Two bytes are looked at in a turn.
-fn line_start(job: &[u8], e: usize) -> usize
-    requires { ⌜ (e < length (now job)) × (getD (now job) e 0 ≡ 10) ⌝ }
-    ensures { λ r. ⌜ LineBefore (now (job .entry)) e r ⌝ }
-{
-    let mut i = e;
-    while 1 < i {
-        if job[i - 1] == 10 {
-            return i;
-        }
-        if job[i - 2] == 10 {
-            return i - 1;
-        }
-        i -= 2;
-    }
-    if i == 0 {
-        return 0;
-    }
-    if job[0] == 10 {
-        return 1;
-    }
-    0
-}
+// ---- One line
 
 // Whether a line that begins as an injection does is one in another shot: read up to its shot alone.
-fn other_shot(line: &[u8], shot: Shot, fields: &mut [u64]) -> bool
-    requires { ⌜ 136 ≤ length (now fields) ⌝ }
+fn other_shot(line: &[u8], shot: Shot, values: &mut [u64]) -> bool
+    requires { ⌜ Whole (now values) ⌝ }
     ensures { λ r. ⌜ (r ≡ true → getD (now (line .entry)) 0 0 ≡ 111 → getD (now (line .entry)) 3 0 ≡ 105 → (v : Written) → readLine (now (line .entry)) ≡ some v → PassedOver (shot .0) v) ⌝ }
 {
-    let p = read_on(line, b"op=i shot=N ", 0, 0, 0, &mut *fields);
+    let p = read_on(line, b"op=i shot=N ", 0, 0, 0, &mut *values);
     if !p.ok {
         return false;
     }
-    fields[0] as usize != shot.0
+    number(values, 0) as usize != shot.0
 }
 
 // Whether a line is passed over without being read to its end: a Pauli, an allocation, or an injection in another shot, of which there are many.
-fn passed_over(line: &[u8], shot: Shot, fields: &mut [u64]) -> bool
-    requires { ⌜ 136 ≤ length (now fields) ⌝ }
+fn passed_over(line: &[u8], shot: Shot, values: &mut [u64]) -> bool
+    requires { ⌜ Whole (now values) ⌝ }
     ensures { λ r. ⌜ (r ≡ true → (v : Written) → readLine (now (line .entry)) ≡ some v → PassedOver (shot .0) v) ⌝ }
 {
     if line.len() < 4 {
@@ -75,7 +57,7 @@ fn passed_over(line: &[u8], shot: Shot, fields: &mut [u64]) -> bool
         return false;
     }
     match line[3] {
-        105 => other_shot(line, shot, fields),
+        105 => other_shot(line, shot, values),
         112 => true,
         114 => true,
         _ => false,
@@ -95,40 +77,42 @@ fn is_gate(line: &[u8]) -> bool
     line[3] == 117
 }
 
-// A gate line of an accepted job, of which there are many: read without testing its form again, the observable conjugated in place.
-fn gate_back(x: &mut [u64], z: &mut [u64], line: &[u8])
-    requires { ⌜ OfJob (now line) × GateBytes (now line) × (length (now x) ≡ 4) × (length (now z) ≡ 4) ⌝ }
-    ensures { λ _. ⌜ GateBack (now (line .entry)) (now (x .entry)) (now (z .entry)) (now (x .exit)) (now (z .exit)) ⌝ }
+// A gate line of an accepted job, of which there are many: read without testing its form again.
+fn gate_back(w: Walk, line: &[u8]) -> Walk
+    requires { ⌜ OfJob (now line) × GateBytes (now line) ⌝ }
+    ensures { λ r. ⌜ ((shot k : ℕ) (set : List ℕ) → length set ≡ 16 → TextBack (now (line .entry)) shot k w r set set) ⌝ }
 {
     let g = read_gate(line);
-    conjugate_back(
-        x,
-        z,
-        g.code,
-        QubitId(g.first as usize),
-        QubitId(g.second as usize),
-    );
+    let b = w.observable;
+    let first = QubitId(g.first as usize);
+    let second = QubitId(g.second as usize);
+    with_observable(w, b.conjugate_back(g.code, first, second))
 }
 
-// Any line of an accepted job, of number k, by its form and its fields.
-fn read_back(w: Walk, line: &[u8], fields: &mut [u64], set: &mut [u64], shot: Shot, k: u64) -> Walk
-    requires { ⌜ OfJob (now line) × (136 ≤ length (now fields)) × (length (now set) ≡ 16) × (w .count + 1 < 2 ^ 64) ⌝ }
+// Any line of an accepted job, of number k, by its bytes, or by its form and its values.
+fn text_back(w: Walk, line: &[u8], values: &mut [u64], set: &mut [u64], shot: Shot, k: u64) -> Walk
+    requires { ⌜ OfJob (now line) × Whole (now values) × (length (now set) ≡ 16) × (w .count + 1 < 2 ^ 64) ⌝ }
     ensures { λ r. ⌜ TextBack (now (line .entry)) (shot .0) k w r (now (set .entry)) (now (set .exit)) ⌝ }
 {
-    if passed_over(line, shot, &mut *fields) {
+    if is_gate(line) {
+        return gate_back(w, line);
+    }
+    if passed_over(line, shot, &mut *values) {
         return w;
     }
-    let form = read_line(line, &mut *fields);
-    line_back(w, form, fields, set, shot, k)
+    let form = read_line(line, &mut *values);
+    line_back(w, form, values, set, shot, k)
 }
 
-fn walk_with(x: [u64; 4], z: [u64; 4], count: u64, noise: u64) -> Walk
-    ensures { λ r. ⌜ r ≡ walkWith x z count noise ⌝ }
+// ---- All lines
+
+fn start() -> Walk
+    ensures { λ r. ⌜ Started r ⌝ }
 {
     Walk {
-        observable: Pauli { x, z },
-        count,
-        noise,
+        observable: Pauli::identity(),
+        count: 0,
+        noise: 0,
     }
 }
 
@@ -137,32 +121,17 @@ fn walk_lines(job: &[u8], lines: u64, shot: Shot, set: &mut [u64]) -> Walk
     requires { ⌜ (checkJob (now job) .number ≡ 0) × (lines ≡ length (Bytes·lines (now job))) × (length (now set) ≡ 16) ⌝ }
     ensures { λ r. ⌜ WalkedBack (now (job .entry)) (shot .0) (inSet (now (set .entry))) r ⌝ }
 {
-    let mut fields = [0u64; 136];
-    let mut x = [0u64; 4];
-    let mut z = [0u64; 4];
-    let mut count: u64 = 0;
-    let mut noise: u64 = 0;
+    let mut values = [0u64; WORDS];
+    let mut w = start();
     let mut e = job.len();
     let mut k = lines;
     while 0 < e {
         let at = line_start(job, e - 1);
-        let line = &job[at..e - 1];
-        let number = k;
+        w = text_back(w, &job[at..e - 1], &mut values, &mut *set, shot, k);
         k -= 1;
         e = at;
-        if is_gate(line) {
-            gate_back(&mut x, &mut z, line);
-            continue;
-        }
-        let w = walk_with(x, z, count, noise);
-        let r = read_back(w, line, &mut fields, &mut *set, shot, number);
-        let b = r.observable;
-        x = b.x;
-        z = b.z;
-        count = r.count;
-        noise = r.noise;
     }
-    walk_with(x, z, count, noise)
+    w
 }
 
 // ---- The call

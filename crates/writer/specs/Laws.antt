@@ -2,4 +2,5 @@
 pub mod Placing
 pub mod Digits
 pub mod Lists
+pub mod Line
 pub mod Lines

@@ -1,14 +1,15 @@
 // Text written into lent bytes. A byte whose place is past the end of the lent bytes is not written, but counted: over no bytes at all a text is only
-// measured.
+// measured. Each function asks that the place after its text is a number.
 ghost use mathlib.Core.Path.{_≡_};
 ghost use mathlib.Core.List.{[], _∷_};
-ghost use Prim.Native.Nat.{_+_, _-_, _*_, _^_, _<_, min};
+ghost use Prim.Native.Nat.{_+_, _-_, _^_, _<_, min};
 ghost use lib.ListN.{length};
 ghost use Rattle.text.specs.Number.{decimal, hexByte, hexadecimal};
 ghost use Rattle.text.specs.List.{commas, listText};
 ghost use Rattle.writer.specs.Placed.{Puts};
 use job::Answer;
 
+pub mod line;
 pub mod noise_lines;
 
 // What a call that writes text says: its answer, and its byte figure.
@@ -65,7 +66,7 @@ pub fn put_bytes(out: &mut [u8], at: usize, s: &[u8]) -> usize
 
 // In decimal.
 pub fn put_number(out: &mut [u8], at: usize, n: u64) -> usize
-    requires { ⌜ at + 20 < 2 ^ 64 ⌝ }
+    requires { ⌜ at + length (decimal n) < 2 ^ 64 ⌝ }
     ensures { λ r. ⌜ Puts at (decimal n) (now (out .entry)) (now (out .exit)) r ⌝ }
 {
     let mut digits = [0u8; 20];
@@ -93,7 +94,7 @@ fn hex_byte(d: u64) -> u8
 
 // H: 16 hexadecimal digits.
 pub fn put_hex(out: &mut [u8], at: usize, n: u64) -> usize
-    requires { ⌜ at + 16 < 2 ^ 64 ⌝ }
+    requires { ⌜ at + length (hexadecimal n) < 2 ^ 64 ⌝ }
     ensures { λ r. ⌜ Puts at (hexadecimal n) (now (out .entry)) (now (out .exit)) r ⌝ }
 {
     let mut digits = [0u8; 16];
@@ -109,7 +110,7 @@ pub fn put_hex(out: &mut [u8], at: usize, n: u64) -> usize
 
 // Each number after a comma.
 fn put_commas(out: &mut [u8], at: usize, l: &[u64]) -> usize
-    requires { ⌜ at + 21 * length (now l) < 2 ^ 64 ⌝ }
+    requires { ⌜ at + length (commas (now l)) < 2 ^ 64 ⌝ }
     ensures { λ r. ⌜ Puts at (commas (now (l .entry))) (now (out .entry)) (now (out .exit)) r ⌝ }
 {
     let mut next = at;
@@ -124,7 +125,7 @@ fn put_commas(out: &mut [u8], at: usize, l: &[u64]) -> usize
 
 // A list with commas, `-` when empty.
 pub fn put_list(out: &mut [u8], at: usize, l: &[u64]) -> usize
-    requires { ⌜ at + (21 * length (now l) + 1) < 2 ^ 64 ⌝ }
+    requires { ⌜ at + length (listText (now l)) < 2 ^ 64 ⌝ }
     ensures { λ r. ⌜ Puts at (listText (now (l .entry))) (now (out .entry)) (now (out .exit)) r ⌝ }
 {
     if l.len() == 0 {

@@ -1,31 +1,23 @@
 -- `agreement::row_words` meets its contract. Assumes nothing.
-use mathlib.Core.Path.{sym, ap}
+use mathlib.Core.Path.{ap}
 use native.Mathlib.Omega.{arith}
 use Rattle.job.specs.declared.Header.{Header}
+use Rattle.job.specs.Theorems.{checked-sound}
 use Rattle.rows.specs.Words.{wordsPerRow}
-use Rattle.instructions.specs.Laws.Steps.{header-read}
-use Rattle.agreement.specs.Laws.Header.{passed-ended, passed-range}
 use borrow.Author.Needs.{needs}
 use Rattle.agreement.proofs.row_words.Statement.{statement}
 use Rattle.agreement.proofs.row_words.Tie as tie
 
-slice-aggregate-next-line : tie.Need-slice-aggregate-next-line
-slice-aggregate-next-line c = search needs
-
-next-line-requires : tie.Need-next-line-requires
-next-line-requires c κs = let ended = passed-ended _ (c .before .before .pre) in (ended .0, ended .1, omega arith)
-
-array-read-result : tie.Need-array-read-result
-array-read-result c = search needs
+examine-requires : tie.Need-examine-requires
+examine-requires c κs = search needs
 
 add-result : tie.Need-add-result
-add-result c = let shots = passed-range _ (c .before .before .before .before .pre) (header-read (c .before .before .before .before .pre) (c .before .next-line .ensures)) .few-shots in
-    record { fits = omega arith }
+add-result c =
+    let found = c .before .examine .ensures .finds (c .before .before .before .pre) .header in
+    record { fits = omega (arith, ap (λ (h : Header). h .shots) found, checked-sound _ (c .before .before .before .pre) .header .few-shots) }
 
 returns : tie.Need-returns
-returns c = sym (ap (λ (h : Header). wordsPerRow (h .shots)) (header-read (c .before .before .before .before .pre) (c .before .next-line .ensures)))
+returns c = ap (λ (h : Header). wordsPerRow (h .shots)) (c .before .examine .ensures .finds (c .before .before .before .pre) .header)
 
 pub row-words-spec : {M : Type 1} → statement M
-row-words-spec =
-    tie.close
-    (tie.spec slice-aggregate-next-line next-line-requires array-read-result add-result returns)
+row-words-spec = tie.close (tie.spec examine-requires add-result returns)

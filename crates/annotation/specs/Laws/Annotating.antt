@@ -3,7 +3,7 @@ use Prim.Native.Nat.{ℕ, suc, _+_, _-_, _*_, _^_, _≤_, _<_}
 use native.Mathlib.Omega.{arith}
 use mathlib.Core.Path.{_≡_, refl, sym, ap, subst, _∙_}
 use mathlib.Core.Bool.{Bool, true, false, _&&_}
-use mathlib.Core.List.{List, [], _∷_, _++_}
+use mathlib.Core.List.{List, [], _∷_, _++_, append-nil}
 use mathlib.Core.Option.{some}
 use lib.Dec.{leb}
 use lib.ListN.{length, take, drop, length-append, drop-of-length-le}
@@ -21,8 +21,9 @@ use Rattle.instructions.specs.Lines.{Left, numbered}
 use Rattle.instructions.specs.Laws.Lines.{Passed, left-all, here, line-read, left-more, numbered-some}
 use Rattle.instructions.specs.Laws.Places.{whole-line}
 use Rattle.writer.specs.Placed.{Puts}
-use Rattle.writer.specs.Laws.Placing.{Rest, rest-all, rest-more, rest-none}
-use Rattle.writer.specs.Laws.Lines.{depolarizing-next}
+use Rattle.writer.specs.Line.{depolarizingStart, StartOf}
+use Rattle.writer.specs.Laws.Placing.{placed-over, puts-length, Rest, rest-all, rest-more, rest-none}
+use Rattle.writer.specs.Laws.Lines.{start-length, depolarizing-next}
 use Rattle.circuit.specs.Annotate.{noiseText, noiseLines, annotated, annotatedText, noiseOn, firstUnfit}
 use Rattle.line_qubits.specs.Qubits.{NoiseQubits}
 use Rattle.annotation.specs.Lines.{beforeIt, aroundText, Annotates}
@@ -30,6 +31,18 @@ use Rattle.line_qubits.specs.Laws.Merging.{part-few}
 use Rattle.annotation.specs.Laws.Around.{annotated-line, unfit-here, unfit-later}
 
 -- ---- the noise of one line
+
+-- how its line begins, in 50 bytes
+pub started : {start : List ℕ} → StartOf start → length start ≡ 50
+started s = ap length (s .text) ∙ start-length (s .probability)
+
+pub start-put : (p : ℕ) {out after : List ℕ} {next : ℕ} → Puts 0 (depolarizingStart p) out after next → length after ≡ 50 → after ≡ depolarizingStart p
+start-put p {out} {after} w e =
+    let size : length (depolarizingStart p) ≡ length out = start-length p ∙ sym e ∙ puts-length w in
+    let fits : length (depolarizingStart p) ≤ length out = omega arith in
+    let past : length out ≤ length (depolarizingStart p) = omega arith in
+    let none : drop (length (depolarizingStart p)) out ≡ [] = drop-of-length-le out past in
+    w .bytes ∙ placed-over (depolarizingStart p) out fits ∙ ap (λ (l : List ℕ). depolarizingStart p ++ l) none ∙ append-nil (depolarizingStart p)
 
 pub noise-empty : (p : ℕ) (qs : List ℕ) → length qs ≡ 0 → unlines (noiseLines p qs) ≡ []
 unfolding unlines noiseLines
@@ -92,7 +105,7 @@ module _ {job : List ℕ} {p : ℕ} {out : List ℕ} {k at next : ℕ} {after : 
         puts = λ e. absurd (omega (arith, a .left .first));
       }
 
-  fits-few : Fits true → length (take n words) ≤ 31
+  pub fits-few : Fits true → length (take n words) ≤ 31
   fits-few h = leb-true _ _ (both (distinct (take n words)) (leb (length (take n words)) maxMembers) (sym h) .1)
 
   line-size : length (take (line .end + 1 - at) (drop at job)) ≤ line .end + 1 - at

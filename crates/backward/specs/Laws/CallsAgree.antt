@@ -20,7 +20,7 @@ use Rattle.job.specs.Reply.{over, TextReply, refusedText, textFits, writtenText
 use Rattle.job.specs.Theorems.{checked-sound}
 use Rattle.job.specs.Laws.Lists.{below-first, below-more}
 use Rattle.frames.specs.Forward.{settingOf, run, start}
-use Rattle.draws.specs.Settle.{SettledLine, Settled, settledList, settledText, numbered}
+use Rattle.draws.specs.Settle.{SettledLine, Settled, settledList, settledText, placedFrom}
 use Rattle.draws.specs.Execute.{States, starts}
 use Rattle.draws.specs.Theorems.{executed-spent, executed-ended}
 use Rattle.draws.specs.SettledTheorems.{settled-accepted, settled-job, settled-recorded, settled-again}
@@ -58,19 +58,19 @@ sum-same n (i ∷ ids) s t b e = let parts = below-first n i ids b in ap₂ _⊕
 
 -- ---- the walk
 
-pub numbered-quiet : (k : ℕ) (ls : List SettledLine) → firstNoise (numbered k ls) ≡ none
-unfolding firstNoise noiseFirst numbered
-numbered-quiet k [] = refl
-numbered-quiet k (l ∷ ls) = numbered-quiet (suc k) ls
+pub placed-quiet : (k : ℕ) (ls : List SettledLine) → firstNoise (placedFrom k ls) ≡ none
+unfolding firstNoise noiseFirst placedFrom
+placed-quiet k [] = refl
+placed-quiet k (l ∷ ls) = placed-quiet (suc k) ls
 
-pub numbered-lines : (k : ℕ) (ls : List SettledLine) → plainLines (numbered k ls) ≡ settledList ls
-unfolding plainLines lineFirst numbered
-numbered-lines k [] = refl
-numbered-lines k (l ∷ ls) = ap (l .line ∷_) (numbered-lines (suc k) ls)
+pub placed-lines : (k : ℕ) (ls : List SettledLine) → plainLines (placedFrom k ls) ≡ settledList ls
+unfolding plainLines lineFirst placedFrom
+placed-lines k [] = refl
+placed-lines k (l ∷ ls) = ap (l .line ∷_) (placed-lines (suc k) ls)
 
 -- a job of settled lines
 abbrev pub jobOfSettled : Header → List ℕ → List SettledLine → Job
-jobOfSettled h t ls = record { header = h; text = t; instructions = numbered 2 ls }
+jobOfSettled h t ls = record { header = h; text = t; instructions = placedFrom 2 ls }
 
 -- the walk of an accepted text by its job
 walk-accepted : (text : List ℕ) (j : Job) (shot : ℕ) (set : List ℕ) → checkJob text ≡ accepted → jobOf text ≡ j
@@ -88,14 +88,14 @@ walkable-same j k shot set e f = rw (e, f)
 
 -- on a job of settled lines there is no noise
 pub walk-numbered : (text : List ℕ) (j : Job) (ls : List SettledLine) (shot : ℕ) (set : List ℕ) → checkJob text ≡ accepted
-    → jobOf text ≡ jobOfSettled (j .header) (j .text) ls → recordedIn (numbered 2 ls) ≡ recordedIn (j .instructions)
+    → jobOf text ≡ jobOfSettled (j .header) (j .text) ls → recordedIn (placedFrom 2 ls) ≡ recordedIn (j .instructions)
     → walkReply text shot set
     ≡ cond (walkable j shot set) (record { answered = accepted; count = walk (settingOf (j .header) shot) (settledList ls) (members set) .count })
     (refusedCount (answer 17 0))
 unfolding walkAnswer
 walk-numbered text j ls shot set passes is recorded =
     walk-accepted text (jobOfSettled (j .header) (j .text) ls) shot set passes is
-    ∙ rw (walkable-same (jobOfSettled (j .header) (j .text) ls) j shot set refl recorded, numbered-quiet 2 ls, numbered-lines 2 ls)
+    ∙ rw (walkable-same (jobOfSettled (j .header) (j .text) ls) j shot set refl recorded, placed-quiet 2 ls, placed-lines 2 ls)
 
 -- ---- the text of the lines to which an accepted job settles
 

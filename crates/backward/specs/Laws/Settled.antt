@@ -1,8 +1,7 @@
--- Laws: how execution ends, and that the lines to which the instructions of an accepted job settle are in range. Assumes nothing.
+-- Laws: the lines to which the instructions of an accepted job settle are in range. Assumes nothing.
 use mathlib.Core.Path.{_≡_, refl, sym, subst}
 use mathlib.Core.List.{List, [], _∷_, _++_}
 use Prim.Native.Nat.{ℕ, _+_, _≤_}
-use native.Mathlib.Omega.{arith}
 use Rattle.job.specs.declared.Header.{Header}
 use Rattle.job.specs.Line.{Line, Distribution, Instruction, Placed}
 use Rattle.job.specs.Job.{recordedBy}
@@ -12,7 +11,6 @@ use Rattle.job.specs.Laws.Recorded.{instruction-within}
 use Rattle.job.specs.Laws.Range.{line-in-range}
 use Rattle.draws.specs.Draws.{Lent, Fault}
 use Rattle.draws.specs.Settle.{SettledLine, injection, Step, stepOf, Settled, prefixed, settleThen, settle, settledList}
-use Rattle.draws.specs.Execute.{States, Ended}
 use Rattle.draws.specs.Laws.Settling.{settledList-append}
 use Rattle.draws.specs.Known.{Injections}
 use Rattle.draws.specs.Laws.Within.{injected, noise-injects}
@@ -25,14 +23,6 @@ injected-in-range : (n m : ℕ) (d : Distribution) (fs : List Fault) → AllInRa
 unfolding injection
 injected-in-range n m d [] = tt
 injected-in-range n m d (f ∷ fs) = (tt, injected-in-range n m d fs)
-
--- ---- how execution ends
-
-pub ended-apart : (k : ℕ) (states : States) → Ended.spentAt k ≡ Ended.ended states → ⊥
-ended-apart k states e = let z : _≡_ {A = ℕ} 0 1 = cc in omega arith
-
-pub ended-same : (s t : States) → Ended.ended s ≡ Ended.ended t → s ≡ t
-ended-same s t e = cc
 
 -- ---- an instruction, and a job
 

@@ -1,16 +1,18 @@
 -- `carry::add_parts` meets its contract. Assumes nothing.
 use Prim.Native.Nat.{_-_}
 use native.Mathlib.Omega.{arith}
+use mathlib.Core.Path.{ap}
 use lib.ListN.{length}
-use Rattle.pauli.specs.Fixed.{inSet}
+use Rattle.pauli.specs.Pauli.{Pauli, addedAt}
+use Rattle.pauli.specs.Fixed.{inSet, asPauli}
 use Rattle.pauli.specs.Laws.Word.{bit-is}
 use Rattle.job.specs.Laws.Lists.{below-at}
-use Rattle.carry.specs.Laws.Parts.{Left, all-left, one-added, none-left}
+use Rattle.carry.specs.Laws.Parts.{PartsToAdd, all-left, one-added, none-left}
 use Rattle.carry.proofs.add_parts.Statement.{statement}
 use Rattle.carry.proofs.add_parts.Tie as tie
 
 abbrev Inv-loop : tie.InvT-loop
-Inv-loop qubits x z r₀ i₀ r i = Left (inSet (r₀ .x)) qubits x i (inSet (r .x)) × Left (inSet (r₀ .z)) qubits z i (inSet (r .z))
+Inv-loop qubits x z r₀ i₀ r i = PartsToAdd (inSet (r₀ .x)) qubits x i (inSet (r .x)) × PartsToAdd (inSet (r₀ .z)) qubits z i (inSet (r .z))
 
 abbrev μ-loop : tie.MeasureT-loop
 μ-loop qubits x z r₀ i₀ r i = length qubits - i
@@ -24,14 +26,14 @@ mul-t8 c = omega arith
 shared-slice-read-t11 : tie.Need-shared-slice-read-t11 Inv-loop μ-loop
 shared-slice-read-t11 c = omega arith
 
-shr-add-part : tie.Need-shr-add-part Inv-loop μ-loop
-shr-add-part c = omega arith
+shr-add-at : tie.Need-shr-add-at Inv-loop μ-loop
+shr-add-at c = omega arith
 
-shr-add-part-2 : tie.Need-shr-add-part-2 Inv-loop μ-loop
-shr-add-part-2 c = omega arith
+shr-add-at-2 : tie.Need-shr-add-at-2 Inv-loop μ-loop
+shr-add-at-2 c = omega arith
 
-add-part-requires : tie.Need-add-part-requires Inv-loop μ-loop
-add-part-requires c κs = below-at 256 _ (c .before .before .before .before .pre .1) (c .before .before .loop .i) (omega arith)
+add-at-requires : tie.Need-add-at-requires Inv-loop μ-loop
+add-at-requires c κs = below-at 256 _ (c .before .before .before .before .pre .1) (c .before .before .loop .i) (omega arith)
 
 add-i : tie.Need-add-i Inv-loop μ-loop
 add-i c = omega arith
@@ -40,7 +42,8 @@ loop-less : tie.Need-loop-less Inv-loop μ-loop
 loop-less c = omega arith
 
 loop-again : tie.Need-loop-again Inv-loop μ-loop
-loop-again c = (one-added (c .before .before .before .loop .inv .0) _ (c .before .before .loop-test .taken) (rw bit-is (c .add-part .ensures .0)), one-added (c .before .before .before .loop .inv .1) _ (c .before .before .loop-test .taken) (rw bit-is (c .add-part .ensures .1)))
+unfolding asPauli addedAt
+loop-again c = (one-added (c .before .before .before .loop .inv .0) _ (c .before .before .loop-test .taken) (rw bit-is (ap (λ (P : Pauli). P .x) (c .add-at .ensures))), one-added (c .before .before .before .loop .inv .1) _ (c .before .before .loop-test .taken) (rw bit-is (ap (λ (P : Pauli). P .z) (c .add-at .ensures))))
 
 returns : tie.Need-returns Inv-loop μ-loop
 returns c = (none-left (c .before .loop .inv .0) (c .loop-test .left), none-left (c .before .loop .inv .1) (c .loop-test .left))
@@ -54,9 +57,9 @@ add-parts-spec =
     loop-holds
     mul-t8
     shared-slice-read-t11
-    shr-add-part
-    shr-add-part-2
-    add-part-requires
+    shr-add-at
+    shr-add-at-2
+    add-at-requires
     add-i
     loop-less
     loop-again

@@ -79,18 +79,18 @@ packed-put s new qs v w d p q =
 -- ---- the code's loop: operand after operand
 
 -- of the bits, those from place i on are left to add
-pub record Left (set : Bits) (qs : List ℕ) (bits i : ℕ) (now : Bits) : Type 0 where
+pub record PartsToAdd (set : Bits) (qs : List ℕ) (bits i : ℕ) (now : Bits) : Type 0 where
   pub within : i ≤ length qs
   pub same : now △ placed (λ j. bit bits (i + j)) (drop i qs) ≡ set △ placed (bit bits) qs
 
-pub all-left : (set : Bits) (qs : List ℕ) (bits : ℕ) → Left set qs bits 0 set
+pub all-left : (set : Bits) (qs : List ℕ) (bits : ℕ) → PartsToAdd set qs bits 0 set
 all-left set qs bits = record { within = omega arith; same = ap (λ (f : Bits). set △ placed f qs) (fun-ext (λ j. ap (bit bits) (zero-plus j))) }
   where
     zero-plus : (j : ℕ) → 0 + j ≡ j
     zero-plus j = omega arith
 
-module _ {set : Bits} {qs : List ℕ} {bits i : ℕ} {now : Bits} (l : Left set qs bits i now) where
-  pub one-added : (then : Bits) → i < length qs → then ≡ added now (getD qs i 0) (bit bits i) → Left set qs bits (i + 1) then
+module _ {set : Bits} {qs : List ℕ} {bits i : ℕ} {now : Bits} (l : PartsToAdd set qs bits i now) where
+  pub one-added : (then : Bits) → i < length qs → then ≡ added now (getD qs i 0) (bit bits i) → PartsToAdd set qs bits (i + 1) then
   unfolding placed
   one-added then h e =
       record {

@@ -14,12 +14,12 @@ returns : tie.Need-returns
 unfolding present
 returns c = λ vs w s. sym (ap present (quiet-none _ vs w (sym (c .before .is-noise .ensures) ∙ not-true _ (c .if1 .taken)) (s .says)))
 
-shared-slice-read-result : tie.Need-shared-slice-read-result
-shared-slice-read-result c = search needs
+count-requires : tie.Need-count-requires
+count-requires c κs = search needs
 
 returns-2 : tie.Need-returns-2
-returns-2 c = λ vs w s. present-noise (sym (c .before .before .is-noise .ensures) ∙ not-false _ (c .before .if1 .left)) s
+returns-2 c = λ vs w s. rw (c .count .ensures) (present-noise (sym (c .before .before .is-noise .ensures) ∙ not-false _ (c .before .if1 .left)) s)
 
 pub is-correlated-spec : {M : Type 1} → statement M
 is-correlated-spec =
-    tie.close (tie.spec is-noise-requires returns shared-slice-read-result returns-2)
+    tie.close (tie.spec is-noise-requires returns count-requires returns-2)

@@ -8,13 +8,13 @@ use mathlib.Core.List.{List, [], _∷_}
 use mathlib.Core.Option.{Option, some}
 use borrow.Author.Tests.{not-false, eqb-true, eqb-false, eq-eqb, ne-eqb}
 use lib.Dec.{eqb}
-use lib.ListN.{length, getD, set, take, drop, length-set, length-map}
+use lib.ListN.{length, getD, set, take, drop, length-set}
 use Rattle.text.specs.Bytes.{until, lines}
 use Rattle.text.specs.Laws.Values.{both}
 use Rattle.text.specs.Template.{Value}
-use Rattle.job.specs.Line.{WeightedPauli, sizeOf, Placed}
+use Rattle.job.specs.Line.{sizeOf, Placed}
 use Rattle.job.specs.Grammar.{Kind, NoiseLine, Written, readLine}
-use Rattle.job.specs.Checks.{Context, elementLines, next as nextContext, headerFits, noiseTests, ownTests, kindDistinct, kindQubits, eachShort}
+use Rattle.job.specs.Checks.{Context, kindSize, next as nextContext, headerFits, noiseTests, ownTests, kindDistinct, kindQubits, eachShort}
 use Rattle.job.specs.declared.Answer.{Answer}
 use Rattle.job.specs.Job.{answer, accepted, distributionOf, noiseOf, gather, gathered, Job, checkJob, jobOf}
 use Rattle.job.specs.Laws.Tests.{AllPass}
@@ -22,7 +22,7 @@ use Rattle.job.specs.Laws.Lines.{first-short}
 use Rattle.job.specs.Contexts.{Accepted}
 use Rattle.job.specs.Laws.Accepted.{passes-first, Passing, passing, accepted-first}
 use Rattle.job.specs.Laws.Begun.{job-begun}
-use Rattle.job.specs.Laws.Gather.{gathered-sound}
+use Rattle.job.specs.Laws.Gather.{kind-size, gathered-sound}
 use Rattle.reader.specs.declared.Form.{Form}
 use Rattle.reader.specs.Parsed.{Said}
 use Rattle.instructions.specs.declared.Next.{Next}
@@ -37,7 +37,7 @@ use Rattle.circuit.specs.Replies.{correlationAnswer, correlationReply}
 use Rattle.correlations.specs.declared.Looked.{Looked}
 use Rattle.correlations.specs.declared.Collected.{Collected}
 use Rattle.correlations.specs.declared.Found.{Found}
-use Rattle.correlations.specs.Sizes.{correlationIn, kindSize, sizeIn, FewOperands, Few, FewRead, present, tableOf, lookFor, lookOf, grown}
+use Rattle.correlations.specs.Sizes.{correlationIn, sizeIn, FewOperands, Few, FewRead, present, tableOf, lookFor, lookOf, grown}
 use Rattle.correlations.specs.Rounds.{unlike, earliest, Remembers, Collecting, Collects, RoundOf}
 use Rattle.correlations.specs.Laws.Sizes.{NoiseWith, correlated, absent, noise-size}
 use Rattle.correlations.specs.Laws.Tables.{size-unseen, size-seen, table-more}
@@ -57,13 +57,6 @@ few-operands c n t =
     go (Kind.uniform n) e = unfold FewOperands in tt
     go (Kind.weighted n) e = unfold FewOperands in tt
 
-size-counts : (kind : Kind) (es : List WeightedPauli) → length es ≡ elementLines kind → sizeOf (distributionOf kind es) ≡ kindSize kind
-unfolding sizeOf distributionOf kindSize elementLines
-size-counts (Kind.single P) es e = refl
-size-counts (Kind.depolarizing qs) es e = refl
-size-counts (Kind.uniform n) es e = length-map es (λ (w : WeightedPauli). w .pauli) ∙ e
-size-counts (Kind.weighted n) es e = e
-
 record NoisePassed (k : ℕ) (n : NoiseLine) (ls : List (List ℕ)) : Type 0 where
   few : FewOperands (n .kind)
   size : sizeOf (distributionOf (n .kind) (gathered (suc k) ls .elements)) ≡ kindSize (n .kind)
@@ -80,7 +73,7 @@ noise-passed {k} {l} {ls} n a reads =
     let rest : Accepted (suc k) (nextContext c (Written.noise n)) ls = subst (λ (w : Written). Accepted (suc k) (nextContext c w) ls) says (f .rest) in
     record {
       few = few-operands c n (own .own);
-      size = size-counts (n .kind) (gathered (suc k) ls .elements) (gathered-sound (suc k) (nextContext c (Written.noise n)) ls rest .count);
+      size = kind-size (n .kind) (gathered (suc k) ls .elements) (gathered-sound (suc k) (nextContext c (Written.noise n)) ls rest .count);
     }
 
 -- ---- one line

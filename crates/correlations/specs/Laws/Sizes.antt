@@ -14,12 +14,13 @@ use Rattle.text.specs.Bytes.{bytes}
 use Rattle.text.specs.Template.{Value, numberAt, listAt}
 use Rattle.template.specs.Fields.{Held}
 use Rattle.job.specs.Grammar.{Kind, NoiseLine, Written, optional, pauliAt, forms}
+use Rattle.job.specs.Checks.{kindSize}
 use Rattle.reader.specs.declared.Form.{Form}
 use Rattle.reader.specs.declared.Form.the-variants as form
 use Rattle.reader.specs.Parsed.{placeOf, formOf, Said}
 use Rattle.instructions.specs.Reading.{noiseForm}
 use Rattle.instructions.specs.Laws.Meaning.{noiseBy, noise-said, Meaning, meaning, noise-is-noise}
-use Rattle.correlations.specs.Sizes.{correlationIn, kindSize, sizeIn, FewOperands, Few, FewRead, present}
+use Rattle.correlations.specs.Sizes.{correlationIn, sizeIn, FewOperands, Few, FewRead, present}
 
 -- ---- powers of four
 

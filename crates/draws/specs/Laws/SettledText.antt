@@ -19,7 +19,7 @@ use Rattle.job.specs.Line.{SparsePauli, Line, WeightedPauli, Distribution, Nois
 use Rattle.job.specs.Grammar.{Written, injectTemplate, readLine}
 use Rattle.job.specs.Checks.{allBelow, records}
 use Rattle.job.specs.Job.{wellEnded, placedAt, gather, gathered, Job, jobOf, recordedBy, recordedIn, checkJob}
-use Rattle.job.specs.Sound.{RisingBelow, Every, PauliSound, LineSound, ElementSound, DistributionSound, InstructionSound, InstructionsSound, SaidBy, LinesSound, HeaderSound, ReadAs}
+use Rattle.job.specs.Sound.{RisingBelow, Every, PauliSound, LineSound, ElementSound, DistributionSound, InstructionSound, InstructionsSound, SaidBy, LinesSound, HeaderSound, SaidAs}
 use Rattle.job.specs.Theorems.{checked-sound}
 use Rattle.job.specs.Laws.Lists.{below-first}
 use Rattle.job.specs.Laws.Forms.{PauliFits}
@@ -28,7 +28,7 @@ use Rattle.job.specs.Laws.Begun.{job-passes, job-begun}
 use Rattle.job.specs.Laws.Instructions.{FirstInstruction, first-instruction}
 use Rattle.job.specs.Laws.Texts.{small-below, inject-one-line, inject-says, gathered-free}
 use Rattle.draws.specs.Draws.{Lent, depolarizingElement, noPauli, elementAt, Fault}
-use Rattle.draws.specs.Settle.{SettledLine, injectText, injection, Step, stepOf, Settled, prefixed, settleThen, settle, settledList, settledText, numbered}
+use Rattle.draws.specs.Settle.{SettledLine, injectText, injection, Step, stepOf, Settled, prefixed, settleThen, settle, settledList, settledText, placedFrom}
 use Rattle.draws.specs.Laws.Elements.{selected-writable}
 use Rattle.draws.specs.Known.{shotsOf, Injections, isLine, noiseFree, copyOf, copies, Writable}
 use Rattle.draws.specs.Laws.Within.{noise-injects, settle-copies}
@@ -89,7 +89,7 @@ AllTold h r (l ∷ ls) = Told h r l × AllTold h (r + recordedBy (Instruction.li
 -- What instructions settle to: told lines that record as many outcomes.
 pub record SettledAs (h : Header) (r : ℕ) (is : List Placed) (ls : List SettledLine) : Type 0 where
   pub told : AllTold h r ls
-  pub recorded : (k : ℕ) → recordedIn (numbered k ls) ≡ recordedIn is
+  pub recorded : (k : ℕ) → recordedIn (placedFrom k ls) ≡ recordedIn is
 
 module _ (h : Header) (range : HeaderSound h) where
   injection-told : (r : ℕ) (d : Distribution) → DistributionSound (h .qubits) d → (f : Fault) → f .shot < h .shots → Told h r (injection d f)
@@ -106,7 +106,7 @@ module _ (h : Header) (range : HeaderSound h) where
   -- injections in front of others record nothing
   injection-more : (r : ℕ) (is : List Placed) (d : Distribution) (f : Fault) (ls : List SettledLine) → Told h r (injection d f) → SettledAs h r is ls
       → SettledAs h r is (injection d f ∷ ls)
-  unfolding AllTold recordedIn recordedBy records numbered injection
+  unfolding AllTold recordedIn recordedBy records placedFrom injection
   injection-more r is d f ls t more = record { told = (t, rw add-zero (more .told)); recorded = λ k. zero-add _ ∙ more .recorded (suc k) }
 
   injections-more : (r : ℕ) (is : List Placed) (d : Distribution) → DistributionSound (h .qubits) d → (fs : List Fault) → allBelow (h .shots) (shotsOf fs) ≡ true
@@ -120,7 +120,7 @@ module _ (h : Header) (range : HeaderSound h) where
   line-more : (r : ℕ) (i : Placed) (is : List Placed) (l : Line) → i .instruction ≡ Instruction.line l → LineSound h r l
       → readLine (i .text) ≡ some (Written.line l) → Free LF (i .text) → (ls : List SettledLine)
       → SettledAs h (r + recordedBy (Instruction.line l)) is ls → SettledAs h r (i ∷ is) (record { line = l; text = i .text } ∷ ls)
-  unfolding AllTold recordedIn numbered
+  unfolding AllTold recordedIn placedFrom
   line-more r i is l e s reads free ls t =
       record {
         told = (record { sound = s; says = reads; free = free }, t .told);
@@ -139,7 +139,7 @@ module _ (h : Header) (range : HeaderSound h) where
   settle-as : (r : ℕ) (lent : Lent) (main : List ℕ) (is : List Placed) → lent .shots ≡ h .shots → InstructionsSound h r is
       → Every (λ (p : Placed). SaidBy (p .text) (p .instruction)) is → Every (λ (p : Placed). Free LF (p .text)) is → Settles r is (settle lent is main)
   unfolding settle InstructionsSound
-  settle-as r lent main [] e s t f = unfold Settles AllTold numbered recordedIn in record { told = tt; recorded = λ k. refl }
+  settle-as r lent main [] e s t f = unfold Settles AllTold placedFrom recordedIn in record { told = tt; recorded = λ k. refl }
   settle-as r lent main (i ∷ is) e s t f =
       go (i .instruction) refl (s .0) (t .0) (λ left. settle-as (r + recordedBy (i .instruction)) lent left is e (s .1) (t .1) (f .1))
     where
@@ -194,10 +194,10 @@ module _ (h : Header) where
   told-sound r [] t = tt
   told-sound r (l ∷ ls) t = (t .0 .sound, told-sound (r + recordedBy (Instruction.line (l .line))) ls (t .1))
 
-  pub told-says : (r : ℕ) (ls : List SettledLine) → AllTold h r ls → ReadAs (textsOf ls) (settledList ls)
-  unfolding AllTold ReadAs
-  told-says r [] t = tt
-  told-says r (l ∷ ls) t = (t .0 .says, told-says (r + recordedBy (Instruction.line (l .line))) ls (t .1))
+  pub told-says : (r : ℕ) (ls : List SettledLine) → AllTold h r ls → SaidAs (textsOf ls) (map Instruction.line (settledList ls))
+  unfolding AllTold
+  told-says r [] t = SaidAs.nothing
+  told-says r (l ∷ ls) t = SaidAs.line _ _ _ _ (t .0 .says) (told-says (r + recordedBy (Instruction.line (l .line))) ls (t .1))
 
   pub told-free : (r : ℕ) (ls : List SettledLine) → AllTold h r ls → AllFree LF (textsOf ls)
   unfolding AllTold
@@ -205,27 +205,27 @@ module _ (h : Header) where
   told-free r (l ∷ ls) t = (t .0 .free, told-free (r + recordedBy (Instruction.line (l .line))) ls (t .1))
 
   -- their texts are the instructions of the lines
-  pub told-gathers : (r k : ℕ) (ls : List SettledLine) → AllTold h r ls → gathered k (textsOf ls) .instructions ≡ numbered k ls
-  unfolding AllTold gathered gather numbered
+  pub told-gathers : (r k : ℕ) (ls : List SettledLine) → AllTold h r ls → gathered k (textsOf ls) .instructions ≡ placedFrom k ls
+  unfolding AllTold gathered gather placedFrom
   told-gathers r k [] t = refl
   told-gathers r k (l ∷ ls) t =
       rw (t .0 .says) (ap (placedAt k (l .text) (Instruction.line (l .line)) ∷_) (told-gathers (r + recordedBy (Instruction.line (l .line))) (suc k) ls (t .1)))
 
 -- ---- settled once more
 
-numbered-free : (k : ℕ) (ls : List SettledLine) → noiseFree (numbered k ls) ≡ true
-unfolding numbered noiseFree isLine
-numbered-free k [] = refl
-numbered-free k (l ∷ ls) = numbered-free (suc k) ls
+placed-free : (k : ℕ) (ls : List SettledLine) → noiseFree (placedFrom k ls) ≡ true
+unfolding placedFrom noiseFree isLine
+placed-free k [] = refl
+placed-free k (l ∷ ls) = placed-free (suc k) ls
 
-numbered-copies : (k : ℕ) (ls : List SettledLine) → copies (numbered k ls) ≡ ls
-unfolding numbered copies copyOf
-numbered-copies k [] = refl
-numbered-copies k (l ∷ ls) = ap (l ∷_) (numbered-copies (suc k) ls)
+placed-copies : (k : ℕ) (ls : List SettledLine) → copies (placedFrom k ls) ≡ ls
+unfolding placedFrom copies copyOf
+placed-copies k [] = refl
+placed-copies k (l ∷ ls) = ap (l ∷_) (placed-copies (suc k) ls)
 
 -- settled lines settle to themselves, whatever is lent
-pub settle-numbered : (lent : Lent) (main : List ℕ) (k : ℕ) (ls : List SettledLine) → settle lent (numbered k ls) main ≡ Settled.settled ls
-settle-numbered lent main k ls = settle-copies lent main (numbered k ls) (numbered-free k ls) ∙ ap Settled.settled (numbered-copies k ls)
+pub settle-placed : (lent : Lent) (main : List ℕ) (k : ℕ) (ls : List SettledLine) → settle lent (placedFrom k ls) main ≡ Settled.settled ls
+settle-placed lent main k ls = settle-copies lent main (placedFrom k ls) (placed-free k ls) ∙ ap Settled.settled (placed-copies k ls)
 
 -- ---- a job without noise
 
@@ -252,13 +252,19 @@ pub record JobSettles (job : List ℕ) (ls : List SettledLine) : Type 0 where
   pub lines : SettledAs (jobOf job .header) 0 (jobOf job .instructions) ls
   pub free : AllFree LF (jobOf job .text ∷ textsOf ls)
 
+-- its header and the text of each instruction are one line
+pub job-free : (job : List ℕ) → checkJob job .number ≡ 0 → Free LF (jobOf job .text) × Every (λ (p : Placed). Free LF (p .text)) (jobOf job .instructions)
+job-free job passes =
+    let sound = checked-sound job passes in
+    let free : AllFree LF (jobOf job .text ∷ sound .rest) = rw (sound .split) at (lines-free job) in
+    (free .0, rw (sound .gathers) (gathered-free 2 (sound .rest) (free .1)))
+
 pub job-settles : (job : List ℕ) → checkJob job .number ≡ 0 → (lent : Lent) → lent .shots ≡ jobOf job .header .shots → (main : List ℕ) (ls : List SettledLine)
     → settle lent (jobOf job .instructions) main ≡ Settled.settled ls → JobSettles job ls
 job-settles job passes lent shots main ls settles =
     let sound = checked-sound job passes in
-    let free : AllFree LF (jobOf job .text ∷ sound .rest) = rw (sound .split) at (lines-free job) in
-    let each : Every (λ (p : Placed). Free LF (p .text)) (jobOf job .instructions) = rw (sound .gathers) (gathered-free 2 (sound .rest) (free .1)) in
-    let settled = settled-as (jobOf job .header) (sound .header) 0 lent main (jobOf job .instructions) ls shots (sound .instructions) (sound .texts) each settles in
+    let free = job-free job passes in
+    let settled = settled-as (jobOf job .header) (sound .header) 0 lent main (jobOf job .instructions) ls shots (sound .instructions) (sound .texts) (free .1) settles in
     record { says = sound .reads; range = sound .header; lines = settled; free = (free .0, told-free (jobOf job .header) 0 ls (settled .told)) }
 
 -- an accepted job ends in LF

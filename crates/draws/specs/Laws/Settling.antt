@@ -4,6 +4,7 @@ use mathlib.Core.Bool.{Bool, true, false, cond}
 use mathlib.Core.List.{List, [], _∷_, _++_, map}
 use mathlib.Core.Option.{none, some}
 use Prim.Native.Nat.{ℕ, zero, suc}
+use native.Mathlib.Omega.{arith}
 use lib.Ieee.{le}
 use Rattle.job.specs.declared.Header.{Header}
 use Rattle.job.specs.Line.{Line, Distribution, Noise, Instruction, Placed}
@@ -113,3 +114,11 @@ execute-settle h lent (i ∷ is) main states =
     go Step.spent ih = unfold executeThen onStep onSettled settleThen in refl
     go (Step.lines ls left) ih =
         unfold executeThen onStep settleThen in (ih left (runAll h (settledList ls) states) ∙ on-prefixed h states ls (settle lent is left))
+
+-- ---- how it ends
+
+pub ended-apart : (k : ℕ) (states : States) → Ended.spentAt k ≡ Ended.ended states → ⊥
+ended-apart k states e = let z : _≡_ {A = ℕ} 0 1 = cc in omega arith
+
+pub ended-same : (s t : States) → Ended.ended s ≡ Ended.ended t → s ≡ t
+ended-same s t e = cc

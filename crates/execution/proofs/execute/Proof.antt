@@ -10,32 +10,35 @@ use Rattle.execution.proofs.execute.Statement.{statement}
 use Rattle.execution.proofs.execute.Tie as tie
 
 abbrev Inv-loop : tie.InvT-loop
-Inv-loop job from x₀ z₀ deltas₀ w h noiseless main second base f₀ elements₀ at₀ k₀ position₀ x z deltas f elements at k position =
-    (length f ≡ 136) × (length elements ≡ 4096) × (length x ≡ length x₀) × (length z ≡ length z₀) × (length deltas ≡ length deltas₀)
-    × GoingFrom job h (lentBy w h noiseless second base) main w from x₀ z₀ deltas₀ x z deltas k at position
+Inv-loop job from x₀ z₀ deltas₀ shape noiseless main second base f₀ elements₀ scratch₀ place₀ x z deltas f elements scratch place =
+    (length f ≡ 136) × (length elements ≡ 4096) × (length scratch ≡ 1984) × (length x ≡ length x₀) × (length z ≡ length z₀) × (length deltas ≡ length deltas₀)
+    × GoingFrom job shape (lentBy shape noiseless second base) main from x₀ z₀ deltas₀ x z deltas place
 
 abbrev μ-loop : tie.MeasureT-loop
-μ-loop job from x₀ z₀ deltas₀ w h noiseless main second base f₀ elements₀ at₀ k₀ position₀ x z deltas f elements at k position = length (instructionsAt job k at)
+μ-loop job from x₀ z₀ deltas₀ shape noiseless main second base f₀ elements₀ scratch₀ place₀ x z deltas f elements scratch place =
+    length (instructionsAt job (place .line) (place .byte))
 
 loop-holds : tie.Need-loop-holds Inv-loop μ-loop
-loop-holds c = (refl, refl, refl, refl, refl, going-begun _ _ _ _ _ _ _ (c .before .before .before .before .before .before .before .pre .0 .1) _ _ _)
+loop-holds c = (refl, refl, refl, refl, refl, refl, going-begun _ _ _ _ _ _ (c .before .before .before .before .before .before .before .pre .0 .1) _ _ _)
 
 slice-aggregate-step : tie.Need-slice-aggregate-step Inv-loop μ-loop
-slice-aggregate-step c = omega (arith, c .before .before .loop .inv .0)
+slice-aggregate-step c = omega (arith, c .before .before .before .loop .inv .0)
 
 slice-aggregate-step-2 : tie.Need-slice-aggregate-step-2 Inv-loop μ-loop
-slice-aggregate-step-2 c = omega (arith, c .before .before .before .loop .inv .1)
+slice-aggregate-step-2 c = omega (arith, c .before .before .before .before .loop .inv .1)
+
+slice-aggregate-step-3 : tie.Need-slice-aggregate-step-3 Inv-loop μ-loop
+slice-aggregate-step-3 c = omega (arith, c .before .before .before .before .before .loop .inv .2)
 
 step-requires : tie.Need-step-requires Inv-loop μ-loop
 step-requires c κs =
-    let i = c .before .before .before .before .before .before .loop .inv in
-    let g = going-some _ _ _ _ _ (i .5) in
-    let rows = c .before .before .before .before .before .before .before .before .before .before .before .before .before .before .pre .1 in (
+    let i = c .before .before .before .before .before .before .before .before .loop .inv in
+    let g = going-some _ _ _ _ (i .6) in
+    let rows = c .before .before .before .before .before .before .before .before .before .before .before .before .before .before .before .before .pre .1 in (
       record {
         recorded = g .recorded;
-        line = c .before .before .before .before .before .before .loop .k;
         ahead = g .ahead;
-        inside = c .before .before .before .before .before .loop-test .taken;
+        inside = c .before .before .before .before .before .before .if1 .taken;
         of-fields = omega (arith, i .0);
         of-elements = omega (arith, i .1);
         within = g .within;
@@ -43,11 +46,12 @@ step-requires c κs =
       record {
         narrow = rows .narrow;
         in-words = rows .in-words;
-        of-x = i .2 ∙ rows .of-x;
-        of-z = i .3 ∙ rows .of-z;
-        of-deltas = i .4 ∙ rows .of-deltas;
+        of-x = i .3 ∙ rows .of-x;
+        of-z = i .4 ∙ rows .of-z;
+        of-deltas = i .5 ∙ rows .of-deltas;
         of-noiseless = rows .of-noiseless;
       },
+      omega (arith, i .2, rows .narrow),
     )
 
 enum-known-moved : tie.Need-enum-known-moved Inv-loop μ-loop
@@ -57,59 +61,50 @@ enum-told : tie.Need-enum-told Inv-loop μ-loop
 enum-told c = search needs
 
 same-length : tie.Need-same-length Inv-loop μ-loop
-same-length c = c .before .before .before .before .before .before .before .before .before .before .step .kept .1 .1 .1 .1 .0 ∙ c .before .before .before .before .before .before .before .before .before .before .before .before .before .before .before .before .before .loop .inv .2
+same-length c = c .before .before .before .before .before .before .before .before .before .before .before .step .kept .1 .1 .1 .1 .1 .0 ∙ c .before .before .before .before .before .before .before .before .before .before .before .before .before .before .before .before .before .before .before .before .loop .inv .3
 
 same-length-2 : tie.Need-same-length-2 Inv-loop μ-loop
-same-length-2 c = c .before .before .before .before .before .before .before .before .before .before .step .kept .1 .1 .1 .1 .1 .0 ∙ c .before .before .before .before .before .before .before .before .before .before .before .before .before .before .before .before .before .loop .inv .3
+same-length-2 c = c .before .before .before .before .before .before .before .before .before .before .before .step .kept .1 .1 .1 .1 .1 .1 .0 ∙ c .before .before .before .before .before .before .before .before .before .before .before .before .before .before .before .before .before .before .before .before .loop .inv .4
 
 same-length-3 : tie.Need-same-length-3 Inv-loop μ-loop
-same-length-3 c = c .before .before .before .before .before .before .before .before .before .before .step .kept .1 .1 .1 .1 .1 .1 .0 ∙ c .before .before .before .before .before .before .before .before .before .before .before .before .before .before .before .before .before .loop .inv .4
+same-length-3 c = c .before .before .before .before .before .before .before .before .before .before .before .step .kept .1 .1 .1 .1 .1 .1 .1 .0 ∙ c .before .before .before .before .before .before .before .before .before .before .before .before .before .before .before .before .before .before .before .before .loop .inv .5
 
 returns : tie.Need-returns Inv-loop μ-loop
 returns c =
     record {
-      by = going-stopped _ _ _ _ _ (c .before .before .before .before .before .before .before .before .before .before .before .before .before .before .before .before .before .loop .inv .5) _ _ _
-          (λ recorded ahead states holds. rw (c .enum-told .given .1) at (c .before .before .before .before .before .before .before .before .before .before .step .ensures .by recorded _ ahead states holds));
+      by = going-stopped _ _ _ _ (c .before .before .before .before .before .before .before .before .before .before .before .before .before .before .before .before .before .before .before .before .loop .inv .6) _ _ _
+          (λ recorded ahead states holds. rw (c .enum-told .given .1) at (c .before .before .before .before .before .before .before .before .before .before .before .step .ensures .by recorded ahead states holds));
     }
-
-add-k : tie.Need-add-k Inv-loop μ-loop
-add-k c =
-    let g =
-    going-on _ _ _ _ _ (c .before .before .before .before .before .before .before .before .before .before .before .before .before .before .before .before .before .before .loop .inv .5) _ _ _ _ _ _
-    (λ recorded ahead states holds. rw (c .before .moved .given .1) at (c .before .before .before .before .before .before .before .before .before .before .before .step .ensures .by recorded _ ahead states holds)) in
-    let ahead = going-some _ _ _ _ _ g .ahead in
-    let number = ahead .number in
-    let within = ahead .within in
-    record { fits = omega arith }
 
 loop-less : tie.Need-loop-less Inv-loop μ-loop
 loop-less c =
-    going-fewer _ _ _ _ _ (c .before .before .before .before .before .before .before .before .before .before .before .before .before .before .before .before .before .before .loop .inv .5) _ _ _ _ _ _
-    (λ recorded ahead states holds. rw (c .before .moved .given .1) at (c .before .before .before .before .before .before .before .before .before .before .before .step .ensures .by recorded _ ahead states holds))
+    going-fewer _ _ _ _ (c .before .before .before .before .before .before .before .before .before .before .before .before .before .before .before .before .before .before .before .before .before .loop .inv .6) _ _ _ _
+    (λ recorded ahead states holds. rw (c .before .moved .given .1) at (c .before .before .before .before .before .before .before .before .before .before .before .before .step .ensures .by recorded ahead states holds))
 
 loop-again : tie.Need-loop-again Inv-loop μ-loop
 loop-again c =
-    let i = c .before .before .before .before .before .before .before .before .before .before .before .before .before .before .before .before .before .before .loop .inv in (
-      c .before .before .before .before .before .before .before .before .before .before .before .step .kept .1 .1 .0 ∙ i .0,
-      c .before .before .before .before .before .before .before .before .before .before .before .step .kept .1 .1 .1 .0 ∙ i .1,
-      c .before .before .before .before .before .before .before .before .before .before .before .step .kept .1 .1 .1 .1 .0 ∙ i .2,
-      c .before .before .before .before .before .before .before .before .before .before .before .step .kept .1 .1 .1 .1 .1 .0 ∙ i .3,
-      c .before .before .before .before .before .before .before .before .before .before .before .step .kept .1 .1 .1 .1 .1 .1 .0 ∙ i .4,
-      going-on _ _ _ _ _ (i .5) _ _ _ _ _ _
-          (λ recorded ahead states holds. rw (c .before .moved .given .1) at (c .before .before .before .before .before .before .before .before .before .before .before .step .ensures .by recorded _ ahead states holds)),
+    let i = c .before .before .before .before .before .before .before .before .before .before .before .before .before .before .before .before .before .before .before .before .before .loop .inv in (
+      c .before .before .before .before .before .before .before .before .before .before .before .before .step .kept .1 .1 .0 ∙ i .0,
+      c .before .before .before .before .before .before .before .before .before .before .before .before .step .kept .1 .1 .1 .0 ∙ i .1,
+      c .before .before .before .before .before .before .before .before .before .before .before .before .step .kept .1 .1 .1 .1 .0 ∙ i .2,
+      c .before .before .before .before .before .before .before .before .before .before .before .before .step .kept .1 .1 .1 .1 .1 .0 ∙ i .3,
+      c .before .before .before .before .before .before .before .before .before .before .before .before .step .kept .1 .1 .1 .1 .1 .1 .0 ∙ i .4,
+      c .before .before .before .before .before .before .before .before .before .before .before .before .step .kept .1 .1 .1 .1 .1 .1 .1 .0 ∙ i .5,
+      going-on _ _ _ _ (i .6) _ _ _ _
+          (λ recorded ahead states holds. rw (c .before .moved .given .1) at (c .before .before .before .before .before .before .before .before .before .before .before .before .step .ensures .by recorded ahead states holds)),
     )
 
 same-length-4 : tie.Need-same-length-4 Inv-loop μ-loop
-same-length-4 c = c .before .loop .inv .2
+same-length-4 c = c .before .before .loop .inv .3
 
 same-length-5 : tie.Need-same-length-5 Inv-loop μ-loop
-same-length-5 c = c .before .loop .inv .3
+same-length-5 c = c .before .before .loop .inv .4
 
 same-length-6 : tie.Need-same-length-6 Inv-loop μ-loop
-same-length-6 c = c .before .loop .inv .4
+same-length-6 c = c .before .before .loop .inv .5
 
 returns-2 : tie.Need-returns-2 Inv-loop μ-loop
-returns-2 c = record { by = going-end _ _ _ _ _ (c .before .loop .inv .5) (c .loop-test .left) }
+returns-2 c = record { by = going-end _ _ _ _ (c .before .before .loop .inv .6) (c .if1 .left) }
 
 pub execute-spec : {M : Type 1} → statement M
 execute-spec =
@@ -120,6 +115,7 @@ execute-spec =
     loop-holds
     slice-aggregate-step
     slice-aggregate-step-2
+    slice-aggregate-step-3
     step-requires
     enum-known-moved
     enum-told
@@ -127,7 +123,6 @@ execute-spec =
     same-length-2
     same-length-3
     returns
-    add-k
     loop-less
     loop-again
     same-length-4

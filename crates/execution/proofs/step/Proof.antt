@@ -1,5 +1,5 @@
 -- `execution::step` meets its contract. Assumes nothing.
-use Rattle.execution.specs.Laws.Steps.{plain-ready, plain-went, noise-ready, noise-done}
+use Rattle.execution.specs.Laws.Steps.{plain-ready, plain-small, plain-went, noise-ready, noise-done}
 use Rattle.instructions.specs.Laws.Steps.{plain-read, noise-read}
 use mathlib.Core.Path.{sym, _∙_}
 use native.Mathlib.Omega.{arith}
@@ -10,9 +10,6 @@ use Rattle.execution.proofs.step.Tie as tie
 next-line-requires : tie.Need-next-line-requires
 next-line-requires c κs = search needs
 
-add-next : tie.Need-add-next
-add-next c = search needs
-
 is-noise-requires : tie.Need-is-noise-requires
 is-noise-requires c κs = search needs
 
@@ -20,9 +17,9 @@ apply-noise-requires : tie.Need-apply-noise-requires
 apply-noise-requires c κs =
     let ready = c .before .before .before .before .before .before .before .before .before .before .before .before .before .before .before .before .before .before .before .before .pre .0 in
     let rows = c .before .before .before .before .before .before .before .before .before .before .before .before .before .before .before .before .before .before .before .before .pre .1 in (
-      noise-ready (noise-read (ready .ahead) (c .before .before .before .before .before .before .before .before .before .next-line .ensures) (sym (c .before .before .before .before .before .is-noise .ensures) ∙ c .before .before .before .before .if1 .taken)) (rows .of-noiseless),
+      noise-ready _ _ (noise-read (ready .ahead) (c .before .before .before .before .before .before .before .before .next-line .ensures) (sym (c .before .before .before .before .before .is-noise .ensures) ∙ c .before .before .before .before .if1 .taken)) (rows .of-noiseless),
       record {
-        of-fields = omega (arith, ready .of-fields, c .before .before .before .before .before .before .before .before .before .next-line .kept);
+        of-fields = omega (arith, ready .of-fields, c .before .before .before .before .before .before .before .before .next-line .kept);
         of-elements = ready .of-elements;
         narrow = rows .narrow;
         in-words = rows .in-words;
@@ -47,15 +44,29 @@ same-length-4 c = search needs
 returns : tie.Need-returns
 returns c =
     record {
-      by = λ recorded k ahead states holds.
-          noise-done (noise-read ahead (c .before .before .before .before .before .before .before .before .before .before .before .before .before .before .before .before .next-line .ensures) (sym (c .before .before .before .before .before .before .before .before .before .before .before .before .is-noise .ensures) ∙ c .before .before .before .before .before .before .before .before .before .before .before .if1 .taken)) (c .before .before .before .before .before .before .before .before .before .before .before .before .before .before .before .before .before .before .before .before .before .before .before .before .before .before .before .pre .1 .of-noiseless)
+      by = λ recorded ahead states holds.
+          noise-done _ _ (noise-read ahead (c .before .before .before .before .before .before .before .before .before .before .before .before .before .before .before .next-line .ensures) (sym (c .before .before .before .before .before .before .before .before .before .before .before .before .is-noise .ensures) ∙ c .before .before .before .before .before .before .before .before .before .before .before .if1 .taken)) (c .before .before .before .before .before .before .before .before .before .before .before .before .before .before .before .before .before .before .before .before .before .before .before .before .before .before .before .pre .1 .of-noiseless)
           (c .before .before .before .before .before .before .apply-noise .ensures) _ states holds;
     }
 
 apply-line-requires : tie.Need-apply-line-requires
 apply-line-requires c κs =
-    let ready = c .before .before .before .before .before .before .before .before .before .before .before .before .before .before .before .before .before .before .before .before .pre .0 in
-    plain-ready (plain-read (ready .ahead) (c .before .before .before .before .before .before .before .before .before .next-line .ensures) (sym (c .before .before .before .before .before .is-noise .ensures) ∙ c .before .before .before .before .if1 .left)) (ready .ahead) (c .before .before .before .before .before .before .before .before .before .before .before .before .before .before .before .before .before .before .before .before .pre .1) (omega (arith, ready .of-fields, c .before .before .before .before .before .before .before .before .before .next-line .kept))
+    let ready = c .before .before .before .before .before .before .before .before .before .before .before .before .before .before .before .before .before .before .before .before .before .pre .0 in
+    (plain-ready _ (c .before .before .before .before .before .before .before .before .before .before .before .before .before .before .before .before .before .before .before .before .before .args .place) (plain-read (ready .ahead) (c .before .before .before .before .before .before .before .before .before .next-line .ensures) (sym (c .before .before .before .before .before .before .is-noise .ensures) ∙ c .before .before .before .before .before .if1 .left)) (ready .ahead) (c .before .before .before .before .before .before .before .before .before .before .before .before .before .before .before .before .before .before .before .before .before .pre .1) (omega (arith, ready .of-fields, c .before .before .before .before .before .before .before .before .before .next-line .kept)), c .before .before .before .before .before .before .before .before .before .before .before .before .before .before .before .before .before .before .before .before .before .pre .2)
+
+add-t38 : tie.Need-add-t38
+add-t38 c =
+    let ready = c .before .before .before .before .before .before .before .before .before .before .before .before .before .before .before .before .before .before .before .before .before .before .before .before .before .before .before .before .before .before .before .pre .0 in
+    let place = c .before .before .before .before .before .before .before .before .before .before .before .before .before .before .before .before .before .before .before .next-line .ensures .place in
+    let inside = place .inside in
+    record { fits = omega (arith, c .before .before .before .before .before .before .before .before .before .before .before .before .before .before .before .before .before .before .before .before .before .before .before .before .before .before .before .before .before .before .before .good, plain-small _ (c .before .before .before .before .before .before .before .before .before .before .before .before .before .before .before .before .before .before .before .before .before .before .before .before .before .before .before .before .before .before .before .args .place) (plain-read (ready .ahead) (c .before .before .before .before .before .before .before .before .before .before .before .before .before .before .before .before .before .before .before .next-line .ensures) (sym (c .before .before .before .before .before .before .before .before .before .before .before .before .before .before .before .before .is-noise .ensures) ∙ c .before .before .before .before .before .before .before .before .before .before .before .before .before .before .before .if1 .left)) (ready .ahead) (c .before .before .before .before .before .before .before .before .before .before .before .before .before .before .before .before .before .before .before .before .before .before .before .before .before .before .before .before .before .before .before .pre .1) (omega (arith, ready .of-fields, c .before .before .before .before .before .before .before .before .before .before .before .before .before .before .before .before .before .before .before .next-line .kept))) }
+
+add-t39 : tie.Need-add-t39
+add-t39 c =
+    let ready = c .before .before .before .before .before .before .before .before .before .before .before .before .before .before .before .before .before .before .before .before .before .before .before .before .before .before .before .before .before .before .before .before .pre .0 in
+    let place = c .before .before .before .before .before .before .before .before .before .before .before .before .before .before .before .before .before .before .before .before .next-line .ensures .place in
+    let inside = place .inside in
+    record { fits = omega (arith, c .before .before .before .before .before .before .before .before .before .before .before .before .before .before .before .before .before .before .before .before .before .before .before .before .before .before .before .before .before .before .before .before .good, plain-small _ (c .before .before .before .before .before .before .before .before .before .before .before .before .before .before .before .before .before .before .before .before .before .before .before .before .before .before .before .before .before .before .before .before .args .place) (plain-read (ready .ahead) (c .before .before .before .before .before .before .before .before .before .before .before .before .before .before .before .before .before .before .before .before .next-line .ensures) (sym (c .before .before .before .before .before .before .before .before .before .before .before .before .before .before .before .before .before .is-noise .ensures) ∙ c .before .before .before .before .before .before .before .before .before .before .before .before .before .before .before .before .if1 .left)) (ready .ahead) (c .before .before .before .before .before .before .before .before .before .before .before .before .before .before .before .before .before .before .before .before .before .before .before .before .before .before .before .before .before .before .before .before .pre .1) (omega (arith, ready .of-fields, c .before .before .before .before .before .before .before .before .before .before .before .before .before .before .before .before .before .before .before .before .next-line .kept))) }
 
 same-length-5 : tie.Need-same-length-5
 same-length-5 c = search needs
@@ -69,13 +80,16 @@ same-length-7 c = search needs
 same-length-8 : tie.Need-same-length-8
 same-length-8 c = search needs
 
+same-length-9 : tie.Need-same-length-9
+same-length-9 c = search needs
+
 returns-2 : tie.Need-returns-2
 returns-2 c =
-    let ready = c .before .before .before .before .before .before .before .before .before .before .before .before .before .before .before .before .before .before .before .before .before .before .before .before .before .before .before .pre .0 in
+    let ready = c .before .before .before .before .before .before .before .before .before .before .before .before .before .before .before .before .before .before .before .before .before .before .before .before .before .before .before .before .before .before .before .before .pre .0 in
     record {
-      by = λ recorded k ahead states holds.
-          plain-went (plain-read ahead (c .before .before .before .before .before .before .before .before .before .before .before .before .before .before .before .before .next-line .ensures) (sym (c .before .before .before .before .before .before .before .before .before .before .before .before .is-noise .ensures) ∙ c .before .before .before .before .before .before .before .before .before .before .before .if1 .left)) ahead (c .before .before .before .before .before .before .before .before .before .before .before .before .before .before .before .before .before .before .before .before .before .before .before .before .before .before .before .pre .1)
-          (omega (arith, ready .of-fields, c .before .before .before .before .before .before .before .before .before .before .before .before .before .before .before .before .next-line .kept)) _ _ _ (ready .within) _ _ _ (c .before .before .before .before .before .before .apply-line .ensures) states holds;
+      by = λ recorded ahead states holds.
+          plain-went _ _ (plain-read ahead (c .before .before .before .before .before .before .before .before .before .before .before .before .before .before .before .before .before .before .before .before .next-line .ensures) (sym (c .before .before .before .before .before .before .before .before .before .before .before .before .before .before .before .before .before .is-noise .ensures) ∙ c .before .before .before .before .before .before .before .before .before .before .before .before .before .before .before .before .if1 .left)) ahead (c .before .before .before .before .before .before .before .before .before .before .before .before .before .before .before .before .before .before .before .before .before .before .before .before .before .before .before .before .before .before .before .before .pre .1)
+          (omega (arith, ready .of-fields, c .before .before .before .before .before .before .before .before .before .before .before .before .before .before .before .before .before .before .before .before .next-line .kept)) _ _ (ready .within) _ _ _ (c .before .before .before .before .before .before .before .before .before .before .apply-line .ensures) states holds;
     }
 
 pub step-spec : {M : Type 1} → statement M
@@ -83,7 +97,6 @@ step-spec =
     tie.close
     (tie.spec
     next-line-requires
-    add-next
     is-noise-requires
     apply-noise-requires
     same-length
@@ -92,8 +105,11 @@ step-spec =
     same-length-4
     returns
     apply-line-requires
+    add-t38
+    add-t39
     same-length-5
     same-length-6
     same-length-7
     same-length-8
+    same-length-9
     returns-2)

@@ -11,11 +11,13 @@ use Rattle.job.specs.declared.Header.{Header}
 use Rattle.job.specs.Line.{Noise, Instruction, Placed}
 use Rattle.job.specs.Float.{float, zeroFloat}
 use Rattle.job.specs.Job.{noiseOf, placedAt}
-use Rattle.reader.specs.declared.Form.{Form}
+use Rattle.instructions.specs.declared.Next.{Next}
 use Rattle.instructions.specs.Ahead.{instructionsAt}
 use Rattle.draws.specs.Draws.{Lent, partOf, mainAfter}
 use Rattle.draws.specs.Execute.{States, Executed, injectShots, injectNoise, onMain, executeOne, Ended, executeThen, execute}
+use Rattle.rows.specs.declared.Shape.{Shape}
 use Rattle.propagator.specs.Acts.{stateOf}
+use Rattle.noise.specs.declared.Place.{Place}
 use Rattle.noise.specs.declared.Correlation.{Correlation}
 use Rattle.noise.specs.Kinds.{correlationOf}
 use Rattle.noise.specs.Words.{positionAfter}
@@ -29,7 +31,7 @@ use Rattle.injection.specs.Injected.{LineReady, FaultsReady, executedAs, placeO
 use Rattle.injection.specs.Laws.Holds.{holds-some}
 use Rattle.execution.specs.declared.Moved.{Moved}
 use Rattle.execution.specs.declared.Moved.the-variants.{To, Spent}
-use Rattle.execution.specs.Went.{lentBy, WentBy, Went, NoiseReady, NoiseRoom, NoiseDone}
+use Rattle.execution.specs.Went.{headerOf, lentBy, WentBy, Went, NoiseReady, NoiseRoom, NoiseDone}
 
 -- ---- what the noise comes to
 
@@ -71,43 +73,46 @@ module _ (h : Header) (lent : Lent) (main : List ℕ) (n : Noise) (text : List �
   unfolding execute executeThen
   head-spent e = rw e
 
-module _ {job : List ℕ} {at : ℕ} {form : Form} {fields noiseless : List ℕ} {w : ℕ} (q : NoiseLines job at form fields noiseless w) (h : Header)
-    (same : q .header ≡ h) (lent : Lent) (main : List ℕ) (k : ℕ) (line : q .line ≡ k + 1) (position : ℕ) (text deltas : List ℕ) (states : States)
+module _ {job : List ℕ} (place : Place) (next : Next) {fields noiseless : List ℕ} (shape : Shape)
+    (q : NoiseLines job (next .end + 1) (next .form) fields noiseless (shape .width)) (same : q .header ≡ headerOf shape) (lent : Lent) (main : List ℕ)
+    (line : q .line ≡ place .line + 1) (text deltas : List ℕ) (states : States)
   where
+    abbrev comes : Ended
+    comes = execute (headerOf shape) lent (placedAt (place .line) text (Instruction.noise (noiseIn q)) ∷ q .rest) (drop (place .position) main) states
+
     noise-went : {elements : List ℕ} {sums : List Float} {mask : List ℕ} {r : Prepared} → PreparedAs q elements sums mask r
-        → (x z : List ℕ) (position′ : ℕ) (t : States) → position′ ≤ length main → Holds w x z deltas t
-        → executeOne h lent (drop position main) (Instruction.noise (noiseIn q)) states ≡ Executed.went t (drop position′ main)
-        → Went job h lent main (execute h lent (placedAt k text (Instruction.noise (noiseIn q)) ∷ q .rest) (drop position main) states)
-        (suc (length (q .rest))) k w x z deltas (To (r .next) position′ (r .lines + 1))
+        → (x z : List ℕ) (position : ℕ) (t : States) → position ≤ length main → Holds (shape .width) x z deltas t
+        → executeOne (headerOf shape) lent (drop (place .position) main) (Instruction.noise (noiseIn q)) states ≡ Executed.went t (drop position main)
+        → Went job shape lent main comes (suc (length (q .rest))) (place .line) x z deltas
+        (To (record { byte = r .next; line = place .line + 1 + r .lines; position = position }))
     unfolding WentBy
-    noise-went {r = r} ready x z position′ t within holds e =
-        let behind : q .line + r .lines ≡ k + (r .lines + 1) = omega arith in
-        let rest : instructionsAt job (k + (r .lines + 1)) (r .next) ≡ q .rest = rw behind at (ready .instructions) in
+    noise-went {r = r} ready x z position t within holds e =
+        let rest : instructionsAt job (place .line + 1 + r .lines) (r .next) ≡ q .rest = rw line at (ready .instructions) in
         record {
           by = record {
             recorded = q .recorded;
-            ahead = rw (same, behind) at (ready .ahead);
+            ahead = rw (same, line) at (ready .ahead);
             fewer = rw rest (omega arith);
             within = within;
             states = t;
             holds = holds;
-            is = rw rest (head-went h lent main (noiseIn q) text (q .rest) k position states t (drop position′ main) e);
+            is = rw rest (head-went (headerOf shape) lent main (noiseIn q) text (q .rest) (place .line) (place .position) states t (drop position main) e);
           };
         }
 
-    noise-spent : (x z : List ℕ) → executeOne h lent (drop position main) (Instruction.noise (noiseIn q)) states ≡ Executed.spent
-        → Went job h lent main (execute h lent (placedAt k text (Instruction.noise (noiseIn q)) ∷ q .rest) (drop position main) states)
-        (suc (length (q .rest))) k w x z deltas Spent
+    noise-spent : (x z : List ℕ) → executeOne (headerOf shape) lent (drop (place .position) main) (Instruction.noise (noiseIn q)) states ≡ Executed.spent
+        → Went job shape lent main comes (suc (length (q .rest))) (place .line) x z deltas Spent
     unfolding WentBy
-    noise-spent x z e = record { by = head-spent h lent main (noiseIn q) text (q .rest) k position states e }
+    noise-spent x z e = record { by = head-spent (headerOf shape) lent main (noiseIn q) text (q .rest) (place .line) (place .position) states e }
 
 -- ---- what the code does
 
-module _ {job : List ℕ} {at : ℕ} {form : Form} {fields noiseless : List ℕ} {w : ℕ} (h : Header) {elements : List ℕ} {sums : List Float} {mask : List ℕ}
-    {r : Prepared} (prepared : (q : NoiseLines job at form fields noiseless w) → PreparedAs q elements sums mask r)
+module _ {job : List ℕ} (next : Next) {fields noiseless : List ℕ} (shape : Shape) {elements : List ℕ} {sums : List Float} {mask : List ℕ} {r : Prepared}
+    (prepared : (q : NoiseLines job (next .end + 1) (next .form) fields noiseless (shape .width)) → PreparedAs q elements sums mask r)
   where
-    line-ready : (second : List ℕ) (base : ℕ) (q : NoiseLines job at form fields noiseless w) → q .header ≡ h
-        → LineReady (noiseIn q) (lentBy w h noiseless second base) w (h .qubits) (r .fault .probability) (r .fault .distribution) (take (r .lines) sums) elements mask
+    line-ready : (second : List ℕ) (base : ℕ) (q : NoiseLines job (next .end + 1) (next .form) fields noiseless (shape .width)) → q .header ≡ headerOf shape
+        → LineReady (noiseIn q) (lentBy shape noiseless second base) (shape .width) (shape .qubits) (r .fault .probability) (r .fault .distribution)
+        (take (r .lines) sums) elements mask
     unfolding noiseOf
     line-ready second base q same =
         let p = prepared q in
@@ -119,83 +124,99 @@ module _ {job : List ℕ} {at : ℕ} {form : Form} {fields noiseless : List ℕ}
           masks = p .satisfied;
         }
 
-    pub few-lines : NoiseReady job at form fields noiseless w h → r .lines ≤ 64
-    few-lines ready = rw (prepared (ready .lines) .lines) (ready .lines .few)
+    module _ {place : Place} (ready : NoiseReady job place next fields noiseless shape) where
+      pub few-lines : r .lines ≤ 64
+      few-lines = rw (prepared (ready .lines) .lines) (ready .lines .few)
 
-    pub faults-ready : NoiseReady job at form fields noiseless w h → {e x z : List ℕ} → NoiseRoom h w fields e x z → 4096 ≤ length elements → 64 ≤ length mask
-        → FaultsReady (h .qubits) (h .shots) w (r .fault .probability) (r .fault .distribution) (take (r .lines) sums) elements mask x z
-    faults-ready ready room long wide =
-        let narrow = room .narrow in
-        record {
-          noise = noiseIn (ready .lines);
-          lent = lentBy w h noiseless [] 0;
-          line = line-ready [] 0 (ready .lines) (ready .header);
-          room = long;
-          in-words = room .in-words;
-          in-mask = omega arith;
-          of-x = room .of-x;
-          of-z = room .of-z;
-        }
+      -- the number of the line behind it is small
+      pub line-small : place .line + 1 + r .lines ≤ length job + 1
+      line-small =
+          let ahead = prepared (ready .lines) .ahead in
+          let number = ahead .number in
+          let within = ahead .within in
+          omega (arith, ready .number)
 
-module _ {job : List ℕ} {at : ℕ} {form : Form} {fields noiseless : List ℕ} {w : ℕ} (h : Header) (main second : List ℕ) (base position : ℕ)
+      pub faults-ready : {e x z : List ℕ} → NoiseRoom shape fields e x z → 4096 ≤ length elements → 64 ≤ length mask
+          → FaultsReady (shape .qubits) (shape .shots) (shape .width) (r .fault .probability) (r .fault .distribution) (take (r .lines) sums) elements mask x z
+      faults-ready room long wide =
+          let narrow = room .narrow in
+          record {
+            noise = noiseIn (ready .lines);
+            lent = lentBy shape noiseless [] 0;
+            line = line-ready [] 0 (ready .lines) (ready .header);
+            room = long;
+            in-words = room .in-words;
+            in-mask = omega arith;
+            of-x = room .of-x;
+            of-z = room .of-z;
+          }
+
+module _ {job : List ℕ} (place : Place) (next : Next) {fields noiseless : List ℕ} (shape : Shape) (main second : List ℕ) (base : ℕ)
     {elements : List ℕ} {sums : List Float} {mask : List ℕ} {r : Prepared}
-    (prepared : (q : NoiseLines job at form fields noiseless w) → PreparedAs q elements sums mask r) (within : position ≤ length main)
+    (prepared : (q : NoiseLines job (next .end + 1) (next .form) fields noiseless (shape .width)) → PreparedAs q elements sums mask r)
+    (within : place .position ≤ length main)
   where
     abbrev lent : Lent
-    lent = lentBy w h noiseless second base
+    lent = lentBy shape noiseless second base
 
     -- what is left after the noise line
     abbrev Done : List ℕ → List ℕ → List ℕ → List ℕ → Moved → Type 0
-    Done x z x′ z′ moved = NoiseDone job at form fields h noiseless main second base position w x z x′ z′ moved
+    Done x z x′ z′ moved = NoiseDone job place next fields shape noiseless main second base x z x′ z′ moved
 
-    pub noise-quiet : (x z : List ℕ) → le (r .fault .probability) zeroFloat ≡ true → Done x z x z (To (r .next) position (r .lines + 1))
+    -- the place behind it, with this position
+    abbrev behind : ℕ → Place
+    behind position = record { byte = r .next; line = place .line + 1 + r .lines; position = position }
+
+    pub noise-quiet : (x z : List ℕ) → le (r .fault .probability) zeroFloat ≡ true → Done x z x z (To (behind (place .position)))
     noise-quiet x z quiet =
         record {
-          by = λ q same k line text deltas states holds.
+          by = λ q same line text deltas states holds.
               let p = prepared q in
-              noise-went q h same lent main k line position text deltas states p x z position states within holds
-              (one-quiet h lent main (noiseIn q) (r .fault .correlation) (p .correlation) position states (rw (p .stands .probability) at quiet));
+              noise-went place next shape q same lent main line text deltas states p x z (place .position) states within holds
+              (one-quiet (headerOf shape) lent main (noiseIn q) (r .fault .correlation) (p .correlation) (place .position) states (rw (p .stands .probability) at quiet));
         }
 
-    module _ (words : List ℕ) (part : words ≡ partOf lent (correlationOf (r .fault .correlation)) (drop position main))
+    module _ (words : List ℕ) (part : words ≡ partOf lent (correlationOf (r .fault .correlation)) (drop (place .position) main))
         (some-words : le (r .fault .probability) zeroFloat ≡ false) (x z x′ z′ : List ℕ) {d : Drawn}
-        (injected : FaultsInjected (h .qubits) (h .shots) w (r .fault .probability) (r .fault .distribution) (take (r .lines) sums) elements mask words x z x′ z′ d)
+        (injected : FaultsInjected (shape .qubits) (shape .shots) (shape .width) (r .fault .probability) (r .fault .distribution) (take (r .lines) sums) elements mask words x z x′ z′ d)
       where
-        left : (q : NoiseLines job at form fields noiseless w) → q .header ≡ h → (deltas : List ℕ) (states : States) → Holds w x z deltas states
-            → Injected (injectShots h lent (noiseIn q) (h .shots) 0 words states) words w x′ z′ deltas d
-        left q same deltas states holds = injected .by (h .outcomes) (noiseIn q) lent (line-ready h prepared second base q same) deltas states holds
+        left : (q : NoiseLines job (next .end + 1) (next .form) fields noiseless (shape .width)) → q .header ≡ headerOf shape → (deltas : List ℕ) (states : States)
+            → Holds (shape .width) x z deltas states
+            → Injected (injectShots (headerOf shape) lent (noiseIn q) (shape .shots) 0 words states) words (shape .width) x′ z′ deltas d
+        left q same deltas states holds = injected .by (shape .outcomes) (noiseIn q) lent (line-ready next shape prepared second base q same) deltas states holds
 
-        read-within : NoiseReady job at form fields noiseless w h → (read : ℕ) → d ≡ drawn.Done read → read ≤ length words
+        read-within : NoiseReady job place next fields noiseless shape → (read : ℕ) → d ≡ drawn.Done read → read ≤ length words
         unfolding placeOf
-        read-within ready read e = rw e at (left (ready .lines) (ready .header) [] (stateOf w x z []) (holds-some w x z []) .within)
+        read-within ready read e = rw e at (left (ready .lines) (ready .header) [] (stateOf (shape .width) x z []) (holds-some (shape .width) x z []) .within)
 
-        pub read-fits : NoiseReady job at form fields noiseless w h → length main < 2 ^ 64 → (read : ℕ) → d ≡ drawn.Done read
-            → correlationOf (r .fault .correlation) ≡ none → position + read < 2 ^ 64
-        read-fits ready small read e = position-fits (r .fault .correlation) lent main position read within small (rw part at (read-within ready read e))
+        pub read-fits : NoiseReady job place next fields noiseless shape → length main < 2 ^ 64 → (read : ℕ) → d ≡ drawn.Done read
+            → correlationOf (r .fault .correlation) ≡ none → place .position + read < 2 ^ 64
+        read-fits ready small read e = position-fits (r .fault .correlation) lent main (place .position) read within small (rw part at (read-within ready read e))
 
-        pub noise-drawn : (read : ℕ) → d ≡ drawn.Done read → Done x z x′ z′ (To (r .next) (positionAfter (r .fault .correlation) position read) (r .lines + 1))
+        pub noise-drawn : (read position : ℕ) → d ≡ drawn.Done read → position ≡ positionAfter (r .fault .correlation) (place .position) read
+            → Done x z x′ z′ (To (behind position))
         unfolding placeOf executedAs
-        noise-drawn read e =
+        noise-drawn read position e after =
             record {
-              by = λ q same k line text deltas states holds.
+              by = λ q same line text deltas states holds.
                   let p = prepared q in
                   let i = rw e at (left q same deltas states holds) in
-                  let fits : read ≤ length (partOf lent (correlationOf (r .fault .correlation)) (drop position main)) = rw (← part) (i .within) in
-                  noise-went q h same lent main k line position text deltas states p x′ z′ (positionAfter (r .fault .correlation) position read) (i .states)
-                  (position-within (r .fault .correlation) lent main position read within fits)
+                  let fits : read ≤ length (partOf lent (correlationOf (r .fault .correlation)) (drop (place .position) main)) = rw (← part) (i .within) in
+                  noise-went place next shape q same lent main line text deltas states p x′ z′ position (i .states)
+                  (rw after (position-within (r .fault .correlation) lent main (place .position) read within fits))
                   (i .holds)
-                  (one-done h lent main (noiseIn q) (r .fault .correlation) (p .correlation) position states (rw (p .stands .probability) at some-words) words part (i .states) read
-                  (i .is));
+                  (rw after (one-done (headerOf shape) lent main (noiseIn q) (r .fault .correlation) (p .correlation) (place .position) states (rw (p .stands .probability) at some-words) words part (i .states) read
+                  (i .is)));
             }
 
         pub noise-none : d ≡ drawn.Spent → Done x z x′ z′ Spent
         unfolding executedAs
         noise-none e =
             record {
-              by = λ q same k line text deltas states holds.
+              by = λ q same line text deltas states holds.
                   let p = prepared q in
                   let i = rw e at (left q same deltas states holds) in
-                  noise-spent q h same lent main k line position text deltas states x′ z′
-                  (one-spent h lent main (noiseIn q) (r .fault .correlation) (p .correlation) position states (rw (p .stands .probability) at some-words) words part
+                  noise-spent place next shape q same lent main line text deltas states x′ z′
+                  (one-spent (headerOf shape) lent main (noiseIn q) (r .fault .correlation) (p .correlation) (place .position) states (rw (p .stands .probability) at some-words) words part
                   (i .is));
             }

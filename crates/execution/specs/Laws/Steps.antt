@@ -4,32 +4,35 @@ use mathlib.Core.List.{List}
 use Prim.Native.Nat.{ℕ, _+_, _*_, _<_, _≤_}
 use native.Mathlib.Omega.{arith}
 use lib.ListN.{length, drop}
-use Rattle.job.specs.declared.Header.{Header}
 use Rattle.job.specs.Job.{answer, accepted}
 use Rattle.instructions.specs.declared.Next.{Next}
 use Rattle.instructions.specs.Ahead.{instructionsAt, Ahead, PlainRead, NoiseRead}
 use Rattle.instructions.specs.Laws.Steps.{none-left}
 use Rattle.draws.specs.Draws.{Lent}
 use Rattle.draws.specs.Execute.{States, forwardAll, executeOne, Ended, executeThen, execute}
+use Rattle.rows.specs.declared.Shape.{Shape}
 use Rattle.propagator.specs.Acts.{stateOf}
+use Rattle.noise.specs.declared.Place.{Place}
 use Rattle.faults.specs.Laws.Prepared.{noise-lines}
-use Rattle.lines.specs.Plain.{Plain, Ready, Obeyed}
+use Rattle.instructions.specs.Plain.{Plain}
+use Rattle.lines.specs.Plain.{Ready, Obeyed}
 use Rattle.injection.specs.Holds.{Holds}
 use Rattle.injection.specs.Laws.Holds.{holds-some, holds-line}
 use Rattle.execution.specs.declared.Moved.{Moved}
 use Rattle.execution.specs.declared.Moved.the-variants.{To, Spent}
-use Rattle.execution.specs.Went.{lentBy, RowsFor, WentBy, Went, NoiseReady, NoiseDone, Finished}
+use Rattle.execution.specs.Went.{headerOf, lentBy, RowsFor, WentBy, Went, NoiseReady, NoiseDone, Finished}
 
 -- ---- a line
 
-module _ {job : List ℕ} {h : Header} {recorded k at : ℕ} {next : Next} {fields : List ℕ} (read : PlainRead job h recorded k at next fields)
-    (ahead : Ahead job h recorded k at) {w : ℕ} {x z d noiseless : List ℕ} (rows : RowsFor h w x z d noiseless) (wide : 136 ≤ length fields)
+module _ {job : List ℕ} (shape : Shape) {recorded : ℕ} (place : Place) {next : Next} {fields : List ℕ}
+    (read : PlainRead job (headerOf shape) recorded (place .line) (place .byte) next fields) (ahead : Ahead job (headerOf shape) recorded (place .line) (place .byte))
+    {x z d noiseless : List ℕ} (rows : RowsFor shape x z d noiseless) (wide : 136 ≤ length fields)
   where
     -- it is as the crate lines wants it
-    plain-said : Plain (next .form) fields w (h .qubits) (h .outcomes) (read .line)
+    plain-said : Plain (next .form) fields (shape .width) (shape .qubits) (shape .outcomes) (read .line)
     plain-said =
         record {
-          shots = h .shots;
+          shots = shape .shots;
           recorded = recorded;
           values = read .values;
           wide = wide;
@@ -39,87 +42,98 @@ module _ {job : List ℕ} {h : Header} {recorded k at : ℕ} {next : Next} {fiel
           in-rows = ahead .recorded;
         }
 
-    pub plain-ready : Ready (next .form) fields w (h .qubits) (h .outcomes) x z d
+    pub plain-ready : Ready (next .form) fields (shape .width) (shape .qubits) (shape .outcomes) x z d
     plain-ready =
         record {
           line = read .line;
           plain = plain-said;
-          narrow = rows .narrow;
           of-x = rows .of-x;
           of-z = rows .of-z;
           of-deltas = rows .of-deltas;
         }
 
-    pub plain-went : (lent : Lent) (main : List ℕ) (position : ℕ) → position ≤ length main → (x′ z′ d′ : List ℕ)
-        → Obeyed (next .form) fields w (h .qubits) (h .outcomes) x z d x′ z′ d′ → (states : States) → Holds w x z d states
-        → Went job h lent main (execute h lent (instructionsAt job k at) (drop position main) states) (length (instructionsAt job k at)) k w x′ z′ d′
-        (To (next .end + 1) position 1)
+    pub plain-went : (lent : Lent) (main : List ℕ) → place .position ≤ length main → (x′ z′ d′ : List ℕ)
+        → Obeyed (next .form) fields (shape .width) (shape .qubits) (shape .outcomes) x z d x′ z′ d′ → (states : States) → Holds (shape .width) x z d states
+        → Went job shape lent main (execute (headerOf shape) lent (instructionsAt job (place .line) (place .byte)) (drop (place .position) main) states)
+        (length (instructionsAt job (place .line) (place .byte))) (place .line) x′ z′ d′
+        (To (record { byte = next .end + 1; line = place .line + 1; position = place .position }))
     unfolding WentBy execute executeThen executeOne
-    plain-went lent main position within x′ z′ d′ obeyed states holds =
+    plain-went lent main within x′ z′ d′ obeyed states holds =
         record {
           by = record {
             recorded = _;
             ahead = read .ahead;
             fewer = rw (read .instructions) (omega arith);
             within = within;
-            states = forwardAll h (read .line) states;
-            holds = holds-line h (read .line) holds (obeyed .acts (read .line) plain-said);
+            states = forwardAll (headerOf shape) (read .line) states;
+            holds = holds-line (headerOf shape) (read .line) holds (obeyed .acts (read .line) plain-said);
             is = rw (read .instructions);
           };
         }
 
+    -- the number of the next line is small
+    pub plain-small : place .line + 1 ≤ length job + 1
+    plain-small =
+        let number = read .ahead .number in
+        let within = read .ahead .within in
+        omega arith
+
 -- ---- a noise line
 
-module _ {job : List ℕ} {h : Header} {recorded k at : ℕ} {next : Next} {fields : List ℕ} (read : NoiseRead job h recorded k at next fields) {w : ℕ}
-    {noiseless : List ℕ} (rows : h .outcomes * w ≤ length noiseless)
+module _ {job : List ℕ} (shape : Shape) {recorded : ℕ} (place : Place) {next : Next} {fields : List ℕ}
+    (read : NoiseRead job (headerOf shape) recorded (place .line) (place .byte) next fields) {noiseless : List ℕ}
+    (rows : shape .outcomes * shape .width ≤ length noiseless)
   where
-    pub noise-ready : NoiseReady job (next .end + 1) (next .form) fields noiseless w h
+    pub noise-ready : NoiseReady job place next fields noiseless shape
     unfolding noise-lines
-    noise-ready = record { lines = noise-lines read noiseless w rows; header = refl }
+    noise-ready = record { lines = noise-lines read noiseless (shape .width) rows; header = refl; number = refl }
 
-    pub noise-done : {main second : List ℕ} {base position : ℕ} {x z x′ z′ : List ℕ} {r : Moved}
-        → NoiseDone job (next .end + 1) (next .form) fields h noiseless main second base position w x z x′ z′ r → (d : List ℕ) (states : States)
-        → Holds w x z d states
-        → Went job h (lentBy w h noiseless second base) main
-        (execute h (lentBy w h noiseless second base) (instructionsAt job k at) (drop position main) states)
-        (length (instructionsAt job k at)) k w x′ z′ d r
+    pub noise-done : {main second : List ℕ} {base : ℕ} {x z x′ z′ : List ℕ} {r : Moved}
+        → NoiseDone job place next fields shape noiseless main second base x z x′ z′ r → (d : List ℕ) (states : States) → Holds (shape .width) x z d states
+        → Went job shape (lentBy shape noiseless second base) main
+        (execute (headerOf shape) (lentBy shape noiseless second base) (instructionsAt job (place .line) (place .byte)) (drop (place .position) main) states)
+        (length (instructionsAt job (place .line) (place .byte))) (place .line) x′ z′ d r
     unfolding noise-lines
-    noise-done done d states holds = rw (read .instructions) (done .by (noise-lines read noiseless w rows) refl k refl _ d states holds)
+    noise-done done d states holds = rw (read .instructions) (done .by (noise-lines read noiseless (shape .width) rows) refl refl _ d states holds)
 
 -- ---- to the end
 
-module _ (job : List ℕ) (h : Header) (lent : Lent) (main : List ℕ) (w : ℕ) where
+module _ (job : List ℕ) (shape : Shape) (lent : Lent) (main : List ℕ) where
   -- execution goes on from here, with the states that the words hold
-  pub record Going (all : Ended) (x z d : List ℕ) (k at position : ℕ) : Type 0 where
+  pub record Going (all : Ended) (x z d : List ℕ) (place : Place) : Type 0 where
     pub recorded : ℕ
-    pub ahead : Ahead job h recorded k at
-    pub within : position ≤ length main
+    pub ahead : Ahead job (headerOf shape) recorded (place .line) (place .byte)
+    pub within : place .position ≤ length main
     pub states : States
-    pub holds : Holds w x z d states
-    pub is : execute h lent (instructionsAt job k at) (drop position main) states ≡ all
+    pub holds : Holds (shape .width) x z d states
+    pub is : execute (headerOf shape) lent (instructionsAt job (place .line) (place .byte)) (drop (place .position) main) states ≡ all
 
   -- from whatever states the words held at first
-  pub record GoingFrom (from : ℕ) (x₀ z₀ d₀ x z d : List ℕ) (k at position : ℕ) : Type 0 where
-    pub by : (states : States) → Holds w x₀ z₀ d₀ states → Going (execute h lent (instructionsAt job 2 from) main states) x z d k at position
+  pub record GoingFrom (from : ℕ) (x₀ z₀ d₀ x z d : List ℕ) (place : Place) : Type 0 where
+    pub by : (states : States) → Holds (shape .width) x₀ z₀ d₀ states → Going (execute (headerOf shape) lent (instructionsAt job 2 from) main states) x z d place
 
-  pub going-begun : (from recorded : ℕ) → Ahead job h recorded 2 from → (x z d : List ℕ) → GoingFrom from x z d x z d 2 from 0
+  pub going-begun : (from recorded : ℕ) → Ahead job (headerOf shape) recorded 2 from → (x z d : List ℕ)
+      → GoingFrom from x z d x z d (record { byte = from; line = 2; position = 0 })
   going-begun from recorded ahead x z d =
       record {
         by = λ states holds. record { recorded = recorded; ahead = ahead; within = omega arith; states = states; holds = holds; is = refl };
       }
 
-  module _ {from : ℕ} {x₀ z₀ d₀ x z d : List ℕ} {k at position : ℕ} (g : GoingFrom from x₀ z₀ d₀ x z d k at position) where
+  module _ {from : ℕ} {x₀ z₀ d₀ x z d : List ℕ} {place : Place} (g : GoingFrom from x₀ z₀ d₀ x z d place) where
     -- there are such states
-    pub going-some : Going (execute h lent (instructionsAt job 2 from) main (stateOf w x₀ z₀ d₀)) x z d k at position
-    going-some = g .by (stateOf w x₀ z₀ d₀) (holds-some w x₀ z₀ d₀)
+    pub going-some : Going (execute (headerOf shape) lent (instructionsAt job 2 from) main (stateOf (shape .width) x₀ z₀ d₀)) x z d place
+    going-some = g .by (stateOf (shape .width) x₀ z₀ d₀) (holds-some (shape .width) x₀ z₀ d₀)
 
-    pub going-on : (x′ z′ d′ : List ℕ) (next position′ lines : ℕ)
-        → ((recorded : ℕ) → Ahead job h recorded k at → (states : States) → Holds w x z d states
-        → Went job h lent main (execute h lent (instructionsAt job k at) (drop position main) states) (length (instructionsAt job k at)) k w x′ z′ d′
-        (To next position′ lines))
-        → GoingFrom from x₀ z₀ d₀ x′ z′ d′ (k + lines) next position′
+    -- an instruction was obeyed
+    abbrev pub Obeying : List ℕ → List ℕ → List ℕ → Moved → Type 0
+    Obeying x′ z′ d′ moved =
+        (recorded : ℕ) → Ahead job (headerOf shape) recorded (place .line) (place .byte) → (states : States) → Holds (shape .width) x z d states
+        → Went job shape lent main (execute (headerOf shape) lent (instructionsAt job (place .line) (place .byte)) (drop (place .position) main) states)
+        (length (instructionsAt job (place .line) (place .byte))) (place .line) x′ z′ d′ moved
+
+    pub going-on : (x′ z′ d′ : List ℕ) (next : Place) → Obeying x′ z′ d′ (To next) → GoingFrom from x₀ z₀ d₀ x′ z′ d′ next
     unfolding WentBy
-    going-on x′ z′ d′ next position′ lines went =
+    going-on x′ z′ d′ next went =
         record {
           by = λ states₀ holds₀.
               let b = g .by states₀ holds₀ in
@@ -134,28 +148,23 @@ module _ (job : List ℕ) (h : Header) (lent : Lent) (main : List ℕ) (w : ℕ)
               };
         }
 
-    pub going-fewer : (x′ z′ d′ : List ℕ) (next position′ lines : ℕ)
-        → ((recorded : ℕ) → Ahead job h recorded k at → (states : States) → Holds w x z d states
-        → Went job h lent main (execute h lent (instructionsAt job k at) (drop position main) states) (length (instructionsAt job k at)) k w x′ z′ d′
-        (To next position′ lines))
-        → length (instructionsAt job (k + lines) next) < length (instructionsAt job k at)
+    pub going-fewer : (x′ z′ d′ : List ℕ) (next : Place) → Obeying x′ z′ d′ (To next)
+        → length (instructionsAt job (next .line) (next .byte)) < length (instructionsAt job (place .line) (place .byte))
     unfolding WentBy
-    going-fewer x′ z′ d′ next position′ lines went =
+    going-fewer x′ z′ d′ next went =
         let b = going-some in
         went (b .recorded) (b .ahead) (b .states) (b .holds) .by .fewer
 
-    pub going-stopped : (x′ z′ d′ : List ℕ)
-        → ((recorded : ℕ) → Ahead job h recorded k at → (states : States) → Holds w x z d states
-        → Went job h lent main (execute h lent (instructionsAt job k at) (drop position main) states) (length (instructionsAt job k at)) k w x′ z′ d′ Spent)
-        → (states₀ : States) → Holds w x₀ z₀ d₀ states₀ → Finished (execute h lent (instructionsAt job 2 from) main states₀) w x′ z′ d′ (answer 14 k)
+    pub going-stopped : (x′ z′ d′ : List ℕ) → Obeying x′ z′ d′ Spent → (states₀ : States) → Holds (shape .width) x₀ z₀ d₀ states₀
+        → Finished (execute (headerOf shape) lent (instructionsAt job 2 from) main states₀) (shape .width) x′ z′ d′ (answer 14 (place .line))
     unfolding WentBy
     going-stopped x′ z′ d′ went states₀ holds₀ =
         let b = g .by states₀ holds₀ in
-        Finished.stopped k (sym (b .is) ∙ went (b .recorded) (b .ahead) (b .states) (b .holds) .by) refl
+        Finished.stopped (place .line) (sym (b .is) ∙ went (b .recorded) (b .ahead) (b .states) (b .holds) .by) refl
 
-    pub going-end : length job ≤ at → (states₀ : States) → Holds w x₀ z₀ d₀ states₀
-        → Finished (execute h lent (instructionsAt job 2 from) main states₀) w x z d accepted
+    pub going-end : length job ≤ place .byte → (states₀ : States) → Holds (shape .width) x₀ z₀ d₀ states₀
+        → Finished (execute (headerOf shape) lent (instructionsAt job 2 from) main states₀) (shape .width) x z d accepted
     unfolding execute
     going-end past states₀ holds₀ =
         let b = g .by states₀ holds₀ in
-        Finished.finished (b .states) (sym (b .is) ∙ rw (none-left job k at past)) refl (b .holds)
+        Finished.finished (b .states) (sym (b .is) ∙ rw (none-left job (place .line) (place .byte) past)) refl (b .holds)

@@ -1,10 +1,8 @@
 -- `faults::prepare` meets its contract.
-use lib.Seq.{take-at}
-use Rattle.faults.specs.Laws.Prepared.{few-lines, element-lines, sums-filled, probability-sound, condition-room, prepared}
-use Rattle.faults.specs.Laws.Elements.{kept-length}
-use lib.Seq.{length-take-le}
+use lib.Seq.{take-at, length-take-le}
+use Rattle.faults.specs.Laws.Prepared.{few-lines, condition-room, prepared}
 use lib.ListN.{length}
-use mathlib.Core.Path.{_≡_, sym, _∙_}
+use mathlib.Core.Path.{_≡_, sym}
 use native.Mathlib.Omega.{arith}
 use borrow.Author.Needs.{needs}
 use Rattle.faults.proofs.prepare.Statement.{statement}
@@ -13,44 +11,35 @@ use Rattle.faults.proofs.prepare.Tie as tie
 element-lines-requires : tie.Need-element-lines-requires
 element-lines-requires c κs = search needs
 
-has-weights-requires : tie.Need-has-weights-requires
-has-weights-requires c κs = search needs
+slice-relend-prefix-read-fault : tie.Need-slice-relend-prefix-read-fault
+slice-relend-prefix-read-fault c = let q = c .before .before .before .before .before .before .before .before .pre .0 in omega (arith, few-lines q _ (c .before .element-lines .ensures _ _ (q .said)), c .before .before .before .before .before .before .before .before .pre .1 .of-sums)
 
-keep-element-requires : tie.Need-keep-element-requires
-keep-element-requires c κs = search needs
-
-slice-relend-prefix-read-elements : tie.Need-slice-relend-prefix-read-elements
-slice-relend-prefix-read-elements c = omega (arith, few-lines (c .before .before .before .before .before .before .before .before .before .before .before .before .before .pre .0) _ (c .before .before .before .before .before .before .element-lines .ensures _ _ (c .before .before .before .before .before .before .before .before .before .before .before .before .before .pre .0 .said)), c .before .before .before .before .before .before .before .before .before .before .before .before .before .pre .1 .of-sums)
-
-slice-aggregate-read-elements : tie.Need-slice-aggregate-read-elements
-slice-aggregate-read-elements c = sym (length-take-le _ _ (omega (arith, few-lines (c .before .before .before .before .before .before .before .before .before .before .before .before .before .before .pre .0) _ (c .before .before .before .before .before .before .before .element-lines .ensures _ _ (c .before .before .before .before .before .before .before .before .before .before .before .before .before .before .pre .0 .said)), c .before .before .before .before .before .before .before .before .before .before .before .before .before .before .pre .1 .of-sums)))
+slice-aggregate-read-fault : tie.Need-slice-aggregate-read-fault
+slice-aggregate-read-fault c =
+    let q = c .before .before .before .before .before .before .before .before .before .pre .0 in sym (length-take-le _ _ (omega (arith, few-lines q _ (c .before .before .element-lines .ensures _ _ (q .said)), c .before .before .before .before .before .before .before .before .before .pre .1 .of-sums)))
 
 array-borrow-prefix-weights : tie.Need-array-borrow-prefix-weights
-array-borrow-prefix-weights c = few-lines (c .before .before .before .before .before .before .before .before .before .before .before .before .before .before .pre .0) _ (c .before .before .before .before .before .before .before .element-lines .ensures _ _ (c .before .before .before .before .before .before .before .before .before .before .before .before .before .before .pre .0 .said))
+array-borrow-prefix-weights c = let q = c .before .before .before .before .before .before .before .before .before .pre .0 in few-lines q _ (c .before .before .element-lines .ensures _ _ (q .said))
 
-slice-aggregate-read-elements-2 : tie.Need-slice-aggregate-read-elements-2
-slice-aggregate-read-elements-2 c = sym (length-take-le _ _ (few-lines (c .before .before .before .before .before .before .before .before .before .before .before .before .before .before .before .pre .0) _ (c .before .before .before .before .before .before .before .before .element-lines .ensures _ _ (c .before .before .before .before .before .before .before .before .before .before .before .before .before .before .before .pre .0 .said))))
+slice-aggregate-read-fault-2 : tie.Need-slice-aggregate-read-fault-2
+slice-aggregate-read-fault-2 c = let q = c .before .before .before .before .before .before .before .before .before .before .pre .0 in sym (length-take-le _ _ (few-lines q _ (c .before .before .before .element-lines .ensures _ _ (q .said))))
 
-read-elements-requires : tie.Need-read-elements-requires
-read-elements-requires c κs =
-    let q = c .before .before .before .before .before .before .before .before .before .before .before .before .before .before .before .pre .0 in
-    let lines = c .before .before .before .before .before .before .before .before .element-lines .ensures _ _ (q .said) in
-    let weighted = c .before .before .before .before .before .before .before .has-weights .ensures _ _ (q .said .says) in
-    let few = few-lines q _ lines in (
-      element-lines q _ _ lines weighted,
-      omega (arith, few, c .before .before .before .before .before .before .before .before .before .before .before .before .before .before .before .pre .1 .of-elements, kept-length _ _ _ _ _ (c .before .before .before .before .before .keep-element .ensures)),
-      length-take-le _ _ (omega (arith, few, c .before .before .before .before .before .before .before .before .before .before .before .before .before .before .before .pre .1 .of-sums)),
-      length-take-le _ _ few,
-      λ e. omega (arith, sums-filled q (sym weighted ∙ e), q .count, lines),
+read-fault-requires : tie.Need-read-fault-requires
+read-fault-requires c κs =
+    let q = c .before .before .before .before .before .before .before .before .before .before .pre .0 in
+    let few = few-lines q _ (c .before .before .before .element-lines .ensures _ _ (q .said)) in (
+      record { noiseless = _; width = _; lines = q; count = c .before .before .before .element-lines .ensures },
+      record {
+        of-fields = c .before .before .before .before .before .before .before .before .before .before .pre .1 .of-fields;
+        of-elements = c .before .before .before .before .before .before .before .before .before .before .pre .1 .of-elements;
+        of-sums = length-take-le _ _ (omega (arith, few, c .before .before .before .before .before .before .before .before .before .before .pre .1 .of-sums));
+        of-weights = length-take-le _ _ few;
+      },
     )
-
-fault-of-requires : tie.Need-fault-of-requires
-fault-of-requires c κs = (c .before .before .before .before .before .before .before .before .before .before .before .before .before .before .before .before .before .before .before .before .before .pre .1 .of-fields, probability-sound (c .before .before .before .before .before .before .before .before .before .before .before .before .before .before .before .before .before .before .before .before .before .pre .0))
 
 satisfied-shots-requires : tie.Need-satisfied-shots-requires
 satisfied-shots-requires c κs =
-    let room = condition-room (c .before .before .before .before .before .before .before .before .before .before .before .before .before .before .before .before .before .before .before .before .before .before .before .before .pre .0) (c .before .before .fault-of .ensures) in
-    (room .0, room .1, c .before .before .before .before .before .before .before .before .before .before .before .before .before .before .before .before .before .before .before .before .before .before .before .before .pre .1 .of-mask)
+    let room = condition-room (c .before .before .before .before .before .before .before .before .before .before .before .before .before .before .before .before .before .before .before .pre .0) (c .before .before .before .before .before .before .before .before .read-fault .ensures _ _ (c .before .before .before .before .before .before .before .before .before .before .before .before .before .before .before .before .before .before .before .pre .0) .fault) in (room .0, room .1, c .before .before .before .before .before .before .before .before .before .before .before .before .before .before .before .before .before .before .before .pre .1 .of-mask)
 
 same-length : tie.Need-same-length
 same-length c = search needs
@@ -64,28 +53,22 @@ same-length-3 c = search needs
 returns : tie.Need-returns
 returns c =
     λ q.
-    let a = c .before .before .before .before .before .before .before .before .before .before .before .before .before .before .before .before .before .before .before .before .before .before .before .before .before .before .before .args in
-    let lines = c .before .before .before .before .before .before .before .before .before .before .before .before .before .before .before .before .before .before .before .before .element-lines .ensures _ _ (q .said) in
-    let weighted = c .before .before .before .before .before .before .before .before .before .before .before .before .before .before .before .before .before .before .before .has-weights .ensures _ _ (q .said .says) in
-    let sized = length-take-le (c .before .before .before .before .before .before .before .before .before .before .before .before .before .before .before .before .before .before .before .before .element-lines .result) (a .sums .now) (omega (arith, few-lines q _ lines, c .before .before .before .before .before .before .before .before .before .before .before .before .before .before .before .before .before .before .before .before .before .before .before .before .before .before .before .pre .1 .of-sums)) in
-    let long : length (c .before .before .before .before .before .before .before .before .before .before .before .read-elements .last .1 .1 .1 .1 .1 .0) ≡ c .before .before .before .before .before .before .before .before .before .before .before .before .before .before .before .before .before .before .before .before .element-lines .result = omega (arith, sized, c .before .before .before .before .before .before .before .before .before .before .before .read-elements .kept) in
-    prepared q _ _ lines weighted (a .elements .now) _ _ (omega (arith, c .before .before .before .before .before .before .before .before .before .before .before .before .before .before .before .before .before .before .before .before .before .before .before .before .before .before .before .pre .1 .of-elements)) (c .before .before .before .before .before .before .before .before .before .before .before .before .before .before .before .before .before .keep-element .ensures)
-    (c .before .before .before .before .before .before .before .before .before .before .before .read-elements .ensures .0) _ _ (take-at _ _ _ long) _
-    (c .before .before .before .before .before .before .before .before .before .before .before .read-elements .ensures .1 (element-lines q _ _ lines weighted)) _ (c .before .before .before .before .before .fault-of .ensures) _ (c .before .before .satisfied-shots .ensures)
+    let lines = c .before .before .before .before .before .before .before .before .before .before .before .before .before .before .before .element-lines .ensures _ _ (q .said) in
+    let read = c .before .before .before .before .before .before .before .before .before .before .before .read-fault .ensures _ _ q in
+    let sized = length-take-le (c .before .before .before .before .before .before .before .before .before .before .before .before .before .before .before .element-lines .result) (c .before .before .before .before .before .before .before .before .before .before .before .before .before .before .before .before .before .before .before .before .before .before .args .sums .now) (omega (arith, few-lines q _ lines, c .before .before .before .before .before .before .before .before .before .before .before .before .before .before .before .before .before .before .before .before .before .before .pre .1 .of-sums)) in
+    let long : length (c .before .before .before .before .before .before .before .before .before .before .before .read-fault .last .1 .1 .1 .1 .1 .0) ≡ c .before .before .before .before .before .before .before .before .before .before .before .read-fault .result .lines = omega (arith, sized, c .before .before .before .before .before .before .before .before .before .before .before .read-fault .kept, read .lines, q .count, lines) in
+    prepared q read (take-at _ _ _ long) _ (c .before .before .satisfied-shots .ensures)
 
 pub prepare-spec : {M : Type 1} → statement M
 prepare-spec =
     tie.close
     (tie.spec
     element-lines-requires
-    has-weights-requires
-    keep-element-requires
-    slice-relend-prefix-read-elements
-    slice-aggregate-read-elements
+    slice-relend-prefix-read-fault
+    slice-aggregate-read-fault
     array-borrow-prefix-weights
-    slice-aggregate-read-elements-2
-    read-elements-requires
-    fault-of-requires
+    slice-aggregate-read-fault-2
+    read-fault-requires
     satisfied-shots-requires
     same-length
     same-length-2

@@ -21,7 +21,7 @@ use Rattle.instructions.specs.Reading.{NextLine}
 use Rattle.instructions.specs.Ahead.{elementBy, ElementRead}
 use Rattle.instructions.specs.Laws.Elements.{among-inside, element-read}
 use Rattle.faults.specs.Elements.{kept, ElementHeld}
-use Rattle.faults.specs.Prepared.{ElementLines, Gathered, ElementsKept}
+use Rattle.faults.specs.Prepared.{ElementLines, Gathered}
 use Rattle.faults.specs.Laws.Elements.{kept-held, held-others}
 
 -- no element
@@ -80,16 +80,8 @@ pub gathered-none : {job : List ℕ} {at n : ℕ} {weighted : Bool} (q : Element
     → Gathered q elements weights at 0
 gathered-none q elements weights = record { among = q .among; weighed = refl; held = λ e m. absurd (not-suc-le-zero m) }
 
--- all of them, with their weights summed up
-pub kept-all : {job : List ℕ} {at n : ℕ} {weighted : Bool} (q : ElementLines job at n weighted) {elements : List ℕ} {weights : List Float} {next : ℕ} {t : Float}
-    {sums : List Float} → Gathered q elements weights next n → length weights ≡ n → t ≡ totalFrom zeroFloat weights
-    → (weighted ≡ true → sums ≡ runningSums weights) → ElementsKept q elements sums (record { next = next; total = t })
-kept-all {n = n} q {weights = weights} g size total running =
-    let all : weights ≡ weightsOf (q .elements) =
-    sym (take-all n weights (omega arith)) ∙ g .weighed ∙ ap weightsOf (take-all n (q .elements) (omega (arith, q .count))) in
-    record {
-      among = g .among;
-      held = g .held;
-      total = total ∙ ap (totalFrom zeroFloat) all;
-      running = λ e. running e ∙ ap runningSums all;
-    }
+-- all of them
+pub weighed-all : {job : List ℕ} {at n : ℕ} {weighted : Bool} {q : ElementLines job at n weighted} {elements : List ℕ} {weights : List Float} {next : ℕ}
+    → Gathered q elements weights next n → length weights ≡ n → weights ≡ weightsOf (q .elements)
+weighed-all {n = n} {q = q} {weights = weights} g size =
+    sym (take-all n weights (omega arith)) ∙ g .weighed ∙ ap weightsOf (take-all n (q .elements) (omega (arith, q .count)))

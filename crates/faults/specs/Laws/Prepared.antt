@@ -32,11 +32,13 @@ use Rattle.noise.specs.declared.PauliDistribution.the-variants.{Single, Depolar
 use Rattle.noise.specs.declared.PauliFault.{PauliFault}
 use Rattle.noise.specs.Kinds.{kindOf, correlationOf, Small, Represents}
 use Rattle.noise.specs.Condition.{conditionOf, Masks}
-use Rattle.faults.specs.declared.ElementsRead.{ElementsRead}
+use Rattle.choice.specs.Choice.{Totals, SumsOf}
+use Rattle.faults.specs.declared.Prepared.{Prepared}
 use Rattle.faults.specs.Elements.{kept, ElementHeld, DistributionHeld}
 use Rattle.faults.specs.Line.{kindBy, FaultOf, FaultHeld}
-use Rattle.faults.specs.Prepared.{ElementLines, ElementsKept, NoiseLines, noiseIn, PreparedAs}
+use Rattle.faults.specs.Prepared.{ElementLines, Gathered, NoiseLines, noiseIn, FaultRead, PreparedAs}
 use Rattle.faults.specs.Laws.Elements.{kept-held, kept-qubits}
+use Rattle.faults.specs.Laws.Gather.{weighed-all}
 use Rattle.faults.specs.Laws.Line.{NoiseView, noise-view, probability-held}
 
 -- a noise line that was read
@@ -72,13 +74,28 @@ kind-same (Kind.weighted n) es t count e = ap Weighted e
 weighted-same : {a b : List WeightedPauli} → Distribution.weighted a ≡ Distribution.weighted b → a ≡ b
 weighted-same e = cc
 
-sums-beside : (k : Kind) (es fs : List WeightedPauli) (sums : List Float) → (hasWeights k ≡ true → sums ≡ runningSums (weightsOf es))
+sums-beside : (k : Kind) (es fs : List WeightedPauli) (t : Float) (sums : List Float) → SumsOf (kindBy k t) (weightsOf es) sums
     → distributionOf k es ≡ Distribution.weighted fs → sums ≡ runningSums (weightsOf fs)
-unfolding distributionOf firstTotal hasTotal
-sums-beside (Kind.single P) es fs sums h e = let z : _≡_ {A = ℕ} 0 1 = cc in absurd (omega arith)
-sums-beside (Kind.depolarizing qs) es fs sums h e = let z : _≡_ {A = ℕ} 0 1 = cc in absurd (omega arith)
-sums-beside (Kind.uniform n) es fs sums h e = let z : _≡_ {A = ℕ} 0 1 = cc in absurd (omega arith)
-sums-beside (Kind.weighted n) es fs sums h e = h refl ∙ ap (λ (l : List WeightedPauli). runningSums (weightsOf l)) (weighted-same e)
+unfolding distributionOf kindBy
+sums-beside (Kind.single P) es fs t sums h e = let z : _≡_ {A = ℕ} 0 1 = cc in absurd (omega arith)
+sums-beside (Kind.depolarizing qs) es fs t sums h e = let z : _≡_ {A = ℕ} 0 1 = cc in absurd (omega arith)
+sums-beside (Kind.uniform n) es fs t sums h e = let z : _≡_ {A = ℕ} 0 1 = cc in absurd (omega arith)
+sums-beside (Kind.weighted n) es fs t sums h e = h .is t refl ∙ ap (λ (l : List WeightedPauli). runningSums (weightsOf l)) (weighted-same e)
+
+-- the kind that carries a total has weights, and the total is the one that was given
+weighted-kind : (k : Kind) (t u : Float) → kindBy k t ≡ Weighted u → hasWeights k ≡ true
+unfolding kindBy firstTotal hasTotal
+weighted-kind (Kind.single P) t u e = let z : _≡_ {A = ℕ} 0 1 = cc in absurd (omega arith)
+weighted-kind (Kind.depolarizing qs) t u e = let z : _≡_ {A = ℕ} 0 1 = cc in absurd (omega arith)
+weighted-kind (Kind.uniform n) t u e = let z : _≡_ {A = ℕ} 0 1 = cc in absurd (omega arith)
+weighted-kind (Kind.weighted n) t u e = refl
+
+weighted-total : (k : Kind) (t u : Float) → kindBy k t ≡ Weighted u → t ≡ u
+unfolding kindBy
+weighted-total (Kind.single P) t u e = let z : _≡_ {A = ℕ} 0 1 = cc in absurd (omega arith)
+weighted-total (Kind.depolarizing qs) t u e = let z : _≡_ {A = ℕ} 0 1 = cc in absurd (omega arith)
+weighted-total (Kind.uniform n) t u e = let z : _≡_ {A = ℕ} 0 1 = cc in absurd (omega arith)
+weighted-total (Kind.weighted n) t u e = cc
 
 kind-small : (n : ℕ) (k : Kind) (es : List WeightedPauli) (t : Float) → DistributionSound n (distributionOf k es) → Small (kindBy k t)
 unfolding DistributionSound distributionOf kindBy Small
@@ -139,11 +156,9 @@ module _ {job : List ℕ} {at : ℕ} {g : Form} {f noiseless : List ℕ} {w : �
       }
 
   -- of a struct that holds the line
-  pub condition-room : {t : Float} {r : PauliFault} → FaultHeld g f t r
+  pub condition-room : {t : Float} {r : PauliFault} → FaultOf (q .noise) t r
       → (r .condition .count ≤ 31) × RowsIn w (take (r .condition .count) (r .condition .outcomes)) noiseless
-  condition-room h =
-      let fault = h .is (q .values) (q .noise) (q .said) few-outcomes in
-      (omega (arith, fault .count, few-outcomes), outcomes-in _ (fault .outcomes))
+  condition-room fault = (omega (arith, fault .count, few-outcomes), outcomes-in _ (fault .outcomes))
 
   unfoldable pub element-lines : (n : ℕ) (b : Bool) → n ≡ elementLines (q .noise .kind) → b ≡ hasWeights (q .noise .kind) → ElementLines job at n b
   element-lines n b e h =
@@ -157,13 +172,22 @@ module _ {job : List ℕ} {at : ℕ} {g : Form} {f noiseless : List ℕ} {w : �
         among = subst (λ (x : Bool). Among job (q .header) (q .recorded) x (q .elements) (q .rest) (q .line) at 0) (sym h) (q .among);
       }
 
-  pub sums-filled : hasWeights (q .noise .kind) ≡ true → 0 < length (q .elements)
+  -- the total that the struct carries is that of the weights
+  pub totals : {t : Float} {r : PauliFault} → FaultHeld g f t r → (n : ℕ) → n ≡ elementLines (q .noise .kind) → (weights : List Float) → length weights ≡ n
+      → t ≡ totalFrom zeroFloat weights → Totals (r .distribution) weights
   unfolding noiseOf
-  sums-filled e = some-elements (q .header .qubits) (q .noise .kind) (q .elements) (q .sound .distribution) e
+  totals {t} {r} held n lines weights size total =
+      let fault = held .is (q .values) (q .noise) (q .said) few-outcomes in
+      record {
+        is = λ u e.
+            let same = sym (fault .distribution) ∙ e in
+            let some = some-elements (q .header .qubits) (q .noise .kind) (q .elements) (q .sound .distribution) (weighted-kind (q .noise .kind) t u same) in
+            (omega (arith, q .count), sym (weighted-total (q .noise .kind) t u same) ∙ total);
+      }
 
   module _ {t : Float} {r : PauliFault} (h : FaultOf (q .noise) t r) where
     pub stands : (sums : List Float) → t ≡ totalFrom zeroFloat (weightsOf (q .elements))
-        → (hasWeights (q .noise .kind) ≡ true → sums ≡ runningSums (weightsOf (q .elements))) → Represents (noiseIn q) (r .probability) (r .distribution) sums
+        → SumsOf (r .distribution) (weightsOf (q .elements)) sums → Represents (noiseIn q) (r .probability) (r .distribution) sums
     unfolding noiseOf
     stands sums total running =
         record {
@@ -171,7 +195,7 @@ module _ {job : List ℕ} {at : ℕ} {g : Form} {f noiseless : List ℕ} {w : �
           chooses =
               record {
                 kind = h .distribution ∙ kind-same (q .noise .kind) (q .elements) t (q .count) total;
-                beside = λ es e. sums-beside (q .noise .kind) (q .elements) es sums running e;
+                beside = λ es e. sums-beside (q .noise .kind) (q .elements) es t sums (rw (h .distribution) at running) e;
               };
         }
 
@@ -190,25 +214,24 @@ module _ {job : List ℕ} {at : ℕ} {g : Form} {f noiseless : List ℕ} {w : �
     condition-same mask m = subst (λ (c : OutcomeCondition). Masks w mask c (bitIn w noiseless)) (λ i. record { outcomes = h .outcomes i; parity = h .parity i }) m
 
   -- what the steps of the code come to
-  pub prepared : (n : ℕ) (b : Bool) (lines : n ≡ elementLines (q .noise .kind)) (weighted : b ≡ hasWeights (q .noise .kind)) (elements₀ elements₁ elements : List ℕ)
-      → 64 ≤ length elements₀ → elements₁ ≡ kept 0 2 f elements₀ → (n ≡ 0 → elements ≡ elements₁) → (sums part : List Float) → take n sums ≡ part
-      → (read : ElementsRead) → ElementsKept (element-lines n b lines weighted) elements part read → (r : PauliFault) → FaultHeld g f (read .total) r
-      → (mask : List ℕ) → Masks w mask (conditionOf (take (r .condition .count) (r .condition .outcomes)) (r .condition .parity)) (bitIn w noiseless)
-      → PreparedAs q elements sums mask (record { fault = r; lines = n; next = read .next })
+  pub fault-read : (n : ℕ) (b : Bool) (lines : n ≡ elementLines (q .noise .kind)) (weighted : b ≡ hasWeights (q .noise .kind)) (elements₀ elements₁ elements : List ℕ)
+      → 64 ≤ length elements₀ → elements₁ ≡ kept 0 2 f elements₀ → (n ≡ 0 → elements ≡ elements₁) → (weights : List Float) → length weights ≡ n → (next : ℕ)
+      → Gathered (element-lines n b lines weighted) elements weights next n → (t : Float) → t ≡ totalFrom zeroFloat weights → (r : PauliFault) → FaultHeld g f t r
+      → (sums : List Float) → SumsOf (r .distribution) weights sums → FaultRead q elements sums (record { fault = r; lines = n; next = next })
   unfolding element-lines
-  prepared n b lines weighted elements₀ elements₁ elements fits own none sums part first read kept-them r held mask masks =
+  fault-read n b lines weighted elements₀ elements₁ elements fits own none weights size next gathered t total r held sums running =
       let fault = held .is (q .values) (q .noise) (q .said) few-outcomes in
       let count : length (q .elements) ≡ n = q .count ∙ sym lines in
-      let done = among-done (kept-them .among) (omega arith) in
+      let all = weighed-all gathered size in
+      let done = among-done (gathered .among) (omega arith) in
       record {
         lines = sym count;
         ahead = done .0;
         instructions = done .1;
-        stands = rw first (stands fault part (kept-them .total) (λ e. kept-them .running (weighted ∙ e)));
-        small = small fault;
-        correlation = correlation-same fault;
-        held = distribution n lines elements₀ elements₁ elements fits own none (λ e m. kept-them .held e (omega (arith, count)));
-        satisfied = condition-same fault mask masks;
+        total = t;
+        fault = fault;
+        stands = stands fault sums (total ∙ ap (totalFrom zeroFloat) all) (rw all at running);
+        held = distribution n lines elements₀ elements₁ elements fits own none (λ e m. gathered .held e (omega (arith, count)));
       }
     where
       distribution : (n : ℕ) → n ≡ elementLines (q .noise .kind) → (l₀ l₁ l : List ℕ) → 64 ≤ length l₀ → l₁ ≡ kept 0 2 f l₀ → (n ≡ 0 → l ≡ l₁)
@@ -217,3 +240,18 @@ module _ {job : List ℕ} {at : ℕ} {g : Form} {f noiseless : List ℕ} {w : �
           unfold noiseOf in
           elements-held (q .header .qubits) (q .elements) (noise-view g (q .values) (q .noise) (q .said .says)) (q .said) (q .sound .distribution) (q .count) l₀ l fits
           (λ z. none (e ∙ sym (q .count) ∙ z) ∙ own) each
+
+  pub prepared : {elements : List ℕ} {sums part : List Float} {r : Prepared} → FaultRead q elements part r → take (r .lines) sums ≡ part → (mask : List ℕ)
+      → Masks w mask (conditionOf (take (r .fault .condition .count) (r .fault .condition .outcomes)) (r .fault .condition .parity)) (bitIn w noiseless)
+      → PreparedAs q elements sums mask r
+  prepared read first mask masks =
+      record {
+        lines = read .lines;
+        ahead = read .ahead;
+        instructions = read .instructions;
+        stands = rw first (read .stands);
+        small = small (read .fault);
+        correlation = correlation-same (read .fault);
+        held = read .held;
+        satisfied = condition-same (read .fault) mask masks;
+      }

@@ -66,7 +66,7 @@ from-generators Φ (suc n) o x z P w =
 abbrev pub KeepsProducts : (Pauli → Pauli) → Type 0
 KeepsProducts f = (P Q : Pauli) → f (P ∗ Q) ≡ f P ∗ f Q
 
-keeps-identity : (f : Pauli → Pauli) → KeepsProducts f → f identity ≡ identity
+pub keeps-identity : (f : Pauli → Pauli) → KeepsProducts f → f identity ≡ identity
 keeps-identity f k = ap f (sym (∗-self identity)) ∙ k identity identity ∙ ∗-self (f identity)
 
 -- Two maps that keep products and agree on X and Z of each of the n qubits agree on every Pauli on the n qubits.

@@ -10,7 +10,7 @@ use lib.Dec.{ltb}
 use lib.ListN.{length, getD, take, drop, length-drop}
 use Rattle.text.specs.Bytes.{comma, until, split}
 use Rattle.text.specs.Number.{numberOf}
-use Rattle.text.specs.List.{withFirst, numbersOf, listQ}
+use Rattle.text.specs.List.{withFirst, piecesOf, listQ}
 use Rattle.text.specs.Laws.Values.{none-some}
 use Rattle.text.specs.Laws.Pieces.{until-le, piece-more, piece-last}
 use Rattle.gate_text.specs.declared.Number.{Number}
@@ -38,18 +38,18 @@ module _ (line : List ℕ) (from : ℕ) (within : from ≤ length line) {qs : Li
     same-piece = let u : e - from ≡ until comma (drop from line) = omega arith in rw u
 
     list-more : e < length line → First (numberOf (piece comma (drop from line))) (listQ (drop (e + 1) line)) qs
-    unfolding listQ numbersOf
+    unfolding listQ piecesOf
     list-more h =
         first-of _ _ qs
-        (ap (λ (p : List ℕ). withFirst (numberOf p) (numbersOf (split comma (drop (e + 1) line)))) (sym same-piece)
-        ∙ ap numbersOf (sym (piece-more comma line from e within found ([] ∷ []) h))
+        (ap (λ (p : List ℕ). withFirst (numberOf p) (piecesOf numberOf (split comma (drop (e + 1) line)))) (sym same-piece)
+        ∙ ap (piecesOf numberOf) (sym (piece-more comma line from e within found ([] ∷ []) h))
         ∙ reads)
 
     list-alone : e ≡ length line → First (numberOf (piece comma (drop from line))) (some []) qs
-    unfolding listQ numbersOf
+    unfolding listQ piecesOf
     list-alone h =
         first-of _ _ qs
-        (ap (λ (p : List ℕ). withFirst (numberOf p) (some [])) (sym same-piece) ∙ ap numbersOf (sym (piece-last comma line from e within found h)) ∙ reads)
+        (ap (λ (p : List ℕ). withFirst (numberOf p) (some [])) (sym same-piece) ∙ ap (piecesOf numberOf) (sym (piece-last comma line from e within found h)) ∙ reads)
 
   pub first-member : numberOf (piece comma (drop from line)) ≡ some (getD qs 0 0)
   first-member = go (ltb (from + until comma (drop from line)) (length line)) refl

@@ -10,9 +10,6 @@ use borrow.Author.Needs.{needs}
 use Rattle.instruction_text.proofs.put_noise_line.Statement.{statement}
 use Rattle.instruction_text.proofs.put_noise_line.Tie as tie
 
-add-next : tie.Need-add-next
-add-next c = search needs
-
 slice-aggregate-prepare : tie.Need-slice-aggregate-prepare
 slice-aggregate-prepare c = search needs
 
@@ -48,11 +45,11 @@ enum-told c = search needs
 enum-known-position : tie.Need-enum-known-position
 enum-known-position c = search needs
 
-add-t38 : tie.Need-add-t38
-add-t38 c = record { fits = omega (arith, few-lines (c .before .before .before .before .before .before .before .before .before .before .before .before .before .before .before .before .before .before .before .before .before .before .before .before .before .before .before .before .pre .0)) }
+add-t36 : tie.Need-add-t36
+add-t36 c = record { fits = omega (arith, few-lines (c .before .before .before .before .before .before .before .before .before .before .before .before .before .before .before .before .before .before .before .before .before .before .before .before .before .before .before .before .pre .0)) }
 
-add-t40 : tie.Need-add-t40
-add-t40 c = record { fits = omega (arith, few-lines (c .before .before .before .before .before .before .before .before .before .before .before .before .before .before .before .before .before .before .before .before .before .before .before .before .before .before .before .before .pre .0), c .before .before .before .before .before .before .before .before .before .before .before .before .before .before .before .before .prepare .ensures (noise-here (c .before .before .before .before .before .before .before .before .before .before .before .before .before .before .before .before .before .before .before .before .before .before .before .before .before .before .before .before .pre .0) (c .before .before .before .before .before .before .before .before .before .before .before .before .before .before .before .before .before .before .before .before .before .before .before .before .before .before .before .before .pre .2) (c .before .before .before .before .before .before .before .before .before .before .before .before .before .before .before .before .before .before .before .before .before .before .before .before .before .before .before .before .pre .3)) .lines, noise-is (c .before .before .before .before .before .before .before .before .before .before .before .before .before .before .before .before .before .before .before .before .before .before .before .before .before .before .before .before .pre .0) (c .before .before .before .before .before .before .before .before .before .before .before .before .before .before .before .before .before .before .before .before .before .before .before .before .before .before .before .before .pre .2) (c .before .before .before .before .before .before .before .before .before .before .before .before .before .before .before .before .before .before .before .before .before .before .before .before .before .before .before .before .pre .3) .few) }
+add-t38 : tie.Need-add-t38
+add-t38 c = record { fits = omega (arith, few-lines (c .before .before .before .before .before .before .before .before .before .before .before .before .before .before .before .before .before .before .before .before .before .before .before .before .before .before .before .before .pre .0), c .before .before .before .before .before .before .before .before .before .before .before .before .before .before .before .before .prepare .ensures (noise-here (c .before .before .before .before .before .before .before .before .before .before .before .before .before .before .before .before .before .before .before .before .before .before .before .before .before .before .before .before .pre .0) (c .before .before .before .before .before .before .before .before .before .before .before .before .before .before .before .before .before .before .before .before .before .before .before .before .before .before .before .before .pre .2) (c .before .before .before .before .before .before .before .before .before .before .before .before .before .before .before .before .before .before .before .before .before .before .before .before .before .before .before .before .pre .3)) .lines, noise-is (c .before .before .before .before .before .before .before .before .before .before .before .before .before .before .before .before .before .before .before .before .before .before .before .before .before .before .before .before .pre .0) (c .before .before .before .before .before .before .before .before .before .before .before .before .before .before .before .before .before .before .before .before .before .before .before .before .before .before .before .before .pre .2) (c .before .before .before .before .before .before .before .before .before .before .before .before .before .before .before .before .before .before .before .before .before .before .before .before .before .before .before .before .pre .3) .few) }
 
 same-length : tie.Need-same-length
 same-length c = search needs
@@ -66,8 +63,8 @@ returns c =
     let n = c .before .before .before .before .before .before .before .before .before .before .before .before .before .before .before .before .before .before .before .before .before .before .before .before .before .before .pre .2 in
     let noisy = c .before .before .before .before .before .before .before .before .before .before .before .before .before .before .before .before .before .before .before .before .before .before .before .before .before .before .pre .3 in
     let ready = c .before .before .before .before .before .before .before .before .before .before .before .before .before .before .prepare .ensures (noise-here b n noisy) in
-    let room : 4096 ≤ length (c .before .before .before .before .before .before .before .before .before .before .before .before .before .before .prepare .last .1 .1 .1 .1 .1 .1 .0) = omega (arith, c .before .before .before .before .before .before .before .before .before .before .before .before .before .before .before .before .before .before .before .before .before .before .before .before .before .before .pre .5, c .before .before .before .before .before .before .before .before .before .before .before .before .before .before .prepare .kept) in
-    let masked : length (c .before .before .before .before .before .before .before .before .before .before .before .before .before .before .prepare .last .1 .1 .1 .1 .1 .1 .1 .1 .0) ≡ 64 = omega (arith, c .before .before .before .before .before .before .before .before .before .before .before .before .before .before .prepare .kept) in
+    let room : 4096 ≤ length (c .before .before .before .before .before .before .before .before .before .before .before .before .before .before .prepare .last .1 .1 .1 .1 .1 .0) = omega (arith, c .before .before .before .before .before .before .before .before .before .before .before .before .before .before .before .before .before .before .before .before .before .before .before .before .before .before .pre .5, c .before .before .before .before .before .before .before .before .before .before .before .before .before .before .prepare .kept) in
+    let masked : length (c .before .before .before .before .before .before .before .before .before .before .before .before .before .before .prepare .last .1 .1 .1 .1 .1 .1 .1 .0) ≡ 64 = omega (arith, c .before .before .before .before .before .before .before .before .before .before .before .before .before .before .prepare .kept) in
     noise-spent b n noisy ready room masked {out = c .before .before .before .before .before .before .before .before .before .before .before .before .before .before .before .before .before .before .before .before .before .before .before .before .before .before .args .out .now} {after = c .before .before .before .before .put-noise .last .0} (c .before .before .before .before .put-noise .ensures (ready-here b n noisy ready room masked) _) (c .enum-told .given .1)
 
 same-length-3 : tie.Need-same-length-3
@@ -82,15 +79,14 @@ returns-2 c =
     let n = c .before .before .before .before .before .before .before .before .before .before .before .before .before .before .before .before .before .before .before .before .before .before .before .before .before .before .before .before .pre .2 in
     let noisy = c .before .before .before .before .before .before .before .before .before .before .before .before .before .before .before .before .before .before .before .before .before .before .before .before .before .before .before .before .pre .3 in
     let ready = c .before .before .before .before .before .before .before .before .before .before .before .before .before .before .before .before .prepare .ensures (noise-here b n noisy) in
-    let room : 4096 ≤ length (c .before .before .before .before .before .before .before .before .before .before .before .before .before .before .before .before .prepare .last .1 .1 .1 .1 .1 .1 .0) = omega (arith, c .before .before .before .before .before .before .before .before .before .before .before .before .before .before .before .before .before .before .before .before .before .before .before .before .before .before .before .before .pre .5, c .before .before .before .before .before .before .before .before .before .before .before .before .before .before .before .before .prepare .kept) in
-    let masked : length (c .before .before .before .before .before .before .before .before .before .before .before .before .before .before .before .before .prepare .last .1 .1 .1 .1 .1 .1 .1 .1 .0) ≡ 64 = omega (arith, c .before .before .before .before .before .before .before .before .before .before .before .before .before .before .before .before .prepare .kept) in
+    let room : 4096 ≤ length (c .before .before .before .before .before .before .before .before .before .before .before .before .before .before .before .before .prepare .last .1 .1 .1 .1 .1 .0) = omega (arith, c .before .before .before .before .before .before .before .before .before .before .before .before .before .before .before .before .before .before .before .before .before .before .before .before .before .before .before .before .pre .5, c .before .before .before .before .before .before .before .before .before .before .before .before .before .before .before .before .prepare .kept) in
+    let masked : length (c .before .before .before .before .before .before .before .before .before .before .before .before .before .before .before .before .prepare .last .1 .1 .1 .1 .1 .1 .1 .0) ≡ 64 = omega (arith, c .before .before .before .before .before .before .before .before .before .before .before .before .before .before .before .before .prepare .kept) in
     noise-done b n noisy ready room masked {out = c .before .before .before .before .before .before .before .before .before .before .before .before .before .before .before .before .before .before .before .before .before .before .before .before .before .before .before .before .args .out .now} {after = c .before .before .before .before .before .before .put-noise .last .0} (c .before .before .before .before .before .before .put-noise .ensures (ready-here b n noisy ready room masked) _) _ _ (c .before .before .position .given .1)
 
 pub put-noise-line-spec : {M : Type 1} → statement M
 put-noise-line-spec =
     tie.close
     (tie.spec
-    add-next
     slice-aggregate-prepare
     slice-aggregate-prepare-2
     prepare-requires
@@ -100,8 +96,8 @@ put-noise-line-spec =
     put-noise-requires
     enum-told
     enum-known-position
+    add-t36
     add-t38
-    add-t40
     same-length
     same-length-2
     returns

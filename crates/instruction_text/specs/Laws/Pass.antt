@@ -19,7 +19,7 @@ use Rattle.faults.specs.declared.Prepared.{Prepared}
 use Rattle.faults.specs.Prepared.{NoiseLines, noiseIn, PreparedAs}
 use Rattle.noise_text.specs.declared.Drawn.{Drawn}
 use Rattle.noise_text.specs.declared.Drawn.the-variants as drawn
-use Rattle.instruction_text.specs.declared.Place.{Place}
+use Rattle.instruction_text.specs.declared.Reached.{Reached}
 use Rattle.instruction_text.specs.declared.Moved.{Moved}
 use Rattle.instruction_text.specs.declared.Moved.the-variants as moved
 use Rattle.noise_text.specs.Injections.{textOf, PutAs, StepPut, ReadyOf}
@@ -63,30 +63,30 @@ module _ {words : List ℕ} {from shots : ℕ} {out after : List ℕ} {step : St
               within = rw next at (u .within);
             }
 
-module _ {p : Pass} {here : Place} (b : Between p here) where
-  pub few-shots : p .shots ≤ 4096
+module _ {p : Pass} {here : Reached} (b : Between p here) where
+  pub few-shots : p .shape .shots ≤ 4096
   few-shots = omega (arith, b .shots-are, b .ahead .header .few-shots)
 
-  pub few-lines : here .line ≤ 1048577
+  pub few-lines : here .place .line ≤ 1048577
   few-lines = omega (arith, b .ahead .number, b .ahead .within, ended-parts (p .job) (b .ahead .ended))
 
   -- a line that is no noise is copied
-  module _ {line : Next} {fields : List ℕ} (n : NextLine (p .job) (here .at) line fields) (quiet : noiseForm (line .form) ≡ false) where
-    pub plain-put : {out after : List ℕ} {byte : ℕ} → Puts (here .byte) (take (line .end + 1 - here .at) (drop (here .at) (p .job))) out after byte
-        → InstructionPut p out here after (moved.To (record { at = line .end + 1; line = here .line + 1; position = here .position; byte = byte }))
+  module _ {line : Next} {fields : List ℕ} (n : NextLine (p .job) (here .place .byte) line fields) (quiet : noiseForm (line .form) ≡ false) where
+    pub plain-put : {out after : List ℕ} {byte : ℕ} → Puts (here .text) (take (line .end + 1 - here .place .byte) (drop (here .place .byte) (p .job))) out after byte
+        → InstructionPut p out here after (moved.To (record { place = record { byte = line .end + 1; line = here .place .line + 1; position = here .place .position }; text = byte }))
     unfolding MovedTo settle settleThen stepOf
     plain-put {out} {after} {byte} puts =
         let r = plain-read (b .ahead) n quiet in
-        let text = lineAt (p .job) (here .at) (line .end) in
+        let text = lineAt (p .job) (here .place .byte) (line .end) in
         let copy : SettledLine = record { line = r .line; text = text } in
         record {
           put =
               record {
                 lines = copy ∷ [];
-                settles = ap (λ (is : List Placed). settle (lentBy p) is (drop (here .position) (p .main))) (r .instructions);
-                puts = subst (λ (t : List ℕ). Puts (here .byte) t out after byte) (whole-line (n .place) ∙ sym (text-one copy)) puts;
+                settles = ap (λ (is : List Placed). settle (lentBy p) is (drop (here .place .position) (p .main))) (r .instructions);
+                puts = subst (λ (t : List ℕ). Puts (here .text) t out after byte) (whole-line (n .place) ∙ sym (text-one copy)) puts;
                 onward = omega arith;
-                few = omega (arith, puts .place, n .place .inside, ended-parts (p .job) (b .ahead .ended), length-take (line .end + 1 - here .at) (drop (here .at) (p .job)));
+                few = omega (arith, puts .place, n .place .inside, ended-parts (p .job) (b .ahead .ended), length-take (line .end + 1 - here .place .byte) (drop (here .place .byte) (p .job)));
                 between =
                     record {
                       header = b .header;
@@ -101,11 +101,11 @@ module _ {p : Pass} {here : Place} (b : Between p here) where
         }
 
   -- noise is made ready for its draws
-  module _ {line : Next} {fields : List ℕ} (n : NextLine (p .job) (here .at) line fields) (noisy : noiseForm (line .form) ≡ true) where
-    pub noise-is : NoiseRead (p .job) (b .header) (b .recorded) (here .line) (here .at) line fields
+  module _ {line : Next} {fields : List ℕ} (n : NextLine (p .job) (here .place .byte) line fields) (noisy : noiseForm (line .form) ≡ true) where
+    pub noise-is : NoiseRead (p .job) (b .header) (b .recorded) (here .place .line) (here .place .byte) line fields
     noise-is = noise-read (b .ahead) n noisy
 
-    abbrev pub noise-here : NoiseLines (p .job) (line .end + 1) (line .form) fields (p .noiseless) (p .w)
+    abbrev pub noise-here : NoiseLines (p .job) (line .end + 1) (line .form) fields (p .noiseless) (p .shape .width)
     noise-here =
         record {
           header = b .header;
@@ -117,8 +117,8 @@ module _ {p : Pass} {here : Place} (b : Between p here) where
           count = noise-is .count;
           few = noise-is .few;
           sound = noise-is .sound;
-          rest = instructionsAt (p .job) (here .line + 1) (line .end + 1);
-          line = here .line + 1;
+          rest = instructionsAt (p .job) (here .place .line + 1) (line .end + 1);
+          line = here .place .line + 1;
           among = noise-is .among;
           rows = b .rows;
         }
@@ -126,7 +126,7 @@ module _ {p : Pass} {here : Place} (b : Between p here) where
     module _ {elements : List ℕ} {sums : List Float} {mask : List ℕ} {r : Prepared} (ready : PreparedAs noise-here elements sums mask r) (room : 4096 ≤ length elements)
         (masked : length mask ≡ 64)
       where
-        abbrev pub ready-here : ReadyOf (r .fault .probability) (r .fault .distribution) (take (r .lines) sums) mask elements (p .shots) (r .fault .correlation) (p .second) (p .base)
+        abbrev pub ready-here : ReadyOf (r .fault .probability) (r .fault .distribution) (take (r .lines) sums) mask elements (p .shape .shots) (r .fault .correlation) (p .second) (p .base)
         ready-here =
             let D = noiseIn noise-here .distribution in
             let sound = noise-is .sound .distribution in
@@ -135,7 +135,7 @@ module _ {p : Pass} {here : Place} (b : Between p here) where
                   record {
                     noise = noiseIn noise-here;
                     lent = lentBy p;
-                    width = p .w;
+                    width = p .shape .width;
                     qubits = b .header .qubits;
                     stands = ready .stands;
                     small = ready .small;
@@ -154,28 +154,28 @@ module _ {p : Pass} {here : Place} (b : Between p here) where
 
         -- what its draws come to
         module _ {out after : List ℕ} {o : Drawn}
-            (put : StepPut (p .main) (here .byte) (p .shots) out
-            (stepOf (lentBy p) (drop (here .position) (p .main)) (lineAt (p .job) (here .at) (line .end)) (Instruction.noise (noiseIn noise-here))) after o)
+            (put : StepPut (p .main) (here .text) (p .shape .shots) out
+            (stepOf (lentBy p) (drop (here .place .position) (p .main)) (lineAt (p .job) (here .place .byte) (line .end)) (Instruction.noise (noiseIn noise-here))) after o)
           where
             abbrev step : Step
-            step = stepOf (lentBy p) (drop (here .position) (p .main)) (lineAt (p .job) (here .at) (line .end)) (Instruction.noise (noiseIn noise-here))
+            step = stepOf (lentBy p) (drop (here .place .position) (p .main)) (lineAt (p .job) (here .place .byte) (line .end)) (Instruction.noise (noiseIn noise-here))
 
             abbrev later : List ℕ → Settled
-            later = settle (lentBy p) (instructionsAt (p .job) (here .line + 1) (line .end + 1))
+            later = settle (lentBy p) (instructionsAt (p .job) (here .place .line + 1) (line .end + 1))
 
-            then-settled : settledFrom p here ≡ settleThen (here .line) step later
+            then-settled : settledFrom p here ≡ settleThen (here .place .line) step later
             unfolding settle
-            then-settled = ap (λ (is : List Placed). settle (lentBy p) is (drop (here .position) (p .main))) (noise-is .instructions)
+            then-settled = ap (λ (is : List Placed). settle (lentBy p) is (drop (here .place .position) (p .main))) (noise-is .instructions)
 
             pub noise-spent : o ≡ drawn.Spent → InstructionPut p out here after moved.Spent
             unfolding MovedTo
-            noise-spent e = record { put = then-settled ∙ spent-step (here .line) later put e }
+            noise-spent e = record { put = then-settled ∙ spent-step (here .place .line) later put e }
 
             pub noise-done : (i j : ℕ) → o ≡ drawn.Done i j
-                → InstructionPut p out here after (moved.To (record { at = r .next; line = here .line + 1 + r .lines; position = i; byte = j }))
+                → InstructionPut p out here after (moved.To (record { place = record { byte = r .next; line = here .place .line + 1 + r .lines; position = i }; text = j }))
             unfolding MovedTo
             noise-done i j e =
-                let t = done-step (here .line) later put i j e in
+                let t = done-step (here .place .line) later put i j e in
                 record {
                   put =
                       record {
@@ -199,11 +199,11 @@ module _ {p : Pass} {here : Place} (b : Between p here) where
                       };
                 }
 
-module _ {p : Pass} {out : List ℕ} {here : Place} {after : List ℕ} {r : Moved} (t : InstructionPut p out here after r) where
-  pub moved-spent : r ≡ moved.Spent → settledFrom p here ≡ Settled.spentAt (here .line)
+module _ {p : Pass} {out : List ℕ} {here : Reached} {after : List ℕ} {r : Moved} (t : InstructionPut p out here after r) where
+  pub moved-spent : r ≡ moved.Spent → settledFrom p here ≡ Settled.spentAt (here .place .line)
   unfolding MovedTo
   moved-spent e = rw e at (t .put)
 
-  pub moved-to : {next : Place} → r ≡ moved.To next → Onward p out here after next
+  pub moved-to : {next : Reached} → r ≡ moved.To next → Onward p out here after next
   unfolding MovedTo
   moved-to e = rw e at (t .put)

@@ -1,6 +1,7 @@
 -- `instructions::element_lines` meets its contract. Assumes nothing.
 use types.Run.{miss}
 use mathlib.Core.List.{[], _∷_}
+use mathlib.Core.Path.{_∙_}
 use borrow.Author.Needs.{needs}
 use Rattle.instructions.specs.Laws.Meaning.{othersThan, lines-uniform, lines-weighted, lines-alone}
 use Rattle.instructions.proofs.element_lines.Statement.{statement}
@@ -9,20 +10,20 @@ use Rattle.instructions.proofs.element_lines.Tie as tie
 enum-told : tie.Need-enum-told
 enum-told c = search needs
 
-shared-slice-read-result : tie.Need-shared-slice-read-result
-shared-slice-read-result c = search needs
+number-requires : tie.Need-number-requires
+number-requires c κs = search needs
 
 enum-told-2 : tie.Need-enum-told-2
 enum-told-2 c = search needs
 
-shared-slice-read-result-2 : tie.Need-shared-slice-read-result-2
-shared-slice-read-result-2 c = search needs
+number-requires-2 : tie.Need-number-requires-2
+number-requires-2 c κs = search needs
 
 returns : tie.Need-returns
-returns c = λ vs n h. lines-uniform (rw (c .before .enum-told .given .1) at h)
+returns c = λ vs n h. c .number .ensures ∙ lines-uniform (rw (c .before .enum-told .given .1) at h)
 
 returns-2 : tie.Need-returns-2
-returns-2 c = λ vs n h. lines-weighted (rw (c .before .enum-told2 .given .1) at h)
+returns-2 c = λ vs n h. c .number2 .ensures ∙ lines-weighted (rw (c .before .enum-told2 .given .1) at h)
 
 returns-3 : tie.Need-returns-3
 returns-3 c =
@@ -37,9 +38,9 @@ element-lines-spec =
     tie.close
     (tie.spec
     enum-told
-    shared-slice-read-result
+    number-requires
     enum-told-2
-    shared-slice-read-result-2
+    number-requires-2
     returns
     returns-2
     returns-3)

@@ -6,14 +6,16 @@ use mathlib.Core.Bool.{Bool, true, false, cond, _&&_, _||_}
 use mathlib.Core.List.{List, [], _∷_}
 use mathlib.Core.Option.{Option, none, some}
 use lib.Dec.{eqb}
-use lib.ListN.{length, getD}
+use lib.ListN.{length}
 use Rattle.pauli.specs.Gate.{Gate, gateOf}
 use Rattle.text.specs.Bytes.{bytes}
 use Rattle.text.specs.Template.{Value, numberAt, listAt}
+use Rattle.template.specs.Values.{heldNumber}
+use Rattle.template.specs.Fields.{Held}
 use Rattle.job.specs.Float.{zeroFloat}
 use Rattle.job.specs.declared.Header.{Header}
 use Rattle.job.specs.Line.{SparsePauli, Line}
-use Rattle.job.specs.Grammar.{Kind, NoiseLine, Written, isOne, optional, unitaryLine, noiseLine, forms, readLine}
+use Rattle.job.specs.Grammar.{Kind, NoiseLine, Written, headerBy, isOne, optional, unitaryLine, noiseLine, forms, readLine}
 use Rattle.job.specs.Checks.{records, elementLines, firstTotal}
 use Rattle.reader.specs.declared.Form.{Form}
 use Rattle.reader.specs.declared.Form.the-variants as form
@@ -23,6 +25,10 @@ use Rattle.instructions.specs.Ahead.{hasWeights}
 
 pub some-same : {A : Type 0} {a b : A} → some a ≡ some b → a ≡ b
 some-same e = cc
+
+-- a header from the words
+pub header-held : {words : List ℕ} {vs : List Value} → Held words 3 0 vs → headerBy (heldNumber words) ≡ headerBy (λ (i : ℕ). numberAt i vs)
+header-held h = rw (h .number 0 (omega arith), h .number 1 (omega arith), h .number 2 (omega arith))
 
 -- a noise line of a kind
 unfoldable pub noiseBy : Kind → List Value → NoiseLine
@@ -146,11 +152,11 @@ noise-same e = cc
 
 -- how many element lines follow a noise line
 module _ {fields : List ℕ} {vs : List Value} {n : NoiseLine} where
-  pub lines-uniform : Said form.Uniform fields vs (Written.noise n) → getD fields 2 0 ≡ elementLines (n .kind)
+  pub lines-uniform : Said form.Uniform fields vs (Written.noise n) → heldNumber fields 2 ≡ elementLines (n .kind)
   unfolding forms placeOf bytes elementLines noiseBy
   lines-uniform h = h .held .number 2 (omega arith) ∙ ap (λ (m : NoiseLine). elementLines (m .kind)) (noise-same (noise-said _ vs (Written.noise n) (h .says)))
 
-  pub lines-weighted : Said form.Weighted fields vs (Written.noise n) → getD fields 2 0 ≡ elementLines (n .kind)
+  pub lines-weighted : Said form.Weighted fields vs (Written.noise n) → heldNumber fields 2 ≡ elementLines (n .kind)
   unfolding forms placeOf bytes elementLines noiseBy
   lines-weighted h = h .held .number 2 (omega arith) ∙ ap (λ (m : NoiseLine). elementLines (m .kind)) (noise-same (noise-said _ vs (Written.noise n) (h .says)))
 

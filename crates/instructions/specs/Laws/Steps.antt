@@ -7,13 +7,13 @@ use mathlib.Core.Path.{_≡_, refl, sym, ap, subst, _∙_}
 use mathlib.Core.Bool.{true, false, true≢false}
 use mathlib.Core.List.{List, [], _∷_}
 use mathlib.Core.Option.{some}
-use lib.ListN.{length, getD, drop, drop-of-length-le, length-map}
+use lib.ListN.{length, drop, drop-of-length-le, length-map}
 use Rattle.text.specs.Bytes.{bytes, pieces, lines}
 use Rattle.text.specs.Template.{Value}
-use Rattle.template.specs.Fields.{Held}
+use Rattle.template.specs.Values.{heldNumber}
 use Rattle.job.specs.declared.Header.{Header}
 use Rattle.job.specs.Line.{Line, WeightedPauli, Instruction}
-use Rattle.job.specs.Grammar.{Kind, NoiseLine, Written, forms, readLine}
+use Rattle.job.specs.Grammar.{Kind, NoiseLine, Written, headerBy, forms, readLine}
 use Rattle.job.specs.Checks.{elementLines, next as nextContext}
 use Rattle.job.specs.Job.{checkJob, distributionOf, noiseOf, placedAt, gather, gathered, Job, jobOf}
 use Rattle.job.specs.Sound.{DistributionSound, NoiseSound, InstructionSound, InstructionsSound}
@@ -30,7 +30,7 @@ use Rattle.reader.specs.Parsed.{placeOf, Said}
 use Rattle.instructions.specs.declared.Next.{Next}
 use Rattle.instructions.specs.Reading.{lineAt, LineAt, NextLine, noiseForm}
 use Rattle.instructions.specs.Ahead.{instructionsAt, Ahead, Started, PlainRead, NoiseRead}
-use Rattle.instructions.specs.Laws.Meaning.{some-same, Meaning, meaning, read-says, line-no-noise, noise-is-noise}
+use Rattle.instructions.specs.Laws.Meaning.{header-held, some-same, Meaning, meaning, read-says, line-no-noise, noise-is-noise}
 
 -- nothing is left at the end
 pub none-left : (job : List ℕ) (k at : ℕ) → length job ≤ at → instructionsAt job k at ≡ []
@@ -64,9 +64,9 @@ started job e passes at =
 header-same : {g h : Header} → Written.header g ≡ Written.header h → g ≡ h
 header-same e = cc
 
--- the header's numbers are the line's first three
+-- the header's numbers are those of its line
 pub header-read : {job : List ℕ} {next : Next} {fields : List ℕ} → checkJob job .number ≡ 0 → NextLine job 0 next fields
-    → jobOf job .header ≡ record { qubits = getD fields 0 0; outcomes = getD fields 1 0; shots = getD fields 2 0 }
+    → jobOf job .header ≡ headerBy (heldNumber fields)
 unfolding forms placeOf bytes
 header-read {job} {next} {fields} passes n =
     let b = job-begun job passes in
@@ -75,11 +75,10 @@ header-read {job} {next} {fields} passes n =
     ap (λ (j : Job). j .header) (b .is) ∙ go (next .form) vs said (meaning (next .form) vs (Written.header (b .header)) (said .says))
   where
     go : {h : Header} (f : Form) (vs : List Value) → Said f fields vs (Written.header h) → Meaning f (Written.header h)
-        → h ≡ record { qubits = getD fields 0 0; outcomes = getD fields 1 0; shots = getD fields 2 0 }
+        → h ≡ headerBy (heldNumber fields)
     go f vs said (Meaning.header h e) =
         let s = subst (λ (g : Form). Said g fields vs (Written.header h)) e said in
-        let three : Held fields 3 0 vs = s .held in
-        header-same (sym (some-same (s .says))) ∙ sym (rw (three .number 0 (omega arith), three .number 1 (omega arith), three .number 2 (omega arith)))
+        header-same (sym (some-same (s .says))) ∙ sym (header-held (s .held))
 
 -- ---- an instruction
 

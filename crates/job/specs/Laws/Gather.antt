@@ -12,10 +12,10 @@ use lib.Dec.{eqb, ltb, leb}
 use lib.Ieee.{Float, binary64, add}
 use lib.ListN.{length, length-map}
 use Rattle.text.specs.Laws.Values.{both}
-use Rattle.job.specs.Line.{SparsePauli, WeightedPauli, Instruction, Placed}
+use Rattle.job.specs.Line.{SparsePauli, WeightedPauli, sizeOf, Instruction, Placed}
 use Rattle.job.specs.Float.{float, totalFrom, isWeight, isTotal}
 use Rattle.job.specs.Grammar.{Kind, NoiseLine, Written, readLine}
-use Rattle.job.specs.Checks.{Context, elementLines, firstTotal, nextTotal, records, next, noiseTests, kindQubits, kindDistinct, elementsFit, eachBelow, eachShort, sameWeight, expected, headerFits, weightFits, totalFits, ownTests}
+use Rattle.job.specs.Checks.{Context, elementLines, kindSize, firstTotal, nextTotal, records, next, noiseTests, kindQubits, kindDistinct, elementsFit, eachBelow, eachShort, sameWeight, expected, headerFits, weightFits, totalFits, ownTests}
 use Rattle.job.specs.Job.{distributionOf, noiseOf, weightOf, Gathered, placedAt, gather, gathered, recordedBy}
 use Rattle.job.specs.Contexts.{Accepted}
 use Rattle.job.specs.Sound.{Every, PauliSound, SmallOption, WeightSound, ElementSound, weightsOf, DistributionSound, NoiseSound, InstructionSound, InstructionsSound, SaidBy}
@@ -23,6 +23,14 @@ use Rattle.job.specs.Laws.Tests.{AllPass}
 use Rattle.job.specs.Laws.Forms.{KindFits, NoiseFits, WrittenFits}
 use Rattle.job.specs.Laws.Lines.{pauli-sound, operands-sound, first-short, line-sound}
 use Rattle.job.specs.Laws.Accepted.{Passing, accepted-first}
+
+-- the size by the kind is that of the distribution, where the elements are as many as the kind says
+pub kind-size : (kind : Kind) (es : List WeightedPauli) → length es ≡ elementLines kind → sizeOf (distributionOf kind es) ≡ kindSize kind
+unfolding sizeOf distributionOf kindSize elementLines
+kind-size (Kind.single P) es e = refl
+kind-size (Kind.depolarizing qs) es e = refl
+kind-size (Kind.uniform n) es e = length-map es (λ (w : WeightedPauli). w .pauli) ∙ e
+kind-size (Kind.weighted n) es e = e
 
 -- ---- elements
 

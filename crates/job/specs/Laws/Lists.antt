@@ -1,13 +1,14 @@
--- What the tests on lists say of the members at their places: laws. Assumes nothing.
+-- What the tests on lists say of the members at their places, and of sums over them: laws. Assumes nothing.
 use Prim.Native.Nat.{ℕ, zero, suc, _≤_, _<_}
 use native.Mathlib.Omega.{arith}
-use mathlib.Core.Path.{_≡_, refl, sym, ap, _∙_}
+use mathlib.Core.Path.{_≡_, refl, sym, ap, _∙_, fun-ext}
 use mathlib.Core.Bool.{Bool, true, false, not, _&&_, true≢false}
 use mathlib.Core.List.{List, [], _∷_}
-use borrow.Author.Tests.{ltb-true, lt-ltb, eqb-true, eq-eqb, not-true}
+use borrow.Author.Tests.{ltb-true, lt-ltb, eqb-true, eq-eqb, not-true, not-false}
 use lib.Dec.{eqb, ltb}
 use lib.ListN.{length, getD}
-use Rattle.pauli.specs.Bits.{outside, members}
+use Rattle.pauli.specs.Bits.{Bits, none, only, _⊕_, _∩_, _△_, outside, members, parity, sumOver}
+use Rattle.pauli.specs.Laws.Parity.{at-or-off, parity-△-right, parity-only-right, parity-none-right}
 use Rattle.text.specs.List.{risesFrom, isRising}
 use Rattle.text.specs.Laws.Values.{both}
 use Rattle.job.specs.Checks.{allBelow, distinct}
@@ -113,3 +114,22 @@ pub rising-distinct : (l : List ℕ) → isRising l ≡ true → distinct l ≡ 
 unfolding isRising distinct
 rising-distinct [] e = refl
 rising-distinct (a ∷ l) e = rw (rises-apart a l e) (rising-distinct l (rising-rest a l e))
+
+-- ---- sums over a rising list
+
+members-none : members [] ≡ none
+unfolding members outside none
+members-none = refl
+
+members-first : (a : ℕ) (l : List ℕ) → members l a ≡ false → members (a ∷ l) ≡ only a △ members l
+unfolding members outside only _△_ _⊕_
+members-first a l h = fun-ext (at-or-off (λ i e. not (not e && outside l i) ≡ e ⊕ not (outside l i)) a (rw (not-false (outside l a) h)) (λ i. refl))
+
+-- the sum over the list is the parity over the set of its members
+pub sumOver-members : (m : ℕ) (s : Bits) (l : List ℕ) → isRising l ≡ true → allBelow m l ≡ true → sumOver l s ≡ parity m (s ∩ members l)
+unfolding sumOver
+sumOver-members m s [] r b = rw members-none (sym (parity-none-right m s))
+sumOver-members m s (a ∷ l) r b =
+    let below = below-first m a l b in
+    rw (members-first a l (rises-apart a l (unfold isRising in r)))
+    (simp (parity-△-right, parity-only-right m a s (below .0), sumOver-members m s l (rising-rest a l r) (below .1)))

@@ -14,17 +14,17 @@ use Rattle.job.specs.Grammar.{Kind, NoiseLine, Written, readLine}
 use Rattle.job.specs.Checks.{Context, noContext, elementLines, next, allBelow, eachBelow, eachShort, expected, inRange, headerFits, listsOf, lineTests, kindQubits, kindDistinct, elementsFit, noiseTests, ownTests, refusalOf}
 use Rattle.job.specs.Job.{accepted, isLast, nextOf, checkLines, distributionOf, noiseOf, recordedBy}
 use Rattle.job.specs.Contexts.{between, Accepted}
-use Rattle.job.specs.Sound.{PauliSound, NextOutcome, LineSound, DistributionSound, NoiseSound, ReadAs, LinesSound, HeaderSound}
+use Rattle.job.specs.Sound.{PauliSound, NextOutcome, LineSound, DistributionSound, NoiseSound, HeaderSound}
 use Rattle.job.specs.Laws.Permutation.{permutation-parts}
 use Rattle.job.specs.Laws.Tests.{AllPass}
 use Rattle.job.specs.Laws.Accepted.{checks-good, Passing, passing-good, accepted-more}
-use Rattle.job.specs.Laws.Instructions.{between-accepted, next-between}
+use Rattle.job.specs.Laws.Instructions.{next-between}
 
 -- a test that passes, and those after it
-passed : {b : Bool} {A : Type 0} → b ≡ true → A → (not b ≡ false) × A
+pub passed : {b : Bool} {A : Type 0} → b ≡ true → A → (not b ≡ false) × A
 passed p later = (ap not p, later)
 
-and-both : {a b : Bool} → a ≡ true → b ≡ true → (a && b) ≡ true
+pub and-both : {a b : Bool} → a ≡ true → b ≡ true → (a && b) ≡ true
 and-both {a} {b} p q = rw (p, q)
 
 -- ---- tests 4 and 5 on lists
@@ -52,7 +52,7 @@ module _ (n : ℕ) where
   one-short P s = pauli-short P [] s (unfold eachShort in refl)
 
   -- the two tests of a Pauli
-  pauli-passes : (P : SparsePauli) {A : Type 0} → PauliSound n P → A → (not (eachBelow n (listsOf P)) ≡ false) × ((not (eachShort (listsOf P)) ≡ false) × A)
+  pub pauli-passes : (P : SparsePauli) {A : Type 0} → PauliSound n P → A → (not (eachBelow n (listsOf P)) ≡ false) × ((not (eachShort (listsOf P)) ≡ false) × A)
   pauli-passes P s later = passed (one-below P s) (passed (one-short P s) later)
 
 short-also : (l : List ℕ) (ls : List (List ℕ)) → length l ≤ 31 → eachShort ls ≡ true → eachShort (l ∷ ls) ≡ true
@@ -135,27 +135,6 @@ line-more h r k t ts l reads s a =
     (unfold expected next headerFits ownTests between in
     record { due = refl; ends = and-false (isLast ts); header = refl; own = line-passes h r l s })
     (subst (λ (c : Context). Accepted (suc k) c ts) (sym (next-between l h r)) a)
-
--- a sound noise line that has no element lines
-pub noise-more : (h : Header) (r k : ℕ) (t : List ℕ) (ts : List (List ℕ)) (n : NoiseLine) → readLine t ≡ some (Written.noise n)
-    → elementLines (n .kind) ≡ 0 → NoiseSound (h .qubits) r (noiseOf n []) → Accepted (suc k) (between h r) ts → Accepted k (between h r) (t ∷ ts)
-unfolding next between
-noise-more h r k t ts n reads none-due s a =
-    accepted-more k (between h r) t ts (Written.noise n) refl reads
-    (unfold expected headerFits ownTests in
-    record { due = refl; ends = rw none-due (and-false (isLast ts)); header = refl; own = noise-passes h r n [] (sym none-due) s })
-    (between-accepted (suc k) (next (between h r) (Written.noise n)) ts refl none-due a)
-
--- ---- a job without noise
-
--- texts of sound lines are accepted
-pub lines-accepted : (h : Header) (r k : ℕ) (ts : List (List ℕ)) (ls : List Line) → ReadAs ts ls → LinesSound h r ls → Accepted k (between h r) ts
-unfolding ReadAs LinesSound
-lines-accepted h r k [] [] e s = record { begun = unfold between in refl; ends = unfold between in refl; passes = unfold checkLines in refl }
-lines-accepted h r k [] (l ∷ ls) e s = absurd e
-lines-accepted h r k (t ∷ ts) [] e s = absurd e
-lines-accepted h r k (t ∷ ts) (l ∷ ls) e s =
-    line-more h r k t ts l (e .0) (s .0) (lines-accepted h (r + recordedBy (Instruction.line l)) (suc k) ts ls (e .1) (s .1))
 
 -- ---- the header
 

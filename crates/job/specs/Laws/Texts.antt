@@ -11,7 +11,7 @@ use lib.Seq.{getD-append-add}
 use Rattle.text.specs.Bytes.{bytes, LF, behind, unlines}
 use Rattle.text.specs.List.{isRising}
 use Rattle.text.specs.Template.{Value, valuesOf, numbersIn, listsIn, lineText}
-use Rattle.text.specs.Written.{Small, FitL, FitQ, FitC, Suits, AllSuit, atSpace, ofOneLine, Free, AllFree}
+use Rattle.text.specs.Written.{AllSmall, FitL, FitQ, FitC, Suits, AllSuit, atSpace, ofOneLine, Free, AllFree}
 use Rattle.text.specs.Theorems.{written-reads, lines-unlines}
 use Rattle.text.specs.Laws.Places.{literals}
 use Rattle.job.specs.declared.Header.{Header}
@@ -47,7 +47,7 @@ form-written f m ds s =
     ∙ ap (said (f .says)) reads
 
 -- qubits can be written
-pub small-below : (n : ℕ) (l : List ℕ) → n ≤ 256 → allBelow n l ≡ true → Small l
+pub small-below : (n : ℕ) (l : List ℕ) → n ≤ 256 → allBelow n l ≡ true → AllSmall l
 small-below n [] h b i = omega arith
 small-below n (q ∷ l) h b zero = omega (arith, below-first n q l b .0)
 small-below n (q ∷ l) h b (suc i) = small-below n l h (below-first n q l b .1) i

@@ -20,14 +20,14 @@ returns c =
     let t = tests-clifford (c .before .before .before .args .c) h in
     fails 4 _ _ (sym (c .before .below .ensures _ _ vs (t .held) (omega arith)) ∙ not-true _ (c .if1 .taken)) ∙ t .own
 
-shared-slice-read-count : tie.Need-shared-slice-read-count
-shared-slice-read-count c = search needs
+count-requires : tie.Need-count-requires
+count-requires c κs = search needs
 
 returns-2 : tie.Need-returns-2
 returns-2 c =
     λ vs w h.
     let t = tests-clifford (c .before .before .before .before .before .args .c) h in
-    let size = t .held .count 0 (omega arith) in
+    let size = c .before .count .ensures ∙ t .held .count 0 (omega arith) in
     fails 5 _ _ (left-false _ _ (left-false _ _ (lt-leb _ _ (rw size at (c .if2 .taken)))))
     ∙ passes 4 _ _ (sym (c .before .before .before .below .ensures _ _ vs (t .held) (omega arith)) ∙ not-false _ (c .before .before .if1 .left))
     ∙ t .own
@@ -44,8 +44,8 @@ returns-3 c =
     ∙ passes 4 _ _ (sym (c .before .before .before .before .before .below .ensures _ _ vs (t .held) (omega arith)) ∙ not-false _ (c .before .before .before .before .if1 .left))
     ∙ t .own
 
-shared-slice-read-is-clifford : tie.Need-shared-slice-read-is-clifford
-shared-slice-read-is-clifford c = search needs
+number-requires : tie.Need-number-requires
+number-requires c κs = search needs
 
 is-clifford-requires : tie.Need-is-clifford-requires
 is-clifford-requires c κs = search needs
@@ -54,8 +54,8 @@ returns-4 : tie.Need-returns-4
 returns-4 c =
     λ vs w h.
     let t = tests-clifford (c .before .before .before .before .before .before .before .before .before .before .args .c) h in
-    let size = t .held .count 0 (omega arith) in
-    let table = t .held .number 0 (omega arith) in
+    let size = c .before .before .before .before .before .before .count .ensures ∙ t .held .count 0 (omega arith) in
+    let table = c .before .before .number .ensures ∙ t .held .number 0 (omega arith) in
     let once = c .before .before .before .before .slot-distinct .ensures _ _ vs (t .held) (omega arith) in
     let right = rw (size, table) at (c .before .is-clifford .ensures) in
     fails 7 _ _ (sym right ∙ not-true _ (c .if4 .taken))
@@ -67,8 +67,8 @@ returns-5 : tie.Need-returns-5
 returns-5 c =
     λ vs w h.
     let t = tests-clifford (c .before .before .before .before .before .before .before .before .before .before .args .c) h in
-    let size = t .held .count 0 (omega arith) in
-    let table = t .held .number 0 (omega arith) in
+    let size = c .before .before .before .before .before .before .count .ensures ∙ t .held .count 0 (omega arith) in
+    let table = c .before .before .number .ensures ∙ t .held .number 0 (omega arith) in
     let once = c .before .before .before .before .slot-distinct .ensures _ _ vs (t .held) (omega arith) in
     let right = rw (size, table) at (c .before .is-clifford .ensures) in
     none-bad ∙ passes 7 _ _ (sym right ∙ not-false _ (c .if4 .left))
@@ -82,11 +82,11 @@ clifford-number-spec =
     (tie.spec
     below-requires
     returns
-    shared-slice-read-count
+    count-requires
     returns-2
     slot-distinct-requires
     returns-3
-    shared-slice-read-is-clifford
+    number-requires
     is-clifford-requires
     returns-4
     returns-5)

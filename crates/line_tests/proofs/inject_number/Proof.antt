@@ -17,14 +17,14 @@ returns c =
     let t = tests-inject (c .before .before .before .args .c) h in
     two-fail _ _ _ (c .before .pauli-number .ensures _ _ vs (t .held) (omega arith)) (c .if1 .taken) ∙ t .own
 
-shared-slice-read-if2 : tie.Need-shared-slice-read-if2
-shared-slice-read-if2 c = search needs
+number-requires : tie.Need-number-requires
+number-requires c κs = search needs
 
 returns-2 : tie.Need-returns-2
 returns-2 c =
     λ vs w h.
     let t = tests-inject (c .before .before .before .before .before .before .args .c) h in
-    let shot = t .held .number 0 (omega arith) in
+    let shot = c .before .before .number .ensures ∙ t .held .number 0 (omega arith) in
     fails 10 _ _ (rw shot at (le-ltb _ _ (c .if2 .taken)))
     ∙ two-pass _ _ _ (c .before .before .before .before .pauli-number .ensures _ _ vs (t .held) (omega arith)) (omega arith) (omega arith) (c .before .before .before .if1 .left)
     ∙ t .own
@@ -33,11 +33,11 @@ returns-3 : tie.Need-returns-3
 returns-3 c =
     λ vs w h.
     let t = tests-inject (c .before .before .before .before .before .before .args .c) h in
-    let shot = t .held .number 0 (omega arith) in
+    let shot = c .before .before .number .ensures ∙ t .held .number 0 (omega arith) in
     none-bad ∙ passes 10 _ _ (rw shot at (lt-ltb _ _ (c .if2 .left)))
     ∙ two-pass _ _ _ (c .before .before .before .before .pauli-number .ensures _ _ vs (t .held) (omega arith)) (omega arith) (omega arith) (c .before .before .before .if1 .left)
     ∙ t .own
 
 pub inject-number-spec : {M : Type 1} → statement M
 inject-number-spec =
-    tie.close (tie.spec pauli-number-requires returns shared-slice-read-if2 returns-2 returns-3)
+    tie.close (tie.spec pauli-number-requires returns number-requires returns-2 returns-3)

@@ -16,8 +16,8 @@ returns c =
     let t = tests-measure (c .before .before .before .args .c) h in
     two-fail _ _ _ (c .before .pauli-number .ensures _ _ vs (t .held) (omega arith)) (c .if1 .taken) ∙ t .own
 
-shared-slice-read-id-number : tie.Need-shared-slice-read-id-number
-shared-slice-read-id-number c = search needs
+number-requires : tie.Need-number-requires
+number-requires c κs = search needs
 
 id-number-requires : tie.Need-id-number-requires
 id-number-requires c κs = search needs
@@ -26,7 +26,7 @@ returns-2 : tie.Need-returns-2
 returns-2 c =
     λ vs w h.
     let t = tests-measure (c .before .before .before .before .before .args .c) h in
-    let id = t .held .number 0 (omega arith) in
+    let id = c .before .number .ensures ∙ t .held .number 0 (omega arith) in
     (rw id at (c .id-number .ensures))
     ∙ two-pass _ _ _ (c .before .before .before .pauli-number .ensures _ _ vs (t .held) (omega arith)) (omega arith) (omega arith) (c .before .before .if1 .left)
     ∙ t .own
@@ -37,6 +37,6 @@ measure-number-spec =
     (tie.spec
     pauli-number-requires
     returns
-    shared-slice-read-id-number
+    number-requires
     id-number-requires
     returns-2)

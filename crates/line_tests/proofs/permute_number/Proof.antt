@@ -28,8 +28,8 @@ returns-2 c =
     let t = tests-permute (c .before .before .before .before .before .args .c) h in
     fails 5 _ _ (right-false (distinct (listAt 1 vs)) _ (sym (c .before .short .ensures .0 _ _ vs (t .held) (omega arith)) ∙ not-true _ (c .if2 .taken))) ∙ passes 4 _ _ (sym (c .before .before .before .below .ensures _ _ vs (t .held) (omega arith)) ∙ not-false _ (c .before .before .if1 .left)) ∙ t .own
 
-shared-slice-read-count : tie.Need-shared-slice-read-count
-shared-slice-read-count c = search needs
+count-requires : tie.Need-count-requires
+count-requires c κs = search needs
 
 slot-distinct-requires : tie.Need-slot-distinct-requires
 slot-distinct-requires c κs = (omega arith, omega arith, c .before .before .short .ensures .1 (not-false _ (c .before .if2 .left)) 1 (omega arith) (omega arith))
@@ -41,15 +41,15 @@ returns-3 c =
     let once = c .before .slot-distinct .ensures _ _ vs (t .held) (omega arith) in
     fails 5 _ _ (left-false _ _ (sym once ∙ not-true _ (c .if3 .taken))) ∙ passes 4 _ _ (sym (c .before .before .before .before .before .before .below .ensures _ _ vs (t .held) (omega arith)) ∙ not-false _ (c .before .before .before .before .before .if1 .left)) ∙ t .own
 
-shared-slice-read-if4 : tie.Need-shared-slice-read-if4
-shared-slice-read-if4 c = search needs
+count-requires-2 : tie.Need-count-requires-2
+count-requires-2 c κs = search needs
 
 returns-4 : tie.Need-returns-4
 returns-4 c =
     λ vs w h.
     let t = tests-permute (c .before .before .before .before .before .before .before .before .before .before .args .c) h in
-    let places = t .held .count 0 (omega arith) in
-    let size = t .held .count 1 (omega arith) in
+    let places = c .before .count2 .ensures ∙ t .held .count 0 (omega arith) in
+    let size = c .before .before .before .before .count .ensures ∙ t .held .count 1 (omega arith) in
     let once = c .before .before .before .slot-distinct .ensures _ _ vs (t .held) (omega arith) in
     fails 6 _ _ (other-length _ _ (λ z. c .if4 .taken (places ∙ z ∙ sym size)))
     ∙ passes 5 _ _ (both-true (sym once ∙ not-false _ (c .before .before .if3 .left)) (sym (c .before .before .before .before .before .before .short .ensures .0 _ _ vs (t .held) (omega arith)) ∙ not-false _ (c .before .before .before .before .before .if2 .left)))
@@ -63,8 +63,8 @@ returns-5 : tie.Need-returns-5
 returns-5 c =
     λ vs w h.
     let t = tests-permute (c .before .before .before .before .before .before .before .before .before .before .before .before .args .c) h in
-    let places = t .held .count 0 (omega arith) in
-    let size = t .held .count 1 (omega arith) in
+    let places = c .before .before .before .count2 .ensures ∙ t .held .count 0 (omega arith) in
+    let size = c .before .before .before .before .before .before .count .ensures ∙ t .held .count 1 (omega arith) in
     let once = c .before .before .before .before .before .slot-distinct .ensures _ _ vs (t .held) (omega arith) in
     let same = sym places ∙ c .before .before .if4 .left ∙ size in
     let inside = c .before .below2 .ensures _ _ vs (t .held) (omega arith) ∙ one-below vs 0 _ in
@@ -80,8 +80,8 @@ returns-6 : tie.Need-returns-6
 returns-6 c =
     λ vs w h.
     let t = tests-permute (c .before .before .before .before .before .before .before .before .before .before .before .before .before .before .args .c) h in
-    let places = t .held .count 0 (omega arith) in
-    let size = t .held .count 1 (omega arith) in
+    let places = c .before .before .before .before .before .count2 .ensures ∙ t .held .count 0 (omega arith) in
+    let size = c .before .before .before .before .before .before .before .before .count .ensures ∙ t .held .count 1 (omega arith) in
     let once = c .before .before .before .before .before .before .before .slot-distinct .ensures _ _ vs (t .held) (omega arith) in
     let same = sym places ∙ c .before .before .before .before .if4 .left ∙ size in
     let inside = c .before .before .before .below2 .ensures _ _ vs (t .held) (omega arith) ∙ one-below vs 0 _ in
@@ -95,8 +95,8 @@ returns-7 : tie.Need-returns-7
 returns-7 c =
     λ vs w h.
     let t = tests-permute (c .before .before .before .before .before .before .before .before .before .before .before .before .before .before .args .c) h in
-    let places = t .held .count 0 (omega arith) in
-    let size = t .held .count 1 (omega arith) in
+    let places = c .before .before .before .before .before .count2 .ensures ∙ t .held .count 0 (omega arith) in
+    let size = c .before .before .before .before .before .before .before .before .count .ensures ∙ t .held .count 1 (omega arith) in
     let once = c .before .before .before .before .before .before .before .slot-distinct .ensures _ _ vs (t .held) (omega arith) in
     let same = sym places ∙ c .before .before .before .before .if4 .left ∙ size in
     let inside = c .before .before .before .below2 .ensures _ _ vs (t .held) (omega arith) ∙ one-below vs 0 _ in
@@ -115,10 +115,10 @@ permute-number-spec =
     returns
     short-requires
     returns-2
-    shared-slice-read-count
+    count-requires
     slot-distinct-requires
     returns-3
-    shared-slice-read-if4
+    count-requires-2
     returns-4
     below-requires-2
     returns-5

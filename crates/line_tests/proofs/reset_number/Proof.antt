@@ -8,22 +8,22 @@ use borrow.Author.Needs.{needs}
 use Rattle.line_tests.proofs.reset_number.Statement.{statement}
 use Rattle.line_tests.proofs.reset_number.Tie as tie
 
-shared-slice-read-if1 : tie.Need-shared-slice-read-if1
-shared-slice-read-if1 c = search needs
+number-requires : tie.Need-number-requires
+number-requires c κs = search needs
 
 returns : tie.Need-returns
 returns c =
     λ vs w h.
-    let t = tests-reset (c .before .before .before .args .c) h in
-    let q = t .held .number 0 (omega arith) in
+    let t = tests-reset (c .before .before .before .before .args .c) h in
+    let q = c .before .before .number .ensures ∙ t .held .number 0 (omega arith) in
     fails 4 _ _ (rw q at (le-ltb _ _ (c .if1 .taken))) ∙ t .own
 
 returns-2 : tie.Need-returns-2
 returns-2 c =
     λ vs w h.
-    let t = tests-reset (c .before .before .before .args .c) h in
-    let q = t .held .number 0 (omega arith) in
+    let t = tests-reset (c .before .before .before .before .args .c) h in
+    let q = c .before .before .number .ensures ∙ t .held .number 0 (omega arith) in
     none-bad ∙ passes 4 _ _ (rw q at (lt-ltb _ _ (c .if1 .left))) ∙ t .own
 
 pub reset-number-spec : {M : Type 1} → statement M
-reset-number-spec = tie.close (tie.spec shared-slice-read-if1 returns returns-2)
+reset-number-spec = tie.close (tie.spec number-requires returns returns-2)

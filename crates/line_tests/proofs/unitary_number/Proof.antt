@@ -23,11 +23,11 @@ returns c =
     let (g, e, t) = tests-unitary (c .before .before .before .args .c) h in
     fails 4 _ _ (sym (c .before .below .ensures _ _ vs (t .held) (omega arith)) ∙ not-true _ (c .if1 .taken)) ∙ t .own
 
-shared-slice-read-count : tie.Need-shared-slice-read-count
-shared-slice-read-count c = search needs
+count-requires : tie.Need-count-requires
+count-requires c κs = search needs
 
-shared-slice-read-operands : tie.Need-shared-slice-read-operands
-shared-slice-read-operands c = search needs
+number-requires : tie.Need-number-requires
+number-requires c κs = search needs
 
 operands-requires : tie.Need-operands-requires
 operands-requires c κs = search needs
@@ -40,8 +40,8 @@ unfolding operandCount
 returns-2 c =
     λ vs w h.
     let (g, e, t) = tests-unitary (c .before .before .before .before .before .before .before .args .c) h in
-    let size = t .held .count 0 (omega arith) in
-    let code = ap gateOf (t .held .number 0 (omega arith)) in
+    let size = c .before .before .before .count .ensures ∙ t .held .count 0 (omega arith) in
+    let code = ap gateOf (c .before .before .number .ensures ∙ t .held .number 0 (omega arith)) in
     fails 5 _ _ (left-false _ _ (left-false _ _ (ne-eqb _ _ (λ z. c .if2 .taken (size ∙ z ∙ sym (c .before .operands .ensures ∙ ap operandCount (code ∙ e)))))))
     ∙ passes 4 _ _ (sym (c .before .before .before .before .before .below .ensures _ _ vs (t .held) (omega arith)) ∙ not-false _ (c .before .before .before .before .if1 .left))
     ∙ t .own
@@ -63,8 +63,8 @@ unfolding operandCount
 returns-4 c =
     λ vs w h.
     let (g, e, t) = tests-unitary (c .before .before .before .before .before .before .before .before .before .args .c) h in
-    let size = t .held .count 0 (omega arith) in
-    let code = ap gateOf (t .held .number 0 (omega arith)) in
+    let size = c .before .before .before .before .before .count .ensures ∙ t .held .count 0 (omega arith) in
+    let code = ap gateOf (c .before .before .before .before .number .ensures ∙ t .held .number 0 (omega arith)) in
     let operands = c .before .before .before .operands .ensures ∙ ap operandCount (code ∙ e) in
     let once = c .before .slot-distinct .ensures _ _ vs (t .held) (omega arith) in
     none-bad ∙ passes 5 _ _
@@ -80,8 +80,8 @@ unitary-number-spec =
     (tie.spec
     below-requires
     returns
-    shared-slice-read-count
-    shared-slice-read-operands
+    count-requires
+    number-requires
     operands-requires
     cast-if2
     returns-2

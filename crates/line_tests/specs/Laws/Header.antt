@@ -6,17 +6,18 @@ use mathlib.Core.Path.{_≡_, refl, sym, ap, _∙_}
 use mathlib.Core.Bool.{not, _&&_}
 use mathlib.Core.List.{List}
 use mathlib.Core.Option.{some}
-use lib.ListN.{getD}
 use Rattle.text.specs.Bytes.{bytes}
 use Rattle.text.specs.Template.{Value}
-use Rattle.job.specs.Grammar.{Written, forms}
+use Rattle.template.specs.Values.{heldNumber}
+use Rattle.job.specs.declared.Header.{Header}
+use Rattle.job.specs.Grammar.{Written, headerBy, forms}
 use Rattle.job.specs.Checks.{Context, records, inRange, headerFits, next}
 use Rattle.reader.specs.declared.Form.{Form}
 use Rattle.reader.specs.declared.Form.the-variants as form
 use Rattle.reader.specs.Parsed.{placeOf, formOf, Said}
 use Rattle.value_tests.specs.declared.context.Context.{Context as Known}
 use Rattle.value_tests.specs.Contexts.{contextOf}
-use Rattle.instructions.specs.Laws.Meaning.{Meaning, some-same}
+use Rattle.instructions.specs.Laws.Meaning.{Meaning, some-same, header-held}
 
 module _ (c : Context) (f : Form) where
   pub none-recorded : (f ≡ form.Header → ⊥) → (f ≡ form.Measure → ⊥) → (f ≡ form.Allocate → ⊥) → (w : Written) → Meaning f w → c .recorded ≡ next c w .recorded
@@ -47,17 +48,16 @@ module _ (c : Context) (f : Form) where
 module _ (c : Known) {f : List ℕ} {vs : List Value} {w : Written} where
   -- the header's numbers
   pub fits-header : Said form.Header f vs w
-      → headerFits (contextOf c) w ≡ (not (c .begun) && inRange record { qubits = getD f 0 0; outcomes = getD f 1 0; shots = getD f 2 0 })
+      → headerFits (contextOf c) w ≡ (not (c .begun) && inRange (headerBy (heldNumber f)))
   unfolding forms placeOf bytes headerFits contextOf
   fits-header h =
-      rw (h .held .number 0 (omega arith), h .held .number 1 (omega arith), h .held .number 2 (omega arith))
-      (sym (ap (λ (x : Written). headerFits (contextOf c) x) (some-same (h .says))))
+      sym (ap (λ (x : Written). headerFits (contextOf c) x) (some-same (h .says)))
+      ∙ ap (λ (x : Header). not (c .begun) && inRange x) (sym (header-held (h .held)))
 
-  pub header-after : Said form.Header f vs w → record { qubits = getD f 0 0; outcomes = getD f 1 0; shots = getD f 2 0 } ≡ next (contextOf c) w .header
+  pub header-after : Said form.Header f vs w → headerBy (heldNumber f) ≡ next (contextOf c) w .header
   unfolding forms placeOf bytes next
   header-after h =
-      rw (h .held .number 0 (omega arith), h .held .number 1 (omega arith), h .held .number 2 (omega arith))
-      (ap (λ (x : Written). next (contextOf c) x .header) (some-same (h .says)))
+      header-held (h .held) ∙ ap (λ (x : Written). next (contextOf c) x .header) (some-same (h .says))
 
 -- o and r record an outcome
 module _ (c : Known) (vs : List Value) (w : Written) where

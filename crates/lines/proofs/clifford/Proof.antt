@@ -1,5 +1,6 @@
 -- `lines::clifford` meets its contract. Assumes nothing.
-use Rattle.lines.specs.Laws.Read.{clifford-read}
+use Rattle.lines.specs.Laws.Obey.{scratch-fits}
+use Rattle.instructions.specs.Laws.Read.{clifford-read}
 use Rattle.job.specs.Sound.{LineSound}
 use native.Mathlib.Omega.{arith}
 use borrow.Author.Needs.{needs}
@@ -7,17 +8,17 @@ use Rattle.lines.proofs.clifford.Statement.{statement}
 use Rattle.lines.proofs.clifford.Tie as tie
 
 list-requires : tie.Need-list-requires
-list-requires c κs = (omega arith, c .before .before .before .before .before .pre .plain .wide, clifford-read (c .before .before .before .before .before .pre .plain) .few 0 (omega arith))
+list-requires c κs = (omega arith, c .before .before .before .before .before .before .pre .0 .plain .wide, clifford-read (c .before .before .before .before .before .before .pre .0 .plain) .few 0 (omega arith))
 
-shared-slice-read-apply-clifford : tie.Need-shared-slice-read-apply-clifford
-shared-slice-read-apply-clifford c = search needs
+number-requires : tie.Need-number-requires
+number-requires c κs = (omega arith, c .before .before .before .before .before .before .before .pre .0 .plain .wide)
 
 apply-clifford-requires : tie.Need-apply-clifford-requires
 unfolding LineSound
 apply-clifford-requires c κs =
-    let e = c .before .list .ensures in
-    let s = clifford-read (c .before .before .before .before .before .before .before .pre .plain) .sound in
-    (c .before .before .before .before .before .before .before .pre .narrow, c .before .before .before .before .before .before .before .pre .of-x, c .before .before .before .before .before .before .before .pre .of-z, rw e (s .few), rw e (s .operands .below))
+    let e = c .before .before .list .ensures in
+    let s = clifford-read (c .before .before .before .before .before .before .before .before .before .pre .0 .plain) .sound in
+    (scratch-fits _ _ (rw e (let few = s .few in omega arith)) (c .before .before .before .before .before .before .before .before .before .pre .1), c .before .before .before .before .before .before .before .before .before .pre .0 .of-x, c .before .before .before .before .before .before .before .before .before .pre .0 .of-z, rw e (s .few), rw e (s .operands .below))
 
 same-length : tie.Need-same-length
 same-length c = search needs
@@ -25,18 +26,22 @@ same-length c = search needs
 same-length-2 : tie.Need-same-length-2
 same-length-2 c = search needs
 
+same-length-3 : tie.Need-same-length-3
+same-length-3 c = search needs
+
 returns : tie.Need-returns
 returns c =
-    let e = c .before .before .before .before .before .before .list .ensures in
-    record { acts = λ m line p d. rw (← clifford-read p .is, ← e) (c .before .before .before .before .apply-clifford .ensures m d) }
+    let e = c .before .before .before .before .before .before .before .before .before .list .ensures in
+    record { acts = λ m line p d. rw (← clifford-read p .is, ← e, ← (c .before .before .before .before .before .before .before .before .number .ensures)) (c .before .before .before .before .before .before .apply-clifford .ensures m d) }
 
 pub clifford-spec : {M : Type 1} → statement M
 clifford-spec =
     tie.close
     (tie.spec
     list-requires
-    shared-slice-read-apply-clifford
+    number-requires
     apply-clifford-requires
     same-length
     same-length-2
+    same-length-3
     returns)

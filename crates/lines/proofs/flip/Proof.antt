@@ -1,16 +1,16 @@
 -- `lines::flip` meets its contract. Assumes nothing.
-use Rattle.lines.specs.Laws.Read.{flip-read}
+use Rattle.instructions.specs.Laws.Read.{flip-read}
 use Rattle.job.specs.Sound.{LineSound}
 use native.Mathlib.Omega.{arith}
 use borrow.Author.Needs.{needs}
 use Rattle.lines.proofs.flip.Statement.{statement}
 use Rattle.lines.proofs.flip.Tie as tie
 
-shared-slice-read-t8 : tie.Need-shared-slice-read-t8
-shared-slice-read-t8 c = let wide = c .before .before .before .pre .0 .2 .wide in omega arith
+number-requires : tie.Need-number-requires
+number-requires c κs = (omega arith, c .before .before .pre .0 .2 .wide)
 
-shared-slice-read-t8-2 : tie.Need-shared-slice-read-t8-2
-shared-slice-read-t8-2 c = let wide = c .before .before .before .before .pre .0 .2 .wide in omega arith
+number-requires-2 : tie.Need-number-requires-2
+number-requires-2 c κs = (omega arith, c .before .before .before .pre .0 .2 .wide)
 
 inject-outcome-flip-requires : tie.Need-inject-outcome-flip-requires
 unfolding LineSound
@@ -18,6 +18,8 @@ inject-outcome-flip-requires c κs =
     let p = c .before .before .before .before .before .pre .0 .2 in
     let s = flip-read p .sound in
     let within = s .within in
+    let v = c .before .before .number .ensures in
+    let v2 = c .before .number2 .ensures in
     let known = s .known in
     let words = p .in-words in
     let rows = p .in-rows in
@@ -27,14 +29,14 @@ same-length : tie.Need-same-length
 same-length c = search needs
 
 returns : tie.Need-returns
-returns c = λ n x z. record { acts = λ line p. rw (← flip-read p .is) (c .before .before .inject-outcome-flip .ensures n x z) }
+returns c = λ n x z. record { acts = λ line p. rw (← flip-read p .is, ← (c .before .before .before .before .before .number .ensures), ← (c .before .before .before .before .number2 .ensures)) (c .before .before .inject-outcome-flip .ensures n x z) }
 
 pub flip-spec : {M : Type 1} → statement M
 flip-spec =
     tie.close
     (tie.spec
-    shared-slice-read-t8
-    shared-slice-read-t8-2
+    number-requires
+    number-requires-2
     inject-outcome-flip-requires
     same-length
     returns)

@@ -1,5 +1,6 @@
 -- Lines by their forms: those that change something, and those that don't. Laws. Assumes nothing.
-use Prim.Native.Nat.{ℕ}
+use Prim.Native.Nat.{ℕ, _*_, _≤_}
+use native.Mathlib.Nat.{mul-le-mul-right}
 use native.Mathlib.Omega.{arith}
 use mathlib.Core.Path.{_≡_, refl, subst}
 use mathlib.Core.List.{List}
@@ -14,8 +15,15 @@ use Rattle.reader.specs.declared.Form.the-variants as form
 use Rattle.reader.specs.Parsed.{placeOf, noForm}
 use Rattle.instructions.specs.Laws.Meaning.{noise-said}
 use Rattle.propagator.specs.Acts.{Acts, lineRule}
-use Rattle.lines.specs.Plain.{Plain, Ready, Obeyed, FrameReady, FrameObeyed}
-use Rattle.lines.specs.Laws.Read.{written-line}
+use Rattle.instructions.specs.Plain.{Plain}
+use Rattle.lines.specs.Plain.{Ready, Obeyed, FrameReady, FrameObeyed}
+use Rattle.instructions.specs.Laws.Read.{written-line, Idle}
+
+-- ---- scratch
+
+-- 31 rows have room for so many
+pub scratch-fits : (w k : ℕ) {l : ℕ} → k ≤ 31 → 31 * w ≤ l → k * w ≤ l
+scratch-fits w k few room = omega (arith, mul-le-mul-right {m = k} {n = 31} w few)
 
 -- ---- a form by its name
 
@@ -25,7 +33,6 @@ frame-ready {fields = fields} {w = w} {n = n} {m = m} e r =
       outcomes = m;
       line = r .line;
       plain = subst (λ (g : Form). Plain g fields w n m (r .line)) e (r .plain);
-      narrow = r .narrow;
       of-x = r .of-x;
       of-z = r .of-z;
     }
@@ -40,19 +47,6 @@ pub obeyed-as : {f k : Form} {fields : List ℕ} {w n m : ℕ} {x z d x′ z′ 
 obeyed-as {fields = fields} {w = w} {n = n} {m = m} e o = record { acts = λ line p. o .acts line (subst (λ (g : Form). Plain g fields w n m line) e p) }
 
 -- ---- lines that do nothing
-
--- a form that is not one of these
-pub record Idle (f : Form) : Type 0 where
-  pub unitary : f ≡ form.Unitary → ⊥
-  pub clifford : f ≡ form.Clifford → ⊥
-  pub exponential : f ≡ form.Exponential → ⊥
-  pub controlled : f ≡ form.Controlled → ⊥
-  pub permute : f ≡ form.Permute → ⊥
-  pub measure : f ≡ form.Measure → ⊥
-  pub conditional : f ≡ form.Conditional → ⊥
-  pub reset : f ≡ form.Reset → ⊥
-  pub inject : f ≡ form.Inject → ⊥
-  pub flip : f ≡ form.Flip → ⊥
 
 -- a noise line is no plain line
 no-noise : (kind : Kind) (vs : List Value) {l : Line} → noiseLine kind vs ≡ some (Written.line l) → ⊥

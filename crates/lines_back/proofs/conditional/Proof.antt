@@ -3,7 +3,7 @@ use Prim.Native.Nat.{_≤_}
 use native.Mathlib.Omega.{arith}
 use Rattle.job.specs.Sound.{LineSound}
 use Rattle.job.specs.Laws.Lists.{below-more}
-use Rattle.lines.specs.Laws.Read.{conditional-read}
+use Rattle.instructions.specs.Laws.Read.{conditional-read}
 use Rattle.lines_back.specs.Laws.Kinds.{pauli-below, conditional-goes}
 use borrow.Author.Needs.{needs}
 use Rattle.lines_back.proofs.conditional.Statement.{statement}

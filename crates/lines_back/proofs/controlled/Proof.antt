@@ -1,7 +1,7 @@
 -- `lines_back::controlled` meets its contract. Assumes nothing.
 use native.Mathlib.Omega.{arith}
 use Rattle.job.specs.Sound.{LineSound}
-use Rattle.lines.specs.Laws.Read.{controlled-read}
+use Rattle.instructions.specs.Laws.Read.{controlled-read}
 use Rattle.lines_back.specs.Laws.Kinds.{pauli-below, controlled-goes}
 use Rattle.lines_back.proofs.controlled.Statement.{statement}
 use Rattle.lines_back.proofs.controlled.Tie as tie

@@ -1,7 +1,7 @@
 -- `lines_back::exponential` meets its contract. Assumes nothing.
 use native.Mathlib.Omega.{arith}
 use Rattle.job.specs.Sound.{LineSound}
-use Rattle.lines.specs.Laws.Read.{exponential-read}
+use Rattle.instructions.specs.Laws.Read.{exponential-read}
 use Rattle.lines_back.specs.Laws.Kinds.{pauli-below, exponential-goes}
 use Rattle.lines_back.proofs.exponential.Statement.{statement}
 use Rattle.lines_back.proofs.exponential.Tie as tie

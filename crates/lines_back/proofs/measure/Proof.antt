@@ -1,14 +1,13 @@
 -- `lines_back::measure` meets its contract. Assumes nothing.
 use native.Mathlib.Omega.{arith}
 use Rattle.job.specs.Sound.{LineSound}
-use Rattle.lines.specs.Laws.Read.{measure-read}
+use Rattle.instructions.specs.Laws.Read.{measure-read}
 use Rattle.lines_back.specs.Laws.Kinds.{pauli-below, measure-goes}
-use borrow.Author.Needs.{needs}
 use Rattle.lines_back.proofs.measure.Statement.{statement}
 use Rattle.lines_back.proofs.measure.Tie as tie
 
-shared-slice-read-t6 : tie.Need-shared-slice-read-t6
-shared-slice-read-t6 c = search needs
+number-requires : tie.Need-number-requires
+number-requires c κs = (omega arith, c .before .before .pre .plain .wide)
 
 list-requires : tie.Need-list-requires
 list-requires c κs = (omega arith, c .before .before .before .pre .plain .wide, measure-read (c .before .before .before .pre .plain) .few 0 (omega arith))
@@ -21,9 +20,9 @@ unfolding LineSound
 measure-back-requires c κs = rw (c .before .list .ensures, c .list2 .ensures) (pauli-below (c .before .before .before .before .before .pre .few-qubits) (measure-read (c .before .before .before .before .before .pre .plain) .sound .observable))
 
 returns : tie.Need-returns
-returns c = λ shot. measure-goes shot _ (rw (c .before .before .list .ensures, c .before .list2 .ensures) at (c .measure-back .ensures))
+returns c = λ shot. measure-goes shot _ (rw (c .before .before .before .number .ensures, c .before .before .list .ensures, c .before .list2 .ensures) at (c .measure-back .ensures))
 
 pub measure-spec : {M : Type 1} → statement M
 measure-spec =
     tie.close
-    (tie.spec shared-slice-read-t6 list-requires list-requires-2 measure-back-requires returns)
+    (tie.spec number-requires list-requires list-requires-2 measure-back-requires returns)

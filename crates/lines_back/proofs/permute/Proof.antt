@@ -2,7 +2,7 @@
 use native.Mathlib.Omega.{arith}
 use Rattle.job.specs.Sound.{LineSound}
 use Rattle.job.specs.Laws.Lists.{below-more}
-use Rattle.lines.specs.Laws.Read.{permute-read}
+use Rattle.instructions.specs.Laws.Read.{permute-read}
 use Rattle.lines_back.specs.Laws.Kinds.{permute-goes}
 use Rattle.lines_back.proofs.permute.Statement.{statement}
 use Rattle.lines_back.proofs.permute.Tie as tie

@@ -1,17 +1,21 @@
 -- `lines_back::reset` meets its contract. Assumes nothing.
 use Rattle.lines_back.specs.Laws.Kinds.{reset-goes}
-use borrow.Author.Needs.{needs}
+use Rattle.instructions.specs.Laws.Read.{reset-read}
+use Rattle.job.specs.Sound.{LineSound}
+use Rattle.job.specs.Laws.Lists.{below-at}
+use native.Mathlib.Omega.{arith}
 use Rattle.lines_back.proofs.reset.Statement.{statement}
 use Rattle.lines_back.proofs.reset.Tie as tie
 
-shared-slice-read-t4 : tie.Need-shared-slice-read-t4
-shared-slice-read-t4 c = search needs
+number-requires : tie.Need-number-requires
+number-requires c κs = (omega arith, c .before .pre .plain .wide)
 
 clear-qubit-requires : tie.Need-clear-qubit-requires
-clear-qubit-requires c κs = search needs
+unfolding LineSound
+clear-qubit-requires c κs = rw (c .number .ensures) (omega (arith, c .before .before .pre .few-qubits, below-at _ _ (reset-read (c .before .before .pre .plain) .sound .operands .below) 0 (omega arith)))
 
 returns : tie.Need-returns
-returns c = λ shot set. reset-goes shot set (c .clear-qubit .ensures)
+returns c = λ shot set. reset-goes shot set (rw (c .before .number .ensures) at (c .clear-qubit .ensures))
 
 pub reset-spec : {M : Type 1} → statement M
-reset-spec = tie.close (tie.spec shared-slice-read-t4 clear-qubit-requires returns)
+reset-spec = tie.close (tie.spec number-requires clear-qubit-requires returns)

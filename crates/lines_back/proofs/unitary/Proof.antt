@@ -2,14 +2,13 @@
 use native.Mathlib.Omega.{arith}
 use Rattle.job.specs.Sound.{LineSound}
 use Rattle.job.specs.Laws.Lists.{below-more}
-use Rattle.lines.specs.Laws.Read.{unitary-read}
+use Rattle.instructions.specs.Laws.Read.{unitary-read}
 use Rattle.lines_back.specs.Laws.Kinds.{unitary-goes}
-use borrow.Author.Needs.{needs}
 use Rattle.lines_back.proofs.unitary.Statement.{statement}
 use Rattle.lines_back.proofs.unitary.Tie as tie
 
-shared-slice-read-unitary-back : tie.Need-shared-slice-read-unitary-back
-shared-slice-read-unitary-back c = search needs
+number-requires : tie.Need-number-requires
+number-requires c κs = (omega arith, c .before .pre .plain .wide)
 
 list-requires : tie.Need-list-requires
 list-requires c κs = (omega arith, c .before .before .pre .plain .wide, unitary-read (c .before .before .pre .plain) .2 .few 0 (omega arith))
@@ -19,8 +18,8 @@ unfolding LineSound
 unitary-back-requires c κs = rw (c .list .ensures) (below-more _ 256 _ (c .before .before .before .pre .few-qubits) (unitary-read (c .before .before .before .pre .plain) .2 .sound .operands .below))
 
 returns : tie.Need-returns
-returns c = λ shot set. unitary-goes shot set (rw (c .before .list .ensures) at (c .unitary-back .ensures))
+returns c = λ shot set. unitary-goes shot set (rw (c .before .before .number .ensures, c .before .list .ensures) at (c .unitary-back .ensures))
 
 pub unitary-spec : {M : Type 1} → statement M
 unitary-spec =
-    tie.close (tie.spec shared-slice-read-unitary-back list-requires unitary-back-requires returns)
+    tie.close (tie.spec number-requires list-requires unitary-back-requires returns)

@@ -20,18 +20,18 @@ use Rattle.instructions.specs.Reading.{noiseForm}
 use Rattle.instructions.specs.Laws.Meaning.{some-same, unitary-said, Meaning, meaning}
 use Rattle.frames.specs.Forward.{Setting}
 use Rattle.backward.specs.Walk.{carry, counts, Walk, oneMore, backward}
-use Rattle.lines.specs.Laws.Obey.{Idle}
+use Rattle.instructions.specs.Laws.Read.{Idle}
 use Rattle.carry.specs.Full.{full}
 use Rattle.lines_back.specs.declared.Walk.{Walk as WalkWords}
-use Rattle.lines_back.specs.Back.{Ready, Back, Readable, walkOf, writtenBack, noiseBack, LineBack}
+use Rattle.lines_back.specs.Back.{HeldLine, Back, Readable, walkOf, writtenBack, noiseBack, LineBack}
 
 -- a form by its name
-module _ {f k : Form} {fields : List ℕ} (e : f ≡ k) where
-  pub readable-as : Readable f fields → Readable k fields
-  readable-as q = subst (λ (g : Form). Readable g fields) e q
+module _ {f k : Form} {words : List ℕ} (e : f ≡ k) where
+  pub readable-as : Readable f words → Readable k words
+  readable-as q = subst (λ (g : Form). Readable g words) e q
 
-  pub back-as : {shot number : ℕ} {w w′ : WalkWords} {set set′ : List ℕ} → LineBack k fields shot number w w′ set set′ → LineBack f fields shot number w w′ set set′
-  back-as {shot} {number} {w} {w′} {set} {set′} b = subst (λ (g : Form). LineBack g fields shot number w w′ set set′) (sym e) b
+  pub back-as : {shot number : ℕ} {w w′ : WalkWords} {set set′ : List ℕ} → LineBack k words shot number w w′ set set′ → LineBack f words shot number w w′ set set′
+  back-as {shot} {number} {w} {w′} {set} {set′} b = subst (λ (g : Form). LineBack g words shot number w w′ set set′) (sym e) b
 
 -- ---- plain lines
 
@@ -82,8 +82,8 @@ line-written form.Weighted vs w a e = absurd (true≢false (sym a))
 line-written form.Element vs w a e = absurd (true≢false (sym a))
 line-written form.WeightedElement vs w a e = absurd (true≢false (sym a))
 
-module _ {f : Form} {fields : List ℕ} (q : Readable f fields) where
-  abbrev ready-line : (l : Line) → q .written ≡ Written.line l → Ready f fields
+module _ {f : Form} {words : List ℕ} (q : Readable f words) where
+  abbrev ready-line : (l : Line) → q .written ≡ Written.line l → HeldLine f words
   ready-line l e =
       let (r, within, sound) = q .sound l e in
       record {
@@ -98,20 +98,20 @@ module _ {f : Form} {fields : List ℕ} (q : Readable f fields) where
               recorded = r;
               values = q .values;
               wide = q .wide;
-              said = subst (Said f fields (q .values)) e (q .said);
+              said = subst (Said f words (q .values)) e (q .said);
               sound = sound;
               in-words = omega (arith, q .range .few-shots);
               in-rows = within;
             };
       }
 
-  pub ready : acts f ≡ true → Ready f fields
+  pub ready : acts f ≡ true → HeldLine f words
   ready a = let (l, e) = line-written f (q .values) (q .written) a (q .said .says) in ready-line l e
 
 -- what a function says of a plain line is what the line makes of the walk
-module _ {f : Form} {fields : List ℕ} {shot number : ℕ} {w w′ : WalkWords} {set set′ : List ℕ} {counted : Bool} (a : acts f ≡ true) where
-  pub acted : Back f fields shot (w .observable) (inSet set) (w′ .observable) (inSet set′) counted → length set′ ≡ 16 → w′ .count ≡ oneMore counted (w .count)
-      → w′ .noise ≡ w .noise → LineBack f fields shot number w w′ set set′
+module _ {f : Form} {words : List ℕ} {shot number : ℕ} {w w′ : WalkWords} {set set′ : List ℕ} {counted : Bool} (a : acts f ≡ true) where
+  pub acted : Back f words shot (w .observable) (inSet set) (w′ .observable) (inSet set′) counted → length set′ ≡ 16 → w′ .count ≡ oneMore counted (w .count)
+      → w′ .noise ≡ w .noise → LineBack f words shot number w w′ set set′
   unfolding writtenBack noiseBack backward
   acted back long count noise =
       record {
@@ -120,20 +120,20 @@ module _ {f : Form} {fields : List ℕ} {shot number : ℕ} {w w′ : WalkWords}
         noise = λ q. noise ∙ kept q (line-written f _ _ a (q .said .says));
       }
     where
-      by-line : (q : Readable f fields) → (l : Line) × (q .written ≡ Written.line l) → walkOf w′ set′ ≡ writtenBack (full shot) (q .written) (walkOf w set)
+      by-line : (q : Readable f words) → (l : Line) × (q .written ≡ Written.line l) → walkOf w′ set′ ≡ writtenBack (full shot) (q .written) (walkOf w set)
       by-line q (l, s) =
           let p = ready-line q l s in
           sym (λ i. record { carried = back .carries p i; count = (ap (λ (b : Bool). oneMore b (w .count)) (back .counts-it p) ∙ sym count) i })
           ∙ sym (ap (λ (v : Written). writtenBack (full shot) v (walkOf w set)) s)
 
-      kept : (q : Readable f fields) → (l : Line) × (q .written ≡ Written.line l) → w .noise ≡ noiseBack number (q .written) (w .noise)
+      kept : (q : Readable f words) → (l : Line) × (q .written ≡ Written.line l) → w .noise ≡ noiseBack number (q .written) (w .noise)
       kept q (l, s) = sym (ap (λ (v : Written). noiseBack number v (w .noise)) s)
 
-pub acted-as : {f k : Form} {fields : List ℕ} {shot number : ℕ} {w w′ : WalkWords} {r : PauliWords} {set set′ : List ℕ} {counted : Bool} → f ≡ k → acts k ≡ true
-    → Back k fields shot (w .observable) (inSet set) r (inSet set′) counted → length set′ ≡ 16
-    → w′ ≡ record { observable = r; count = oneMore counted (w .count); noise = w .noise } → LineBack f fields shot number w w′ set set′
-acted-as {k = k} {fields = fields} {shot = shot} {number = number} {w = w} {set = set} {set′ = set′} e a back long is =
-    back-as e (subst (λ (v : WalkWords). LineBack k fields shot number w v set set′) (sym is) (acted a back long refl refl))
+pub acted-as : {f k : Form} {words : List ℕ} {shot number : ℕ} {w w′ : WalkWords} {r : PauliWords} {set set′ : List ℕ} {counted : Bool} → f ≡ k → acts k ≡ true
+    → Back k words shot (w .observable) (inSet set) r (inSet set′) counted → length set′ ≡ 16
+    → w′ ≡ record { observable = r; count = oneMore counted (w .count); noise = w .noise } → LineBack f words shot number w w′ set set′
+acted-as {k = k} {words = words} {shot = shot} {number = number} {w = w} {set = set} {set′ = set′} e a back long is =
+    back-as e (subst (λ (v : WalkWords). LineBack k words shot number w v set set′) (sym is) (acted a back long refl refl))
 
 -- ---- noise
 
@@ -150,8 +150,8 @@ noise-written (Meaning.element P e) n = absurd (true≢false (sym n ∙ rw e))
 noise-written (Meaning.weighted-element v P e) n = absurd (true≢false (sym n ∙ rw e))
 
 -- a noise line is remembered, and changes nothing else
-module _ {f : Form} {fields : List ℕ} {shot number : ℕ} {w w′ : WalkWords} {set : List ℕ} (n : noiseForm f ≡ true) where
-  pub remembered : length set ≡ 16 → w′ ≡ record { observable = w .observable; count = w .count; noise = number } → LineBack f fields shot number w w′ set set
+module _ {f : Form} {words : List ℕ} {shot number : ℕ} {w w′ : WalkWords} {set : List ℕ} (n : noiseForm f ≡ true) where
+  pub remembered : length set ≡ 16 → w′ ≡ record { observable = w .observable; count = w .count; noise = number } → LineBack f words shot number w w′ set set
   unfolding writtenBack noiseBack
   remembered long e =
       record {
@@ -160,8 +160,8 @@ module _ {f : Form} {fields : List ℕ} {shot number : ℕ} {w w′ : WalkWords}
         noise = λ q. ap (λ (v : WalkWords). v .noise) e ∙ sym (ap (λ (v : Written). noiseBack number v (w .noise)) (noise-written (meaning f _ _ (q .said .says)) n .1));
       }
 
-pub remembered-as : {f k : Form} {fields : List ℕ} {shot number : ℕ} {w w′ : WalkWords} {set : List ℕ} → f ≡ k → noiseForm k ≡ true → length set ≡ 16
-    → w′ ≡ record { observable = w .observable; count = w .count; noise = number } → LineBack f fields shot number w w′ set set
+pub remembered-as : {f k : Form} {words : List ℕ} {shot number : ℕ} {w w′ : WalkWords} {set : List ℕ} → f ≡ k → noiseForm k ≡ true → length set ≡ 16
+    → w′ ≡ record { observable = w .observable; count = w .count; noise = number } → LineBack f words shot number w w′ set set
 remembered-as e n long is = back-as e (remembered n long is)
 
 -- ---- other lines
@@ -191,9 +191,9 @@ idle-written form.Weighted vs v h n e c k w before = absurd (true≢false n)
 idle-written form.Element vs v h n e c k w before = subst (λ (u : Written). (w ≡ writtenBack c u w) × (before ≡ noiseBack k u before)) (some-same e) (refl, refl)
 idle-written form.WeightedElement vs v h n e c k w before = subst (λ (u : Written). (w ≡ writtenBack c u w) × (before ≡ noiseBack k u before)) (some-same e) (refl, refl)
 
-pub nothing-done : {f : Form} {fields : List ℕ} {shot number : ℕ} {w : WalkWords} {set : List ℕ} → Idle f → noiseForm f ≡ false → length set ≡ 16
-    → LineBack f fields shot number w w set set
-nothing-done {f} {fields} {shot} {number} {w} {set} h n long =
+pub nothing-done : {f : Form} {words : List ℕ} {shot number : ℕ} {w : WalkWords} {set : List ℕ} → Idle f → noiseForm f ≡ false → length set ≡ 16
+    → LineBack f words shot number w w set set
+nothing-done {f} {words} {shot} {number} {w} {set} h n long =
     record {
       long = long;
       walks = λ q. idle-written f _ _ h n (q .said .says) (full shot) number (walkOf w set) (w .noise) .0;

@@ -4,16 +4,16 @@ use mathlib.Core.List.{List}
 use Prim.Native.Nat.{ℕ, _≤_}
 use native.Mathlib.Omega.{arith}
 use lib.ListN.{length, replicate}
-use Rattle.job.specs.declared.Header.{Header}
 use Rattle.job.specs.declared.Answer.{Answer}
 use Rattle.instructions.specs.Ahead.{instructionsAt}
 use Rattle.draws.specs.Execute.{States, starts, Ended, execute}
 use Rattle.frames.specs.Forward.{start}
+use Rattle.rows.specs.declared.Shape.{Shape}
 use Rattle.rows.specs.Overwrite.{cleared}
 use Rattle.rows.specs.Laws.Pack.{cleared-all}
 use Rattle.injection.specs.Holds.{Holds}
 use Rattle.injection.specs.Laws.Holds.{holds-starts}
-use Rattle.execution.specs.Went.{lentBy, RowsFor, Finished}
+use Rattle.execution.specs.Went.{headerOf, lentBy, RowsFor, Finished}
 use Rattle.run.specs.Run.{Source, lentOf}
 use Rattle.needed_words.specs.Needed.{NeededReady, NeededRun}
 use Rattle.needed_words.specs.Laws.Padding.{past-shots}
@@ -23,8 +23,8 @@ use Rattle.needed_words.specs.Laws.Replies.{Words, needed-finished, need
 zeros : (l l′ : List ℕ) → l′ ≡ cleared 0 (length l) l → l′ ≡ replicate (length l) 0
 zeros l l′ e = e ∙ cleared-all l
 
-module _ {job : List ℕ} {h : Header} {from w : ℕ} {x z d noiseless : List ℕ} (ready : NeededReady job h from w x z d noiseless) where
-  pub rows-for : {x′ z′ d′ : List ℕ} → length x′ ≡ length x → length z′ ≡ length z → length d′ ≡ length d → RowsFor h w x′ z′ d′ noiseless
+module _ {job : List ℕ} {shape : Shape} {from : ℕ} {x z d noiseless : List ℕ} (ready : NeededReady job shape from x z d noiseless) where
+  pub rows-for : {x′ z′ d′ : List ℕ} → length x′ ≡ length x → length z′ ≡ length z → length d′ ≡ length d → RowsFor shape x′ z′ d′ noiseless
   rows-for ex ez ed =
       let words = ready .words in
       let shots = ready .ahead .header .few-shots in
@@ -38,35 +38,35 @@ module _ {job : List ℕ} {h : Header} {from w : ℕ} {x z d noiseless : List �
       }
 
   -- cleared words hold the states that a run begins with
-  pub holds-cleared : {x′ z′ d′ : List ℕ} → x′ ≡ cleared 0 (length x) x → z′ ≡ cleared 0 (length z) z → d′ ≡ cleared 0 (length d) d → Holds w x′ z′ d′ starts
+  pub holds-cleared : {x′ z′ d′ : List ℕ} → x′ ≡ cleared 0 (length x) x → z′ ≡ cleared 0 (length z) z → d′ ≡ cleared 0 (length d) d → Holds (shape .width) x′ z′ d′ starts
   holds-cleared {x′} {z′} {d′} ex ez ed =
-      rw (zeros x x′ ex, zeros z z′ ez, zeros d d′ ed) (holds-starts w (length x) (length z) (length d))
+      rw (zeros x x′ ex, zeros z z′ ez, zeros d d′ ed) (holds-starts (shape .width) (length x) (length z) (length d))
 
   module _ (source : Source) (same : source .noiseless ≡ noiseless) {x′ z′ d′ : List ℕ} {r : Answer}
-      (finished : Finished (execute h (lentBy w h noiseless (source .second) (source .base)) (instructionsAt job 2 from) (source .main) starts) w x′ z′ d′ r)
+      (finished : Finished (execute (headerOf shape) (lentBy shape noiseless (source .second) (source .base)) (instructionsAt job 2 from) (source .main) starts) (shape .width) x′ z′ d′ r)
       (lx : length x′ ≡ length x) (lz : length z′ ≡ length z) (ld : length d′ ≡ length d)
     where
       abbrev all : Ended
-      all = execute h (lentOf h source) (instructionsAt job 2 from) (source .main) starts
+      all = execute (headerOf shape) (lentOf (headerOf shape) source) (instructionsAt job 2 from) (source .main) starts
 
-      in-source : Finished all w x′ z′ d′ r
+      in-source : Finished all (shape .width) x′ z′ d′ r
       in-source = rw (← ready .words, same) finished
 
-      past : (states : States) → all ≡ Ended.ended states → (s : ℕ) → h .shots ≤ s → states s ≡ start
-      past states e s k = past-shots h (lentOf h source) (instructionsAt job 2 from) (source .main) states refl (ready .sound) e s k
+      past : (states : States) → all ≡ Ended.ended states → (s : ℕ) → shape .shots ≤ s → states s ≡ start
+      past states e s k = past-shots (headerOf shape) (lentOf (headerOf shape) source) (instructionsAt job 2 from) (source .main) states refl (ready .sound) e s k
 
-      pub run-finished : Words x′ → Words z′ → Words d′ → r .number ≡ 0 → NeededRun job h source from x′ z′ d′ r
+      pub run-finished : Words x′ → Words z′ → Words d′ → r .number ≡ 0 → NeededRun job (headerOf shape) source from x′ z′ d′ r
       run-finished fx fz fd zero =
           record {
-            is = needed-finished h (ready .words) (ready .ahead .header .some-shots) past (lx ∙ ready .of-x) (lz ∙ ready .of-z) (ld ∙ ready .of-deltas) fx fz fd in-source zero;
+            is = needed-finished (headerOf shape) (ready .words) (ready .ahead .header .some-shots) past (lx ∙ ready .of-x) (lz ∙ ready .of-z) (ld ∙ ready .of-deltas) fx fz fd in-source zero;
           }
 
       pub run-stopped : {x″ z″ d″ : List ℕ} → x″ ≡ cleared 0 (length x′) x′ → z″ ≡ cleared 0 (length z′) z′ → d″ ≡ cleared 0 (length d′) d′ → (r .number ≡ 0 → ⊥)
-          → NeededRun job h source from x″ z″ d″ r
+          → NeededRun job (headerOf shape) source from x″ z″ d″ r
       run-stopped {x″} {z″} {d″} ex ez ed some =
           record {
             is =
-                needed-stopped h
+                needed-stopped (headerOf shape)
                 (zeros x′ x″ ex ∙ rw (lx, ready .of-x))
                 (zeros z′ z″ ez ∙ rw (lz, ready .of-z))
                 (zeros d′ d″ ed ∙ rw (ld, ready .of-deltas))

@@ -10,7 +10,7 @@ use lib.Dec.{eqb, lit<}
 use lib.Pow.{pow-pos, high, ones-lt, ones-split}
 use lib.ListN.{length, set}
 use borrow.Author.Tests.{eq-eqb, ne-eqb}
-use Rattle.pauli.specs.Bits.{Bits, _⊕_, sumOver, bit}
+use Rattle.pauli.specs.Bits.{Bits, added, _⊕_, sumOver, bit}
 use Rattle.job.specs.Grammar.{isOne}
 use Rattle.draws.specs.Draws.{isSatisfied}
 use Rattle.rows.specs.Words.{bitIn}
@@ -18,7 +18,7 @@ use Rattle.rows.specs.Overwrite.{overwrite, xored}
 use Rattle.rows.specs.Listed.{overList}
 use Rattle.rows.specs.Column.{column}
 use Rattle.rows.specs.Laws.Overwrite.{overwrite-in, overwrite-more, length-overwrite}
-use Rattle.rows.specs.Laws.Column.{bit-add-listed}
+use Rattle.rows.specs.Laws.Column.{column-add-listed}
 use Rattle.noise.specs.Condition.{conditionOf, Masks}
 
 -- a turn of the loop that writes one word many times
@@ -60,12 +60,12 @@ module _ (w v : ℕ) (outcomes noiseless : List ℕ) (parity : ℕ)
     unfolding bitIn
     filled e s h = rw (e, zero-mul w, overwrite-in 0 (λ j. v) mask w (s / 64) h (rw zero-add fits)) (first (s % 64) (mod-lt s (lit< tt)))
 
-    pub masks : mask₁ ≡ overwrite 0 w (λ j. v) mask → mask′ ≡ overList (λ q. xored 0 (q * w) w noiseless) outcomes mask₁
+    pub masks : mask₁ ≡ overwrite 0 w (λ j. v) mask → mask′ ≡ overList (λ q. xored (0 * w) (q * w) w noiseless) outcomes mask₁
         → Masks w mask′ (conditionOf outcomes parity) (bitIn w noiseless)
-    unfolding column
+    unfolding column added
     masks e₁ e₂ =
+        let long : 0 * w + w ≤ length mask₁ = rw (e₁, length-overwrite, zero-mul, zero-add) fits in
         record {
           shots = λ s h.
-              rw (e₂, bit-add-listed w s h noiseless outcomes mask₁ (rw (e₁, length-overwrite) fits), filled e₁ s h)
-              (satisfied outcomes parity (column w noiseless s));
+              rw e₂ (ap (λ (c : Bits). c 0) (column-add-listed w s h 0 noiseless outcomes mask₁ long) ∙ rw (filled e₁ s h) (satisfied outcomes parity (column w noiseless s)));
         }

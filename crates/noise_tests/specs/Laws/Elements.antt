@@ -8,7 +8,7 @@ use mathlib.Core.Option.{Option, none, some}
 use borrow.Author.Tests.{not-false}
 use lib.Ieee.{Float, binary64, add}
 use lib.Dec.{eqb, ltb}
-use lib.ListN.{getD}
+use Rattle.template.specs.Values.{heldNumber}
 use Rattle.text.specs.Bytes.{bytes}
 use Rattle.text.specs.Template.{Value, numberAt}
 use Rattle.job.specs.Float.{float, zeroFloat, isWeight}
@@ -128,11 +128,11 @@ module _ (c : Known) {f : List ℕ} {vs : List Value} {w : Written} where
       go false b k = absurd (true≢false (sym k))
 
   -- the element lines that are due after the line
-  pub due-uniform : Said form.Uniform f vs w → getD f 2 0 ≡ next (contextOf c) w .due
+  pub due-uniform : Said form.Uniform f vs w → heldNumber f 2 ≡ next (contextOf c) w .due
   unfolding forms placeOf bytes next elementLines noiseBy
   due-uniform h = h .held .number 2 (omega arith) ∙ ap (λ (x : Written). next (contextOf c) x .due) (noise-said _ vs w (h .says))
 
-  pub due-weighted : Said form.Weighted f vs w → getD f 2 0 ≡ next (contextOf c) w .due
+  pub due-weighted : Said form.Weighted f vs w → heldNumber f 2 ≡ next (contextOf c) w .due
   unfolding forms placeOf bytes next elementLines noiseBy
   due-weighted h = h .held .number 2 (omega arith) ∙ ap (λ (x : Written). next (contextOf c) x .due) (noise-said _ vs w (h .says))
 
@@ -164,7 +164,7 @@ module _ (c : Context) (vs : List Value) (w : Written) where
       go a (some t) p k q = (t, p, q ∙ unfold nextTotal in rw p)
 
 module _ (c : Known) {f : List ℕ} {vs : List Value} {w : Written} (h : Said form.WeightedElement f vs w) where
-  pub weight-held : getD f 0 0 ≡ numberAt 0 vs
+  pub weight-held : heldNumber f 0 ≡ numberAt 0 vs
   unfolding forms placeOf bytes
   weight-held = h .held .number 0 (omega arith)
 

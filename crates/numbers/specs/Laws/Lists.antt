@@ -11,7 +11,7 @@ use lib.ListN.{length, getD, take, drop, set, length-append}
 use Rattle.numbers.specs.declared.lists.Listed.{Listed}
 use Rattle.text.specs.Bytes.{comma, until, split}
 use Rattle.text.specs.Number.{numberOf}
-use Rattle.text.specs.List.{withFirst, numbersOf, listQ, risesFrom, isRising, onlyRising, isDash, listL, oneMember, listC}
+use Rattle.text.specs.List.{withFirst, piecesOf, listQ, risesFrom, isRising, onlyRising, isDash, listL, oneMember, listC}
 use Rattle.numbers.specs.Read.{largestOf, listedAs, stored, ListRead, inFront}
 use Rattle.text.specs.Laws.Pieces.{piece-more, piece-last}
 
@@ -94,7 +94,7 @@ stored-at [] (m ∷ l) j h k = absurd (omega arith)
 stored-at (w ∷ out) (m ∷ l) zero h k = refl
 stored-at (w ∷ out) (m ∷ l) (suc j) h k = stored-at out l j (omega arith) (omega arith)
 
--- ---- Q, from its first piece to its last
+-- ---- pieces, from the first to the last
 
 front-none : (d : List ℕ) (o : Option (List ℕ)) → inFront d (withFirst none o) ≡ none
 unfolding inFront withFirst
@@ -105,20 +105,20 @@ unfolding inFront withFirst
 front-first d n none = refl
 front-first d n (some l) = ap some (sym (append-assoc d (n ∷ []) l))
 
--- the members `done` of the list `s` were read up to `at`: they are what the struct and the lent words hold
-pub record SoFar (s before : List ℕ) (r : Listed) (at : ℕ) (out : List ℕ) : Type 0 where
+-- the members `done` of the list `s`, by a reader of one, were read up to `at`: they are what the struct and the lent words hold
+pub record SoFar (one : List ℕ → Option ℕ) (s before : List ℕ) (r : Listed) (at : ℕ) (out : List ℕ) : Type 0 where
   pub done : List ℕ
   pub few : length done ≤ at
-  pub reads : listQ s ≡ inFront done (numbersOf (split comma (drop at s)))
+  pub reads : piecesOf one (split comma s) ≡ inFront done (piecesOf one (split comma (drop at s)))
   pub result : r ≡ listedAs (some done)
   pub members : out ≡ stored before done
 
-pub q-start : {s out : List ℕ} {r : Listed} → r ≡ listedAs (some []) → SoFar s out r 0 out
-q-start {s} e =
+pub pieces-start : {one : List ℕ → Option ℕ} {s out : List ℕ} {r : Listed} → r ≡ listedAs (some []) → SoFar one s out r 0 out
+pieces-start {one} {s} e =
     record {
       done = [];
       few = omega arith;
-      reads = unfold listQ in go (numbersOf (split comma s));
+      reads = go (piecesOf one (split comma s));
       result = e;
       members = unfold stored in refl;
     }
@@ -128,38 +128,38 @@ q-start {s} e =
     go (some l) = unfold inFront in refl
 
 -- how many members there are, by the struct
-pub so-count : {s before : List ℕ} {r : Listed} {at : ℕ} {out : List ℕ} (f : SoFar s before r at out) → r .count ≡ length (f .done)
+pub so-count : {one : List ℕ → Option ℕ} {s before : List ℕ} {r : Listed} {at : ℕ} {out : List ℕ} (f : SoFar one s before r at out) → r .count ≡ length (f .done)
 so-count f = listed-count (f .done) (f .result)
 
 -- the piece from `at` to `e`
-module _ {s before : List ℕ} {r : Listed} {at : ℕ} {out : List ℕ} (f : SoFar s before r at out) (e : ℕ)
+module _ {one : List ℕ → Option ℕ} {s before : List ℕ} {r : Listed} {at : ℕ} {out : List ℕ} (f : SoFar one s before r at out) (e : ℕ)
     (here : at ≤ length s) (found : e ≡ at + until comma (drop at s)) (within : e ≤ length s) where
-  pub q-bad : numberOf (take (e - at) (drop at s)) ≡ none → listQ s ≡ none
-  unfolding numbersOf
-  q-bad v = f .reads ∙ go (ltb e (length s)) refl
+  pub pieces-bad : one (take (e - at) (drop at s)) ≡ none → piecesOf one (split comma s) ≡ none
+  unfolding piecesOf
+  pieces-bad v = f .reads ∙ go (ltb e (length s)) refl
     where
-      go : (t : Bool) → ltb e (length s) ≡ t → inFront (f .done) (numbersOf (split comma (drop at s))) ≡ none
+      go : (t : Bool) → ltb e (length s) ≡ t → inFront (f .done) (piecesOf one (split comma (drop at s))) ≡ none
       go true h = rw (piece-more comma s at e here found ([] ∷ []) (ltb-true _ _ h), v) (front-none _ _)
       go false h = rw (piece-last comma s at e here found (omega (arith, ltb-false e (length s) h)), v) (front-none _ _)
 
-  module _ {n : ℕ} (v : numberOf (take (e - at) (drop at s)) ≡ some n) {q : Listed} (pushed : q ≡ listedAs (some (f .done ++ n ∷ [])))
+  module _ {n : ℕ} (v : one (take (e - at) (drop at s)) ≡ some n) {q : Listed} (pushed : q ≡ listedAs (some (f .done ++ n ∷ [])))
       {out′ : List ℕ} (put : out′ ≡ set out (r .count) n) where
     members-more : out′ ≡ stored before (f .done ++ n ∷ [])
     members-more = put ∙ rw (so-count f, f .members) (stored-snoc before (f .done) n)
 
-    pub q-more : e < length s → SoFar s before q (e + 1) out′
-    q-more h =
+    pub pieces-more : e < length s → SoFar one s before q (e + 1) out′
+    pieces-more h =
         record {
           done = f .done ++ n ∷ [];
           few = omega (arith, f .few, length-append (f .done) (n ∷ []));
-          reads = f .reads ∙ unfold numbersOf in rw (piece-more comma s at e here found ([] ∷ []) h, v) (front-first (f .done) n _);
+          reads = f .reads ∙ unfold piecesOf in rw (piece-more comma s at e here found ([] ∷ []) h, v) (front-first (f .done) n _);
           result = pushed;
           members = members-more;
         }
 
-    pub q-last : e ≡ length s → ListRead (listQ s) q before out′
-    q-last h =
-        let all : listQ s ≡ some (f .done ++ n ∷ []) = f .reads ∙ unfold numbersOf inFront withFirst in rw (piece-last comma s at e here found h, v) in
+    pub pieces-last : e ≡ length s → ListRead (piecesOf one (split comma s)) q before out′
+    pieces-last h =
+        let all : piecesOf one (split comma s) ≡ some (f .done ++ n ∷ []) = f .reads ∙ unfold piecesOf inFront withFirst in rw (piece-last comma s at e here found h, v) in
         record {
           result = pushed ∙ rw all;
           members = λ l e. let same : f .done ++ n ∷ [] ≡ l = cc in members-more ∙ rw same;

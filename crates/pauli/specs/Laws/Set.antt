@@ -1,6 +1,6 @@
 -- Laws of sets in words: one number changed, the numbers of a list put in, the sum of two sets. Assumes nothing.
 use mathlib.Core.Path.{_≡_, refl, sym, ap, _∙_, fun-ext}
-use mathlib.Core.Bool.{Bool, true, false, not, _&&_, _||_, cond, true≢false, Bool·beq}
+use mathlib.Core.Bool.{Bool, true, false, not, _&&_, _||_, cond, Bool·beq}
 use mathlib.Core.List.{List, [], _∷_, _++_}
 use Prim.Native.Nat.{ℕ, zero, suc, _+_, _*_, _/_, _%_, _^_, _≤_, _<_}
 use native.Mathlib.Omega.{arith}
@@ -9,30 +9,16 @@ use native.Mathlib.Decide.{ℕ-discrete, decLt}
 use borrow.Author.Tests.{eq-eqb, ne-eqb}
 use lib.Dec.{eqb}
 use lib.ListN.{length, getD, set, take, replicate, length-set, List·getD-eq-default}
-use lib.Seq.{getD-set-same, getD-set-other, take-suc}
-use lib.Bits.{bitXor, bitOr}
+use lib.Seq.{getD-set-same, getD-set-other, set-getD, take-suc}
+use lib.Bits.{bitXor, bitOr, xor-zero-r}
+use mir.Val.{boolByte}
 use Rattle.pauli.specs.Bits.{Bits, _⊕_, _∩_, _∪_, _△_, none, replaced, added, outside, members, bit}
 use Rattle.pauli.specs.Fixed.{inSet}
 use Rattle.pauli.specs.Laws.F2.{f2}
 use Rattle.pauli.specs.Laws.Parity.{at-or-off, replaced-is, added-is}
-use Rattle.pauli.specs.Laws.Word.{bit-zero, bit-xor, bit-or, bit-pow}
+use Rattle.pauli.specs.Laws.Word.{bit-zero, bit-xor, bit-or, bit-pow, one-shl}
 
 -- ---- one number of a set
-
--- a number in a set is below the set's width
-pub in-below : (s : List ℕ) (q : ℕ) → inSet s q ≡ true → q < 64 * length s
-unfolding inSet
-in-below s q h = by-order (decLt (q / 64) (length s))
-  where
-    by-order : Dec (q / 64 < length s) → q < 64 * length s
-    by-order (yes k) = omega arith
-    by-order (no k) =
-        let past : length s ≤ q / 64 = omega (arith, k) in
-        absurd (true≢false (sym h ∙ rw (List·getD-eq-default s 0 past) (bit-zero (q % 64))))
-
--- the same of a bit that was read off four words
-pub qubit-below : (s : List ℕ) (q : ℕ) (b : Bool) → length s ≡ 4 → b ≡ inSet s q → b ≡ true → q < 256
-qubit-below s q b l e t = let h = in-below s q (sym e ∙ t) in omega arith
 
 -- words of 0 hold no number
 pub in-none : (n : ℕ) → inSet (replicate n 0) ≡ none
@@ -67,7 +53,7 @@ module _ (op : ℕ → ℕ → ℕ) (f : Bool → Bool → Bool) (bits : (a b k 
           rw (w, getD-set-same s (q / 64) (op (getD s (q / 64) 0) (2 ^ (q % 64))) 0 h, ne-eqb i q e)
           (bits (getD s (q / 64) 0) (2 ^ (q % 64)) (i % 64) ∙ rw (bit-pow (q % 64) (i % 64), ne-eqb _ _ d) (none-changed _))
 
-pub in-toggled : (s : List ℕ) (q : ℕ) → q / 64 < length s → inSet (set s (q / 64) (bitXor (getD s (q / 64) 0) (2 ^ (q % 64)))) ≡ added (inSet s) q true
+in-toggled : (s : List ℕ) (q : ℕ) → q / 64 < length s → inSet (set s (q / 64) (bitXor (getD s (q / 64) 0) (2 ^ (q % 64)))) ≡ added (inSet s) q true
 unfolding added
 in-toggled s q h = fun-ext (in-worked bitXor _⊕_ bit-xor (λ a. simp f2) s q h)
 
@@ -92,6 +78,13 @@ added-false s q = fun-ext (λ i. go (s i) (eqb i q))
     go a true = simp f2
     go a false = refl
 
+-- b shifted to the place of q, and added to the word of q
+pub bit-added : (s : List ℕ) (q : ℕ) (b : Bool) → q / 64 < length s
+    → inSet (set s (q / 64) (bitXor (getD s (q / 64) 0) (boolByte b * 2 ^ (q % 64) % 2 ^ 64))) ≡ added (inSet s) q b
+bit-added s q true h = rw (one-shl (q % 64) (omega arith)) (in-toggled s q h)
+bit-added s q false h =
+    let none-there : 0 * 2 ^ (q % 64) % 2 ^ 64 ≡ 0 = omega arith in rw (none-there, xor-zero-r, set-getD) (added-false (inSet s) q)
+
 -- a bit is put for another by adding what they differ by
 pub replaced-added : (s : Bits) (q : ℕ) (b : Bool) → replaced s q b ≡ added s q (s q ⊕ b)
 replaced-added s q b = replaced-is s q b ∙ sym (added-is s q (s q ⊕ b))
@@ -104,16 +97,10 @@ differ-⊕ true false = refl
 differ-⊕ false true = refl
 differ-⊕ false false = refl
 
--- of two bits that differ, one is true
-pub either : {X : Type 0} (a b : Bool) → not (Bool·beq a b) ≡ true → (a ≡ true → X) → (b ≡ true → X) → X
-either true b d f g = f refl
-either false true d f g = g refl
-either false false d f g = absurd (true≢false (sym d))
-
--- false put for the bit of q takes q out
-pub cleared-replaced : (s : Bits) (q : ℕ) → replaced s q false ≡ s ∩ outside (q ∷ [])
-unfolding replaced _∩_ outside
-cleared-replaced s q = fun-ext (at-or-off (λ i e. cond e false (s i) ≡ (s i && (not e && true))) q (simp f2) (λ i. simp f2))
+-- its own bit added takes q out
+pub cleared-added : (s : Bits) (q : ℕ) → added s q (s q) ≡ s ∩ outside (q ∷ [])
+unfolding added _∩_ outside
+cleared-added s q = fun-ext (at-or-off (λ i e. cond e (s i ⊕ s q) (s i) ≡ (s i && (not e && true))) q (simp f2) (λ i. simp f2))
 
 -- ---- the numbers of a list, put into a set one after the other
 

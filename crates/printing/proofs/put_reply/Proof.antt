@@ -7,41 +7,41 @@ use borrow.Author.Needs.{needs}
 use Rattle.printing.proofs.put_reply.Statement.{statement}
 use Rattle.printing.proofs.put_reply.Tie as tie
 
-add-w : tie.Need-add-w
-add-w c = omega (arith, shots-few (c .before .before .pre))
+shape-of-requires : tie.Need-shape-of-requires
+shape-of-requires c κs = omega (arith, shots-few (c .before .before .pre))
 
 mul-frame : tie.Need-mul-frame
-mul-frame c = omega (arith, frame-few (c .before .before .pre))
+mul-frame c = rw (c .before .shape-of .ensures) (omega (arith, frame-few (c .before .before .before .before .pre)))
 
 mul-outcomes : tie.Need-mul-outcomes
-mul-outcomes c = omega (arith, outcomes-few (c .before .before .pre))
+mul-outcomes c = rw (c .before .before .shape-of .ensures) (omega (arith, outcomes-few (c .before .before .before .before .before .pre)))
 
 array-borrow-prefix-x : tie.Need-array-borrow-prefix-x
-array-borrow-prefix-x c = omega (arith, frame-few (c .before .before .before .pre))
+array-borrow-prefix-x c = rw (c .before .before .before .shape-of .ensures) (frame-few (c .before .before .before .before .before .before .pre))
 
 slice-aggregate-put-run : tie.Need-slice-aggregate-put-run
-slice-aggregate-put-run c = sym (length-take-le _ _ (frame-few (c .before .before .before .before .pre)))
+slice-aggregate-put-run c = rw (c .before .before .before .before .shape-of .ensures) (sym (length-take-le _ _ (frame-few (c .before .before .before .before .before .before .before .pre))))
 
 array-borrow-prefix-z : tie.Need-array-borrow-prefix-z
-array-borrow-prefix-z c = omega (arith, frame-few (c .before .before .before .before .pre))
+array-borrow-prefix-z c = rw (c .before .before .before .before .shape-of .ensures) (frame-few (c .before .before .before .before .before .before .before .pre))
 
 slice-aggregate-put-run-2 : tie.Need-slice-aggregate-put-run-2
-slice-aggregate-put-run-2 c = sym (length-take-le _ _ (frame-few (c .before .before .before .before .before .pre)))
+slice-aggregate-put-run-2 c = rw (c .before .before .before .before .before .shape-of .ensures) (sym (length-take-le _ _ (frame-few (c .before .before .before .before .before .before .before .before .pre))))
 
 array-borrow-prefix-deltas : tie.Need-array-borrow-prefix-deltas
-array-borrow-prefix-deltas c = omega (arith, outcomes-few (c .before .before .before .before .before .pre))
+array-borrow-prefix-deltas c = rw (c .before .before .before .before .before .shape-of .ensures) (outcomes-few (c .before .before .before .before .before .before .before .before .pre))
 
 slice-aggregate-put-run-3 : tie.Need-slice-aggregate-put-run-3
-slice-aggregate-put-run-3 c = sym (length-take-le _ _ (outcomes-few (c .before .before .before .before .before .before .pre)))
+slice-aggregate-put-run-3 c = rw (c .before .before .before .before .before .before .shape-of .ensures) (sym (length-take-le _ _ (outcomes-few (c .before .before .before .before .before .before .before .before .before .pre))))
 
 array-share-prefix-noiseless : tie.Need-array-share-prefix-noiseless
-array-share-prefix-noiseless c = omega (arith, outcomes-few (c .before .before .before .before .before .before .pre))
+array-share-prefix-noiseless c = rw (c .before .before .before .before .before .before .shape-of .ensures) (outcomes-few (c .before .before .before .before .before .before .before .before .before .pre))
 
 slice-aggregate-put-run-4 : tie.Need-slice-aggregate-put-run-4
-slice-aggregate-put-run-4 c = sym (length-take-le _ _ (outcomes-few (c .before .before .before .before .before .before .before .pre)))
+slice-aggregate-put-run-4 c = rw (c .before .before .before .before .before .before .before .shape-of .ensures) (sym (length-take-le _ _ (outcomes-few (c .before .before .before .before .before .before .before .before .before .before .pre))))
 
 put-run-requires : tie.Need-put-run-requires
-put-run-requires c κs = (c .before .before .before .before .before .before .before .pre, lends-zeros (c .before .before .before .before .before .before .before .pre))
+put-run-requires c κs = rw (c .before .before .before .before .before .before .before .shape-of .ensures) (c .before .before .before .before .before .before .before .before .before .before .pre, lends-zeros (c .before .before .before .before .before .before .before .before .before .before .pre))
 
 same-length : tie.Need-same-length
 same-length c = search needs
@@ -53,7 +53,7 @@ pub put-reply-spec : {M : Type 1} → statement M
 put-reply-spec =
     tie.close
     (tie.spec
-    add-w
+    shape-of-requires
     mul-frame
     mul-outcomes
     array-borrow-prefix-x

@@ -1,30 +1,28 @@
 -- How long a printed session is at most. Laws. Assumes nothing.
-use mathlib.Core.Path.{_≡_, refl, sym, ap, _∙_}
-use mathlib.Core.Bool.{Bool, true, false, cond}
+use mathlib.Core.Path.{_≡_, refl, ap}
+use mathlib.Core.Bool.{Bool, true, false}
 use mathlib.Core.List.{List, [], _∷_, _++_}
-use Prim.Native.Nat.{ℕ, zero, suc, _+_, _*_, _≤_, _<_}
+use Prim.Native.Nat.{ℕ, zero, suc, _+_, _*_, _≤_}
 use native.Mathlib.Omega.{arith}
 use borrow.Author.Tests.{leb-true, leb-false, eqb-true, eqb-false}
 use lib.Dec.{eqb, leb}
 use lib.ListN.{length, length-append}
-use Rattle.text.specs.Bytes.{LF, bytes, unlines}
+use Rattle.text.specs.Bytes.{LF, unlines}
 use Rattle.job.specs.declared.Header.{Header}
 use Rattle.job.specs.declared.Answer.{Answer}
-use Rattle.job.specs.Job.{answer, checkJob, jobOf, recordedIn}
+use Rattle.job.specs.Job.{answer, checkJob, jobOf}
 use Rattle.run.specs.Run.{RunReply, runReply}
 use Rattle.session.specs.Session.{smallEnough, lentMemory, refusalLines, deltaLines, printed}
 use Rattle.writer.specs.Placed.{Puts}
-use Rattle.writer.specs.Laws.Lists.{decimal-length}
 use Rattle.session_text.specs.Lines.{headerText, deltaText}
 use Rattle.printing.specs.Ran.{ranText, RunsSmall}
-use Rattle.session_text.specs.Laws.Lines.{refusal-line, header-length, delta-length}
+use Rattle.session_text.specs.Laws.Lines.{refusal-length, refusal-line, header-length, delta-length}
 use Rattle.printing.specs.Laws.Printed.{printed-long, printed-refused, printed-large, printed-small, small-parts, recorded-few, ran-refused, ran-printed}
 
 refusal-short : (a : Answer) → length (unlines (refusalLines a)) ≤ 24410
-unfolding bytes
 refusal-short a =
     let long = simp length-append at (ap length (refusal-line a)) in
-    omega (arith, long, decimal-length (a .number), decimal-length (a .line))
+    omega (arith, long, refusal-length a)
 
 line-length : (l more : List ℕ) → length (l ++ LF ∷ more) ≡ length (l ++ LF ∷ []) + length more
 line-length l more = omega (arith, length-append l (LF ∷ more), length-append l (LF ∷ []))

@@ -5,65 +5,69 @@ use mathlib.Core.List.{List}
 use Prim.Native.Nat.{ℕ, _+_, _*_, _/_, _%_, _<_, _≤_}
 use native.Mathlib.Omega.{arith}
 use lib.Dec.{eqb}
-use lib.ListN.{length, getD, replicate, getD-replicate, length-replicate, List·getD-eq-default}
-use native.Mathlib.Decide.{decLt}
-use Rattle.pauli.specs.Bits.{Bits, members, added as addedAt, _∩_, parity}
+use native.Mathlib.Nat.{zero-mul, zero-add}
+use lib.ListN.{length}
+use Rattle.pauli.specs.Bits.{Bits, members, replaced, added as addedAt, _⊕_, _∩_, parity, sumOver}
 use Rattle.pauli.specs.Pauli.{Pauli, _∗_, when, anticommutes, cleared}
-use Rattle.pauli.specs.Laws.F2.{false-⊕, ⊕-assoc}
 use Rattle.pauli.specs.Laws.Gates.{pauli-path}
-use Rattle.pauli.specs.Laws.Word.{bit-zero}
 use Rattle.job.specs.Line.{SparsePauli, pauliOf, Line}
 use Rattle.job.specs.Checks.{allBelow, distinct}
 use Rattle.frames.specs.Forward.{onFrame, forward, exponentiate, controlledPauli}
-use Rattle.rows.specs.Words.{bitIn}
 use Rattle.rows.specs.Overwrite.{xored, cleared as clearedWords, flipped}
 use Rattle.rows.specs.Listed.{overList}
 use Rattle.rows.specs.Column.{column}
-use Rattle.rows.specs.Laws.Overwrite.{length-xored}
+use Rattle.rows.specs.Laws.Overwrite.{length-cleared, length-xored}
 use Rattle.rows.specs.Laws.Listed.{length-over}
-use Rattle.rows.specs.Laws.Column.{column-add-mask, column-flip, column-clear, column-flipped, mask-row, bit-add-listed}
-use Rattle.propagator.specs.Acts.{frameOf, Acts, lineRule, written, PauliIn, MaskAdded}
+use Rattle.rows.specs.Laws.Column.{column-add-mask, column-flip, column-clear, column-flipped, column-add-listed, column-sum-listed, added-twice, added-replaced, replaced-here, replaced-off}
+use Rattle.propagator.specs.Acts.{frameOf, Acts, lineRule, written, PauliIn, MaskPut}
 use Rattle.propagator.specs.Laws.Lists.{odd-members, sum-members, row-in, rows-in}
 use Rattle.propagator.specs.Laws.Acts.{acts-frame}
 
--- a mask of zeros has no shot
-pub zero-mask : (k w s : ℕ) → bitIn w (replicate k 0) 0 s ≡ false
-unfolding bitIn
-zero-mask k w s = go (decLt (0 * w + s / 64) k)
-  where
-    go : Dec (0 * w + s / 64 < k) → Rattle.pauli.specs.Bits.bit (getD (replicate k 0) (0 * w + s / 64) 0) (s % 64) ≡ false
-    go (yes h) = rw (getD-replicate {A = ℕ} k (0 * w + s / 64) 0 0 h) (bit-zero (s % 64))
-    go (no h) =
-        let past : length {A = ℕ} (replicate k 0) ≤ 0 * w + s / 64 = rw length-replicate (omega arith) in
-        rw (List·getD-eq-default {A = ℕ} (replicate k 0) 0 {n = 0 * w + s / 64} past) (bit-zero (s % 64))
-
 module _ (w n : ℕ) (x z : List ℕ) (lx : length x ≡ n * w) (lz : length z ≡ n * w) (px pz : List ℕ) (within : PauliIn n px pz) where
-  pub mask-added : (m m₁ m′ : List ℕ) → w ≤ length m → m₁ ≡ overList (λ q. xored 0 (q * w) w x) pz m → m′ ≡ overList (λ q. xored 0 (q * w) w z) px m₁
-      → MaskAdded w n (written px pz) x z m m′
+  -- the sums of the listed rows say whether a frame anticommutes
+  sums-anticommute : (s : ℕ) → sumOver pz (column w x s) ⊕ sumOver px (column w z s) ≡ anticommutes n (frameOf w x z s) (pauliOf (written px pz))
   unfolding anticommutes pauliOf
-  mask-added m m₁ m′ fits e₁ e₂ =
-      let fits₁ : w ≤ length m₁ = rw (e₁, length-over _ (λ q l. length-xored 0 (q * w) w x l) pz m) fits in
+  sums-anticommute s =
+      rw (sum-members n (column w x s) pz (within .z-below) (within .z-once), sum-members n (column w z s) px (within .x-below) (within .x-once))
+
+  pub mask-put : (r : ℕ) (m m₁ m′ : List ℕ) → r * w + w ≤ length m → m₁ ≡ overList (λ q. xored (r * w) (q * w) w x) pz (clearedWords (r * w) w m)
+      → m′ ≡ overList (λ q. xored (r * w) (q * w) w z) px m₁ → MaskPut w n (written px pz) r x z m m′
+  mask-put r m m₁ m′ fits e₁ e₂ =
+      let fits₁ : r * w + w ≤ length m₁ = rw (e₁, length-over _ (λ q l. length-xored (r * w) (q * w) w x l) pz (clearedWords (r * w) w m), length-cleared) fits in
       record {
         shots = λ s h.
-            rw (
-              e₂,
-              bit-add-listed w s h z px m₁ fits₁,
-              e₁,
-              bit-add-listed w s h x pz m fits,
-              sum-members n (column w x s) pz (within .z-below) (within .z-once),
-              sum-members n (column w z s) px (within .x-below) (within .x-once),
-              ⊕-assoc,
-            );
+            rw (e₂, column-add-listed w s h r z px m₁ fits₁, e₁, column-sum-listed w s h r x pz m fits, added-replaced)
+            (ap (replaced (column w m s) r) (sums-anticommute s));
       }
 
-  pub pauli-acts : (d mask x′ z′ : List ℕ) → x′ ≡ overList (λ q. xored (q * w) 0 w mask) px x → z′ ≡ overList (λ q. xored (q * w) 0 w mask) pz z
-      → Acts w (λ s. onFrame (λ F. F ∗ when (bitIn w mask 0 s) (pauliOf (written px pz)))) x z d x′ z′ d
+  pub measure-acts : (m id : ℕ) (d d₁ d′ : List ℕ) → length d ≡ m * w → id < m → d₁ ≡ overList (λ q. xored (id * w) (q * w) w x) pz d
+      → d′ ≡ overList (λ q. xored (id * w) (q * w) w z) px d₁ → Acts w (lineRule n m (Line.measure (written px pz) id)) x z d x z d′
+  unfolding forward
+  measure-acts m id d d₁ d′ ld below e₁ e₂ =
+      record {
+        shots = λ s h. λ i. record { frame = frameOf w x z s; deltas = shot s h i };
+      }
+    where
+      fits : id * w + w ≤ length d
+      fits = row-in w m id (length d) ld below
+
+      fits₁ : id * w + w ≤ length d₁
+      fits₁ = rw (e₁, length-over _ (λ q l. length-xored (id * w) (q * w) w x l) pz d) fits
+
+      shot : (s : ℕ) → s / 64 < w → column w d′ s ≡ addedAt (column w d s) id (anticommutes n (frameOf w x z s) (pauliOf (written px pz)))
+      shot s h =
+          rw (e₂, column-add-listed w s h id z px d₁ fits₁, e₁, column-add-listed w s h id x pz d fits, added-twice)
+          (ap (addedAt (column w d s) id) (sums-anticommute s))
+
+  pub pauli-acts : (d masks : List ℕ) (r : ℕ) (x′ z′ : List ℕ) → x′ ≡ overList (λ q. xored (q * w) (r * w) w masks) px x
+      → z′ ≡ overList (λ q. xored (q * w) (r * w) w masks) pz z
+      → Acts w (λ s. onFrame (λ F. F ∗ when (column w masks s r) (pauliOf (written px pz)))) x z d x′ z′ d
   unfolding _∗_ when pauliOf
-  pauli-acts d mask x′ z′ ex ez =
-      acts-frame w (λ s F. F ∗ when (bitIn w mask 0 s) (pauliOf (written px pz))) x z d x′ z′
+  pauli-acts d masks r x′ z′ ex ez =
+      acts-frame w (λ s F. F ∗ when (column w masks s r) (pauliOf (written px pz))) x z d x′ z′
       (λ s h. pauli-path
-      (rw (ex, column-add-mask w s h mask px x (rows-in w n x px lx (within .x-below)), odd-members px (within .x-once)))
-      (rw (ez, column-add-mask w s h mask pz z (rows-in w n z pz lz (within .z-below)), odd-members pz (within .z-once))))
+      (rw (ex, column-add-mask w s h r masks px x (rows-in w n x px lx (within .x-below)), odd-members px (within .x-once)))
+      (rw (ez, column-add-mask w s h r masks pz z (rows-in w n z pz lz (within .z-below)), odd-members pz (within .z-once))))
 
   pub inject-acts : (shot : ℕ) → shot < 64 * w → (m : ℕ) (d x′ z′ : List ℕ) → x′ ≡ overList (flipped w shot) px x → z′ ≡ overList (flipped w shot) pz z
       → Acts w (lineRule n m (Line.inject shot (written px pz))) x z d x′ z′ d
@@ -76,65 +80,59 @@ module _ (w n : ℕ) (x z : List ℕ) (lx : length x ≡ n * w) (lz : length z �
 
 -- ---- what lines do under their masks
 
--- a mask that was 0 before holds the shots whose frame anticommutes with P
-mask-is : {w n : ℕ} {P : SparsePauli} {x z mask : List ℕ} (k : ℕ) → MaskAdded w n P x z (replicate k 0) mask → (s : ℕ) → s / 64 < w
-    → bitIn w mask 0 s ≡ anticommutes n (frameOf w x z s) (pauliOf P)
-mask-is {w} k added s h = added .shots s h ∙ rw (zero-mask k w s) (false-⊕ _)
+-- the row that was put holds the shots whose frame anticommutes with P; the others are as they were
+mask-is : {w n : ℕ} {P : SparsePauli} {r : ℕ} {x z m m′ : List ℕ} → MaskPut w n P r x z m m′ → (s : ℕ) → s / 64 < w
+    → column w m′ s r ≡ anticommutes n (frameOf w x z s) (pauliOf P)
+mask-is {r = r} put s h = ap (λ (c : Bits). c r) (put .shots s h) ∙ replaced-here _ r _
 
--- a Pauli that is added in the shots of a mask
-abbrev pub underMask : ℕ → List ℕ → SparsePauli → ℕ → Pauli → Pauli
-underMask w mask P s F = F ∗ when (bitIn w mask 0 s) (pauliOf P)
+other-mask : {w n : ℕ} {P : SparsePauli} {r : ℕ} {x z m m′ : List ℕ} (i : ℕ) → (i ≡ r → ⊥) → MaskPut w n P r x z m m′ → (s : ℕ) → s / 64 < w
+    → column w m′ s i ≡ column w m s i
+other-mask {r = r} i ne put s h = ap (λ (c : Bits). c i) (put .shots s h) ∙ replaced-off _ r _ i ne
+
+-- a Pauli that is added in the shots of a mask, row r
+abbrev pub underMask : ℕ → List ℕ → ℕ → SparsePauli → ℕ → Pauli → Pauli
+underMask w masks r P s F = F ∗ when (column w masks s r) (pauliOf P)
 
 module _ (w n m : ℕ) (x z : List ℕ) where
-  pub exponential-acts : (k : ℕ) (P : SparsePauli) (d x′ z′ mask : List ℕ) → MaskAdded w n P x z (replicate k 0) mask
-      → Acts w (λ s. onFrame (underMask w mask P s)) x z d x′ z′ d → Acts w (lineRule n m (Line.exponential P)) x z d x′ z′ d
+  pub exponential-acts : (P : SparsePauli) (d x′ z′ scratch masks : List ℕ) → MaskPut w n P 0 x z scratch masks
+      → Acts w (λ s. onFrame (underMask w masks 0 P s)) x z d x′ z′ d → Acts w (lineRule n m (Line.exponential P)) x z d x′ z′ d
   unfolding forward exponentiate
-  exponential-acts k P d x′ z′ mask added acts =
+  exponential-acts P d x′ z′ scratch masks put acts =
       record {
         shots = λ s h.
-            acts .shots s h ∙ ap (λ (b : Bool). record { frame = frameOf w x z s ∗ when b (pauliOf P); deltas = column w d s }) (mask-is k added s h);
+            acts .shots s h ∙ ap (λ (b : Bool). record { frame = frameOf w x z s ∗ when b (pauliOf P); deltas = column w d s }) (mask-is put s h);
       }
 
-  pub controlled-acts : (k : ℕ) (C T : SparsePauli) (d x₁ z₁ x′ z′ of-C of-T : List ℕ) → MaskAdded w n C x z (replicate k 0) of-C
-      → MaskAdded w n T x z (replicate k 0) of-T → Acts w (λ s. onFrame (underMask w of-C T s)) x z d x₁ z₁ d
-      → Acts w (λ s. onFrame (underMask w of-T C s)) x₁ z₁ d x′ z′ d → Acts w (lineRule n m (Line.controlled C T)) x z d x′ z′ d
+  pub controlled-acts : (C T : SparsePauli) (d x₁ z₁ x′ z′ scratch of-C masks : List ℕ) → MaskPut w n C 0 x z scratch of-C → MaskPut w n T 1 x z of-C masks
+      → Acts w (λ s. onFrame (underMask w masks 0 T s)) x z d x₁ z₁ d → Acts w (λ s. onFrame (underMask w masks 1 C s)) x₁ z₁ d x′ z′ d
+      → Acts w (lineRule n m (Line.controlled C T)) x z d x′ z′ d
   unfolding forward controlledPauli
-  controlled-acts k C T d x₁ z₁ x′ z′ of-C of-T added-C added-T first second =
+  controlled-acts C T d x₁ z₁ x′ z′ scratch of-C masks put-C put-T first second =
       record {
         shots = λ s h.
             second .shots s h
-            ∙ ap (onFrame (underMask w of-T C s)) (first .shots s h)
+            ∙ ap (onFrame (underMask w masks 1 C s)) (first .shots s h)
             ∙ ap₂ (λ (b c : Bool). record { frame = frameOf w x z s ∗ when b (pauliOf T) ∗ when c (pauliOf C); deltas = column w d s })
-            (mask-is k added-C s h)
-            (mask-is k added-T s h);
+            (other-mask 0 (λ (e : 0 ≡ 1). omega arith) put-T s h ∙ mask-is put-C s h)
+            (mask-is put-T s h);
       }
 
-  pub measure-acts : (k : ℕ) (P : SparsePauli) (id : ℕ) (d d′ mask : List ℕ) → length d ≡ m * w → id < m → MaskAdded w n P x z (replicate k 0) mask
-      → d′ ≡ xored (id * w) 0 w mask d → Acts w (lineRule n m (Line.measure P id)) x z d x z d′
+  pub conditional-acts : (P : SparsePauli) (ids : List ℕ) (par : Bool) (d scratch masks x′ z′ : List ℕ) → w ≤ length scratch → allBelow m ids ≡ true
+      → distinct ids ≡ true → masks ≡ overList (λ q. xored (0 * w) (q * w) w d) ids (clearedWords (0 * w) w scratch)
+      → Acts w (λ s. onFrame (underMask w masks 0 P s)) x z d x′ z′ d → Acts w (lineRule n m (Line.conditional P ids par)) x z d x′ z′ d
   unfolding forward
-  measure-acts k P id d d′ mask ld below added e =
-      record {
-        shots = λ s h. λ i. record { frame = frameOf w x z s; deltas = shot s h i };
-      }
-    where
-      shot : (s : ℕ) → s / 64 < w → column w d′ s ≡ addedAt (column w d s) id (anticommutes n (frameOf w x z s) (pauliOf P))
-      shot s h = rw (e, mask-row w s h id mask d (row-in w m id (length d) ld below), mask-is k added s h)
-
-  pub conditional-acts : (k : ℕ) (P : SparsePauli) (ids : List ℕ) (par : Bool) (d mask x′ z′ : List ℕ) → w ≤ k → allBelow m ids ≡ true → distinct ids ≡ true
-      → mask ≡ overList (λ q. xored 0 (q * w) w d) ids (replicate k 0) → Acts w (λ s. onFrame (underMask w mask P s)) x z d x′ z′ d
-      → Acts w (lineRule n m (Line.conditional P ids par)) x z d x′ z′ d
-  unfolding forward
-  conditional-acts k P ids par d mask x′ z′ fits below once e acts =
+  conditional-acts P ids par d scratch masks x′ z′ fits below once e acts =
       record {
         shots = λ s h.
             acts .shots s h ∙ ap (λ (b : Bool). record { frame = frameOf w x z s ∗ when b (pauliOf P); deltas = column w d s }) (sums s h);
       }
     where
-      long : w ≤ length {A = ℕ} (replicate k 0)
-      long = rw length-replicate fits
+      row : 0 * w + w ≤ length scratch
+      row = rw (zero-mul, zero-add) fits
 
-      sums : (s : ℕ) → s / 64 < w → bitIn w mask 0 s ≡ parity m (column w d s ∩ members ids)
-      sums s h = rw (e, bit-add-listed w s h d ids (replicate k 0) long, zero-mask k w s, false-⊕) (sum-members m (column w d s) ids below once)
+      sums : (s : ℕ) → s / 64 < w → column w masks s 0 ≡ parity m (column w d s ∩ members ids)
+      sums s h =
+          rw e (ap (λ (c : Bits). c 0) (column-sum-listed w s h 0 d ids scratch row) ∙ replaced-here _ 0 _) ∙ sum-members m (column w d s) ids below once
 
   pub reset-acts : (qs d x′ z′ : List ℕ) → length x ≡ n * w → length z ≡ n * w → allBelow n qs ≡ true → x′ ≡ overList (λ q. clearedWords (q * w) w) qs x
       → z′ ≡ overList (λ q. clearedWords (q * w) w) qs z → Acts w (lineRule n m (Line.reset qs)) x z d x′ z′ d

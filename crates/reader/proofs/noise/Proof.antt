@@ -29,11 +29,11 @@ returns-2 : tie.Need-returns-2
 unfolding noiseBegin bytes
 returns-2 c = no-digit (c .before .before .before .before .before .read-on .ensures .read (not-false _ (c .before .if1 .left))) (c .if2 .taken)
 
-slice-read-parity-alone : tie.Need-slice-read-parity-alone
-slice-read-parity-alone c = omega arith
+count-requires : tie.Need-count-requires
+count-requires c κs = omega arith
 
-slice-read-parity-alone-2 : tie.Need-slice-read-parity-alone-2
-slice-read-parity-alone-2 c = omega arith
+number-requires : tie.Need-number-requires
+number-requires c κs = omega arith
 
 parity-alone-requires : tie.Need-parity-alone-requires
 parity-alone-requires c κs = search needs
@@ -44,8 +44,8 @@ same-length-3 c = search needs
 returns-3 : tie.Need-returns-3
 unfolding noiseBegin bytes
 returns-3 c =
-    let begun = c .before .before .before .before .before .before .before .before .before .read-on .ensures .read (not-false _ (c .before .before .before .before .before .if1 .left)) in
-    parity-bad begun (parity-known begun (c .before .parity-alone .ensures) ∙ c .if3 .taken)
+    let begun = c .before .before .before .before .before .before .before .before .before .before .before .read-on .ensures .read (not-false _ (c .before .before .before .before .before .before .before .if1 .left)) in
+    parity-bad begun (parity-known begun (c .before .before .before .before .count .ensures) (c .before .before .number .ensures) (c .before .parity-alone .ensures) ∙ c .if3 .taken)
 
 shared-slice-read-noise-kind : tie.Need-shared-slice-read-noise-kind
 shared-slice-read-noise-kind c = omega arith
@@ -53,8 +53,8 @@ shared-slice-read-noise-kind c = omega arith
 noise-kind-requires : tie.Need-noise-kind-requires
 unfolding noiseBegin bytes
 noise-kind-requires c κs =
-    let begun = c .before .before .before .before .before .before .before .before .before .before .before .read-on .ensures .read (not-false _ (c .before .before .before .before .before .before .before .if1 .left)) in
-    (record { before = _; begins = begun; parity = parity-known begun (c .before .before .before .parity-alone .ensures) ∙ c .before .before .if3 .left }, refl, omega arith)
+    let begun = c .before .before .before .before .before .before .before .before .before .before .before .before .before .read-on .ensures .read (not-false _ (c .before .before .before .before .before .before .before .before .before .if1 .left)) in
+    (record { before = _; begins = begun; parity = parity-known begun (c .before .before .before .before .before .before .count .ensures) (c .before .before .before .before .number .ensures) (c .before .before .before .parity-alone .ensures) ∙ c .before .before .if3 .left }, refl, omega arith)
 
 same-length-4 : tie.Need-same-length-4
 same-length-4 c = search needs
@@ -63,4 +63,4 @@ returns-4 : tie.Need-returns-4
 returns-4 c = c .before .before .noise-kind .ensures
 
 pub noise-spec : {M : Type 1} → statement M
-noise-spec = tie.close (tie.spec slice-aggregate-read-on read-on-requires same-length returns same-length-2 returns-2 slice-read-parity-alone slice-read-parity-alone-2 parity-alone-requires same-length-3 returns-3 shared-slice-read-noise-kind noise-kind-requires same-length-4 returns-4)
+noise-spec = tie.close (tie.spec slice-aggregate-read-on read-on-requires same-length returns same-length-2 returns-2 count-requires number-requires parity-alone-requires same-length-3 returns-3 shared-slice-read-noise-kind noise-kind-requires same-length-4 returns-4)

@@ -26,22 +26,22 @@ returns c =
     let refused = c .before .before .before .read-all .ensures .refused (not-true _ (c .if1 .taken)) (form-room form.Unitary) in
     says-nothing form.Unitary (no-values (formOf form.Unitary) _ refused)
 
-slice-read-if2 : tie.Need-slice-read-if2
-slice-read-if2 c = omega arith
+number-requires : tie.Need-number-requires
+number-requires c κs = omega arith
 
 same-length-2 : tie.Need-same-length-2
 same-length-2 c = search needs
 
 returns-2 : tie.Need-returns-2
 unfolding placeOf forms bytes
-returns-2 c = gate-high (c .before .before .before .before .before .read-all .ensures .read (not-false _ (c .before .before .if1 .left))) (c .if2 .taken)
+returns-2 c = gate-high (c .before .before .before .before .before .before .read-all .ensures .read (not-false _ (c .before .before .before .if1 .left))) (omega (arith, c .before .number .ensures, c .if2 .taken))
 
 same-length-3 : tie.Need-same-length-3
 same-length-3 c = search needs
 
 returns-3 : tie.Need-returns-3
 unfolding placeOf forms bytes
-returns-3 c = gate-good (c .before .before .before .before .before .read-all .ensures .read (not-false _ (c .before .before .if1 .left))) (c .if2 .left)
+returns-3 c = gate-good (c .before .before .before .before .before .before .read-all .ensures .read (not-false _ (c .before .before .before .if1 .left))) (omega (arith, c .before .number .ensures, c .if2 .left))
 
 pub unitary-spec : {M : Type 1} → statement M
-unitary-spec = tie.close (tie.spec slice-aggregate-read-all read-all-requires same-length returns slice-read-if2 same-length-2 returns-2 same-length-3 returns-3)
+unitary-spec = tie.close (tie.spec slice-aggregate-read-all read-all-requires same-length returns number-requires same-length-2 returns-2 same-length-3 returns-3)

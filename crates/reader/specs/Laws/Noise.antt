@@ -11,6 +11,7 @@ use lib.ListN.{length, getD, drop, List·getD-append, List·getD-eq-default}
 use Rattle.text.specs.Bytes.{bytes}
 use Rattle.text.specs.Template.{Value, isLetter, valuesOf, numbersIn, listsIn, numberAt, listAt}
 use Rattle.numbers.specs.Read.{inFront}
+use Rattle.template.specs.Values.{heldNumber, heldCount}
 use Rattle.template.specs.Fields.{Held, Begins}
 use Rattle.text.specs.Laws.Values.{none-some}
 use Rattle.template.specs.Laws.Fields.{nothing-held, numbers-append, lists-append}
@@ -111,10 +112,10 @@ module _ {line : List ℕ} {p : Progress} {before fields : List ℕ} (b : Begins
   two-lists = b .lists-read
 
   -- the lent words have the length of the condition and the parity
-  pub parity-known : {t : Bool} → t ≡ (eqb (getD fields 5 0) 0 && isOne (getD fields 1 0)) → parityAlone (b .values) ≡ t
-  parity-known e =
-      let count : getD fields 5 0 ≡ length (listAt 1 (b .values)) = held .count 1 (omega (arith, two-lists)) in
-      let parity : getD fields 1 0 ≡ numberAt 1 (b .values) = held .number 1 (omega (arith, two-numbers)) in
+  pub parity-known : {t : Bool} {k p : ℕ} → k ≡ heldCount fields 1 → p ≡ heldNumber fields 1 → t ≡ (eqb k 0 && isOne p) → parityAlone (b .values) ≡ t
+  parity-known counted read e =
+      let count = counted ∙ held .count 1 (omega (arith, two-lists)) in
+      let parity = read ∙ held .number 1 (omega (arith, two-numbers)) in
       sym (rw (count, parity) at e)
 
   kind-values : (k : KindForm) → valuesOf (tableForm k .template) line ≡ inFront (b .values) (valuesOf (k .digit ∷ k .rest) (drop (p .at) line))

@@ -12,6 +12,7 @@ use Rattle.pauli.specs.Gate.{Gate, gates, gateFrom, gateOf}
 use Rattle.pauli.specs.Laws.Code.{gate-none}
 use Rattle.text.specs.Bytes.{bytes}
 use Rattle.text.specs.Template.{Value, valuesOf, numberAt, listAt}
+use Rattle.template.specs.Values.{heldNumber}
 use Rattle.template.specs.Fields.{numberLetters, listLetters, Room, HasForm, ReadAs}
 use Rattle.text.specs.Laws.Values.{both}
 use Rattle.job.specs.Grammar.{Written, Form as TableForm, unitaryLine, forms, said, readBy, readLine}
@@ -128,17 +129,17 @@ gate-some code h = gate-from gates code (omega arith)
 
 module _ {line fields : List ℕ} (h : HasForm line (formOf form.Unitary .template) fields) where
   -- the code stands first
-  code-held : getD fields 0 0 ≡ numberAt 0 (h .values)
+  code-held : heldNumber fields 0 ≡ numberAt 0 (h .values)
   unfolding placeOf forms bytes
   code-held = h .held .number 0 (omega arith)
 
-  pub gate-high : 14 < getD fields 0 0 → Tried (only form.Unitary) line form.Unread fields
+  pub gate-high : 14 < heldNumber fields 0 → Tried (only form.Unitary) line form.Unread fields
   unfolding placeOf forms bytes said unitaryLine
   gate-high high =
       let no-gate : gateOf (numberAt 0 (h .values)) ≡ none = gate-none (numberAt 0 (h .values)) (omega (arith, code-held)) in
       says-nothing form.Unitary (rw (h .reads, no-gate))
 
-  pub gate-good : getD fields 0 0 ≤ 14 → Tried (only form.Unitary) line form.Unitary fields
+  pub gate-good : heldNumber fields 0 ≤ 14 → Tried (only form.Unitary) line form.Unitary fields
   unfolding placeOf forms bytes unitaryLine
   gate-good low =
       let found = gate-some (numberAt 0 (h .values)) (omega (arith, code-held)) in

@@ -11,8 +11,8 @@ unreadable-requires c κs = search needs
 returns : tie.Need-returns
 returns c = search needs
 
-shared-slice-read-annotate : tie.Need-shared-slice-read-annotate
-shared-slice-read-annotate c = search needs
+number-requires : tie.Need-number-requires
+number-requires c κs = search needs
 
 slice-relend-prefix-annotate : tie.Need-slice-relend-prefix-annotate
 slice-relend-prefix-annotate c = search needs
@@ -38,7 +38,7 @@ annotated-spec =
     (tie.spec
     unreadable-requires
     returns
-    shared-slice-read-annotate
+    number-requires
     slice-relend-prefix-annotate
     slice-aggregate-annotate
     annotate-requires

@@ -8,8 +8,8 @@ use Rattle.replay_calls.proofs.replay_annotate.Tie as tie
 bytes-buffer-requires : tie.Need-bytes-buffer-requires
 bytes-buffer-requires c κs = search needs
 
-shared-slice-read-part-end : tie.Need-shared-slice-read-part-end
-shared-slice-read-part-end c = search needs
+member-requires : tie.Need-member-requires
+member-requires c κs = search needs
 
 part-end-requires : tie.Need-part-end-requires
 part-end-requires c κs = search needs
@@ -40,7 +40,7 @@ replay-annotate-spec =
     tie.close
     (tie.spec
     bytes-buffer-requires
-    shared-slice-read-part-end
+    member-requires
     part-end-requires
     slice-aggregate-annotated
     sub-annotated

@@ -17,8 +17,8 @@ words-buffer-requires-3 c κs = search needs
 words-buffer-requires-4 : tie.Need-words-buffer-requires-4
 words-buffer-requires-4 c κs = search needs
 
-shared-slice-read-part-end : tie.Need-shared-slice-read-part-end
-shared-slice-read-part-end c = search needs
+member-requires : tie.Need-member-requires
+member-requires c κs = search needs
 
 part-end-requires : tie.Need-part-end-requires
 part-end-requires c κs = search needs
@@ -67,7 +67,7 @@ replay-run-spec =
     words-buffer-requires-2
     words-buffer-requires-3
     words-buffer-requires-4
-    shared-slice-read-part-end
+    member-requires
     part-end-requires
     sub-words
     part-words-start

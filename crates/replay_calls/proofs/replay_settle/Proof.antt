@@ -11,14 +11,14 @@ words-buffer-requires c κs = search needs
 bytes-buffer-requires : tie.Need-bytes-buffer-requires
 bytes-buffer-requires c κs = search needs
 
-shared-slice-read-part-end : tie.Need-shared-slice-read-part-end
-shared-slice-read-part-end c = search needs
+member-requires : tie.Need-member-requires
+member-requires c κs = search needs
 
 part-end-requires : tie.Need-part-end-requires
 part-end-requires c κs = search needs
 
-shared-slice-read-part-end-2 : tie.Need-shared-slice-read-part-end-2
-shared-slice-read-part-end-2 c = search needs
+member-requires-2 : tie.Need-member-requires-2
+member-requires-2 c κs = search needs
 
 part-end-requires-2 : tie.Need-part-end-requires-2
 part-end-requires-2 c κs = search needs
@@ -71,9 +71,9 @@ replay-settle-spec =
     (tie.spec
     words-buffer-requires
     bytes-buffer-requires
-    shared-slice-read-part-end
+    member-requires
     part-end-requires
-    shared-slice-read-part-end-2
+    member-requires-2
     part-end-requires-2
     sub-words
     part-words-start

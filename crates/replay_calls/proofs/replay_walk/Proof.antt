@@ -8,8 +8,8 @@ use Rattle.replay_calls.proofs.replay_walk.Tie as tie
 words-buffer-requires : tie.Need-words-buffer-requires
 words-buffer-requires c κs = search needs
 
-shared-slice-read-part-end : tie.Need-shared-slice-read-part-end
-shared-slice-read-part-end c = search needs
+member-requires : tie.Need-member-requires
+member-requires c κs = search needs
 
 part-end-requires : tie.Need-part-end-requires
 part-end-requires c κs = search needs
@@ -32,8 +32,8 @@ words-requires c κs = search needs
 slice-aggregate-walk : tie.Need-slice-aggregate-walk
 slice-aggregate-walk c = sym (length-take-le _ _ (search needs))
 
-shared-slice-read-walk : tie.Need-shared-slice-read-walk
-shared-slice-read-walk c = search needs
+number-requires : tie.Need-number-requires
+number-requires c κs = search needs
 
 array-share-prefix-set : tie.Need-array-share-prefix-set
 array-share-prefix-set c = search needs
@@ -55,7 +55,7 @@ replay-walk-spec =
     tie.close
     (tie.spec
     words-buffer-requires
-    shared-slice-read-part-end
+    member-requires
     part-end-requires
     sub-words
     part-words-start
@@ -63,7 +63,7 @@ replay-walk-spec =
     slice-aggregate-words
     words-requires
     slice-aggregate-walk
-    shared-slice-read-walk
+    number-requires
     array-share-prefix-set
     slice-aggregate-walk-2
     walk-requires

@@ -41,8 +41,8 @@ part-settle-start-2 c = search needs
 part-settle-end-2 : tie.Need-part-settle-end-2
 part-settle-end-2 c = search needs
 
-shared-slice-read-settle : tie.Need-shared-slice-read-settle
-shared-slice-read-settle c = search needs
+number-requires : tie.Need-number-requires
+number-requires c κs = search needs
 
 slice-relend-prefix-settle : tie.Need-slice-relend-prefix-settle
 slice-relend-prefix-settle c = search needs
@@ -78,7 +78,7 @@ settled-spec =
     sub-settle-2
     part-settle-start-2
     part-settle-end-2
-    shared-slice-read-settle
+    number-requires
     slice-relend-prefix-settle
     slice-aggregate-settle-2
     settle-requires

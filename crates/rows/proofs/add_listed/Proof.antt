@@ -10,10 +10,13 @@ use Rattle.rows.proofs.add_listed.Statement.{statement}
 use Rattle.rows.proofs.add_listed.Tie as tie
 
 abbrev Inv-loop : tie.InvT-loop
-Inv-loop mask₀ rows w list i₀ mask i = (overList (λ q. xored 0 (q * w) w rows) (drop i list) mask ≡ overList (λ q. xored 0 (q * w) w rows) list mask₀) × (length mask ≡ length mask₀)
+Inv-loop sums₀ r rows w list at i₀ sums i = (overList (λ q. xored at (q * w) w rows) (drop i list) sums ≡ overList (λ q. xored at (q * w) w rows) list sums₀) × (length sums ≡ length sums₀)
 
 abbrev μ-loop : tie.MeasureT-loop
-μ-loop mask₀ rows w list i₀ mask i = length list - i
+μ-loop sums₀ r rows w list at i₀ sums i = length list - i
+
+mul-at : tie.Need-mul-at Inv-loop μ-loop
+mul-at c = omega arith
 
 loop-holds : tie.Need-loop-holds Inv-loop μ-loop
 loop-holds c = (refl, refl)
@@ -51,6 +54,7 @@ add-listed-spec =
     (tie.spec
     Inv-loop
     μ-loop
+    mul-at
     loop-holds
     mul-q
     shared-slice-read-q

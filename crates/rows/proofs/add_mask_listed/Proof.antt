@@ -10,10 +10,13 @@ use Rattle.rows.proofs.add_mask_listed.Statement.{statement}
 use Rattle.rows.proofs.add_mask_listed.Tie as tie
 
 abbrev Inv-loop : tie.InvT-loop
-Inv-loop rows₀ w list mask i₀ rows i = (overList (λ q. xored (q * w) 0 w mask) (drop i list) rows ≡ overList (λ q. xored (q * w) 0 w mask) list rows₀) × (length rows ≡ length rows₀)
+Inv-loop rows₀ w list masks r from i₀ rows i = (overList (λ q. xored (q * w) from w masks) (drop i list) rows ≡ overList (λ q. xored (q * w) from w masks) list rows₀) × (length rows ≡ length rows₀)
 
 abbrev μ-loop : tie.MeasureT-loop
-μ-loop rows₀ w list mask i₀ rows i = length list - i
+μ-loop rows₀ w list masks r from i₀ rows i = length list - i
+
+mul-from : tie.Need-mul-from Inv-loop μ-loop
+mul-from c = omega arith
 
 loop-holds : tie.Need-loop-holds Inv-loop μ-loop
 loop-holds c = (refl, refl)
@@ -51,6 +54,7 @@ add-mask-listed-spec =
     (tie.spec
     Inv-loop
     μ-loop
+    mul-from
     loop-holds
     mul-q
     shared-slice-read-q

@@ -12,7 +12,7 @@ use lib.Seq.{getD-set-same, getD-set-other, ext-getD}
 use borrow.Author.Tests.{eqb-true, eqb-false, eq-eqb, ne-eqb}
 use Rattle.pauli.specs.Bits.{Bits, given, replaced, added, outside, _⊕_, _∩_, _△_, sumOver, bit}
 use Rattle.pauli.specs.Gate.{exchanged}
-use Rattle.pauli.specs.Laws.F2.{⊕-false, ⊕-assoc, &&-true, &&-false}
+use Rattle.pauli.specs.Laws.F2.{⊕-false, false-⊕, ⊕-assoc, &&-true, &&-false}
 use Rattle.pauli.specs.Laws.Parity.{bitwise, at-or-off, added-is}
 use Rattle.pauli.specs.Laws.Word.{bit-zero, bit-xor, bit-pow, same-bits}
 use Rattle.pauli.specs.Laws.Sums.{oddMembers}
@@ -35,11 +35,24 @@ replaced-sum : (s : Bits) (q : ℕ) (b : Bool) → replaced s q (s q ⊕ b) ≡ 
 unfolding replaced added
 replaced-sum s q b = fun-ext (at-or-off (λ i e. cond e (s q ⊕ b) (s i) ≡ cond e (s i ⊕ b) (s i)) q refl (λ i. refl))
 
-replaced-here : (s : Bits) (q : ℕ) (b : Bool) → replaced s q b q ≡ b
+added-none : (s : Bits) (r : ℕ) → added s r false ≡ s
+unfolding added
+added-none s r = fun-ext (at-or-off (λ i e. cond e (s i ⊕ false) (s i) ≡ s i) r (⊕-false (s r)) (λ i. refl))
+
+pub added-twice : (s : Bits) (r : ℕ) (b c : Bool) → added (added s r b) r c ≡ added s r (b ⊕ c)
+unfolding added
+added-twice s r b c =
+    fun-ext (at-or-off (λ i e. cond e (cond e (s i ⊕ b) (s i) ⊕ c) (cond e (s i ⊕ b) (s i)) ≡ cond e (s i ⊕ (b ⊕ c)) (s i)) r (⊕-assoc (s r) b c) (λ i. refl))
+
+pub added-replaced : (s : Bits) (q : ℕ) (a b : Bool) → added (replaced s q a) q b ≡ replaced s q (a ⊕ b)
+unfolding replaced added
+added-replaced s q a b = fun-ext (at-or-off (λ i e. cond e (cond e a (s i) ⊕ b) (cond e a (s i)) ≡ cond e (a ⊕ b) (s i)) q refl (λ i. refl))
+
+pub replaced-here : (s : Bits) (q : ℕ) (b : Bool) → replaced s q b q ≡ b
 unfolding replaced
 replaced-here s q b = rw (eq-eqb q q refl)
 
-replaced-off : (s : Bits) (q : ℕ) (b : Bool) (i : ℕ) → (i ≡ q → ⊥) → replaced s q b i ≡ s i
+pub replaced-off : (s : Bits) (q : ℕ) (b : Bool) (i : ℕ) → (i ≡ q → ⊥) → replaced s q b i ≡ s i
 unfolding replaced
 replaced-off s q b i ne = rw (ne-eqb i q ne)
 
@@ -152,21 +165,12 @@ cleared-over (q ∷ qs) c =
     ∙ fun-ext (at-or-off (λ i e. cond e false (c i) && outside qs i ≡ c i && (not e && outside qs i)) q (sym (&&-false (c q))) (λ i. refl))
 
 module _ (w s : ℕ) (h : s / 64 < w) where
-  -- a mask is row 0 of its words; it is added to row q
-  pub mask-row : (q : ℕ) (mask l : List ℕ) → q * w + w ≤ length l → column w (xored (q * w) 0 w mask l) s ≡ added (column w l s) q (bitIn w mask 0 s)
-  unfolding column
-  mask-row q mask l fits = ap (λ k. column w (xored (q * w) k w mask l) s) (sym (zero-mul w)) ∙ column-xored w s h q 0 mask l fits
-
-  row-mask : (q : ℕ) (rows m : List ℕ) → w ≤ length m → bitIn w (xored 0 (q * w) w rows m) 0 s ≡ bitIn w m 0 s ⊕ column w rows s q
-  unfolding column added
-  row-mask q rows m fits =
-      ap (λ k. bitIn w (xored k (q * w) w rows m) 0 s) (sym (zero-mul w)) ∙ ap (λ (c : Bits). c 0) (column-xored w s h 0 q rows m (omega arith))
-
-  pub column-add-mask : (mask qs l : List ℕ) → RowsIn w qs l
-      → column w (overList (λ q. xored (q * w) 0 w mask) qs l) s ≡ column w l s △ given (bitIn w mask 0 s) (oddMembers qs)
-  column-add-mask mask qs l r =
-      column-over w s _ (λ q t. added t q (bitIn w mask 0 s)) (λ q l. length-xored (q * w) 0 w mask l) (λ q l fits. mask-row q mask l fits) qs l r
-      ∙ added-over (bitIn w mask 0 s) qs (column w l s)
+  -- row r of a matrix, a mask, is added to the listed rows of another
+  pub column-add-mask : (r : ℕ) (masks qs l : List ℕ) → RowsIn w qs l
+      → column w (overList (λ q. xored (q * w) (r * w) w masks) qs l) s ≡ column w l s △ given (column w masks s r) (oddMembers qs)
+  column-add-mask r masks qs l rows =
+      column-over w s _ (λ q t. added t q (column w masks s r)) (λ q l. length-xored (q * w) (r * w) w masks l) (λ q l fits. column-xored w s h q r masks l fits) qs l rows
+      ∙ added-over (column w masks s r) qs (column w l s)
 
   pub column-flip : (t : ℕ) → t / 64 < w → (qs l : List ℕ) → RowsIn w qs l
       → column w (overList (flipped w t) qs l) s ≡ column w l s △ given (eqb t s) (oddMembers qs)
@@ -179,18 +183,29 @@ module _ (w s : ℕ) (h : s / 64 < w) where
       column-over w s _ (λ q c. replaced c q false) (λ q l. length-cleared (q * w) w l) (λ q l fits. column-cleared w s h q l fits) qs l r
       ∙ cleared-over qs (column w l s)
 
-  -- a mask to which the listed rows are added
-  pub bit-add-listed : (rows qs m : List ℕ) → w ≤ length m
-      → bitIn w (overList (λ q. xored 0 (q * w) w rows) qs m) 0 s ≡ bitIn w m 0 s ⊕ sumOver qs (column w rows s)
+  -- row r, to which the listed rows of another matrix are added
+  pub column-add-listed : (r : ℕ) (rows qs l : List ℕ) → r * w + w ≤ length l
+      → column w (overList (λ q. xored (r * w) (q * w) w rows) qs l) s ≡ added (column w l s) r (sumOver qs (column w rows s))
   unfolding overList sumOver
-  bit-add-listed rows [] m fits = sym (⊕-false _)
-  bit-add-listed rows (q ∷ qs) m fits =
-      bit-add-listed rows qs (xored 0 (q * w) w rows m) (rw length-xored fits) ∙ rw (row-mask q rows m fits) (⊕-assoc _ _ _)
+  column-add-listed r rows [] l fits = sym (added-none (column w l s) r)
+  column-add-listed r rows (q ∷ qs) l fits =
+      column-add-listed r rows qs (xored (r * w) (q * w) w rows l) (rw length-xored fits)
+      ∙ ap (λ (t : Bits). added t r (sumOver qs (column w rows s))) (column-xored w s h r q rows l fits)
+      ∙ added-twice (column w l s) r (column w rows s q) (sumOver qs (column w rows s))
+
+  -- row r, for which the sum of the listed rows is put
+  pub column-sum-listed : (r : ℕ) (rows qs l : List ℕ) → r * w + w ≤ length l
+      → column w (overList (λ q. xored (r * w) (q * w) w rows) qs (cleared (r * w) w l)) s ≡ replaced (column w l s) r (sumOver qs (column w rows s))
+  column-sum-listed r rows qs l fits =
+      column-add-listed r rows qs (cleared (r * w) w l) (rw length-cleared fits)
+      ∙ ap (λ (t : Bits). added t r (sumOver qs (column w rows s))) (column-cleared w s h r l fits)
+      ∙ added-replaced (column w l s) r false (sumOver qs (column w rows s))
+      ∙ ap (replaced (column w l s) r) (false-⊕ (sumOver qs (column w rows s)))
 
   -- ---- saved rows
 
   -- the rows before them are as they were
-  collected-before : (rows : List ℕ) (r : ℕ) (qs l : List ℕ) → (r + length qs) * w ≤ length l → (d : ℕ) → d < r
+  pub collected-before : (rows : List ℕ) (r : ℕ) (qs l : List ℕ) → (r + length qs) * w ≤ length l → (d : ℕ) → d < r
       → column w (collected w rows r qs l) s d ≡ column w l s d
   unfolding collected
   collected-before rows r [] l fits d k = refl

@@ -1,13 +1,15 @@
 -- Loops over listed rows: a turn, and the end. The invariant is that what is left to do, from here, comes to the whole. Assumes nothing.
-use mathlib.Core.Path.{_≡_, refl, _∙_}
+use mathlib.Core.Path.{_≡_, refl, ap, _∙_}
 use mathlib.Core.List.{List, [], _∷_}
 use Prim.Native.Nat.{ℕ, suc, _+_, _*_, _<_, _≤_}
 use native.Mathlib.Omega.{arith}
+use native.Mathlib.Nat.{add-zero, add-suc}
 use native.Mathlib.Numerals.{add-one}
 use lib.ListN.{length, getD, drop, drop-of-length-le}
 use lib.Seq.{drop-cons}
 use Rattle.rows.specs.Overwrite.{copied}
 use Rattle.rows.specs.Listed.{RowsIn, overList, collected}
+use Rattle.rows.specs.Laws.Overwrite.{before-row}
 
 pub rows-tail : (w q : ℕ) (qs words : List ℕ) → RowsIn w (q ∷ qs) words → RowsIn w qs words
 rows-tail w q qs words r = record { fits = λ i h. r .fits (suc i) (omega arith) }
@@ -32,12 +34,19 @@ unfolding overList
 length-over step same [] l = refl
 length-over step same (q ∷ qs) l = length-over step same qs (step q l) ∙ same q l
 
-module _ (w : ℕ) (src list : List ℕ) (i : ℕ) (l whole : List ℕ) where
-  pub collected-turn : (l′ : List ℕ) → i < length list → l′ ≡ copied (i * w) (getD list i 0 * w) w src l
-      → collected w src i (drop i list) l ≡ whole → collected w src (i + 1) (drop (i + 1) list) l′ ≡ whole
-  unfolding collected
-  collected-turn l′ h e inv = rw (add-one, e) (rw (drop-cons list i 0 h) at inv)
+-- a row of those from `first` on
+pub row-before : (w first i k : ℕ) → i < k → (first + i) * w + w ≤ (first + k) * w
+row-before w first i k h = before-row w (first + i) (first + k) (omega arith)
 
-  pub collected-end : length list ≤ i → collected w src i (drop i list) l ≡ whole → l ≡ whole
+pub collected-starts : (w : ℕ) (src list : List ℕ) (first : ℕ) (l : List ℕ) → collected w src (first + 0) list l ≡ collected w src first list l
+collected-starts w src list first l = ap (λ r. collected w src r list l) (add-zero first)
+
+module _ (w : ℕ) (src list : List ℕ) (first i : ℕ) (l whole : List ℕ) where
+  pub collected-turn : (l′ : List ℕ) → i < length list → l′ ≡ copied ((first + i) * w) (getD list i 0 * w) w src l
+      → collected w src (first + i) (drop i list) l ≡ whole → collected w src (first + (i + 1)) (drop (i + 1) list) l′ ≡ whole
+  unfolding collected
+  collected-turn l′ h e inv = rw (add-one, add-suc, e) (rw (drop-cons list i 0 h) at inv)
+
+  pub collected-end : length list ≤ i → collected w src (first + i) (drop i list) l ≡ whole → l ≡ whole
   unfolding collected
   collected-end h inv = rw (drop-of-length-le list h) at inv

@@ -15,14 +15,14 @@ examine-requires c κs = search needs
 returns : tie.Need-returns
 returns c = refused-reply (c .before .before .before .examine .ensures) _ (c .if1 .taken)
 
-add-w : tie.Need-add-w
-add-w c = let r = (range (c .before .before .before .before .examine .ensures) (c .before .if1 .left)) in record { fits = omega (arith, r .few-shots) }
+shape-of-requires : tie.Need-shape-of-requires
+shape-of-requires c κs = omega (arith, range (c .before .before .before .before .examine .ensures) (c .before .if1 .left) .few-shots)
 
 mul-frame : tie.Need-mul-frame
-mul-frame c = let r = (range (c .before .before .before .before .examine .ensures) (c .before .if1 .left)) in record { fits = row-words _ _ (omega (arith, r .few-qubits)) (r .few-shots) }
+mul-frame c = let r = range (c .before .before .before .before .before .before .examine .ensures) (c .before .before .before .if1 .left) in rw (c .before .shape-of .ensures) record { fits = row-words _ _ (omega (arith, r .few-qubits)) (r .few-shots) }
 
 mul-outcomes : tie.Need-mul-outcomes
-mul-outcomes c = let r = (range (c .before .before .before .before .examine .ensures) (c .before .if1 .left)) in record { fits = row-words _ _ (r .few-outcomes) (r .few-shots) }
+mul-outcomes c = let r = range (c .before .before .before .before .before .before .before .examine .ensures) (c .before .before .before .before .if1 .left) in rw (c .before .before .shape-of .ensures) record { fits = row-words _ _ (r .few-outcomes) (r .few-shots) }
 
 enough-requires : tie.Need-enough-requires
 enough-requires c κs = search needs
@@ -31,13 +31,13 @@ too-few-requires : tie.Need-too-few-requires
 too-few-requires c κs = search needs
 
 returns-2 : tie.Need-returns-2
-returns-2 c = short-reply (c .before .before .before .before .before .before .before .examine .ensures) (c .before .before .before .before .if1 .left) _ (c .too-few .ensures) (sym (same-test _ _) ∙ sym (c .before .before .enough .ensures) ∙ not-true _ (c .before .if2 .taken))
+returns-2 c = short-reply (c .before .before .before .before .before .before .before .before .before .before .examine .ensures) (c .before .before .before .before .before .before .before .if1 .left) _ (c .too-few .ensures) (sym (same-test _ _) ∙ rw (c .before .before .before .before .before .shape-of .ensures) at (sym (c .before .before .enough .ensures) ∙ not-true _ (c .before .if2 .taken)))
 
 find-requires : tie.Need-find-requires
 find-requires c κs = search needs
 
 add-from : tie.Need-add-from
-add-from c = search needs
+add-from c = record { fits = omega (arith, c .find .ensures .1, c .before .before .before .before .before .before .before .before .before .before .before .before .before .before .before .before .before .before .good) }
 
 slice-relend-prefix-run-needed : tie.Need-slice-relend-prefix-run-needed
 slice-relend-prefix-run-needed c = (enough-words (sym (c .before .before .enough .ensures) ∙ not-false _ (c .before .if2 .left))) .of-x
@@ -59,12 +59,13 @@ slice-aggregate-run-needed-3 c = sym (length-take-le _ _ ((enough-words (sym (c 
 
 run-needed-requires : tie.Need-run-needed-requires
 run-needed-requires c κs =
-    let e = (enough-words (sym (c .before .before .before .before .before .enough .ensures) ∙ not-false _ (c .before .before .before .before .if2 .left))) in
-    needed-ready (passed-at (c .before .before .before .before .before .before .before .before .before .before .examine .ensures) (c .before .before .before .before .before .before .before .if1 .left) (c .before .before .before .find .ensures .0)) refl
+    let e = enough-words (rw (c .before .before .before .before .before .before .before .before .shape-of .ensures) at (sym (c .before .before .before .before .before .enough .ensures) ∙ not-false _ (c .before .before .before .before .if2 .left))) in
+    rw (c .before .before .before .before .before .before .before .before .shape-of .ensures)
+    (needed-ready (passed-at (c .before .before .before .before .before .before .before .before .before .before .before .before .before .examine .ensures) (c .before .before .before .before .before .before .before .before .before .before .if1 .left) (c .before .before .before .find .ensures .0))
     (length-take-le _ _ (e .of-x))
     (length-take-le _ _ (e .of-z))
     (length-take-le _ _ (e .of-deltas))
-    (e .of-noiseless)
+    (e .of-noiseless))
 
 same-length : tie.Need-same-length
 same-length c = search needs
@@ -77,9 +78,10 @@ same-length-3 c = search needs
 
 returns-3 : tie.Need-returns-3
 returns-3 c =
-    needed-reply (passed-at (c .before .before .before .before .before .before .before .before .before .before .before .before .before .before .before .before .before .examine .ensures) (c .before .before .before .before .before .before .before .before .before .before .before .before .before .before .if1 .left) (c .before .before .before .before .before .before .before .before .before .before .find .ensures .0)) _
-    (sym (same-test _ _) ∙ sym (c .before .before .before .before .before .before .before .before .before .before .before .before .enough .ensures) ∙ not-false _ (c .before .before .before .before .before .before .before .before .before .before .before .if2 .left))
-    (c .before .before .before .before .before .before .run-needed .ensures)
+    rw (c .before .before .before .before .before .before .before .before .before .before .before .before .before .before .before .shape-of .ensures)
+    (needed-reply (passed-at (c .before .before .before .before .before .before .before .before .before .before .before .before .before .before .before .before .before .before .before .before .examine .ensures) (c .before .before .before .before .before .before .before .before .before .before .before .before .before .before .before .before .before .if1 .left) (c .before .before .before .before .before .before .before .before .before .before .find .ensures .0)) _
+    (sym (same-test _ _) ∙ rw (c .before .before .before .before .before .before .before .before .before .before .before .before .before .before .before .shape-of .ensures) at (sym (c .before .before .before .before .before .before .before .before .before .before .before .before .enough .ensures) ∙ not-false _ (c .before .before .before .before .before .before .before .before .before .before .before .if2 .left)))
+    (rw (c .before .before .before .before .before .before .before .before .before .before .before .before .before .before .before .shape-of .ensures) at (c .before .before .before .before .before .before .run-needed .ensures)))
 
 pub run-spec : {M : Type 1} → statement M
 run-spec =
@@ -87,7 +89,7 @@ run-spec =
     (tie.spec
     examine-requires
     returns
-    add-w
+    shape-of-requires
     mul-frame
     mul-outcomes
     enough-requires

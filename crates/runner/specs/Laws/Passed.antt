@@ -1,5 +1,5 @@
 -- A job that passed its tests. Laws. Assumes nothing.
-use mathlib.Core.Path.{_≡_, sym, ap, _∙_}
+use mathlib.Core.Path.{_≡_, refl, sym, ap, _∙_}
 use mathlib.Core.Bool.{true, false}
 use mathlib.Core.List.{List, _++_}
 use Prim.Native.Nat.{ℕ, _+_, _*_, _/_, _^_, _≤_, _<_}
@@ -18,7 +18,7 @@ use Rattle.instructions.specs.Laws.Places.{found-line}
 use Rattle.instructions.specs.Laws.Steps.{started}
 use Rattle.checker.specs.declared.Examined.{Examined}
 use Rattle.checker.specs.Examines.{Examines}
-use Rattle.rows.specs.Words.{wordsPerRow}
+use Rattle.rows.specs.Shape.{shapeOf}
 use Rattle.run.specs.Run.{Memory, frameWords, outcomeWords, enoughWords, untouched, runReply}
 use Rattle.needed_words.specs.Needed.{NeededReady, NeededRun}
 use Rattle.runner.specs.Laws.Replies.{run-refused, run-short, run-enough, needed-over}
@@ -61,13 +61,13 @@ module _ {job : List ℕ} {r : Examined} (x : Examines job r) where
         }
 
 module _ {job : List ℕ} {h : Header} {from : ℕ} (p : Passed job h from) where
-  pub needed-ready : {w : ℕ} {x z d noiseless : List ℕ} → w ≡ wordsPerRow (h .shots) → length x ≡ frameWords h → length z ≡ frameWords h → length d ≡ outcomeWords h
-      → outcomeWords h ≤ length noiseless → NeededReady job h from w x z d noiseless
-  needed-ready words lx lz ld ln =
+  pub needed-ready : {x z d noiseless : List ℕ} → length x ≡ frameWords h → length z ≡ frameWords h → length d ≡ outcomeWords h
+      → outcomeWords h ≤ length noiseless → NeededReady job (shapeOf (h .qubits) (h .outcomes) (h .shots)) from x z d noiseless
+  needed-ready lx lz ld ln =
       record {
         ahead = p .ahead;
         sound = p .sound;
-        words = words;
+        words = refl;
         of-x = lx;
         of-z = lz;
         of-deltas = ld;

@@ -2,49 +2,48 @@
 use native.Mathlib.Omega.{arith}
 use Rattle.text.specs.Bytes.{bytes}
 use Rattle.writer.specs.Laws.Placing.{puts-more}
-use Rattle.writer.specs.Laws.Lists.{number-next}
-use Rattle.session_text.specs.Laws.Lines.{delta-line, bits-next}
+use Rattle.session_text.specs.Lines.{deltaText}
+use Rattle.session_text.specs.Laws.Lines.{delta-lent, delta-values, delta-size, bits-next}
 use borrow.Author.Needs.{needs}
 use Rattle.session_text.proofs.put_delta.Statement.{statement}
 use Rattle.session_text.proofs.put_delta.Tie as tie
 
-slice-aggregate-put-bytes : tie.Need-slice-aggregate-put-bytes
-slice-aggregate-put-bytes c = search needs
+slice-aggregate-put-numbers : tie.Need-slice-aggregate-put-numbers
+slice-aggregate-put-numbers c = search needs
 
-put-bytes-requires : tie.Need-put-bytes-requires
-put-bytes-requires c κs = search needs
+slice-aggregate-put-numbers-2 : tie.Need-slice-aggregate-put-numbers-2
+slice-aggregate-put-numbers-2 c = search needs
 
-put-number-requires : tie.Need-put-number-requires
-put-number-requires c κs = search needs
-
-slice-aggregate-put-bytes-2 : tie.Need-slice-aggregate-put-bytes-2
-slice-aggregate-put-bytes-2 c = search needs
-
-put-bytes-requires-2 : tie.Need-put-bytes-requires-2
-put-bytes-requires-2 c κs = omega (arith, c .before .before .before .before .before .before .before .before .before .before .before .before .before .pre .1, c .before .before .before .before .before .before .before .before .put-bytes .ensures .place, number-next _ (c .before .before .before .before .put-number .ensures))
+put-numbers-requires : tie.Need-put-numbers-requires
+unfolding bytes
+put-numbers-requires c κs = (delta-lent (c .before .before .before .before .before .args .id .0), rw (delta-values (c .before .before .before .before .before .args .id .0)) (omega (arith, c .before .before .before .before .before .pre .1, delta-size (c .before .before .before .before .before .args .id .0))))
 
 put-bits-requires : tie.Need-put-bits-requires
-put-bits-requires c κs = (c .before .before .before .before .before .before .before .before .before .before .before .before .before .before .before .before .before .pre .0, omega (arith, c .before .before .before .before .before .before .before .before .before .before .before .before .before .before .before .before .before .pre .0, c .before .before .before .before .before .before .before .before .before .before .before .before .before .before .before .before .before .pre .1, c .before .before .before .before .before .before .before .before .before .before .before .before .put-bytes .ensures .place, number-next _ (c .before .before .before .before .before .before .before .before .put-number .ensures), c .before .before .before .put-bytes2 .ensures .place), c .before .before .before .before .before .before .before .before .before .before .before .before .before .before .before .before .before .pre .2)
+unfolding bytes
+put-bits-requires c κs =
+    let start = rw delta-values at (c .before .before .before .put-numbers .ensures) in
+    (c .before .before .before .before .before .before .before .before .before .pre .0, omega (arith, c .before .before .before .before .before .before .before .before .before .pre .0, c .before .before .before .before .before .before .before .before .before .pre .1, start .place, delta-size (c .before .before .before .before .before .before .before .before .before .args .id .0)), c .before .before .before .before .before .before .before .before .before .pre .2)
 
 put-byte-requires : tie.Need-put-byte-requires
-put-byte-requires c κs = omega (arith, c .before .before .before .before .before .before .before .before .before .before .before .before .before .before .before .before .before .before .before .before .before .pre .0, c .before .before .before .before .before .before .before .before .before .before .before .before .before .before .before .before .before .before .before .before .before .pre .1, c .before .before .before .before .before .before .before .before .before .before .before .before .before .before .before .before .put-bytes .ensures .place, number-next _ (c .before .before .before .before .before .before .before .before .before .before .before .before .put-number .ensures), c .before .before .before .before .before .before .before .put-bytes2 .ensures .place, bits-next _ _ (c .before .before .before .put-bits .ensures))
+unfolding bytes
+put-byte-requires c κs =
+    let start = rw delta-values at (c .before .before .before .before .before .before .before .put-numbers .ensures) in
+    omega (arith, c .before .before .before .before .before .before .before .before .before .before .before .before .before .pre .0, c .before .before .before .before .before .before .before .before .before .before .before .before .before .pre .1, start .place, delta-size (c .before .before .before .before .before .before .before .before .before .before .before .before .before .args .id .0), bits-next _ _ (c .before .before .before .put-bits .ensures))
 
 same-length : tie.Need-same-length
 same-length c = search needs
 
 returns : tie.Need-returns
-unfolding bytes
-returns c = rw delta-line (puts-more (c .before .before .before .before .before .before .before .before .before .before .before .before .before .before .before .before .before .before .before .put-bytes .ensures) (puts-more (c .before .before .before .before .before .before .before .before .before .before .before .before .before .before .before .put-number .ensures) (puts-more (c .before .before .before .before .before .before .before .before .before .before .put-bytes2 .ensures) (puts-more (c .before .before .before .before .before .before .put-bits .ensures) (c .before .before .put-byte .ensures)))))
+unfolding bytes deltaText
+returns c = puts-more (puts-more (rw delta-values at (c .before .before .before .before .before .before .before .before .before .before .put-numbers .ensures)) (c .before .before .before .before .before .before .put-bits .ensures)) (c .before .before .put-byte .ensures)
 
 pub put-delta-spec : {M : Type 1} → statement M
 put-delta-spec =
     tie.close
     (tie.spec
-    slice-aggregate-put-bytes
-    put-bytes-requires
-    put-number-requires
-    slice-aggregate-put-bytes-2
-    put-bytes-requires-2
+    slice-aggregate-put-numbers
+    slice-aggregate-put-numbers-2
+    put-numbers-requires
     put-bits-requires
     put-byte-requires
     same-length

@@ -2,62 +2,39 @@
 use native.Mathlib.Omega.{arith}
 use Rattle.text.specs.Bytes.{bytes}
 use Rattle.writer.specs.Laws.Placing.{puts-more}
-use Rattle.writer.specs.Laws.Lists.{number-next}
-use Rattle.session_text.specs.Laws.Lines.{header-line}
+use Rattle.session_text.specs.Laws.Lines.{header-lent, header-line, header-size}
 use borrow.Author.Needs.{needs}
 use Rattle.session_text.proofs.put_header.Statement.{statement}
 use Rattle.session_text.proofs.put_header.Tie as tie
 
-slice-aggregate-put-bytes : tie.Need-slice-aggregate-put-bytes
-slice-aggregate-put-bytes c = search needs
+slice-aggregate-put-numbers : tie.Need-slice-aggregate-put-numbers
+slice-aggregate-put-numbers c = search needs
 
-put-bytes-requires : tie.Need-put-bytes-requires
-put-bytes-requires c κs = search needs
+slice-aggregate-put-numbers-2 : tie.Need-slice-aggregate-put-numbers-2
+slice-aggregate-put-numbers-2 c = search needs
 
-put-number-requires : tie.Need-put-number-requires
-put-number-requires c κs = search needs
-
-slice-aggregate-put-bytes-2 : tie.Need-slice-aggregate-put-bytes-2
-slice-aggregate-put-bytes-2 c = search needs
-
-put-bytes-requires-2 : tie.Need-put-bytes-requires-2
-put-bytes-requires-2 c κs = omega (arith, c .before .before .before .before .before .before .before .before .put-bytes .ensures .place, number-next _ (c .before .before .before .before .put-number .ensures))
-
-put-number-requires-2 : tie.Need-put-number-requires-2
-put-number-requires-2 c κs = omega (arith, c .before .before .before .before .before .before .before .before .before .before .before .before .put-bytes .ensures .place, number-next _ (c .before .before .before .before .before .before .before .before .put-number .ensures), c .before .before .before .put-bytes2 .ensures .place)
-
-slice-aggregate-put-bytes-3 : tie.Need-slice-aggregate-put-bytes-3
-slice-aggregate-put-bytes-3 c = search needs
-
-put-bytes-requires-3 : tie.Need-put-bytes-requires-3
-put-bytes-requires-3 c κs = omega (arith, c .before .before .before .before .before .before .before .before .before .before .before .before .before .before .before .before .before .put-bytes .ensures .place, number-next _ (c .before .before .before .before .before .before .before .before .before .before .before .before .before .put-number .ensures), c .before .before .before .before .before .before .before .before .put-bytes2 .ensures .place, number-next _ (c .before .before .before .before .put-number2 .ensures))
-
-put-number-requires-3 : tie.Need-put-number-requires-3
-put-number-requires-3 c κs = omega (arith, c .before .before .before .before .before .before .before .before .before .before .before .before .before .before .before .before .before .before .before .before .before .put-bytes .ensures .place, number-next _ (c .before .before .before .before .before .before .before .before .before .before .before .before .before .before .before .before .before .put-number .ensures), c .before .before .before .before .before .before .before .before .before .before .before .before .put-bytes2 .ensures .place, number-next _ (c .before .before .before .before .before .before .before .before .put-number2 .ensures), c .before .before .before .put-bytes3 .ensures .place)
+put-numbers-requires : tie.Need-put-numbers-requires
+unfolding bytes
+put-numbers-requires c κs = (header-lent (c .before .before .before .before .args .h), rw (header-line (c .before .before .before .before .args .h)) (omega (arith, header-size (c .before .before .before .before .args .h))))
 
 put-byte-requires : tie.Need-put-byte-requires
-put-byte-requires c κs = omega (arith, c .before .before .before .before .before .before .before .before .before .before .before .before .before .before .before .before .before .before .before .before .before .before .before .before .before .put-bytes .ensures .place, number-next _ (c .before .before .before .before .before .before .before .before .before .before .before .before .before .before .before .before .before .before .before .before .before .put-number .ensures), c .before .before .before .before .before .before .before .before .before .before .before .before .before .before .before .before .put-bytes2 .ensures .place, number-next _ (c .before .before .before .before .before .before .before .before .before .before .before .before .put-number2 .ensures), c .before .before .before .before .before .before .before .put-bytes3 .ensures .place, number-next _ (c .before .before .before .put-number3 .ensures))
+unfolding bytes
+put-byte-requires c κs = let line = rw header-line at (c .before .before .before .put-numbers .ensures) in omega (arith, line .place, header-size (c .before .before .before .before .before .before .before .before .args .h))
 
 same-length : tie.Need-same-length
 same-length c = search needs
 
 returns : tie.Need-returns
 unfolding bytes
-returns c = rw header-line (puts-more (c .before .before .before .before .before .before .before .before .before .before .before .before .before .before .before .before .before .before .before .before .before .before .before .before .before .before .before .before .put-bytes .ensures) (puts-more (c .before .before .before .before .before .before .before .before .before .before .before .before .before .before .before .before .before .before .before .before .before .before .before .before .put-number .ensures) (puts-more (c .before .before .before .before .before .before .before .before .before .before .before .before .before .before .before .before .before .before .before .put-bytes2 .ensures) (puts-more (c .before .before .before .before .before .before .before .before .before .before .before .before .before .before .before .put-number2 .ensures) (puts-more (c .before .before .before .before .before .before .before .before .before .before .put-bytes3 .ensures) (puts-more (c .before .before .before .before .before .before .put-number3 .ensures) (c .before .before .put-byte .ensures)))))))
+returns c = puts-more (rw header-line at (c .before .before .before .before .before .before .put-numbers .ensures)) (c .before .before .put-byte .ensures)
 
 pub put-header-spec : {M : Type 1} → statement M
 put-header-spec =
     tie.close
     (tie.spec
-    slice-aggregate-put-bytes
-    put-bytes-requires
-    put-number-requires
-    slice-aggregate-put-bytes-2
-    put-bytes-requires-2
-    put-number-requires-2
-    slice-aggregate-put-bytes-3
-    put-bytes-requires-3
-    put-number-requires-3
+    slice-aggregate-put-numbers
+    slice-aggregate-put-numbers-2
+    put-numbers-requires
     put-byte-requires
     same-length
     returns)

@@ -17,35 +17,54 @@ use Rattle.rows.specs.Words.{wordsPerRow, bitIn}
 use Rattle.session.specs.Session.{refusalLines, bitText, deltaLines}
 use Rattle.writer.specs.Placed.{Puts}
 use Rattle.writer.specs.Laws.Placing.{Rest, rest-all, rest-more, rest-none}
-use Rattle.writer.specs.Laws.Lists.{decimal-length}
+use Rattle.writer.specs.Line.{isList, valuesIn, Lent}
+use Rattle.writer.specs.Laws.Lines.{line-length, numbers-lent}
 use Rattle.session_text.specs.Lines.{headerText, deltaText}
 
--- ---- the lines as bytes
+-- ---- the lines
 
-of-two : (a b c d : List ℕ) → (a ++ (b ++ (c ++ (d ++ [])))) ++ LF ∷ [] ≡ a ++ (b ++ (c ++ (d ++ LF ∷ [])))
-of-two a b c d = simp append-assoc
+module _ (a : Answer) where
+  pub refusal-lent : Lent (bytes "ok=0 refusal=N line=N") (a .number ∷ a .line ∷ []) [] []
+  unfolding isList bytes
+  refusal-lent = numbers-lent (bytes "ok=0 refusal=N line=N") (a .number ∷ a .line ∷ []) (omega arith) refl
 
-of-three : (a b c d e f : List ℕ) → (a ++ (b ++ (c ++ (d ++ (e ++ (f ++ [])))))) ++ LF ∷ [] ≡ a ++ (b ++ (c ++ (d ++ (e ++ (f ++ LF ∷ [])))))
-of-three a b c d e f = simp append-assoc
+  -- the line as it is put
+  abbrev refusalText : List ℕ
+  refusalText = lineText (bytes "ok=0 refusal=N line=N") (valuesIn (bytes "ok=0 refusal=N line=N") (a .number ∷ a .line ∷ []) [] [])
 
-of-bits : (a b c d : List ℕ) → ((a ++ (b ++ c)) ++ d) ++ LF ∷ [] ≡ a ++ (b ++ (c ++ (d ++ LF ∷ [])))
-of-bits a b c d = simp append-assoc
+  pub refusal-length : length refusalText ≤ 59
+  unfolding isList bytes valuesIn
+  refusal-length = line-length (bytes "ok=0 refusal=N line=N") (Value.number (a .number) ∷ Value.number (a .line) ∷ [])
 
-pub refusal-line : (a : Answer) → unlines (refusalLines a) ≡ bytes "ok=0 refusal=" ++ (decimal (a .number) ++ (bytes " line=" ++ (decimal (a .line) ++ LF ∷ [])))
-unfolding bytes lineText firstText valueText refusalLines unlines
-refusal-line a = of-two (bytes "ok=0 refusal=") (decimal (a .number)) (bytes " line=") (decimal (a .line))
+  pub refusal-line : unlines (refusalLines a) ≡ refusalText ++ LF ∷ []
+  unfolding isList bytes valuesIn refusalLines unlines
+  refusal-line = refl
 
-pub header-line : (h : Header)
-    → headerText h ++ LF ∷ []
-    ≡ bytes "ok=1 qubits=" ++ (decimal (h .qubits) ++ (bytes " outcomes=" ++ (decimal (h .outcomes) ++ (bytes " shots=" ++ (decimal (h .shots) ++ LF ∷ [])))))
-unfolding bytes lineText firstText valueText headerText
-header-line h = of-three (bytes "ok=1 qubits=") (decimal (h .qubits)) (bytes " outcomes=") (decimal (h .outcomes)) (bytes " shots=") (decimal (h .shots))
+module _ (h : Header) where
+  pub header-lent : Lent (bytes "ok=1 qubits=N outcomes=N shots=N") (h .qubits ∷ h .outcomes ∷ h .shots ∷ []) [] []
+  unfolding isList bytes
+  header-lent = numbers-lent (bytes "ok=1 qubits=N outcomes=N shots=N") (h .qubits ∷ h .outcomes ∷ h .shots ∷ []) (omega arith) refl
 
-pub delta-line : (shots : ℕ) (deltas : List ℕ) (id : ℕ)
-    → deltaText shots deltas id ++ LF ∷ []
-    ≡ bytes "id=" ++ (decimal id ++ (bytes " delta=" ++ (bitText (bitIn (wordsPerRow shots) deltas id) shots 0 ++ LF ∷ [])))
-unfolding bytes lineText firstText valueText deltaText
-delta-line shots deltas id = of-bits (bytes "id=") (decimal id) (bytes " delta=") (bitText (bitIn (wordsPerRow shots) deltas id) shots 0)
+  pub header-line : lineText (bytes "ok=1 qubits=N outcomes=N shots=N") (valuesIn (bytes "ok=1 qubits=N outcomes=N shots=N") (h .qubits ∷ h .outcomes ∷ h .shots ∷ []) [] []) ≡ headerText h
+  unfolding isList bytes valuesIn headerText
+  header-line = refl
+
+  pub header-size : length (headerText h) ≤ 89
+  unfolding bytes headerText
+  header-size = line-length (bytes "ok=1 qubits=N outcomes=N shots=N") (Value.number (h .qubits) ∷ Value.number (h .outcomes) ∷ Value.number (h .shots) ∷ [])
+
+module _ (id : ℕ) where
+  pub delta-lent : Lent (bytes "id=N delta=") (id ∷ []) [] []
+  unfolding isList bytes
+  delta-lent = numbers-lent (bytes "id=N delta=") (id ∷ []) (omega arith) refl
+
+  pub delta-values : valuesIn (bytes "id=N delta=") (id ∷ []) [] [] ≡ Value.number id ∷ []
+  unfolding isList bytes valuesIn
+  delta-values = refl
+
+  pub delta-size : length (lineText (bytes "id=N delta=") (Value.number id ∷ [])) ≤ 30
+  unfolding bytes
+  delta-size = line-length (bytes "id=N delta=") (Value.number id ∷ [])
 
 -- ---- how far they go
 
@@ -58,19 +77,17 @@ pub bits-next : (b : ℕ → Bool) (n : ℕ) {at : ℕ} {out after : List ℕ} {
 bits-next b n p = omega (arith, p .place, bits-length b n 0)
 
 pub header-length : (h : Header) → length (headerText h ++ LF ∷ []) ≤ 90
-unfolding bytes
-header-length h =
-    let long = simp length-append at (ap length (header-line h)) in
-    omega (arith, long, length-append (headerText h) (LF ∷ []), decimal-length (h .qubits), decimal-length (h .outcomes), decimal-length (h .shots))
+header-length h = omega (arith, length-append (headerText h) (LF ∷ []), header-size h)
 
 pub header-next : (h : Header) {out after : List ℕ} {next : ℕ} → Puts 0 (headerText h ++ LF ∷ []) out after next → next ≤ 90
 header-next h p = omega (arith, p .place, header-length h)
 
 pub delta-length : (shots : ℕ) (deltas : List ℕ) (id : ℕ) → length (deltaText shots deltas id ++ LF ∷ []) ≤ shots + 31
-unfolding bytes
+unfolding deltaText
 delta-length shots deltas id =
-    let long = simp length-append at (ap length (delta-line shots deltas id)) in
-    omega (arith, long, length-append (deltaText shots deltas id) (LF ∷ []), decimal-length id, bits-length (bitIn (wordsPerRow shots) deltas id) shots 0)
+    let start : List ℕ = lineText (bytes "id=N delta=") (Value.number id ∷ []) in
+    let bits : List ℕ = bitText (bitIn (wordsPerRow shots) deltas id) shots 0 in
+    omega (arith, length-append (start ++ bits) (LF ∷ []), length-append start bits, delta-size id, bits-length (bitIn (wordsPerRow shots) deltas id) shots 0)
 
 pub delta-next : (shots : ℕ) (deltas : List ℕ) (id : ℕ) {at : ℕ} {out after : List ℕ} {next : ℕ} → Puts at (deltaText shots deltas id ++ LF ∷ []) out after next
     → next ≤ at + (shots + 31)

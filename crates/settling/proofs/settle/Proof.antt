@@ -17,18 +17,18 @@ refused-requires c κs = search needs
 returns : tie.Need-returns
 returns c = refused-job _ _ _ (c .refused .ensures) (c .before .before .before .before .examine .ensures .answers) (c .before .if1 .taken)
 
-add-w : tie.Need-add-w
-add-w c = omega (arith, header-known (c .before .before .before .before .examine .ensures) (c .before .if1 .left) .few-shots)
+shape-of-requires : tie.Need-shape-of-requires
+shape-of-requires c κs = omega (arith, header-known (c .before .before .before .before .examine .ensures) (c .before .if1 .left) .few-shots)
 
 mul-if2 : tie.Need-mul-if2
-mul-if2 c = omega (arith, few-words (c .before .before .before .before .examine .ensures) (c .before .if1 .left))
+mul-if2 c = omega (arith, few-words (c .before .before .before .before .before .before .examine .ensures) (c .before .before .before .if1 .left) (c .before .shape-of .ensures))
 
 refused-requires-2 : tie.Need-refused-requires-2
 refused-requires-2 c κs = search needs
 
 returns-2 : tie.Need-returns-2
 returns-2 c =
-    let missing = missing-words (c .before .before .before .before .before .before .examine .ensures) (c .before .before .before .if1 .left) (c .before .before .before .before .before .before .before .before .before .before .before .before .args .noiseless .now) (c .before .if2 .taken) in
+    let missing = missing-words (c .before .before .before .before .before .before .before .before .examine .ensures) (c .before .before .before .before .before .if1 .left) (c .before .before .before .shape-of .ensures) (c .before .before .before .before .before .before .before .before .before .before .before .before .before .before .args .noiseless .now) (c .before .if2 .taken) in
     refused-words _ _ _ (c .refused2 .ensures) (missing .0) (missing .1)
 
 array-borrow-prefix-nothing : tie.Need-array-borrow-prefix-nothing
@@ -38,7 +38,7 @@ slice-aggregate-put-settled : tie.Need-slice-aggregate-put-settled
 slice-aggregate-put-settled c = search needs
 
 put-settled-requires : tie.Need-put-settled-requires
-put-settled-requires c κs = fits-of (c .before .before .before .before .before .before .examine .ensures) (c .before .before .before .if1 .left) (c .before .if2 .left)
+put-settled-requires c κs = fits-of (c .before .before .before .before .before .before .before .before .examine .ensures) (c .before .before .before .before .before .if1 .left) (c .before .before .before .shape-of .ensures) (c .before .if2 .left)
 
 enum-known-k : tie.Need-enum-known-k
 enum-known-k c = search needs
@@ -56,7 +56,7 @@ measured-requires : tie.Need-measured-requires
 measured-requires c κs = search needs
 
 returns-3 : tie.Need-returns-3
-returns-3 c = long-reply (fits-of (c .before .before .before .before .before .before .before .before .before .before .before .before .before .before .examine .ensures) (c .before .before .before .before .before .before .before .before .before .before .before .if1 .left) (c .before .before .before .before .before .before .before .before .before .if2 .left)) (c .before .before .before .before .before .before .before .put-settled .ensures) _ (c .before .before .before .before .need .given .1) (c .measured .ensures) (sym (c .before .before .text-fits .ensures) ∙ not-true _ (c .before .if3 .taken))
+returns-3 c = long-reply (fits-of (c .before .before .before .before .before .before .before .before .before .before .before .before .before .before .before .before .examine .ensures) (c .before .before .before .before .before .before .before .before .before .before .before .before .before .if1 .left) (c .before .before .before .before .before .before .before .before .before .before .before .shape-of .ensures) (c .before .before .before .before .before .before .before .before .before .if2 .left)) (c .before .before .before .before .before .before .before .put-settled .ensures) _ (c .before .before .before .before .need .given .1) (c .measured .ensures) (sym (c .before .before .text-fits .ensures) ∙ not-true _ (c .before .if3 .taken))
 
 slice-relend-prefix-put-settled : tie.Need-slice-relend-prefix-put-settled
 slice-relend-prefix-put-settled c = room-for _ _ (sym (c .before .text-fits .ensures) ∙ not-false _ (c .if3 .left))
@@ -65,19 +65,19 @@ slice-aggregate-put-settled-2 : tie.Need-slice-aggregate-put-settled-2
 slice-aggregate-put-settled-2 c = sym (length-take-le _ _ (room-for _ _ (sym (c .before .before .text-fits .ensures) ∙ not-false _ (c .before .if3 .left))))
 
 put-settled-requires-2 : tie.Need-put-settled-requires-2
-put-settled-requires-2 c κs = fits-of (c .before .before .before .before .before .before .before .before .before .before .before .before .before .before .examine .ensures) (c .before .before .before .before .before .before .before .before .before .before .before .if1 .left) (c .before .before .before .before .before .before .before .before .before .if2 .left)
+put-settled-requires-2 c κs = fits-of (c .before .before .before .before .before .before .before .before .before .before .before .before .before .before .before .before .examine .ensures) (c .before .before .before .before .before .before .before .before .before .before .before .before .before .if1 .left) (c .before .before .before .before .before .before .before .before .before .before .before .shape-of .ensures) (c .before .before .before .before .before .before .before .before .before .if2 .left)
 
 measured-requires-2 : tie.Need-measured-requires-2
 measured-requires-2 c κs = search needs
 
 returns-4 : tie.Need-returns-4
-returns-4 c = spent-reply (fits-of (c .before .before .before .before .before .before .before .before .before .before .before .before .examine .ensures) (c .before .before .before .before .before .before .before .before .before .if1 .left) (c .before .before .before .before .before .before .before .if2 .left)) (c .before .before .before .before .before .put-settled .ensures) _ (c .before .before .k .given .1) (c .refused3 .ensures)
+returns-4 c = spent-reply (fits-of (c .before .before .before .before .before .before .before .before .before .before .before .before .before .before .examine .ensures) (c .before .before .before .before .before .before .before .before .before .before .before .if1 .left) (c .before .before .before .before .before .before .before .before .before .shape-of .ensures) (c .before .before .before .before .before .before .before .if2 .left)) (c .before .before .before .before .before .put-settled .ensures) _ (c .before .before .k .given .1) (c .refused3 .ensures)
 
 same-length : tie.Need-same-length
 same-length c = search needs
 
 returns-5 : tie.Need-returns-5
-returns-5 c = done-reply (fits-of (c .before .before .before .before .before .before .before .before .before .before .before .before .before .before .before .before .before .before .examine .ensures) (c .before .before .before .before .before .before .before .before .before .before .before .before .before .before .before .if1 .left) (c .before .before .before .before .before .before .before .before .before .before .before .before .before .if2 .left)) (c .before .before .before .before .before .before .before .before .before .before .before .put-settled .ensures) _ (c .before .before .before .before .before .before .before .before .need .given .1) (c .before .before .before .put-settled2 .ensures) (c .measured2 .ensures) (sym (c .before .before .before .before .before .before .text-fits .ensures) ∙ not-false _ (c .before .before .before .before .before .if3 .left))
+returns-5 c = done-reply (fits-of (c .before .before .before .before .before .before .before .before .before .before .before .before .before .before .before .before .before .before .before .before .examine .ensures) (c .before .before .before .before .before .before .before .before .before .before .before .before .before .before .before .before .before .if1 .left) (c .before .before .before .before .before .before .before .before .before .before .before .before .before .before .before .shape-of .ensures) (c .before .before .before .before .before .before .before .before .before .before .before .before .before .if2 .left)) (c .before .before .before .before .before .before .before .before .before .before .before .put-settled .ensures) _ (c .before .before .before .before .before .before .before .before .need .given .1) (c .before .before .before .put-settled2 .ensures) (c .measured2 .ensures) (sym (c .before .before .before .before .before .before .text-fits .ensures) ∙ not-false _ (c .before .before .before .before .before .if3 .left))
 
 pub settle-spec : {M : Type 1} → statement M
 settle-spec =
@@ -86,7 +86,7 @@ settle-spec =
     examine-requires
     refused-requires
     returns
-    add-w
+    shape-of-requires
     mul-if2
     refused-requires-2
     returns-2

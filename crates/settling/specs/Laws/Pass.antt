@@ -14,7 +14,7 @@ use Rattle.instructions.specs.Laws.Steps.{none-left, started}
 use Rattle.writer.specs.Placed.{Puts}
 use Rattle.writer.specs.Laws.Placing.{puts-nothing, puts-more}
 use Rattle.draws.specs.Settle.{SettledLine, Settled, prefixed, settle, settledText}
-use Rattle.instruction_text.specs.declared.Place.{Place}
+use Rattle.instruction_text.specs.declared.Reached.{Reached}
 use Rattle.settling.specs.declared.TextLength.the-variants as text-length
 use Rattle.noise_text.specs.Injections.{textOf}
 use Rattle.instruction_text.specs.Pass.{Pass, lentBy, settledFrom, Between, Onward}
@@ -36,11 +36,11 @@ prefixed-more ls ms (Settled.settled ks) = ap Settled.settled (sym (append-assoc
 -- ---- all instructions
 
 -- Some lines are put from a place on, and what is left comes from the instructions from a place on.
-pub record Going (p : Pass) (from : ℕ) (out : List ℕ) (here : Place) (after : List ℕ) : Type 0 where
+pub record Going (p : Pass) (from : ℕ) (out : List ℕ) (here : Reached) (after : List ℕ) : Type 0 where
   pub lines-put : List SettledLine
   pub settles : settledBy p ≡ prefixed lines-put (settledFrom p here)
-  pub puts : Puts from (textOf lines-put) out after (here .byte)
-  pub few : here .byte ≤ 8388608 * here .line
+  pub puts : Puts from (textOf lines-put) out after (here .text)
+  pub few : here .text ≤ 8388608 * here .place .line
   pub between : Between p here
 
 same-head : {A : Type 0} {a b : A} {l m : List A} → a ∷ l ≡ b ∷ m → a ≡ b
@@ -70,7 +70,7 @@ module _ {p : Pass} (f : Fits p) where
           rw (header-text (p .job) e (f .passes) header-at)
           (subst (λ (t : List ℕ). Puts 0 t out after byte) (ap (λ (k : ℕ). take k (p .job)) first ∙ whole-line header-at) puts)
 
-      pub pass-begins : Going p byte after (record { at = e + 1; line = 2; position = 0; byte = byte }) after
+      pub pass-begins : Going p byte after (record { place = record { byte = e + 1; line = 2; position = 0 }; text = byte }) after
       unfolding unlines
       pass-begins =
           let s = started (p .job) e (f .passes) header-at in
@@ -91,8 +91,8 @@ module _ {p : Pass} (f : Fits p) where
                 };
           }
 
-module _ {p : Pass} {from : ℕ} {out : List ℕ} {here : Place} {mid : List ℕ} (g : Going p from out here mid) where
-  pub pass-on : {after : List ℕ} {next : Place} → Onward p mid here after next → Going p from out next after
+module _ {p : Pass} {from : ℕ} {out : List ℕ} {here : Reached} {mid : List ℕ} (g : Going p from out here mid) where
+  pub pass-on : {after : List ℕ} {next : Reached} → Onward p mid here after next → Going p from out next after
   pass-on {after} {next} o =
       record {
         lines-put = g .lines-put ++ o .lines;
@@ -102,17 +102,17 @@ module _ {p : Pass} {from : ℕ} {out : List ℕ} {here : Place} {mid : List ℕ
         between = o .between;
       }
 
-  pub pass-spent : {start after : List ℕ} → settledFrom p here ≡ Settled.spentAt (here .line) → SettledPut p start after (text-length.SpentAt (here .line))
+  pub pass-spent : {start after : List ℕ} → settledFrom p here ≡ Settled.spentAt (here .place .line) → SettledPut p start after (text-length.SpentAt (here .place .line))
   unfolding prefixed PutAll
   pass-spent e = record { put = rw (g .settles, e) refl }
 
-  pub pass-done : {start : List ℕ} → Puts 0 (settledText (jobOf (p .job) .text) []) start out from → length (p .job) ≤ here .at
-      → SettledPut p start mid (text-length.Length (here .byte))
+  pub pass-done : {start : List ℕ} → Puts 0 (settledText (jobOf (p .job) .text) []) start out from → length (p .job) ≤ here .place .byte
+      → SettledPut p start mid (text-length.Length (here .text))
   unfolding prefixed PutAll settle
   pass-done header h =
       let t = jobOf (p .job) .text in
       record {
         put =
-            rw (g .settles, none-left (p .job) (here .line) (here .at) h, append-nil (g .lines-put))
-            (record { long = here .byte; is = refl; puts = rw (header-append t (g .lines-put)) (puts-more header (g .puts)) });
+            rw (g .settles, none-left (p .job) (here .place .line) (here .place .byte) h, append-nil (g .lines-put))
+            (record { long = here .text; is = refl; puts = rw (header-append t (g .lines-put)) (puts-more header (g .puts)) });
       }

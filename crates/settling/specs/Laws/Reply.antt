@@ -23,6 +23,8 @@ use Rattle.writer.specs.Reply.{textReply}
 use Rattle.writer.specs.Laws.Placing.{placed-over}
 use Rattle.draws.specs.Draws.{Lent}
 use Rattle.draws.specs.Settle.{Settled, settle, settledText}
+use Rattle.rows.specs.declared.Shape.{Shape}
+use Rattle.rows.specs.Shape.{shapeOf}
 use Rattle.rows.specs.Words.{wordsPerRow, bitIn}
 use Rattle.run.specs.Run.{Source, outcomeWords, lentOf}
 use Rattle.backward.specs.Settling.{settledAnswer, settleReply}
@@ -54,12 +56,12 @@ sourceOf p = record { noiseless = p .noiseless; main = p .main; second = p .seco
 module _ {p : Pass} (f : Fits p) where
   lent-same : lentBy p ≡ lentOf (jobOf (p .job) .header) (sourceOf p)
   lent-same =
-      let words : p .w ≡ wordsPerRow (jobOf (p .job) .header .shots) = f .words-are ∙ ap wordsPerRow (sym (f .shots-are)) in
+      let words : p .shape .width ≡ wordsPerRow (jobOf (p .job) .header .shots) = f .words-are ∙ ap wordsPerRow (sym (f .shots-are)) in
       λ i. record { noiseless = bitIn (words i) (p .noiseless); second = p .second; base = p .base; shots = sym (f .shots-are) i }
 
   enough : outcomeWords (jobOf (p .job) .header) ≤ length (p .noiseless)
   enough =
-      let words : wordsPerRow (jobOf (p .job) .header .shots) ≡ p .w = sym (f .words-are ∙ ap wordsPerRow (sym (f .shots-are))) in
+      let words : wordsPerRow (jobOf (p .job) .header .shots) ≡ p .shape .width = sym (f .words-are ∙ ap wordsPerRow (sym (f .shots-are))) in
       rw words (f .rows)
 
   reply-is : (out : List ℕ) → settleReply (p .job) (sourceOf p) out ≡ settledAnswer (jobOf (p .job)) (settledBy p) out
@@ -123,23 +125,25 @@ module _ {job : List ℕ} {r : Examined} (x : Examines job r) (passes : r .answe
       let same : r .header ≡ b .header = x .finds checked .header ∙ ap (λ (j : Job). j .header) (b .is) in
       rw same (header-sound (b .header) (b .range))
 
-  pub few-words : r .header .outcomes * ((r .header .shots + 63) / 64) ≤ 65536
-  few-words =
-      let h = header-known in
-      let w : (r .header .shots + 63) / 64 ≤ 64 = omega (arith, h .few-shots) in
-      mul-le-mul (h .few-outcomes) w
+  module _ {shape : Shape} (e : shape ≡ shapeOf (r .header .qubits) (r .header .outcomes) (r .header .shots)) where
+    pub few-words : shape .outcomes * shape .width ≤ 65536
+    few-words =
+        let h = header-known in
+        let w : (r .header .shots + 63) / 64 ≤ 64 = omega (arith, h .few-shots) in
+        rw e (mul-le-mul (h .few-outcomes) w)
 
-  pub missing-words : (noiseless : List ℕ) → length noiseless < r .header .outcomes * ((r .header .shots + 63) / 64)
-      → (checkJob job .number ≡ 0) × (length noiseless < outcomeWords (jobOf job .header))
-  missing-words noiseless few = (checked, rw (← x .finds checked .header) few)
+    pub missing-words : (noiseless : List ℕ) → length noiseless < shape .outcomes * shape .width
+        → (checkJob job .number ≡ 0) × (length noiseless < outcomeWords (jobOf job .header))
+    missing-words noiseless few = (checked, rw (← x .finds checked .header) (rw e at few))
 
-  pub fits-of : {noiseless main second : List ℕ} {base : ℕ} → r .header .outcomes * ((r .header .shots + 63) / 64) ≤ length noiseless
-      → Fits (passOf job (r .header .shots) ((r .header .shots + 63) / 64) noiseless main second base)
-  fits-of rows =
-      let same = x .finds checked .header in
-      record {
-        passes = checked;
-        shots-are = ap (λ (h : Header). h .shots) (sym same);
-        words-are = refl;
-        rows = rw (← same) rows;
-      }
+    pub fits-of : {noiseless main second : List ℕ} {base : ℕ} → shape .outcomes * shape .width ≤ length noiseless
+        → Fits (passOf job shape noiseless main second base)
+    fits-of rows =
+        let same = x .finds checked .header in
+        rw e
+        (record {
+          passes = checked;
+          shots-are = ap (λ (h : Header). h .shots) (sym same);
+          words-are = refl;
+          rows = rw (← same) (rw e at rows);
+        })

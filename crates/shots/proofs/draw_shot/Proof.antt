@@ -19,14 +19,14 @@ shared-slice-read-is-fault c = search needs
 is-fault-requires : tie.Need-is-fault-requires
 is-fault-requires c κs = search needs
 
-add-t16 : tie.Need-add-t16
-add-t16 c = search needs
+add-t14 : tie.Need-add-t14
+add-t14 c = search needs
 
 returns-2 : tie.Need-returns-2
 returns-2 c = shot-quiet _ _ _ _ _ _ (omega arith) (sym (c .before .is-fault .ensures) ∙ not-true _ (c .if2 .taken))
 
-add-t17 : tie.Need-add-t17
-add-t17 c = search needs
+add-t15 : tie.Need-add-t15
+add-t15 c = search needs
 
 returns-3 : tie.Need-returns-3
 returns-3 c = shot-unsatisfied _ _ _ _ _ _ (omega arith) (not-true _ (c .if3 .taken))
@@ -59,9 +59,9 @@ draw-shot-spec =
     mul-is-fault
     shared-slice-read-is-fault
     is-fault-requires
-    add-t16
+    add-t14
     returns-2
-    add-t17
+    add-t15
     returns-3
     add-element
     element-requires

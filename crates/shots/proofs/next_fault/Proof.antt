@@ -8,10 +8,10 @@ use Rattle.shots.proofs.next_fault.Statement.{statement}
 use Rattle.shots.proofs.next_fault.Tie as tie
 
 abbrev Inv-loop : tie.InvT-loop
-Inv-loop words at mask shots p d c limit sums i₀ s₀ i s = (i ≤ length words) × (s₀ ≤ s) × (s ≤ shots) × Later words mask shots p d sums s₀ at s i
+Inv-loop words at mask shots p chooser sums i₀ s₀ i s = (i ≤ length words) × (s₀ ≤ s) × (s ≤ shots) × Later words mask shots p (chooser .kind) sums s₀ at s i
 
 abbrev μ-loop : tie.MeasureT-loop
-μ-loop words at mask shots p d c limit sums i₀ s₀ i s = shots - s
+μ-loop words at mask shots p chooser sums i₀ s₀ i s = shots - s
 
 loop-holds : tie.Need-loop-holds Inv-loop μ-loop
 loop-holds c = (omega arith, omega arith, omega arith, later-none)

@@ -2,7 +2,7 @@
 use Prim.Native.Nat.{ℕ, zero, suc, _+_, _-_, _*_, _<_, _≤_}
 use native.Mathlib.Numerals.{add-one}
 use native.Mathlib.Omega.{arith}
-use mathlib.Core.Path.{_≡_, refl, sym, ap, _∙_, fun-ext}
+use mathlib.Core.Path.{_≡_, refl, sym, ap, subst, _∙_, fun-ext}
 use mathlib.Core.List.{List, []}
 use mathlib.Core.Option.{none, some}
 use lib.ListN.{length, drop}
@@ -19,6 +19,12 @@ use Rattle.shots.specs.declared.NextFault.the-variants as next
 use Rattle.noise.specs.Kinds.{Represents}
 use Rattle.noise.specs.Condition.{Masks}
 use Rattle.shots.specs.Shots.{FirstFault, orLater, firstFault, faultOf, wordAfter, InShots, FaultFound}
+
+-- the kind by which the code chooses is that of the line
+pub found-kind : {words : List ℕ} {at : ℕ} {mask : List ℕ} {shot shots : ℕ} {p : Float} {k d : PauliDistribution} {sums : List Float} {r : NextFault} → k ≡ d
+    → FaultFound words at mask shot shots p k sums r → FaultFound words at mask shot shots p d sums r
+found-kind {words} {at} {mask} {shot} {shots} {p} {sums = sums} {r = r} e found =
+    subst (λ (x : PauliDistribution). FaultFound words at mask shot shots p x sums r) e found
 
 -- ---- whatever is done with the faults, shot by shot
 

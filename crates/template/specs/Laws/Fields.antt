@@ -11,6 +11,7 @@ use lib.ListN.{length, getD, take, drop, set, length-append, length-take, length
 use lib.Seq.{length-take-le, getD-set-same, getD-set-other, getD-take, getD-drop, getD-append-add, getD-at, ext-getD}
 use Rattle.text.specs.Template.{Value, number, list, numbersIn, listsIn, listAt}
 use Rattle.numbers.specs.Read.{largestOf, stored}
+use Rattle.template.specs.Values.{Whole, AllKept, membersOn, heldList}
 use Rattle.template.specs.Fields.{Held}
 use Rattle.numbers.specs.Laws.Lists.{stored-length, stored-at}
 
@@ -201,3 +202,9 @@ members-held {fields} {n} {l} {vs} h wide i g few =
         let d = length-drop (12 + i * 31) fields in
         let u = h .few-lists in
         omega arith
+
+-- a list of which all members are kept
+pub list-held : {words : List ℕ} {n l : ℕ} {vs : List Value} → Held words n l vs → Whole words → (i : ℕ) → i < l → AllKept words i → heldList words i ≡ listAt i vs
+list-held {words} {n} {l} {vs} h wide i g few =
+    let e = h .count i g in
+    ap (λ (k : ℕ). take k (membersOn words i)) e ∙ members-held h wide i g (omega arith)

@@ -11,9 +11,9 @@ use lib.Dec.{eqb, ltb}
 use lib.ListN.{length, getD, take, drop}
 use Rattle.text.specs.Bytes.{comma, space, until, extend, pieces, split}
 use Rattle.text.specs.Number.{whenever, proper, allDecimal, decimalFrom, numberOf, hexDigit, allHex, hexFrom, hexOf, bitOf}
-use Rattle.text.specs.List.{withFirst, numbersOf, listQ, isRising, onlyRising, isDash, listL, oneMember, listC}
+use Rattle.text.specs.List.{withFirst, piecesOf, listQ, isRising, onlyRising, isDash, listL, oneMember, listC}
 use Rattle.text.specs.Template.{Value, number, list, aNumber, aList, isLetter, valueOf, andThen, sameByte, atEnd, valuesOf, numbersIn, listsIn, numberAt, listAt}
-use Rattle.text.specs.Written.{Small, FitL, FitQ, FitC}
+use Rattle.text.specs.Written.{AllSmall, FitL, FitQ, FitC}
 
 -- ---- Booleans and options
 
@@ -75,27 +75,27 @@ bit-small v n e =
 
 -- ---- lists
 
-small-more : (n : ℕ) (l : List ℕ) → n < 2 ^ 64 → Small l → Small (n ∷ l)
+small-more : (n : ℕ) (l : List ℕ) → n < 2 ^ 64 → AllSmall l → AllSmall (n ∷ l)
 small-more n l h s zero = h
 small-more n l h s (suc i) = s i
 
-numbers-small : (ps : List (List ℕ)) (l : List ℕ) → numbersOf ps ≡ some l → Small l
-unfolding numbersOf withFirst
+numbers-small : (ps : List (List ℕ)) (l : List ℕ) → piecesOf numberOf ps ≡ some l → AllSmall l
+unfolding piecesOf withFirst
 numbers-small [] [] e = λ i. omega arith
 numbers-small [] (n ∷ l) e = let z : _≡_ {A = ℕ} 0 1 = cc in absurd (omega arith)
-numbers-small (p ∷ ps) l e = go (numberOf p) (numbersOf ps) refl (numbers-small ps) e
+numbers-small (p ∷ ps) l e = go (numberOf p) (piecesOf numberOf ps) refl (numbers-small ps) e
   where
-    go : (a : Option ℕ) (b : Option (List ℕ)) → numberOf p ≡ a → ((k : List ℕ) → b ≡ some k → Small k) → withFirst a b ≡ some l → Small l
+    go : (a : Option ℕ) (b : Option (List ℕ)) → numberOf p ≡ a → ((k : List ℕ) → b ≡ some k → AllSmall k) → withFirst a b ≡ some l → AllSmall l
     go none b h ih e = absurd (none-some e)
     go (some n) none h ih e = absurd (none-some e)
-    go (some n) (some k) h ih e = let same : n ∷ k ≡ l = cc in subst Small same (small-more n k (number-small p n h) (ih k refl))
+    go (some n) (some k) h ih e = let same : n ∷ k ≡ l = cc in subst AllSmall same (small-more n k (number-small p n h) (ih k refl))
 
 -- as many numbers as pieces
-numbers-length : (ps : List (List ℕ)) (l : List ℕ) → numbersOf ps ≡ some l → length l ≡ length ps
-unfolding numbersOf withFirst
+numbers-length : (ps : List (List ℕ)) (l : List ℕ) → piecesOf numberOf ps ≡ some l → length l ≡ length ps
+unfolding piecesOf withFirst
 numbers-length [] [] e = refl
 numbers-length [] (n ∷ l) e = let z : _≡_ {A = ℕ} 0 1 = cc in absurd (omega arith)
-numbers-length (p ∷ ps) l e = go (numberOf p) (numbersOf ps) (numbers-length ps) e
+numbers-length (p ∷ ps) l e = go (numberOf p) (piecesOf numberOf ps) (numbers-length ps) e
   where
     go : (a : Option ℕ) (b : Option (List ℕ)) → ((k : List ℕ) → b ≡ some k → length k ≡ length ps) → withFirst a b ≡ some l → length l ≡ suc (length ps)
     go none b ih e = absurd (none-some e)
@@ -117,7 +117,7 @@ unfolding listQ
 listQ-fits v l e =
     record { filled = omega (arith, numbers-length (split comma v) l e, split-some comma v); small = numbers-small (split comma v) l e }
 
-rising-fits : (o : Option (List ℕ)) (l : List ℕ) → ((k : List ℕ) → o ≡ some k → Small k) → onlyRising o ≡ some l → FitL l
+rising-fits : (o : Option (List ℕ)) (l : List ℕ) → ((k : List ℕ) → o ≡ some k → AllSmall k) → onlyRising o ≡ some l → FitL l
 unfolding onlyRising
 rising-fits none l s e = absurd (none-some e)
 rising-fits (some k) l s e = go (isRising k) refl e

@@ -12,9 +12,9 @@ use lib.ListN.{length, getD, take, drop, length-append, List·getD-append}
 use lib.Seq.{take-append-seam, drop-append-seam, drop-append-add}
 use Rattle.text.specs.Bytes.{LF, space, comma, until, extend, pieces, split, lines, unlines}
 use Rattle.text.specs.Number.{isDecimal, allDecimal, decimalFrom, proper, numberOf, hexDigit, allHex, hexFrom, hexOf, bitOf, decimalDigits, decimal, hexByte, hexDigits, hexadecimal}
-use Rattle.text.specs.List.{withFirst, numbersOf, listQ, onlyRising, isDash, listL, oneMember, listC, commas, listText}
+use Rattle.text.specs.List.{withFirst, piecesOf, listQ, onlyRising, isDash, listL, oneMember, listC, commas, listText}
 use Rattle.text.specs.Template.{Value, aNumber, aList, isLetter, valueOf, andThen, sameByte, atEnd, valuesOf, valueText, firstText, lineText}
-use Rattle.text.specs.Written.{Small, Suits, FirstSuits, AllSuit, atSpace, ofOneLine, Free, AllFree}
+use Rattle.text.specs.Written.{AllSmall, Suits, FirstSuits, AllSuit, atSpace, ofOneLine, Free, AllFree}
 use Rattle.text.specs.Laws.Values.{both}
 use Rattle.text.specs.Laws.Pieces.{first-piece, only-piece}
 use Rattle.text.specs.Laws.Numbers.{number-good, hex-good}
@@ -212,8 +212,8 @@ piece-append last sep p l e =
 decimal-free : (n : ℕ) → Free comma (decimal n)
 decimal-free n = least-free 48 44 (decimal n) (omega arith) (decimal-least 48 (omega arith) 20 n)
 
-list-read : (n : ℕ) (l : List ℕ) → Small (n ∷ l) → numbersOf (split comma (decimal n ++ commas l)) ≡ some (n ∷ l)
-unfolding commas numbersOf withFirst
+list-read : (n : ℕ) (l : List ℕ) → AllSmall (n ∷ l) → piecesOf numberOf (split comma (decimal n ++ commas l)) ≡ some (n ∷ l)
+unfolding commas piecesOf withFirst
 list-read n [] s = rw (append-nil (decimal n), only-piece 44 (decimal n) (decimal-free n), number-read n (s 0))
 list-read n (m ∷ l) s =
     rw (piece-append ([] ∷ []) 44 (decimal n) (decimal m ++ commas l) (decimal-free n), number-read n (s 0), list-read m l (λ i. s (suc i)))

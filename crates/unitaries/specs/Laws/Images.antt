@@ -4,7 +4,7 @@ use mathlib.Core.Bool.{Bool, true, false, _&&_}
 use mathlib.Core.List.{List, [], _∷_}
 use Prim.Native.Nat.{ℕ, suc, _+_, _*_, _/_, _<_, _≤_}
 use native.Mathlib.Omega.{arith}
-use native.Mathlib.Nat.{zero-add, add-zero, mul-le-mul, mul-le-mul-left}
+use native.Mathlib.Nat.{zero-add, add-zero, mul-le-mul, mul-le-mul-left, mul-le-mul-right}
 use native.Mathlib.Numerals.{add-one}
 use lib.ListN.{length, getD, drop, drop-of-length-le}
 use lib.Seq.{drop-cons}
@@ -22,7 +22,7 @@ use Rattle.rows.specs.Overwrite.{xored, cleared as clearedWords}
 use Rattle.rows.specs.Listed.{overList, collected}
 use Rattle.rows.specs.Column.{column}
 use Rattle.rows.specs.Laws.Overwrite.{before-row}
-use Rattle.rows.specs.Laws.Column.{column-xored, column-clear, column-collected}
+use Rattle.rows.specs.Laws.Column.{column-xored, column-clear, collected-before, column-collected}
 use Rattle.propagator.specs.Acts.{frameOf, Acts, lineRule}
 use Rattle.unitaries.specs.Images.{Saved, RowAdded, ImagesAdded, moved, PlacesAdded, RowsPermuted}
 use Rattle.propagator.specs.Laws.Lists.{rows-in}
@@ -40,6 +40,9 @@ table-small k r c few h l = omega (arith, table-place k r c h l, mul-le-mul few 
 -- the rows of a buffer
 pub row-below : (w k i : ℕ) {l : ℕ} → k * w ≤ l → i < k → i * w + w ≤ l
 row-below w k i fits h = omega (arith, before-row w i k h)
+
+pub first-half : (w k : ℕ) {l : ℕ} → (k + k) * w ≤ l → (0 + k) * w ≤ l
+first-half w k fits = rw zero-add (omega (arith, mul-le-mul-right {m = k} {n = k + k} w (omega arith)))
 
 -- ---- a row that is added where on is true
 
@@ -101,60 +104,71 @@ image-acts w t r i qs src x z d x′ z′ j h of-x of-z =
 
 -- ---- all images
 
-pub record ImagesLeft (w : ℕ) (qs : List ℕ) (t : ℕ) (xs zs x₀ z₀ : List ℕ) (i : ℕ) (x z : List ℕ) : Type 0 where
-  pub shots : (s : ℕ) → s / 64 < w → (F : Pauli) → Saved w qs xs s (F .x) → Saved w qs zs s (F .z)
+pub record ImagesLeft (w : ℕ) (qs : List ℕ) (t : ℕ) (saved x₀ z₀ : List ℕ) (i : ℕ) (x z : List ℕ) : Type 0 where
+  pub shots : (s : ℕ) → s / 64 < w → (F : Pauli) → Saved w qs saved 0 s (F .x) → Saved w qs saved (length qs) s (F .z)
       → frameOf w x z s ∗ imageSum (imagesFrom qs t i (drop i qs)) F ≡ frameOf w x₀ z₀ s ∗ imageSum (imagesOf qs t) F
 
--- a frame to which row r of the table was added in the shots of row i
-abbrev pub Added : ℕ → List ℕ → ℕ → ℕ → ℕ → List ℕ → List ℕ → List ℕ → List ℕ → List ℕ → Type 0
-Added w qs t r i src x z x′ z′ =
-    (d : List ℕ) → Acts w (λ s. onFrame (λ F. F ∗ when (column w src s i) (tableRow qs t r))) x z d x′ z′ d
+-- a frame to which row r of the table was added in the shots of saved row r
+abbrev pub Added : ℕ → List ℕ → ℕ → ℕ → List ℕ → List ℕ → List ℕ → List ℕ → List ℕ → Type 0
+Added w qs t r saved x z x′ z′ = (d : List ℕ) → Acts w (λ s. onFrame (λ F. F ∗ when (column w saved s r) (tableRow qs t r))) x z d x′ z′ d
 
-pub images-start : (w : ℕ) (qs : List ℕ) (t : ℕ) (xs zs x z : List ℕ) → ImagesLeft w qs t xs zs x z 0 x z
+pub images-start : (w : ℕ) (qs : List ℕ) (t : ℕ) (saved x z : List ℕ) → ImagesLeft w qs t saved x z 0 x z
 unfolding imagesOf
-images-start w qs t xs zs x z = record { shots = λ s h F of-x of-z. refl }
+images-start w qs t saved x z = record { shots = λ s h F of-x of-z. refl }
 
-pub images-turn : (w : ℕ) (qs : List ℕ) (t : ℕ) (xs zs x₀ z₀ : List ℕ) (i : ℕ) (x z x₁ z₁ x₂ z₂ : List ℕ) → i < length qs
-    → Added w qs t i i xs x z x₁ z₁ → Added w qs t (length qs + i) i zs x₁ z₁ x₂ z₂ → ImagesLeft w qs t xs zs x₀ z₀ i x z
-    → ImagesLeft w qs t xs zs x₀ z₀ (i + 1) x₂ z₂
+pub images-turn : (w : ℕ) (qs : List ℕ) (t : ℕ) (saved x₀ z₀ : List ℕ) (i : ℕ) (x z x₁ z₁ x₂ z₂ : List ℕ) → i < length qs → Added w qs t i saved x z x₁ z₁
+    → Added w qs t (length qs + i) saved x₁ z₁ x₂ z₂ → ImagesLeft w qs t saved x₀ z₀ i x z → ImagesLeft w qs t saved x₀ z₀ (i + 1) x₂ z₂
 unfolding imagesFrom imageSum
-images-turn w qs t xs zs x₀ z₀ i x z x₁ z₁ x₂ z₂ h first second left =
+images-turn w qs t saved x₀ z₀ i x z x₁ z₁ x₂ z₂ h first second left =
     record {
       shots = λ s k F of-x of-z.
-          let one : frameOf w x₁ z₁ s ≡ frameOf w x z s ∗ when (column w xs s i) (tableRow qs t i) = ap (λ (u : Rattle.frames.specs.Forward.State). u .frame) (first [] .shots s k) in
-          let two : frameOf w x₂ z₂ s ≡ frameOf w x₁ z₁ s ∗ when (column w zs s i) (tableRow qs t (length qs + i)) = ap (λ (u : Rattle.frames.specs.Forward.State). u .frame) (second [] .shots s k) in
-          rw (two, one, of-x .row i h, of-z .row i h, add-one i)
+          let one : frameOf w x₁ z₁ s ≡ frameOf w x z s ∗ when (column w saved s i) (tableRow qs t i) = ap (λ (u : Rattle.frames.specs.Forward.State). u .frame) (first [] .shots s k) in
+          let two : frameOf w x₂ z₂ s ≡ frameOf w x₁ z₁ s ∗ when (column w saved s (length qs + i)) (tableRow qs t (length qs + i)) = ap (λ (u : Rattle.frames.specs.Forward.State). u .frame) (second [] .shots s k) in
+          let of-i : column w saved s i ≡ F .x (getD qs i 0) = rw zero-add at (of-x .row i h) in
+          rw (two, one, of-i, of-z .row i h, add-one i)
           (simp ∗-assoc (simp ∗-assoc at (rw (drop-cons qs i 0 h) at (left .shots s k F of-x of-z))));
     }
 
-pub images-end : (w : ℕ) (qs : List ℕ) (t : ℕ) (xs zs x₀ z₀ : List ℕ) (i : ℕ) (x z : List ℕ) → length qs ≤ i → ImagesLeft w qs t xs zs x₀ z₀ i x z
-    → ImagesAdded w qs t xs zs x₀ z₀ x z
+pub images-end : (w : ℕ) (qs : List ℕ) (t : ℕ) (saved x₀ z₀ : List ℕ) (i : ℕ) (x z : List ℕ) → length qs ≤ i → ImagesLeft w qs t saved x₀ z₀ i x z
+    → ImagesAdded w qs t saved x₀ z₀ x z
 unfolding imagesFrom imageSum
-images-end w qs t xs zs x₀ z₀ i x z h left =
+images-end w qs t saved x₀ z₀ i x z h left =
     record {
       shots = λ s k F of-x of-z. sym (∗-identity (frameOf w x z s)) ∙ rw (drop-of-length-le qs h) at (left .shots s k F of-x of-z);
     }
 
 -- ---- saved rows
 
-pub rows-saved : (w n : ℕ) (qs l saved saved′ : List ℕ) → length qs * w ≤ length saved → saved′ ≡ collected w l 0 qs saved → (s : ℕ) → s / 64 < w
-    → Saved w qs saved′ s (column w l s)
-rows-saved w n qs l saved saved′ fits e s h =
-    let room : (0 + length qs) * w ≤ length saved = rw zero-add fits in
-    record { row = λ i k. rw e (ap (column w (collected w l 0 qs saved) s) (sym (zero-add i)) ∙ column-collected w s h l 0 qs saved room i k) }
+pub rows-saved : (w : ℕ) (qs l : List ℕ) (first : ℕ) (saved saved′ : List ℕ) → (first + length qs) * w ≤ length saved → saved′ ≡ collected w l first qs saved
+    → (s : ℕ) → s / 64 < w → Saved w qs saved′ first s (column w l s)
+rows-saved w qs l first saved saved′ fits e s h = record { row = λ i k. rw e (column-collected w s h l first qs saved fits i k) }
 
-pub clifford-acts : (w n m : ℕ) (qs : List ℕ) (t : ℕ) (x z d xs₀ zs₀ xs zs x₁ z₁ x′ z′ : List ℕ) → length x ≡ n * w → length z ≡ n * w
-    → allBelow n qs ≡ true → length qs * w ≤ length xs₀ → length qs * w ≤ length zs₀ → xs ≡ collected w x 0 qs xs₀ → zs ≡ collected w z 0 qs zs₀
-    → x₁ ≡ overList (λ q. clearedWords (q * w) w) qs x → z₁ ≡ overList (λ q. clearedWords (q * w) w) qs z → ImagesAdded w qs t xs zs x₁ z₁ x′ z′
-    → Acts w (lineRule n m (Line.clifford qs t)) x z d x′ z′ d
+-- those before them are as they were
+saved-before : (w : ℕ) (qs l : List ℕ) (saved saved′ : List ℕ) → (length qs + length qs) * w ≤ length saved → saved′ ≡ collected w l (length qs) qs saved
+    → (s : ℕ) → s / 64 < w → {c : Bits} → Saved w qs saved 0 s c → Saved w qs saved′ 0 s c
+saved-before w qs l saved saved′ fits e s h {c} held =
+    record { row = λ i k. rw e (collected-before w s h l (length qs) qs saved fits (0 + i) (rw zero-add k) ∙ held .row i k) }
+
+pub clifford-acts : (w n m : ℕ) (qs : List ℕ) (t : ℕ) (x z d saved₀ saved₁ saved x₁ z₁ x′ z′ : List ℕ) → length x ≡ n * w → length z ≡ n * w
+    → allBelow n qs ≡ true → (length qs + length qs) * w ≤ length saved₀ → length saved₁ ≡ length saved₀ → saved₁ ≡ collected w x 0 qs saved₀
+    → saved ≡ collected w z (length qs) qs saved₁ → x₁ ≡ overList (λ q. clearedWords (q * w) w) qs x → z₁ ≡ overList (λ q. clearedWords (q * w) w) qs z
+    → ImagesAdded w qs t saved x₁ z₁ x′ z′ → Acts w (lineRule n m (Line.clifford qs t)) x z d x′ z′ d
 unfolding forward transformed cleared
-clifford-acts w n m qs t x z d xs₀ zs₀ xs zs x₁ z₁ x′ z′ lx lz below fx fz es ez ex₁ ez₁ images =
+clifford-acts w n m qs t x z d saved₀ saved₁ saved x₁ z₁ x′ z′ lx lz below fits same ex ez ex₁ ez₁ images =
     acts-frame w (λ s. transformed qs (imagesOf qs t)) x z d x′ z′
-    (λ s h. images .shots s h (frameOf w x z s) (rows-saved w n qs x xs₀ xs fx es s h) (rows-saved w n qs z zs₀ zs fz ez s h)
+    (λ s h. images .shots s h (frameOf w x z s)
+    (saved-before w qs z saved₁ saved room ez s h (rows-saved w qs x 0 saved₀ saved₁ first ex s h))
+    (rows-saved w qs z (length qs) saved₁ saved room ez s h)
     ∙ ap (λ (F : Pauli). F ∗ imageSum (imagesOf qs t) (frameOf w x z s))
     (pauli-path
     (rw ex₁ (column-clear w s h qs x (rows-in w n x qs lx below)))
     (rw ez₁ (column-clear w s h qs z (rows-in w n z qs lz below)))))
+  where
+    room : (length qs + length qs) * w ≤ length saved₁
+    room = omega arith
+
+    first : (0 + length qs) * w ≤ length saved₀
+    first = first-half w (length qs) fits
 
 -- ---- permutations
 
@@ -163,7 +177,7 @@ pub operand-at : (places qs : List ℕ) (i : ℕ) → isPermutation (length qs) 
 operand-at places qs i test h = rw (← (test-permutes (length qs) places test .as-many)) h
 
 pub record PlacesLeft (w : ℕ) (places qs saved l₀ : List ℕ) (i : ℕ) (l : List ℕ) : Type 0 where
-  pub shots : (s : ℕ) → s / 64 < w → (c : Bits) → Saved w qs saved s c
+  pub shots : (s : ℕ) → s / 64 < w → (c : Bits) → Saved w qs saved 0 s c
       → column w l s △ moved qs (drop i places) (drop i qs) c ≡ column w l₀ s △ moved qs places qs c
 
 pub places-start : (w : ℕ) (places qs saved l : List ℕ) → PlacesLeft w places qs saved l 0 l
@@ -176,7 +190,7 @@ unfolding moved
 places-turn w places qs saved l₀ i l l′ hp hq fits e left =
     record {
       shots = λ s k c held.
-          rw (e, column-xored w s k (getD qs (getD places i 0) 0) i saved l fits, added-is (column w l s) _ (column w saved s i), held .row i hq, add-one i)
+          rw (e, column-xored w s k (getD qs (getD places i 0) 0) i saved l fits, added-is (column w l s) _ (column w saved s i), rw zero-add at (held .row i hq), add-one i)
           (regroup (column w l s) _ _ ∙ rw (drop-cons places i 0 hp, drop-cons qs i 0 hq) at (left .shots s k c held));
     }
   where
@@ -198,7 +212,7 @@ pub rows-permuted : (w n : ℕ) (places qs l saved₀ saved l₁ l′ : List ℕ
 rows-permuted w n places qs l saved₀ saved l₁ l′ len below fits e e₁ placed =
     record {
       shots = λ s h.
-          placed .shots s h (column w l s) (rows-saved w n qs l saved₀ saved fits e s h)
+          placed .shots s h (column w l s) (rows-saved w qs l 0 saved₀ saved (rw zero-add fits) e s h)
           ∙ rw (e₁, column-clear w s h qs l (rows-in w n l qs len below));
     }
 

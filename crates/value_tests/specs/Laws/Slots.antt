@@ -12,9 +12,10 @@ use lib.Seq.{take-length}
 use Rattle.pauli.specs.Bits.{outside, members}
 use Rattle.text.specs.Template.{Value, listAt}
 use Rattle.numbers.specs.Read.{largestOf}
+use Rattle.template.specs.Values.{Whole, AllKept, heldCount, membersOn}
 use Rattle.template.specs.Fields.{Held}
 use Rattle.text.specs.Laws.Pieces.{step}
-use Rattle.template.specs.Laws.Fields.{members-held}
+use Rattle.template.specs.Laws.Fields.{list-held}
 use Rattle.job.specs.Checks.{allBelow, eachBelow, eachShort, distinct}
 use Rattle.value_tests.specs.Slots.{listsFrom}
 
@@ -110,10 +111,9 @@ module _ (l : List ℕ) (i : ℕ) where
 pub rest-whole : (s : List ℕ) (a : ℕ) → take (length s - a) (drop a s) ≡ drop a s
 rest-whole s a = rw (← length-drop a s) (take-length (drop a s))
 
--- the list in a slot, from its place in the words
-pub slot-list : {fields : List ℕ} {n m : ℕ} {vs : List Value} (i e : ℕ) → Held fields n m vs → 136 ≤ length fields → i < m → getD fields (4 + i) 0 ≤ 31
-    → e ≡ 12 + i * 31 + getD fields (4 + i) 0 → take (e - (12 + i * 31)) (drop (12 + i * 31) fields) ≡ listAt i vs
-slot-list {fields} {n} {m} {vs} i e h wide k few there =
-    let count = h .count i k in
-    let size : e - (12 + i * 31) ≡ length (listAt i vs) = omega arith in
-    rw size (members-held h wide i k (omega arith))
+-- the i-th list, as the part of the words up to its end
+pub slot-list : {words : List ℕ} {n m : ℕ} {vs : List Value} (i e : ℕ) → Held words n m vs → Whole words → i < m → AllKept words i
+    → e ≡ 12 + i * 31 + heldCount words i → take (e - (12 + i * 31)) (membersOn words i) ≡ listAt i vs
+slot-list {words} {n} {m} {vs} i e h wide k few there =
+    let size : e - (12 + i * 31) ≡ heldCount words i = omega arith in
+    rw size (list-held h wide i k few)

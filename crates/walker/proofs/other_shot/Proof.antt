@@ -20,15 +20,15 @@ same-length c = search needs
 returns : tie.Need-returns
 returns c = λ e. absurd (true≢false (sym e))
 
-slice-read-result : tie.Need-slice-read-result
-slice-read-result c = search needs
+number-requires : tie.Need-number-requires
+number-requires c κs = search needs
 
 same-length-2 : tie.Need-same-length-2
 same-length-2 c = search needs
 
 returns-2 : tie.Need-returns-2
 unfolding injectBegin bytes
-returns-2 c = λ e first third v reads. shot-passed _ _ v first third reads (c .before .before .before .before .before .before .read-on .ensures .read (not-false _ (c .before .before .if1 .left))) (eqb-false _ _ (not-true _ e))
+returns-2 c = λ e first third v reads. shot-passed _ _ v first third reads (c .before .before .before .before .before .before .before .read-on .ensures .read (not-false _ (c .before .before .before .if1 .left))) (rw (← c .before .number .ensures) (eqb-false _ _ (not-true _ e)))
 
 pub other-shot-spec : {M : Type 1} → statement M
 other-shot-spec =
@@ -38,6 +38,6 @@ other-shot-spec =
     read-on-requires
     same-length
     returns
-    slice-read-result
+    number-requires
     same-length-2
     returns-2)

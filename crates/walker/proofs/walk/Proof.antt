@@ -1,5 +1,5 @@
 -- `walker::walk` meets its contract. Assumes nothing.
-use mathlib.Core.Path.{sym, ap, _∙_}
+use mathlib.Core.Path.{sym, _∙_}
 use mathlib.Core.List.{[]}
 use borrow.Author.Tests.{not-true, not-false}
 use Rattle.walker.specs.Laws.Answers.{examined-refused, passes, examined-lines, examined-shot, examined-rising, examined-recorded, examined-below, examined-noise, examined-count}

@@ -1,11 +1,12 @@
 -- Gate lines of an accepted job, known by two of their bytes. Laws. Assumes nothing.
-use Prim.Native.Nat.{ℕ}
+use Prim.Native.Nat.{ℕ, _<_}
 use native.Mathlib.Omega.{arith}
 use mathlib.Core.Path.{_≡_, refl, sym, ap, _∙_}
 use mathlib.Core.Bool.{true}
 use mathlib.Core.List.{List}
 use mathlib.Core.Option.{some}
 use lib.ListN.{length, getD}
+use Rattle.pauli.specs.declared.Pauli.{Pauli as PauliWords}
 use Rattle.pauli.specs.Pauli.{Pauli}
 use Rattle.pauli.specs.Gate.{Gate, gateOf, conjugatedBack}
 use Rattle.pauli.specs.Code.{byGate}
@@ -24,11 +25,12 @@ use Rattle.reader.specs.Laws.Sift.{sift, opens}
 use Rattle.instructions.specs.Laws.Meaning.{unitary-said}
 use Rattle.backward.specs.Walk.{carry, counts, backward}
 use Rattle.carry.specs.Laws.Parts.{operand-below}
+use Rattle.lines_from_last.specs.Line.{OfJob}
+use Rattle.lines_back.specs.declared.Walk.{Walk as WalkWords}
 use Rattle.lines_back.specs.Back.{writtenBack, noiseBack}
-use Rattle.observable.specs.Change.{observable, Operands, Conjugates}
 use Rattle.gate_text.specs.declared.Gate.{Gate as GateWords}
 use Rattle.gate_text.specs.Gate.{gateTemplate, GateLine, GateRead}
-use Rattle.walker.specs.Steps.{OfJob, GateBytes, GateBack}
+use Rattle.walker.specs.Steps.{GateBytes, TextBack}
 use Rattle.walker.specs.Laws.Passed.{one-form, by-values}
 
 -- the line is that of a gate, on qubits below 256
@@ -54,30 +56,25 @@ module _ {text : List ℕ} (bytes-there : GateBytes text) where
   gate-line o = let g = of-gate o in record { values = g .values; reads = g .reads }
 
   module _ {q : GateWords} (read : GateRead text q) where
-    pub operands-of : {x z : List ℕ} → OfJob text → length x ≡ 4 → length z ≡ 4 → Operands x z (q .first) (q .second)
-    operands-of o long-x long-z =
-        let g = of-gate o in
-        record {
-          long-x = long-x;
-          long-z = long-z;
-          first = rw (read .first _ (g .reads)) (operand-below 256 _ 0 (omega arith) (g .below));
-          second = rw (read .second _ (g .reads)) (operand-below 256 _ 1 (omega arith) (g .below));
-        }
+    pub operands-of : OfJob text → (q .first < 256) × (q .second < 256)
+    operands-of o =
+        let g = of-gate o in (
+          rw (read .first _ (g .reads)) (operand-below 256 _ 0 (omega arith) (g .below)),
+          rw (read .second _ (g .reads)) (operand-below 256 _ 1 (omega arith) (g .below)),
+        )
 
-    pub gate-goes : {x z x′ z′ : List ℕ} → Conjugates (q .code) (q .first) (q .second) x z x′ z′ → GateBack text x z x′ z′
-    unfolding byGate asPauli writtenBack noiseBack backward carry counts
-    gate-goes {x} {z} {x′} {z′} c =
+    -- a gate line changes the observable alone
+    pub gate-goes : {w : WalkWords} {b : PauliWords} → asPauli b ≡ byGate conjugatedBack (gateOf (q .code)) (q .first) (q .second) (asPauli (w .observable))
+        → (shot k : ℕ) (set : List ℕ) → length set ≡ 16
+        → TextBack text shot k w (record { observable = b; count = w .count; noise = w .noise }) set set
+    unfolding byGate writtenBack noiseBack backward carry counts
+    gate-goes {w} {b} e shot k set long =
         record {
-          long-x = c .long-x;
-          long-z = c .long-z;
-          back = λ shot k count noise set long.
-              record {
-                long = long;
-                walks = λ o.
-                    let g = of-gate o in
-                    let back : observable x′ z′ ≡ conjugatedBack (g .gate) (getD (listAt 0 (g .values)) 0 0) (getD (listAt 0 (g .values)) 1 0) (observable x z) =
-                    c .is ∙ rw (read .code _ (g .reads), read .first _ (g .reads), read .second _ (g .reads), g .code) in
-                    rw (← g .is) (ap (λ (P : Pauli). record { carried = record { observable = P; set = inSet set }; count = count }) back);
-                noise = λ o. rw (← of-gate o .is);
-              };
+          long = long;
+          walks = λ o.
+              let g = of-gate o in
+              let back : asPauli b ≡ conjugatedBack (g .gate) (getD (listAt 0 (g .values)) 0 0) (getD (listAt 0 (g .values)) 1 0) (asPauli (w .observable)) =
+              e ∙ rw (read .code _ (g .reads), read .first _ (g .reads), read .second _ (g .reads), g .code) in
+              rw (← g .is) (ap (λ (P : Pauli). record { carried = record { observable = P; set = inSet set }; count = w .count }) back);
+          noise = λ o. rw (← of-gate o .is);
         }

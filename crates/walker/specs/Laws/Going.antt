@@ -1,28 +1,21 @@
 -- The walk line after line, from the last to the first. Laws. Assumes nothing.
 use Prim.Native.Nat.{ℕ, zero, suc, _+_, _-_, _≤_, _<_}
 use native.Mathlib.Omega.{arith}
-use mathlib.Core.Path.{_≡_, refl, sym, ap, ap₂, _∙_}
-use mathlib.Core.Bool.{Bool, true, false, _&&_}
-use borrow.Author.Tests.{eqb-true}
-use lib.Dec.{eqb, ltb, leb}
-use mathlib.Core.List.{List, [], _∷_, _++_, append-assoc, append-nil}
-use mathlib.Core.Option.{Option, some}
-use lib.ListN.{length, getD, take, replicate, length-append}
-use lib.Seq.{take-length}
+use mathlib.Core.Path.{_≡_, refl, sym, ap, _∙_}
+use mathlib.Core.Bool.{Bool, true, false}
+use mathlib.Core.List.{List, [], _∷_}
+use mathlib.Core.Option.{some}
+use lib.ListN.{length}
 use Rattle.pauli.specs.Bits.{Bits}
 use Rattle.pauli.specs.Pauli.{identity}
-use Rattle.pauli.specs.Fixed.{inSet, asPauli}
-use Rattle.pauli.specs.Laws.Set.{in-none}
-use Rattle.pauli.specs.Laws.Gates.{pauli-path}
-use Rattle.text.specs.Bytes.{LF, pieces, lines}
+use Rattle.pauli.specs.Fixed.{inSet}
+use Rattle.text.specs.Bytes.{lines}
+use Rattle.template.specs.Values.{Whole}
 use Rattle.job.specs.declared.Header.{Header}
 use Rattle.job.specs.Line.{Line, Placed}
 use Rattle.job.specs.Grammar.{Written, readLine}
-use Rattle.text.specs.Laws.Values.{both}
-use Rattle.job.specs.Job.{maxBytes, wellEnded, checkJob, Gathered, gather, gathered, Job, jobOf}
-use Rattle.job.specs.Sound.{HeaderSound, LineSound}
-use Rattle.job.specs.Theorems.{checked-sound}
-use Rattle.job.specs.Laws.Begun.{job-begun}
+use Rattle.job.specs.Job.{checkJob, Gathered, gather, gathered, jobOf}
+use Rattle.job.specs.Sound.{LineSound}
 use Rattle.reader.specs.declared.Form.{Form}
 use Rattle.reader.specs.Parsed.{Parsed}
 use Rattle.instructions.specs.Reading.{lineAt}
@@ -32,22 +25,23 @@ use Rattle.backward.specs.Walk.{counts, Walk, oneMore, backward, walkBack, walk
 use Rattle.backward.specs.Walking.{noiseFirst, firstNoise, lineFirst, plainLines}
 use Rattle.carry.specs.Full.{full}
 use Rattle.carry.specs.Laws.Same.{same-backward}
+use Rattle.lines_from_last.specs.Line.{LineBefore, OfJob}
+use Rattle.lines_from_last.specs.Laws.Left.{LinesLeft, all-left, line-left, one-done, left-known, line-known, gathered-more, none-left}
 use Rattle.lines_back.specs.declared.Walk.{Walk as WalkWords}
 use Rattle.lines_back.specs.Back.{Readable, walkOf, writtenBack, noiseBack, LineBack}
-use Rattle.walker.specs.Steps.{LineStart, LineBefore, Started, lineOrNone, WalkedBack, Known, OfJob, PassedOver, walkWith, TextBack}
-use Rattle.walker.specs.Laws.Known.{job-known}
+use Rattle.walker.specs.Steps.{Started, lineOrNone, WalkedBack, PassedOver, TextBack}
 
 -- ---- one line
 
 -- a line of an accepted job that was read
-pub readable : {text : List ℕ} {form : Form} {fields : List ℕ} → OfJob text → Parsed text form fields → 136 ≤ length fields → Readable form fields
+pub readable : {text : List ℕ} {form : Form} {words : List ℕ} → OfJob text → Parsed text form words → Whole words → Readable form words
 readable o parsed wide =
     let (vs, said) = read-says parsed (o .known .reads) in
     record { header = o .header; range = o .range; wide = wide; values = vs; written = o .known .written; said = said; sound = o .known .sound }
 
--- by its form and its fields, and by its bytes
-pub read-back : {text : List ℕ} {form : Form} {fields : List ℕ} {shot k : ℕ} {w w′ : WalkWords} {set set′ : List ℕ} → Parsed text form fields → 136 ≤ length fields
-    → LineBack form fields shot k w w′ set set′ → TextBack text shot k w w′ set set′
+-- by its form and its values, and by its bytes
+pub read-back : {text : List ℕ} {form : Form} {words : List ℕ} {shot k : ℕ} {w w′ : WalkWords} {set set′ : List ℕ} → Parsed text form words → Whole words
+    → LineBack form words shot k w w′ set set′ → TextBack text shot k w w′ set set′
 unfolding readable
 read-back parsed wide l = record { long = l .long; walks = λ o. l .walks (readable o parsed wide); noise = λ o. l .noise (readable o parsed wide) }
 
@@ -112,41 +106,22 @@ startWith S = record { carried = record { observable = identity; set = S }; coun
 
 -- The lines from place e on were walked back over, those of `done`; the k lines before are left.
 pub record Going (job : List ℕ) (shot : ℕ) (S : Bits) (w : WalkWords) (set : List ℕ) (k e : ℕ) : Type 0 where
-  pub within : e ≤ length job
-  pub starts : LineStart job e
-  pub number : k ≡ length (lines (take e job))
+  pub done : List (List ℕ)
+  pub left : LinesLeft job k e done
   pub long : length set ≡ 16
   pub counted : w .count + e ≤ length job
-  pub done : List (List ℕ)
-  pub whole : lines job ≡ lines (take e job) ++ done
   pub walked : walkOf w set ≡ walkBack (settingOf (jobOf job .header) shot) (plainLines (gathered (suc k) done .instructions)) (startWith S)
   pub noise : lineOrNone (w .noise) ≡ firstNoise (gathered (suc k) done .instructions)
 
--- the last byte of a job is LF
-job-ends : (job : List ℕ) → wellEnded job ≡ true → getD job (length job - 1) 0 ≡ LF
-unfolding wellEnded
-job-ends job e = eqb-true _ _ (both (ltb 0 (length job) && leb (length job) maxBytes) (eqb (getD job (length job - 1) 0) LF) e .1)
-
--- words of 0 are the identity
-pub started : Started (walkWith (replicate 4 0) (replicate 4 0) 0 0)
-unfolding asPauli identity
-started = record { observable = pauli-path (in-none 4) (in-none 4); count = refl; noise = refl }
-
 module _ (job : List ℕ) (passes : checkJob job .number ≡ 0) where
-  range : HeaderSound (jobOf job .header)
-  range = checked-sound job passes .header
-
   pub going-first : {shot : ℕ} {w : WalkWords} {set : List ℕ} {k : ℕ} → Started w → length set ≡ 16 → k ≡ length (lines job) → Going job shot (inSet set) w set k (length job)
   unfolding gathered plainLines walkBack startWith firstNoise lineOrNone
   going-first {set = set} s long number =
       record {
-        within = omega arith;
-        starts = λ h. job-ends job (checked-sound job passes .ended);
-        number = number ∙ rw (take-length job);
+        done = [];
+        left = all-left job passes number;
         long = long;
         counted = omega (arith, s .count);
-        done = [];
-        whole = rw (take-length job) (sym (append-nil (lines job)));
         walked = λ i. record { carried = record { observable = s .observable i; set = inSet set }; count = s .count i };
         noise = rw (s .noise);
       }
@@ -156,66 +131,37 @@ module _ (job : List ℕ) (passes : checkJob job .number ≡ 0) where
     abbrev text : List ℕ
     text = lineAt job at (e - 1)
 
-    cut : lines (take e job) ≡ lines (take at job) ++ text ∷ []
-    cut = let p : e - 1 + 1 ≡ e = omega arith in rw p at (b .splits)
-
-    whole-more : lines job ≡ lines (take at job) ++ text ∷ g .done
-    whole-more = g .whole ∙ ap (λ (ls : List (List ℕ)). ls ++ g .done) cut ∙ append-assoc (lines (take at job)) (text ∷ []) (g .done)
-
-    known : Known (jobOf job .header) text
-    known = job-known job passes (lines (take at job)) text (g .done) whole-more
-
-    pub line-known : OfJob text
-    line-known = record { header = jobOf job .header; range = range; known = known }
-
-    -- some lines are left
-    pub line-left : 0 < k
-    line-left = omega (arith, g .number, ap length cut, length-append (lines (take at job)) (text ∷ []))
-
-    gathered-more : gathered (suc (k - 1)) (text ∷ g .done) ≡ gather k text (some (known .written)) (gathered (suc k) (g .done))
-    unfolding gathered
-    gathered-more =
-        let p : suc (k - 1) ≡ k = omega (arith, line-left) in
-        ap (λ (j : ℕ). gathered j (text ∷ g .done)) p ∙ ap (λ (o : Option Written). gather k text o (gathered (suc k) (g .done))) (known .reads)
+    abbrev setting : Setting
+    setting = settingOf (jobOf job .header) shot
 
     pub going-on : (w′ : WalkWords) (set′ : List ℕ) → TextBack text shot k w w′ set set′ → Going job shot S w′ set′ (k - 1) at
     unfolding line-known
     going-on w′ set′ l =
-        let q = line-known in
-        let same = same-written (jobOf job .header) (range .few-qubits) shot (known .written) (known .sound) (walkOf w set) in
-        let count = ap (λ (x : Walk). x .count) (l .walks q) in
-        let lines-left = ap length cut ∙ length-append (lines (take at job)) (text ∷ []) in
+        let q = line-known job passes (g .left) positive b in
+        let v = left-known job passes (g .left) positive b .written in
+        let behind = gathered (suc k) (g .done) in
+        let more = gathered-more job passes (g .left) positive b in
         record {
-          within = omega (arith, b .within, g .within);
-          starts = b .starts;
-          number = omega (arith, g .number, lines-left);
-          long = l .long;
-          counted = omega (arith, b .within, g .counted, count, written-counts (full shot) (known .written) (walkOf w set));
           done = text ∷ g .done;
-          whole = whole-more;
+          left = one-done job passes (g .left) positive b;
+          long = l .long;
+          counted = omega (arith, b .within, g .counted, ap (λ (x : Walk). x .count) (l .walks q), written-counts (full shot) v (walkOf w set));
           walked =
               l .walks q
-              ∙ same
-              ∙ ap (writtenBack (settingOf (jobOf job .header) shot) (known .written)) (g .walked)
-              ∙ sym (written-lines (settingOf (jobOf job .header) shot) k text (known .written) (gathered (suc k) (g .done)) (startWith S))
-              ∙ sym (ap (λ (x : Gathered). walkBack (settingOf (jobOf job .header) shot) (plainLines (x .instructions)) (startWith S)) gathered-more);
+              ∙ same-written (jobOf job .header) (q .range .few-qubits) shot v (q .known .sound) (walkOf w set)
+              ∙ ap (writtenBack setting v) (g .walked)
+              ∙ sym (written-lines setting k text v behind (startWith S))
+              ∙ sym (ap (λ (x : Gathered). walkBack setting (plainLines (x .instructions)) (startWith S)) more);
           noise =
               ap lineOrNone (l .noise q)
-              ∙ written-noise (settingOf (jobOf job .header) shot) k text (known .written) (gathered (suc k) (g .done)) (w .noise) line-left (g .noise)
-              ∙ sym (ap (λ (x : Gathered). firstNoise (x .instructions)) gathered-more);
+              ∙ written-noise setting k text v behind (w .noise) (line-left job passes (g .left) positive b) (g .noise)
+              ∙ sym (ap (λ (x : Gathered). firstNoise (x .instructions)) more);
         }
 
   pub going-done : {shot : ℕ} {S : Bits} {w : WalkWords} {set : List ℕ} {k e : ℕ} → Going job shot S w set k e → e ≡ 0 → WalkedBack job shot S w
-  unfolding walk startWith pieces gathered gather
-  going-done {shot} {S} {w} {set} {k} {e} g z =
-      let b = job-begun job passes in
-      let none-left : lines (take e job) ≡ [] = rw z in
-      let number : k ≡ 0 = g .number ∙ ap length none-left in
-      let done : g .done ≡ b .text ∷ b .rest = sym (g .whole ∙ ap (λ (ls : List (List ℕ)). ls ++ g .done) none-left) ∙ b .split in
-      let instructions : gathered (suc k) (g .done) .instructions ≡ jobOf job .instructions =
-      ap₂ (λ (j : ℕ) (ls : List (List ℕ)). gathered (suc j) ls .instructions) number done
-      ∙ ap (λ (o : Option Written). gather 1 (b .text) o (gathered 2 (b .rest)) .instructions) (b .reads)
-      ∙ ap (λ (j : Job). j .instructions) (sym (b .is)) in
+  unfolding walk startWith
+  going-done {shot} {S} g z =
+      let instructions = none-left job passes (g .left) z in
       record {
         count = ap (λ (x : Walk). x .count) (g .walked) ∙ ap (λ (is : List Placed). walkBack (settingOf (jobOf job .header) shot) (plainLines is) (startWith S) .count) instructions;
         noise = g .noise ∙ ap firstNoise instructions;

@@ -80,13 +80,13 @@ unfolding inFront
 front-some d none vs e = absurd (none-some e)
 front-some d (some ws) vs e = (ws, sym (some-same e))
 
-module _ {l fields before : List ℕ} {p : Progress} (b : Begins l injectBegin 0 0 0 p before fields) where
-  one-number : Held fields 1 0 (b .values)
+module _ {l words before : List ℕ} {p : Progress} (b : Begins l injectBegin 0 0 0 p before words) where
+  one-number : Held words 1 0 (b .values)
   unfolding injectBegin bytes
   one-number = rw (b .numbers-read, b .lists-read) at (b .holds [] (nothing-held before))
 
   -- the shot stands first
-  first-number : (vs ws : List Value) → vs ≡ b .values ++ ws → numberAt 0 vs ≡ getD fields 0 0
+  first-number : (vs ws : List Value) → vs ≡ b .values ++ ws → numberAt 0 vs ≡ getD words 0 0
   first-number vs ws e =
       let some-number : 0 < length (numbersIn (b .values)) = omega (arith, one-number .numbers-in) in
       ap (λ (us : List Value). getD (numbersIn us) 0 0) e
@@ -94,8 +94,8 @@ module _ {l fields before : List ℕ} {p : Progress} (b : Begins l injectBegin 0
       ∙ List·getD-append (numbersIn (b .values)) (numbersIn ws) 0 0 some-number
       ∙ sym (one-number .number 0 (omega arith))
 
-pub shot-passed : (l : List ℕ) (shot : ℕ) (v : Written) {fields before : List ℕ} {p : Progress} → getD l 0 0 ≡ 111 → getD l 3 0 ≡ 105 → readLine l ≡ some v
-    → Begins l injectBegin 0 0 0 p before fields → (getD fields 0 0 ≡ shot → ⊥) → PassedOver shot v
+pub shot-passed : (l : List ℕ) (shot : ℕ) (v : Written) {words before : List ℕ} {p : Progress} → getD l 0 0 ≡ 111 → getD l 3 0 ≡ 105 → readLine l ≡ some v
+    → Begins l injectBegin 0 0 0 p before words → (getD words 0 0 ≡ shot → ⊥) → PassedOver shot v
 unfolding forms placeOf bytes sift opens literals injectBegin
 shot-passed l shot v first third reads b other =
     let (vs, have, says) = by-values (formOf form.Inject) l v (sym (one-form l 111 105 form.Inject refl first third) ∙ reads) in

@@ -1,8 +1,8 @@
 -- `writer::put_commas` meets its contract. Assumes nothing.
 use Prim.Native.Nat.{_-_}
 use lib.ListN.{length}
-use Rattle.writer.specs.Laws.Placing.{puts-length}
-use Rattle.writer.specs.Laws.Lists.{Listing, listed-none, listed-more, listed-all}
+use Rattle.writer.specs.Laws.Placing.{rest-length}
+use Rattle.writer.specs.Laws.Lists.{Listing, listed-none, room-left, listed-more, listed-all}
 use native.Mathlib.Omega.{arith}
 use Rattle.writer.proofs.put_commas.Statement.{statement}
 use Rattle.writer.proofs.put_commas.Tie as tie
@@ -17,7 +17,7 @@ loop-holds : tie.Need-loop-holds Inv-loop μ-loop
 loop-holds c = listed-none
 
 put-byte-requires : tie.Need-put-byte-requires Inv-loop μ-loop
-put-byte-requires c κs = omega arith
+put-byte-requires c κs = omega (arith, room-left (c .before .before .loop .inv) (c .before .loop-test .taken))
 
 mul-put-number : tie.Need-mul-put-number Inv-loop μ-loop
 mul-put-number c = omega arith
@@ -26,7 +26,7 @@ shared-slice-read-put-number : tie.Need-shared-slice-read-put-number Inv-loop μ
 shared-slice-read-put-number c = omega arith
 
 put-number-requires : tie.Need-put-number-requires Inv-loop μ-loop
-put-number-requires c κs = omega (arith, c .before .before .before .before .put-byte .ensures .place)
+put-number-requires c κs = omega (arith, room-left (c .before .before .before .before .before .before .before .loop .inv) (c .before .before .before .before .before .before .loop-test .taken), c .before .before .before .before .put-byte .ensures .place)
 
 add-i : tie.Need-add-i Inv-loop μ-loop
 add-i c = omega arith
@@ -38,7 +38,7 @@ loop-again : tie.Need-loop-again Inv-loop μ-loop
 loop-again c = listed-more (c .before .before .before .before .before .before .before .before .before .before .loop .inv) (c .before .before .before .before .before .before .before .before .before .loop-test .taken) (c .before .before .before .before .before .before .before .put-byte .ensures) (c .before .before .put-number .ensures)
 
 same-length : tie.Need-same-length Inv-loop μ-loop
-same-length c = puts-length (c .before .loop .inv .puts)
+same-length c = rest-length (c .before .loop .inv .rest)
 
 returns : tie.Need-returns Inv-loop μ-loop
 returns c = listed-all (c .before .loop .inv) (c .loop-test .left)

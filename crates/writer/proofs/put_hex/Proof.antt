@@ -2,6 +2,7 @@
 use Prim.Native.Nat.{_≤_}
 use mathlib.Core.Path.{refl}
 use Rattle.writer.specs.Laws.Digits.{Hexes, no-hexes, hex-stored, all-hexes}
+use Rattle.writer.specs.Laws.Lists.{hex-length}
 use borrow.Author.Needs.{needs}
 use native.Mathlib.Omega.{arith}
 use Rattle.writer.proofs.put_hex.Statement.{statement}
@@ -35,7 +36,7 @@ slice-aggregate-put-bytes : tie.Need-slice-aggregate-put-bytes Inv-loop μ-loop
 slice-aggregate-put-bytes c = omega arith
 
 put-bytes-requires : tie.Need-put-bytes-requires Inv-loop μ-loop
-put-bytes-requires c κs = omega arith
+put-bytes-requires c κs = omega (arith, hex-length (c .before .before .before .before .before .args .n))
 
 same-length : tie.Need-same-length Inv-loop μ-loop
 same-length c = search needs

@@ -1,13 +1,15 @@
 -- `writer::put_list` meets its contract. Assumes nothing.
 use Rattle.writer.specs.Laws.Placing.{puts-more}
-use Rattle.writer.specs.Laws.Lists.{number-next, rest-length, list-first, list-empty}
+use Rattle.writer.specs.Laws.Lists.{list-first, first-length, list-empty}
+use mathlib.Core.Path.{ap}
+use lib.ListN.{length}
 use borrow.Author.Needs.{needs}
 use native.Mathlib.Omega.{arith}
 use Rattle.writer.proofs.put_list.Statement.{statement}
 use Rattle.writer.proofs.put_list.Tie as tie
 
 put-byte-requires : tie.Need-put-byte-requires
-put-byte-requires c κs = search needs
+put-byte-requires c κs = omega (arith, c .before .before .before .before .pre, ap length (list-empty (c .before .before .before .before .args .l .now) (c .before .if1 .taken)))
 
 same-length : tie.Need-same-length
 same-length c = search needs
@@ -19,7 +21,7 @@ shared-slice-read-put-number : tie.Need-shared-slice-read-put-number
 shared-slice-read-put-number c = search needs
 
 put-number-requires : tie.Need-put-number-requires
-put-number-requires c κs = search needs
+put-number-requires c κs = omega (arith, c .before .before .before .before .before .pre, first-length (c .before .before .before .before .before .args .l .now) (c .before .before .if1 .left))
 
 sub-put-commas : tie.Need-sub-put-commas
 sub-put-commas c = search needs
@@ -31,7 +33,7 @@ part-put-commas-end : tie.Need-part-put-commas-end
 part-put-commas-end c = search needs
 
 put-commas-requires : tie.Need-put-commas-requires
-put-commas-requires c κs = omega (arith, number-next _ (c .before .before .before .before .put-number .ensures), c .before .before .before .before .before .before .before .before .before .before .pre, rest-length (c .before .before .before .before .before .before .before .before .before .before .args .l .now), c .before .before .before .before .before .before .before .if1 .left)
+put-commas-requires c κs = omega (arith, c .before .before .before .before .before .before .before .before .before .before .pre, first-length (c .before .before .before .before .before .before .before .before .before .before .args .l .now) (c .before .before .before .before .before .before .before .if1 .left), c .before .before .before .before .put-number .ensures .place)
 
 same-length-2 : tie.Need-same-length-2
 same-length-2 c = search needs

@@ -57,7 +57,7 @@ part-put-bytes-end : tie.Need-part-put-bytes-end Inv-loop μ-loop
 part-put-bytes-end c = simp length-set (omega (arith, c .before .before .before .loop .inv .1 .size))
 
 put-bytes-requires : tie.Need-put-bytes-requires Inv-loop μ-loop
-put-bytes-requires c κs = omega arith
+put-bytes-requires c κs = rw (all-stored (c .before .before .before .before .loop .inv .1) (c .before .before .before .loop-test .left) (c .before .before .before .before .loop .inv .0)) (c .before .before .before .before .before .before .pre)
 
 same-length : tie.Need-same-length Inv-loop μ-loop
 same-length c = search needs

@@ -6,19 +6,25 @@ use lib.ListN.{length}
 use lib.Seq.{length-take-le}
 use Rattle.writer.specs.Laws.Placing.{rest-length}
 use Rattle.instructions.specs.Laws.Lines.{some-read}
-use Rattle.annotation.specs.Laws.Annotating.{Annotating, put-none, put-stops, put-room, put-more, put-all}
+use Rattle.annotation.specs.Laws.Annotating.{start-put, Annotating, put-none, put-stops, fits-few, put-room, put-more, put-all}
 use native.Mathlib.Omega.{arith}
 use Rattle.annotation.proofs.around.put_annotated.Statement.{statement}
 use Rattle.annotation.proofs.around.put_annotated.Tie as tie
 
 abbrev Inv-loop : tie.InvT-loop
-Inv-loop out₀ job p fields₀ qubits₀ at₀ k₀ next₀ out fields qubits at k next = Annotating job p out₀ k at next out × (length fields ≡ 136) × (length qubits ≡ 124)
+Inv-loop out₀ job p fields₀ qubits₀ start at₀ k₀ next₀ out fields qubits at k next = Annotating job p out₀ k at next out × (length fields ≡ 136) × (length qubits ≡ 124)
 
 abbrev μ-loop : tie.MeasureT-loop
-μ-loop out₀ job p fields₀ qubits₀ at₀ k₀ next₀ out fields qubits at k next = length job - at
+μ-loop out₀ job p fields₀ qubits₀ start at₀ k₀ next₀ out fields qubits at k next = length job - at
+
+slice-aggregate-put-start : tie.Need-slice-aggregate-put-start Inv-loop μ-loop
+slice-aggregate-put-start c = omega arith
+
+put-start-requires : tie.Need-put-start-requires Inv-loop μ-loop
+put-start-requires c κs = tt
 
 loop-holds : tie.Need-loop-holds Inv-loop μ-loop
-loop-holds c = (put-none (c .before .before .pre), refl, refl)
+loop-holds c = (put-none (c .before .before .before .before .before .pre), refl, refl)
 
 slice-aggregate-next-line : tie.Need-slice-aggregate-next-line Inv-loop μ-loop
 slice-aggregate-next-line c = omega arith
@@ -65,17 +71,22 @@ part-put-around-start c = omega (arith, c .before .before .before .before .befor
 part-put-around-end : tie.Need-part-put-around-end Inv-loop μ-loop
 part-put-around-end c = omega (arith, c .before .before .before .before .before .before .before .before .before .before .before .next-line .ensures .place .inside)
 
+slice-aggregate-put-around : tie.Need-slice-aggregate-put-around Inv-loop μ-loop
+slice-aggregate-put-around c = omega (arith, c .before .before .before .before .before .before .before .before .before .before .before .before .before .before .before .before .before .before .put-start .kept)
+
 put-around-requires : tie.Need-put-around-requires Inv-loop μ-loop
-put-around-requires c κs = put-room (c .before .before .before .before .before .before .before .before .before .before .before .before .before .before .before .loop .inv .0) (c .before .before .before .before .before .before .before .before .before .before .before .before .next-line .ensures) (c .before .before .before .before .before .before .before .noise-qubits .ensures) (sym (not-false _ (c .before .before .before .if1 .left)) ∙ c .before .before .before .before .fit .ensures)
+put-around-requires c κs =
+    let fits = sym (not-false _ (c .before .before .before .before .if1 .left)) ∙ c .before .before .before .before .before .fit .ensures in
+    (record { probability = _; text = start-put (c .before .before .before .before .before .before .before .before .before .before .before .before .before .before .before .before .before .before .before .before .before .before .args .p) (c .before .before .before .before .before .before .before .before .before .before .before .before .before .before .before .before .before .before .put-start .ensures) (c .before .before .before .before .before .before .before .before .before .before .before .before .before .before .before .before .before .before .put-start .kept .0) }, fits-few (c .before .before .before .before .before .before .before .before .before .before .before .before .before .before .before .before .loop .inv .0) (c .before .before .before .before .before .before .before .before .before .before .before .before .before .next-line .ensures) (c .before .before .before .before .before .before .before .before .noise-qubits .ensures) fits, put-room (c .before .before .before .before .before .before .before .before .before .before .before .before .before .before .before .before .loop .inv .0) (c .before .before .before .before .before .before .before .before .before .before .before .before .before .next-line .ensures) (c .before .before .before .before .before .before .before .before .noise-qubits .ensures) fits)
 
 add-k : tie.Need-add-k Inv-loop μ-loop
-add-k c = omega (arith, c .before .before .before .before .before .before .before .before .before .before .before .before .before .before .before .before .before .before .loop .inv .0 .left .number, c .before .before .before .before .before .before .before .before .before .before .before .before .before .before .before .before .before .before .loop .inv .0 .left .within, c .before .before .before .before .before .before .before .before .before .before .before .before .before .before .before .before .before .before .loop .inv .0 .left .size)
+add-k c = omega (arith, c .before .before .before .before .before .before .before .before .before .before .before .before .before .before .before .before .before .before .before .loop .inv .0 .left .number, c .before .before .before .before .before .before .before .before .before .before .before .before .before .before .before .before .before .before .before .loop .inv .0 .left .within, c .before .before .before .before .before .before .before .before .before .before .before .before .before .before .before .before .before .before .before .loop .inv .0 .left .size)
 
 loop-less : tie.Need-loop-less Inv-loop μ-loop
-loop-less c = omega (arith, c .before .before .before .before .before .before .before .before .before .before .before .before .before .before .before .next-line .ensures .place .begins, c .before .before .before .before .before .before .before .before .before .before .before .before .before .before .before .next-line .ensures .place .inside)
+loop-less c = omega (arith, c .before .before .before .before .before .before .before .before .before .before .before .before .before .before .before .before .next-line .ensures .place .begins, c .before .before .before .before .before .before .before .before .before .before .before .before .before .before .before .before .next-line .ensures .place .inside)
 
 loop-again : tie.Need-loop-again Inv-loop μ-loop
-loop-again c = (put-more (c .before .before .before .before .before .before .before .before .before .before .before .before .before .before .before .before .before .before .loop .inv .0) (c .before .before .before .before .before .before .before .before .before .before .before .before .before .before .before .next-line .ensures) (c .before .before .before .before .before .before .before .before .before .before .noise-qubits .ensures) _ (sym (not-false _ (c .before .before .before .before .before .before .if1 .left)) ∙ c .before .before .before .before .before .before .before .fit .ensures) (c .before .before .before .before .before .noise-before .ensures) (c .before .before .put-around .ensures), omega (arith, c .before .before .before .before .before .before .before .before .before .before .before .before .before .before .before .before .before .before .loop .inv .1, c .before .before .before .before .before .before .before .before .before .before .before .before .before .before .before .next-line .kept), omega (arith, c .before .before .before .before .before .before .before .before .before .before .before .before .before .before .before .before .before .before .loop .inv .2, c .before .before .before .before .before .before .before .before .before .before .noise-qubits .kept))
+loop-again c = (put-more (c .before .before .before .before .before .before .before .before .before .before .before .before .before .before .before .before .before .before .before .loop .inv .0) (c .before .before .before .before .before .before .before .before .before .before .before .before .before .before .before .before .next-line .ensures) (c .before .before .before .before .before .before .before .before .before .before .before .noise-qubits .ensures) _ (sym (not-false _ (c .before .before .before .before .before .before .before .if1 .left)) ∙ c .before .before .before .before .before .before .before .before .fit .ensures) (c .before .before .before .before .before .before .noise-before .ensures) (c .before .before .put-around .ensures _ (start-put (c .before .before .before .before .before .before .before .before .before .before .before .before .before .before .before .before .before .before .before .before .before .before .before .before .before .args .p) (c .before .before .before .before .before .before .before .before .before .before .before .before .before .before .before .before .before .before .before .before .before .put-start .ensures) (c .before .before .before .before .before .before .before .before .before .before .before .before .before .before .before .before .before .before .before .before .before .put-start .kept .0))), omega (arith, c .before .before .before .before .before .before .before .before .before .before .before .before .before .before .before .before .before .before .before .loop .inv .1, c .before .before .before .before .before .before .before .before .before .before .before .before .before .before .before .before .next-line .kept), omega (arith, c .before .before .before .before .before .before .before .before .before .before .before .before .before .before .before .before .before .before .before .loop .inv .2, c .before .before .before .before .before .before .before .before .before .before .before .noise-qubits .kept))
 
 same-length-2 : tie.Need-same-length-2 Inv-loop μ-loop
 same-length-2 c = rest-length (c .before .loop .inv .0 .rest)
@@ -89,6 +100,8 @@ put-annotated-spec =
     (tie.spec
     Inv-loop
     μ-loop
+    slice-aggregate-put-start
+    put-start-requires
     loop-holds
     slice-aggregate-next-line
     next-line-requires
@@ -105,6 +118,7 @@ put-annotated-spec =
     sub-put-around
     part-put-around-start
     part-put-around-end
+    slice-aggregate-put-around
     put-around-requires
     add-k
     loop-less

@@ -6,7 +6,7 @@ use Rattle.annotation.proofs.around.put_noise.Statement.{statement}
 use Rattle.annotation.proofs.around.put_noise.Tie as tie
 
 returns : tie.Need-returns
-returns c = rw (noise-empty _ _ (c .if1 .taken)) puts-nothing
+returns c p e = rw (noise-empty _ _ (c .if1 .taken)) puts-nothing
 
 put-depolarizing-requires : tie.Need-put-depolarizing-requires
 put-depolarizing-requires c κs = search needs
@@ -15,7 +15,7 @@ same-length : tie.Need-same-length
 same-length c = search needs
 
 returns-2 : tie.Need-returns-2
-returns-2 c = rw (noise-some _ _ (c .before .before .before .before .if1 .left)) (c .before .before .put-depolarizing .ensures)
+returns-2 c p e = rw (noise-some _ _ (c .before .before .before .before .if1 .left)) (c .before .before .put-depolarizing .ensures p e)
 
 pub put-noise-spec : {M : Type 1} → statement M
 put-noise-spec = tie.close (tie.spec returns put-depolarizing-requires same-length returns-2)

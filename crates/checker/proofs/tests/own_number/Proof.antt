@@ -60,8 +60,8 @@ measure-number-requires c κs = search needs
 enum-told-10 : tie.Need-enum-told-10
 enum-told-10 c = search needs
 
-shared-slice-read-id-number : tie.Need-shared-slice-read-id-number
-shared-slice-read-id-number c = search needs
+number-requires : tie.Need-number-requires
+number-requires c κs = search needs
 
 id-number-requires : tie.Need-id-number-requires
 id-number-requires c κs = search needs
@@ -166,7 +166,7 @@ returns-10 : tie.Need-returns-10
 returns-10 c =
     λ vs w h x.
     let t = tests-allocate (c .before .before .before .before .before .args .c) (rw (c .before .before .enum-told10 .given .1) at h) in
-    let id = t .held .number 0 (omega arith) in
+    let id = c .before .number .ensures ∙ t .held .number 0 (omega arith) in
     (rw id at (c .id-number .ensures)) ∙ t .own
 
 returns-11 : tie.Need-returns-11
@@ -233,7 +233,7 @@ own-number-spec =
     enum-told-9
     measure-number-requires
     enum-told-10
-    shared-slice-read-id-number
+    number-requires
     id-number-requires
     enum-told-11
     conditional-number-requires

@@ -12,14 +12,14 @@ use Rattle.noise_tests.proofs.elements.due_after.Tie as tie
 enum-told : tie.Need-enum-told
 enum-told c = search needs
 
-shared-slice-read-result : tie.Need-shared-slice-read-result
-shared-slice-read-result c = search needs
+number-requires : tie.Need-number-requires
+number-requires c κs = search needs
 
 enum-told-2 : tie.Need-enum-told-2
 enum-told-2 c = search needs
 
-shared-slice-read-result-2 : tie.Need-shared-slice-read-result-2
-shared-slice-read-result-2 c = search needs
+number-requires-2 : tie.Need-number-requires-2
+number-requires-2 c κs = search needs
 
 enum-told-3 : tie.Need-enum-told-3
 enum-told-3 c = search needs
@@ -34,10 +34,10 @@ one-less-requires-2 : tie.Need-one-less-requires-2
 one-less-requires-2 c κs = search needs
 
 returns : tie.Need-returns
-returns c = λ vs w h. due-uniform (c .before .before .before .before .args .c) (rw (c .before .enum-told .given .1) at h)
+returns c = λ vs w h. c .number .ensures ∙ due-uniform (c .before .before .before .before .args .c) (rw (c .before .enum-told .given .1) at h)
 
 returns-2 : tie.Need-returns-2
-returns-2 c = λ vs w h. due-weighted (c .before .before .before .before .args .c) (rw (c .before .enum-told2 .given .1) at h)
+returns-2 c = λ vs w h. c .number2 .ensures ∙ due-weighted (c .before .before .before .before .args .c) (rw (c .before .enum-told2 .given .1) at h)
 
 returns-3 : tie.Need-returns-3
 returns-3 c = λ vs w h. c .one-less .ensures ∙ due-element (c .before .before .before .before .args .c) (rw (c .before .enum-told3 .given .1) at h)
@@ -61,9 +61,9 @@ due-after-spec =
     tie.close
     (tie.spec
     enum-told
-    shared-slice-read-result
+    number-requires
     enum-told-2
-    shared-slice-read-result-2
+    number-requires-2
     enum-told-3
     one-less-requires
     enum-told-4

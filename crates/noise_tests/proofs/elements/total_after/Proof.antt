@@ -26,8 +26,8 @@ returns c =
     t
     q
 
-shared-slice-read-weight : tie.Need-shared-slice-read-weight
-shared-slice-read-weight c = search needs
+number-requires : tie.Need-number-requires
+number-requires c κs = search needs
 
 weight-requires : tie.Need-weight-requires
 weight-requires c κs = search needs
@@ -42,7 +42,7 @@ returns-2 : tie.Need-returns-2
 returns-2 c =
     λ last vs w h p t q.
     let s = rw (c .before .before .before .before .before .before .enum-told .given .1) at h in
-    let bits = weight-held (c .before .before .before .before .before .before .before .before .before .args .c) s in
+    let bits = c .before .before .before .before .before .number .ensures ∙ weight-held (c .before .before .before .before .before .before .before .before .before .args .c) s in
     let right = rw bits at (only-accepted _ _ (sym (c .before .before .w .given .1) ∙ c .before .before .before .before .weight .ensures) .1) in
     ap (add binary64 (c .before .before .before .before .before .before .before .before .before .args .c .total)) (sym right) ∙ total-next (c .before .before .before .before .before .before .before .before .before .args .c) s (passed-expected (contextOf (c .before .before .before .before .before .before .before .before .before .args .c)) last w p) t q
 
@@ -50,7 +50,7 @@ returns-3 : tie.Need-returns-3
 returns-3 c =
     λ last vs w h p t q.
     let s = rw (c .before .before .before .before .enum-told .given .1) at h in
-    let bits = weight-held (c .before .before .before .before .before .before .before .args .c) s in
+    let bits = c .before .before .before .number .ensures ∙ weight-held (c .before .before .before .before .before .before .before .args .c) s in
     let wrong = rw bits at (only-refused _ _ (sym (c .enum-told2 .given .1) ∙ c .before .before .weight .ensures)) in
     absurd (true≢false (sym (weight-passed (c .before .before .before .before .before .before .before .args .c) s last p) ∙ wrong))
 
@@ -60,7 +60,7 @@ total-after-spec =
     (tie.spec
     enum-told
     returns
-    shared-slice-read-weight
+    number-requires
     weight-requires
     enum-known-w
     enum-told-2

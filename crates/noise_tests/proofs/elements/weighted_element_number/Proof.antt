@@ -21,8 +21,8 @@ returns c =
     let t = tests-weighted-element (c .before .before .before .args .c) h x in
     two-fail _ _ _ (c .before .pauli-number .ensures _ _ vs (t .held) (omega arith)) (c .if1 .taken) ∙ t .own
 
-shared-slice-read-weight : tie.Need-shared-slice-read-weight
-shared-slice-read-weight c = search needs
+number-requires : tie.Need-number-requires
+number-requires c κs = search needs
 
 weight-requires : tie.Need-weight-requires
 weight-requires c κs = search needs
@@ -37,7 +37,7 @@ returns-2 : tie.Need-returns-2
 returns-2 c =
     λ vs w h x.
     let t = tests-weighted-element (c .before .before .before .before .before .before .before .args .c) h x in
-    let bits = t .held .number 0 (omega arith) in
+    let bits = c .before .before .before .number .ensures ∙ t .held .number 0 (omega arith) in
     let right = only-refused _ _ (sym (c .enum-told .given .1) ∙ c .before .before .weight .ensures) in
     fails 12 _ _ (left-false _ _ (rw bits at right))
     ∙ two-pass _ _ _ (c .before .before .before .before .before .pauli-number .ensures _ _ vs (t .held) (omega arith)) (omega arith) (omega arith) (c .before .before .before .before .if1 .left)
@@ -47,7 +47,7 @@ returns-3 : tie.Need-returns-3
 returns-3 c =
     λ vs w h x.
     let t = tests-weighted-element (c .before .before .before .before .before .before .before .before .before .before .args .c) h x in
-    let bits = t .held .number 0 (omega arith) in
+    let bits = c .before .before .before .before .before .before .number .ensures ∙ t .held .number 0 (omega arith) in
     let right = only-accepted _ _ (sym (c .before .before .before .w .given .1) ∙ c .before .before .before .before .before .weight .ensures) .0 in
     none-bad
     ∙ passes 12 _ _ (both-true (rw bits at right) (rw (ne-eqb (c .before .before .before .before .before .before .before .before .before .before .args .c .due) 1 (c .if2 .taken))))
@@ -61,7 +61,7 @@ returns-4 : tie.Need-returns-4
 returns-4 c =
     λ vs w h x.
     let t = tests-weighted-element (c .before .before .before .before .before .before .before .before .before .before .before .before .before .args .c) h x in
-    let bits = t .held .number 0 (omega arith) in
+    let bits = c .before .before .before .before .before .before .before .before .before .number .ensures ∙ t .held .number 0 (omega arith) in
     let right = rw bits at (only-accepted _ _ (sym (c .before .before .before .before .before .before .w .given .1) ∙ c .before .before .before .before .before .before .before .before .weight .ensures) .1) in
     let sum = ap (λ (y : Float). isTotal (add binary64 (c .before .before .before .before .before .before .before .before .before .before .before .before .before .args .c .total) y)) right ∙ sym (c .before .is-total .ensures) in
     fails 12 _ _ (right-false (isWeight (float (numberAt 0 vs))) _ (last-total _ (c .before .before .before .if2 .left) (sum ∙ not-true _ (c .if3 .taken))))
@@ -72,7 +72,7 @@ returns-5 : tie.Need-returns-5
 returns-5 c =
     λ vs w h x.
     let t = tests-weighted-element (c .before .before .before .before .before .before .before .before .before .before .before .before .before .args .c) h x in
-    let bits = t .held .number 0 (omega arith) in
+    let bits = c .before .before .before .before .before .before .before .before .before .number .ensures ∙ t .held .number 0 (omega arith) in
     let passed = only-accepted _ _ (sym (c .before .before .before .before .before .before .w .given .1) ∙ c .before .before .before .before .before .before .before .before .weight .ensures) in
     let right = rw bits at (passed .1) in
     let sum = ap (λ (y : Float). isTotal (add binary64 (c .before .before .before .before .before .before .before .before .before .before .before .before .before .args .c .total) y)) right ∙ sym (c .before .is-total .ensures) in
@@ -87,7 +87,7 @@ weighted-element-number-spec =
     (tie.spec
     pauli-number-requires
     returns
-    shared-slice-read-weight
+    number-requires
     weight-requires
     enum-known-w
     enum-told

@@ -26,36 +26,33 @@ returns-2 c = λ vs h.
     two-fail _ _ _ (c .before .noise-number .ensures _ _ vs h (omega arith) (omega arith)) (c .if2 .taken)
     ∙ passes 5 _ _ (sym (c .before .before .before .short .ensures .0 _ _ vs h (omega arith)) ∙ not-false _ (c .before .before .if1 .left))
 
-shared-slice-read-if3 : tie.Need-shared-slice-read-if3
-shared-slice-read-if3 c = search needs
+number-requires : tie.Need-number-requires
+number-requires c κs = search needs
 
 returns-3 : tie.Need-returns-3
 unfolding listedTests
 returns-3 c = λ vs h.
-    let n = h .number 2 (omega arith) in
+    let n = c .before .number .ensures ∙ h .number 2 (omega arith) in
     fails 12 _ _ (left-false _ _ (lt-leb 1 (numberAt 2 vs) (omega arith)))
     ∙ two-pass _ _ _ (c .before .before .before .noise-number .ensures _ _ vs h (omega arith) (omega arith)) (omega arith) (omega arith) (c .before .before .if2 .left)
     ∙ passes 5 _ _ (sym (c .before .before .before .before .before .short .ensures .0 _ _ vs h (omega arith)) ∙ not-false _ (c .before .before .before .before .if1 .left))
 
-shared-slice-read-if4 : tie.Need-shared-slice-read-if4
-shared-slice-read-if4 c = search needs
-
 returns-4 : tie.Need-returns-4
 unfolding listedTests
 returns-4 c = λ vs h.
-    let n = h .number 2 (omega arith) in
+    let n = c .before .before .number .ensures ∙ h .number 2 (omega arith) in
     fails 12 _ _ (right-false (leb 1 (numberAt 2 vs)) _ (lt-leb (numberAt 2 vs) 64 (omega arith)))
-    ∙ two-pass _ _ _ (c .before .before .before .before .before .noise-number .ensures _ _ vs h (omega arith) (omega arith)) (omega arith) (omega arith) (c .before .before .before .before .if2 .left)
-    ∙ passes 5 _ _ (sym (c .before .before .before .before .before .before .before .short .ensures .0 _ _ vs h (omega arith)) ∙ not-false _ (c .before .before .before .before .before .before .if1 .left))
+    ∙ two-pass _ _ _ (c .before .before .before .before .noise-number .ensures _ _ vs h (omega arith) (omega arith)) (omega arith) (omega arith) (c .before .before .before .if2 .left)
+    ∙ passes 5 _ _ (sym (c .before .before .before .before .before .before .short .ensures .0 _ _ vs h (omega arith)) ∙ not-false _ (c .before .before .before .before .before .if1 .left))
 
 returns-5 : tie.Need-returns-5
 unfolding listedTests
 returns-5 c = λ vs h.
-    let n = h .number 2 (omega arith) in
+    let n = c .before .before .number .ensures ∙ h .number 2 (omega arith) in
     none-bad
     ∙ passes 12 _ _ (both-true (le-leb 1 (numberAt 2 vs) (omega arith)) (le-leb (numberAt 2 vs) 64 (omega arith)))
-    ∙ two-pass _ _ _ (c .before .before .before .before .before .noise-number .ensures _ _ vs h (omega arith) (omega arith)) (omega arith) (omega arith) (c .before .before .before .before .if2 .left)
-    ∙ passes 5 _ _ (sym (c .before .before .before .before .before .before .before .short .ensures .0 _ _ vs h (omega arith)) ∙ not-false _ (c .before .before .before .before .before .before .if1 .left))
+    ∙ two-pass _ _ _ (c .before .before .before .before .noise-number .ensures _ _ vs h (omega arith) (omega arith)) (omega arith) (omega arith) (c .before .before .before .if2 .left)
+    ∙ passes 5 _ _ (sym (c .before .before .before .before .before .before .short .ensures .0 _ _ vs h (omega arith)) ∙ not-false _ (c .before .before .before .before .before .if1 .left))
 
 pub listed-number-spec : {M : Type 1} → statement M
 listed-number-spec =
@@ -65,8 +62,7 @@ listed-number-spec =
     returns
     noise-number-requires
     returns-2
-    shared-slice-read-if3
+    number-requires
     returns-3
-    shared-slice-read-if4
     returns-4
     returns-5)

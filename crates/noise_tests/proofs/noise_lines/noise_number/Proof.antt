@@ -18,8 +18,8 @@ returns c = λ numbers lists vs h m g.
     let known = c .before .below .ensures numbers lists vs h (omega arith) ∙ one-below vs 1 _ in
     fails 9 _ _ (sym known ∙ not-true _ (c .if1 .taken))
 
-shared-slice-read-probability : tie.Need-shared-slice-read-probability
-shared-slice-read-probability c = search needs
+number-requires : tie.Need-number-requires
+number-requires c κs = search needs
 
 probability-requires : tie.Need-probability-requires
 probability-requires c κs = search needs
@@ -34,7 +34,7 @@ returns-2 : tie.Need-returns-2
 unfolding contextOf
 returns-2 c = λ numbers lists vs h m g.
     let known = c .before .before .before .before .before .below .ensures numbers lists vs h (omega arith) ∙ one-below vs 1 _ in
-    let p = h .number 0 m in
+    let p = c .before .before .before .number .ensures ∙ h .number 0 m in
     let right = only-refused _ _ (sym (c .enum-told2 .given .1) ∙ c .before .before .probability .ensures) in
     fails 11 _ _ (rw p at right) ∙ passes 9 _ _ (sym known ∙ not-false _ (c .before .before .before .before .if1 .left))
 
@@ -42,7 +42,7 @@ returns-3 : tie.Need-returns-3
 unfolding contextOf
 returns-3 c = λ numbers lists vs h m g.
     let known = c .before .before .before .before .before .below .ensures numbers lists vs h (omega arith) ∙ one-below vs 1 _ in
-    let p = h .number 0 m in
+    let p = c .before .before .before .number .ensures ∙ h .number 0 m in
     let right = only-accepted _ _ (sym (c .enum-told .given .1) ∙ c .before .before .probability .ensures) .0 in
     none-bad ∙ passes 11 _ _ (rw p at right) ∙ passes 9 _ _ (sym known ∙ not-false _ (c .before .before .before .before .if1 .left))
 
@@ -52,7 +52,7 @@ noise-number-spec =
     (tie.spec
     below-requires
     returns
-    shared-slice-read-probability
+    number-requires
     probability-requires
     enum-told
     enum-told-2

@@ -1,22 +1,18 @@
 -- `pauli::Pauli::add_x_to_z` meets its contract.
-use mathlib.Core.Path.{refl}
-use Rattle.pauli.specs.Gate.{addXtoZ}
-use Rattle.pauli.specs.Fixed.{asPauli}
-use Rattle.pauli.specs.Laws.Gates.{pauli-path}
-use Rattle.pauli.specs.Laws.Set.{qubit-below}
+use mathlib.Core.Path.{_∙_}
+use Rattle.pauli.specs.Laws.Changes.{x-added}
 use borrow.Author.Needs.{needs}
 use Rattle.pauli.proofs.Pauli.add_x_to_z.Statement.{statement}
 use Rattle.pauli.proofs.Pauli.add_x_to_z.Tie as tie
 
-has-qubit-requires : tie.Need-has-qubit-requires
-has-qubit-requires c κs = search needs
+has-x-requires : tie.Need-has-x-requires
+has-x-requires c κs = search needs
 
-add-qubit-requires : tie.Need-add-qubit-requires
-add-qubit-requires c κs = qubit-below _ _ _ (search needs) (c .has-qubit .ensures)
+add-at-requires : tie.Need-add-at-requires
+add-at-requires c κs = search needs
 
 returns : tie.Need-returns
-unfolding addXtoZ asPauli
-returns c = pauli-path refl (rw (c .before .has-qubit .ensures) at (c .add-qubit .ensures))
+returns c = c .add-at .ensures ∙ rw (c .before .has-x .ensures) (x-added _ _)
 
 pub add-x-to-z-spec : {M : Type 1} → statement M
-add-x-to-z-spec = tie.close (tie.spec has-qubit-requires add-qubit-requires returns)
+add-x-to-z-spec = tie.close (tie.spec has-x-requires add-at-requires returns)

@@ -1,22 +1,21 @@
 -- `pauli::Pauli::clear_qubit` meets its contract.
-use mathlib.Core.Path.{sym, _∙_}
-use mathlib.Core.Bool.{true≢false}
-use Rattle.pauli.specs.Pauli.{cleared}
-use Rattle.pauli.specs.Fixed.{asPauli}
-use Rattle.pauli.specs.Laws.Gates.{pauli-path}
-use Rattle.pauli.specs.Laws.Set.{cleared-replaced}
+use mathlib.Core.Path.{_∙_}
+use Rattle.pauli.specs.Laws.Changes.{clear-added}
+use borrow.Author.Needs.{needs}
 use Rattle.pauli.proofs.Pauli.clear_qubit.Statement.{statement}
 use Rattle.pauli.proofs.Pauli.clear_qubit.Tie as tie
 
-put-qubit-requires : tie.Need-put-qubit-requires
-put-qubit-requires c κs = λ e. absurd (true≢false (sym e))
+has-x-requires : tie.Need-has-x-requires
+has-x-requires c κs = search needs
 
-put-qubit-requires-2 : tie.Need-put-qubit-requires-2
-put-qubit-requires-2 c κs = λ e. absurd (true≢false (sym e))
+has-z-requires : tie.Need-has-z-requires
+has-z-requires c κs = search needs
+
+add-at-requires : tie.Need-add-at-requires
+add-at-requires c κs = search needs
 
 returns : tie.Need-returns
-unfolding cleared asPauli
-returns c = pauli-path (c .before .put-qubit .ensures ∙ cleared-replaced _ _) (c .put-qubit2 .ensures ∙ cleared-replaced _ _)
+returns c = c .add-at .ensures ∙ rw (c .before .has-z .ensures, c .before .before .has-x .ensures) (clear-added _ _)
 
 pub clear-qubit-spec : {M : Type 1} → statement M
-clear-qubit-spec = tie.close (tie.spec put-qubit-requires put-qubit-requires-2 returns)
+clear-qubit-spec = tie.close (tie.spec has-x-requires has-z-requires add-at-requires returns)

@@ -1,20 +1,40 @@
 -- `pauli::Pauli::swap` meets its contract.
-use Rattle.pauli.specs.Gate.{swapRows}
-use Rattle.pauli.specs.Fixed.{asPauli}
-use Rattle.pauli.specs.Laws.Gates.{pauli-path}
+use mathlib.Core.Path.{_∙_}
+use Rattle.pauli.specs.Laws.Changes.{swap-rows-added}
+use Rattle.pauli.specs.Laws.Set.{differ-⊕}
 use borrow.Author.Needs.{needs}
 use Rattle.pauli.proofs.Pauli.swap.Statement.{statement}
 use Rattle.pauli.proofs.Pauli.swap.Tie as tie
 
-exchange-requires : tie.Need-exchange-requires
-exchange-requires c κs = search needs
+has-x-requires : tie.Need-has-x-requires
+has-x-requires c κs = search needs
 
-exchange-requires-2 : tie.Need-exchange-requires-2
-exchange-requires-2 c κs = search needs
+has-x-requires-2 : tie.Need-has-x-requires-2
+has-x-requires-2 c κs = search needs
+
+has-z-requires : tie.Need-has-z-requires
+has-z-requires c κs = search needs
+
+has-z-requires-2 : tie.Need-has-z-requires-2
+has-z-requires-2 c κs = search needs
+
+add-at-requires : tie.Need-add-at-requires
+add-at-requires c κs = search needs
+
+add-at-requires-2 : tie.Need-add-at-requires-2
+add-at-requires-2 c κs = search needs
 
 returns : tie.Need-returns
-unfolding swapRows asPauli
-returns c = pauli-path (c .before .exchange .ensures) (c .exchange2 .ensures)
+returns c = c .add-at2 .ensures ∙ rw (c .before .add-at .ensures, differ-⊕, differ-⊕, c .before .before .has-z2 .ensures, c .before .before .before .has-z .ensures, c .before .before .before .before .has-x2 .ensures, c .before .before .before .before .before .has-x .ensures) (swap-rows-added _ _ _)
 
 pub swap-spec : {M : Type 1} → statement M
-swap-spec = tie.close (tie.spec exchange-requires exchange-requires-2 returns)
+swap-spec =
+    tie.close
+    (tie.spec
+    has-x-requires
+    has-x-requires-2
+    has-z-requires
+    has-z-requires-2
+    add-at-requires
+    add-at-requires-2
+    returns)

@@ -18,7 +18,7 @@ same-length-2 : tie.Need-same-length-2
 same-length-2 c = search needs
 
 returns : tie.Need-returns
-returns c = λ d. pauli-acts _ _ _ _ (c .before .before .before .before .before .before .before .before .before .before .before .before .before .pre .1) (c .before .before .before .before .before .before .before .before .before .before .before .before .before .pre .2) _ _ (c .before .before .before .before .before .before .before .before .before .before .before .before .before .pre .3) d _ _ _ (c .before .before .before .before .before .before .add-mask-listed .ensures) (c .before .before .add-mask-listed2 .ensures)
+returns c = λ d. pauli-acts _ _ _ _ (c .before .before .before .before .before .before .before .before .before .before .before .before .before .pre .1) (c .before .before .before .before .before .before .before .before .before .before .before .before .before .pre .2) _ _ (c .before .before .before .before .before .before .before .before .before .before .before .before .before .pre .3) d _ _ _ _ (c .before .before .before .before .before .before .add-mask-listed .ensures) (c .before .before .add-mask-listed2 .ensures)
 
 pub add-pauli-spec : {M : Type 1} → statement M
 add-pauli-spec =

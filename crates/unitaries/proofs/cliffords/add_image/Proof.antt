@@ -11,10 +11,10 @@ use Rattle.unitaries.proofs.cliffords.add_image.Statement.{statement}
 use Rattle.unitaries.proofs.cliffords.add_image.Tie as tie
 
 abbrev Inv-loop : tie.InvT-loop
-Inv-loop x₀ z₀ w n qubits t r src i k j₀ x z j = RowLeft w (λ c. bit t (2 * length qubits * r + c)) qubits i src x₀ j x × RowLeft w (λ c. bit t (2 * length qubits * r + (length qubits + c))) qubits i src z₀ j z × (length x ≡ length x₀) × (length z ≡ length z₀)
+Inv-loop x₀ z₀ shape qubits t saved r k j₀ x z j = RowLeft (shape .width) (λ c. bit t (2 * length qubits * r + c)) qubits r saved x₀ j x × RowLeft (shape .width) (λ c. bit t (2 * length qubits * r + (length qubits + c))) qubits r saved z₀ j z × (length x ≡ length x₀) × (length z ≡ length z₀)
 
 abbrev μ-loop : tie.MeasureT-loop
-μ-loop x₀ z₀ w n qubits t r src i k j₀ x z j = length qubits - j
+μ-loop x₀ z₀ shape qubits t saved r k j₀ x z j = length qubits - j
 
 loop-holds : tie.Need-loop-holds Inv-loop μ-loop
 loop-holds c = (row-starts _ _ _ _ _ _, row-starts _ _ _ _ _ _, refl, refl)

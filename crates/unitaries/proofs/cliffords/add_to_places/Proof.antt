@@ -11,10 +11,10 @@ use Rattle.unitaries.proofs.cliffords.add_to_places.Statement.{statemen
 use Rattle.unitaries.proofs.cliffords.add_to_places.Tie as tie
 
 abbrev Inv-loop : tie.InvT-loop
-Inv-loop rows₀ w n places qubits saved i₀ rows i = PlacesLeft w places qubits saved rows₀ i rows × (length rows ≡ length rows₀)
+Inv-loop rows₀ places qubits saved w i₀ rows i = PlacesLeft w places qubits saved rows₀ i rows × (length rows ≡ length rows₀)
 
 abbrev μ-loop : tie.MeasureT-loop
-μ-loop rows₀ w n places qubits saved i₀ rows i = length places - i
+μ-loop rows₀ places qubits saved w i₀ rows i = length places - i
 
 loop-holds : tie.Need-loop-holds Inv-loop μ-loop
 loop-holds c = (places-start _ _ _ _ _, refl)
@@ -35,10 +35,10 @@ mul-xor-words : tie.Need-mul-xor-words Inv-loop μ-loop
 mul-xor-words c = omega (arith, row-in _ _ _ _ (c .before .before .before .before .loop .inv .1 ∙ c .before .before .before .before .before .before .before .before .before .pre .0) (below-at _ _ (c .before .before .before .before .before .before .before .before .before .pre .1) _ (below-at _ _ (test-permutes _ _ (c .before .before .before .before .before .before .before .before .before .pre .2) .below) (c .before .before .before .before .loop .i) (c .before .before .before .loop-test .taken))))
 
 mul-xor-words-2 : tie.Need-mul-xor-words-2 Inv-loop μ-loop
-mul-xor-words-2 c = omega (arith, row-below (c .before .before .before .before .before .before .before .before .before .args .w) _ (c .before .before .before .before .loop .i) (c .before .before .before .before .before .before .before .before .before .pre .3) (operand-at (c .before .before .before .before .before .before .before .before .before .args .places .now) (c .before .before .before .before .before .before .before .before .before .args .qubits .now) _ (c .before .before .before .before .before .before .before .before .before .pre .2) (c .before .before .before .loop-test .taken)))
+mul-xor-words-2 c = omega (arith, row-below (c .before .before .before .before .before .before .before .before .before .args .shape .width) _ (c .before .before .before .before .loop .i) (c .before .before .before .before .before .before .before .before .before .pre .3) (operand-at (c .before .before .before .before .before .before .before .before .before .args .places .now) (c .before .before .before .before .before .before .before .before .before .args .qubits .now) _ (c .before .before .before .before .before .before .before .before .before .pre .2) (c .before .before .before .loop-test .taken)))
 
 xor-words-requires : tie.Need-xor-words-requires Inv-loop μ-loop
-xor-words-requires c κs = (row-in _ _ _ _ (c .before .before .before .before .loop .inv .1 ∙ c .before .before .before .before .before .before .before .before .before .pre .0) (below-at _ _ (c .before .before .before .before .before .before .before .before .before .pre .1) _ (below-at _ _ (test-permutes _ _ (c .before .before .before .before .before .before .before .before .before .pre .2) .below) (c .before .before .before .before .loop .i) (c .before .before .before .loop-test .taken))), row-below (c .before .before .before .before .before .before .before .before .before .args .w) _ (c .before .before .before .before .loop .i) (c .before .before .before .before .before .before .before .before .before .pre .3) (operand-at (c .before .before .before .before .before .before .before .before .before .args .places .now) (c .before .before .before .before .before .before .before .before .before .args .qubits .now) _ (c .before .before .before .before .before .before .before .before .before .pre .2) (c .before .before .before .loop-test .taken)))
+xor-words-requires c κs = (row-in _ _ _ _ (c .before .before .before .before .loop .inv .1 ∙ c .before .before .before .before .before .before .before .before .before .pre .0) (below-at _ _ (c .before .before .before .before .before .before .before .before .before .pre .1) _ (below-at _ _ (test-permutes _ _ (c .before .before .before .before .before .before .before .before .before .pre .2) .below) (c .before .before .before .before .loop .i) (c .before .before .before .loop-test .taken))), row-below (c .before .before .before .before .before .before .before .before .before .args .shape .width) _ (c .before .before .before .before .loop .i) (c .before .before .before .before .before .before .before .before .before .pre .3) (operand-at (c .before .before .before .before .before .before .before .before .before .args .places .now) (c .before .before .before .before .before .before .before .before .before .args .qubits .now) _ (c .before .before .before .before .before .before .before .before .before .pre .2) (c .before .before .before .loop-test .taken)))
 
 add-i : tie.Need-add-i Inv-loop μ-loop
 add-i c = omega arith

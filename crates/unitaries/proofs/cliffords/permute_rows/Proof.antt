@@ -2,11 +2,13 @@
 use Rattle.unitaries.specs.Laws.Images.{rows-permuted}
 use borrow.Author.Needs.{needs}
 use Rattle.propagator.specs.Laws.Lists.{rows-in}
+use native.Mathlib.Nat.{zero-add}
+use native.Mathlib.Omega.{arith}
 use Rattle.unitaries.proofs.cliffords.permute_rows.Statement.{statement}
 use Rattle.unitaries.proofs.cliffords.permute_rows.Tie as tie
 
 save-listed-requires : tie.Need-save-listed-requires
-save-listed-requires c κs = (c .before .before .before .before .before .before .pre .3, rows-in _ _ _ _ (c .before .before .before .before .before .before .pre .0) (c .before .before .before .before .before .before .pre .1))
+save-listed-requires c κs = (omega arith, rw zero-add (c .before .before .before .before .before .before .pre .3), rows-in _ _ _ _ (c .before .before .before .before .before .before .pre .0) (c .before .before .before .before .before .before .pre .1))
 
 clear-listed-requires : tie.Need-clear-listed-requires
 clear-listed-requires c κs = rows-in _ _ _ _ (c .before .before .before .before .before .before .before .before .before .before .pre .0) (c .before .before .before .before .before .before .before .before .before .before .pre .1)

@@ -7,19 +7,19 @@ use Rattle.unitaries.proofs.gates.apply_sqrt_x.Statement.{statement}
 use Rattle.unitaries.proofs.gates.apply_sqrt_x.Tie as tie
 
 mul-xor-words : tie.Need-mul-xor-words
-mul-xor-words c = omega (arith, row-in _ _ _ _ (c .before .before .before .pre .0) (c .before .before .before .pre .2))
+mul-xor-words c = omega (arith, row-in _ _ _ _ (c .before .before .before .before .pre .0) (c .before .before .before .before .pre .2))
 
 mul-xor-words-2 : tie.Need-mul-xor-words-2
-mul-xor-words-2 c = omega (arith, row-in _ _ _ _ (c .before .before .before .pre .0) (c .before .before .before .pre .2))
+mul-xor-words-2 c = omega (arith, row-in _ _ _ _ (c .before .before .before .before .before .pre .0) (c .before .before .before .before .before .pre .2))
 
 xor-words-requires : tie.Need-xor-words-requires
-xor-words-requires c κs = (row-in _ _ _ _ (c .before .before .before .pre .0) (c .before .before .before .pre .2), row-in _ _ _ _ (c .before .before .before .pre .1) (c .before .before .before .pre .2))
+xor-words-requires c κs = (row-in _ _ _ _ (c .before .before .before .before .before .pre .0) (c .before .before .before .before .before .pre .2), row-in _ _ _ _ (c .before .before .before .before .before .pre .1) (c .before .before .before .before .before .pre .2))
 
 same-length : tie.Need-same-length
 same-length c = search needs
 
 returns : tie.Need-returns
-returns c = λ d. sqrt-x-acts _ _ _ _ d (c .before .before .before .before .before .before .pre .0) (c .before .before .before .before .before .before .pre .1) _ (c .before .before .before .before .before .before .pre .2) _ (c .before .before .xor-words .ensures)
+returns c = λ d. sqrt-x-acts _ _ _ _ d (c .before .before .before .before .before .before .before .before .pre .0) (c .before .before .before .before .before .before .before .before .pre .1) _ (c .before .before .before .before .before .before .before .before .pre .2) _ (c .before .before .xor-words .ensures)
 
 pub apply-sqrt-x-spec : {M : Type 1} → statement M
 apply-sqrt-x-spec =

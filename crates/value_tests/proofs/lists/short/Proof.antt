@@ -8,6 +8,7 @@ use Prim.Native.Nat.{ℕ, _+_, _-_, _≤_, _<_}
 use borrow.Author.Tests.{lt-leb, le-leb}
 use lib.ListN.{length, getD}
 use Rattle.text.specs.Template.{Value, listAt}
+use Rattle.template.specs.Values.{AllKept}
 use Rattle.template.specs.Fields.{Held}
 use Rattle.job.specs.Checks.{eachShort}
 use Rattle.value_tests.specs.Slots.{listsFrom}
@@ -18,7 +19,7 @@ abbrev Inv-loop : tie.InvT-loop
 Inv-loop f a e i₀ i =
     ((numbers lists : ℕ) (vs : List Value) → Held f numbers lists vs → e ≤ lists
     → eachShort (listsFrom a (e - a) vs) ≡ eachShort (listsFrom i (e - i) vs))
-    × ((j : ℕ) → a ≤ j → j < i → getD f (4 + j) 0 ≤ 31)
+    × ((j : ℕ) → a ≤ j → j < i → AllKept f j)
 
 abbrev μ-loop : tie.MeasureT-loop
 μ-loop f a e i₀ i = e - i
@@ -26,14 +27,8 @@ abbrev μ-loop : tie.MeasureT-loop
 loop-holds : tie.Need-loop-holds Inv-loop μ-loop
 loop-holds c = (λ numbers lists vs h g. refl, λ j h g. absurd (omega arith))
 
-add-if1 : tie.Need-add-if1 Inv-loop μ-loop
-add-if1 c = omega arith
-
-mul-if1 : tie.Need-mul-if1 Inv-loop μ-loop
-mul-if1 c = omega arith
-
-shared-slice-read-if1 : tie.Need-shared-slice-read-if1 Inv-loop μ-loop
-shared-slice-read-if1 c = omega arith
+count-requires : tie.Need-count-requires Inv-loop μ-loop
+count-requires c κs = omega arith
 
 returns : tie.Need-returns Inv-loop μ-loop
 returns c = (
@@ -54,7 +49,7 @@ loop-again c = (
   λ numbers lists vs h g.
       let e = h .count (c .before .before .before .loop .i) (omega arith) in
       c .before .before .before .loop .inv .0 numbers lists vs h g ∙ each-next each-short vs _ _ (c .before .before .loop-test .taken) (le-leb (length (listAt (c .before .before .before .loop .i) vs)) 31 (omega (arith, c .if1 .left))),
-  up-to (λ (j : ℕ). getD (c .before .before .before .before .args .f .now) (4 + j) 0 ≤ 31) _ _ (c .before .before .before .loop .inv .1) (c .if1 .left),
+  up-to (AllKept (c .before .before .before .before .before .args .f .now)) _ _ (c .before .before .before .loop .inv .1) (omega (arith, c .if1 .left, c .before .count .ensures)),
 )
 
 returns-2 : tie.Need-returns-2 Inv-loop μ-loop
@@ -70,9 +65,7 @@ short-spec =
     Inv-loop
     μ-loop
     loop-holds
-    add-if1
-    mul-if1
-    shared-slice-read-if1
+    count-requires
     returns
     add-i
     loop-less

@@ -1,0 +1,58 @@
+-- What each gate adds to the parts at its operands. Laws. Assumes nothing.
+use Prim.Native.Nat.{ℕ}
+use mathlib.Core.Path.{_≡_, refl, sym, ap, _∙_, fun-ext}
+use mathlib.Core.Bool.{Bool, false}
+use mathlib.Core.List.{[], _∷_}
+use Rattle.pauli.specs.Bits.{Bits, _⊕_, added}
+use Rattle.pauli.specs.Pauli.{Pauli, addedAt, cleared}
+use Rattle.pauli.specs.Gate.{swapXZ, addXtoZ, addZtoX, controlledX, controlledZ, exchanged, swapRows}
+use Rattle.pauli.specs.Laws.F2.{⊕-comm}
+use Rattle.pauli.specs.Laws.Parity.{added-is, exchanged-is, bitwise}
+use Rattle.pauli.specs.Laws.Set.{added-false, replaced-added, cleared-added}
+use Rattle.pauli.specs.Laws.Gates.{pauli-path}
+
+-- ---- at one operand
+
+module _ (q : ℕ) (P : Pauli) where
+  pub clear-added : addedAt q (P .x q) (P .z q) P ≡ cleared (q ∷ []) P
+  unfolding addedAt cleared
+  clear-added = pauli-path (cleared-added (P .x) q) (cleared-added (P .z) q)
+
+  pub swap-added : addedAt q (P .x q ⊕ P .z q) (P .x q ⊕ P .z q) P ≡ swapXZ q P
+  unfolding addedAt swapXZ
+  swap-added =
+      pauli-path (sym (replaced-added (P .x) q (P .z q))) (ap (added (P .z) q) (⊕-comm (P .x q) (P .z q)) ∙ sym (replaced-added (P .z) q (P .x q)))
+
+  pub x-added : addedAt q false (P .x q) P ≡ addXtoZ q P
+  unfolding addedAt addXtoZ
+  x-added = pauli-path (sym (added-false (P .x) q)) refl
+
+  pub z-added : addedAt q (P .z q) false P ≡ addZtoX q P
+  unfolding addedAt addZtoX
+  z-added = pauli-path refl (sym (added-false (P .z) q))
+
+-- ---- at two operands, first at b
+
+-- what is added at one of them alone
+module _ (s : Bits) (a b : ℕ) (t : Bool) where
+  at-a : added (added s b false) a t ≡ added s a t
+  at-a = ap (λ (u : Bits). added u a t) (sym (added-false s b))
+
+  at-b : added (added s b t) a false ≡ added s b t
+  at-b = sym (added-false (added s b t) a)
+
+at-both : (s : Bits) (a b : ℕ) → added (added s b (s a ⊕ s b)) a (s a ⊕ s b) ≡ exchanged a b s
+at-both s a b = simp (added-is, exchanged-is) (fun-ext (λ i. simp bitwise))
+
+module _ (a b : ℕ) (P : Pauli) where
+  pub controlled-x-added : addedAt a false (P .z b) (addedAt b (P .x a) false P) ≡ controlledX a b P
+  unfolding addedAt controlledX
+  controlled-x-added = pauli-path (at-b (P .x) a b _) (at-a (P .z) a b _)
+
+  pub controlled-z-added : addedAt a false (P .x b) (addedAt b false (P .x a) P) ≡ controlledZ a b P
+  unfolding addedAt controlledZ
+  controlled-z-added = pauli-path (at-a (P .x) a b _ ∙ sym (added-false (P .x) a)) refl
+
+  pub swap-rows-added : addedAt a (P .x a ⊕ P .x b) (P .z a ⊕ P .z b) (addedAt b (P .x a ⊕ P .x b) (P .z a ⊕ P .z b) P) ≡ swapRows a b P
+  unfolding addedAt swapRows
+  swap-rows-added = pauli-path (at-both (P .x) a b) (at-both (P .z) a b)

@@ -1,0 +1,81 @@
+// The values of a line in lent words: its numbers, at most 4; of each of its lists, at most 4, how many members it has, the largest of them (0 of none), and
+// the members, of which the first 31 are kept.
+ghost use mathlib.Core.Path.{_≡_};
+ghost use Prim.Native.Nat.{_≤_, _<_};
+ghost use lib.ListN.{take};
+ghost use Rattle.template.specs.Values.{Whole, AllKept, heldNumber, heldCount, heldLargest, heldMember, heldList, keptMembers};
+
+// At most so many numbers, and so many lists.
+pub const EACH: usize = 4;
+
+pub const COUNTS: usize = 4;
+
+pub const LARGEST: usize = 8;
+
+pub const MEMBERS: usize = 12;
+
+// How many members of a list are kept.
+pub const KEPT: usize = 31;
+
+// All the words.
+pub const WORDS: usize = 136;
+
+// The i-th number.
+pub fn number(v: &[u64], i: usize) -> u64
+    requires { ⌜ (i < 4) × Whole (now v) ⌝ }
+    ensures { λ r. ⌜ r ≡ heldNumber (now (v .entry)) i ⌝ }
+{
+    v[i]
+}
+
+// The first n numbers.
+pub fn numbers<'a>(v: &'a [u64], n: usize) -> &'a [u64]
+    requires { ⌜ (n ≤ 4) × Whole (now v) ⌝ }
+    ensures { λ r. ⌜ now r ≡ take n (now (v .entry)) ⌝ }
+{
+    &v[..n]
+}
+
+// How many members the i-th list has on the line.
+pub fn count(v: &[u64], i: usize) -> u64
+    requires { ⌜ (i < 4) × Whole (now v) ⌝ }
+    ensures { λ r. ⌜ r ≡ heldCount (now (v .entry)) i ⌝ }
+{
+    v[COUNTS + i]
+}
+
+// The largest member of the i-th list.
+pub fn largest(v: &[u64], i: usize) -> u64
+    requires { ⌜ (i < 4) × Whole (now v) ⌝ }
+    ensures { λ r. ⌜ r ≡ heldLargest (now (v .entry)) i ⌝ }
+{
+    v[LARGEST + i]
+}
+
+// Member j of the i-th list.
+pub fn member(v: &[u64], i: usize, j: usize) -> u64
+    requires { ⌜ (i < 4) × (j < 31) × Whole (now v) ⌝ }
+    ensures { λ r. ⌜ r ≡ heldMember (now (v .entry)) i j ⌝ }
+{
+    v[MEMBERS + i * KEPT + j]
+}
+
+// The i-th list, where all its members are kept.
+pub fn list<'a>(v: &'a [u64], i: usize) -> &'a [u64]
+    requires { ⌜ (i < 4) × Whole (now v) × AllKept (now v) i ⌝ }
+    ensures { λ r. ⌜ now r ≡ heldList (now (v .entry)) i ⌝ }
+{
+    let a = MEMBERS + i * KEPT;
+    let e = a + v[COUNTS + i] as usize;
+    &v[a..e]
+}
+
+// The words in which members of the i-th list are kept.
+pub fn kept<'a>(v: &'a [u64], i: usize) -> &'a [u64]
+    requires { ⌜ (i < 4) × Whole (now v) ⌝ }
+    ensures { λ r. ⌜ now r ≡ keptMembers (now (v .entry)) i ⌝ }
+{
+    let a = MEMBERS + i * KEPT;
+    let e = a + KEPT;
+    &v[a..e]
+}
