@@ -23,18 +23,17 @@ pub struct OutcomeId(pub usize);
 
 pub struct Shot(pub usize);
 
-// How many qubits each gate takes, by its code.
-const OPERANDS: [u8; 15] = [1, 1, 1, 1, 1, 1, 1, 1, 1, 1, 1, 2, 2, 2, 2];
-
 // How many qubits the gate of a code takes, and 0 above 14, where there is no gate.
 pub fn operands(gate: u64) -> u8
     ensures { λ r. ⌜ r ≡ operandCount (gateOf gate) ⌝ }
 {
-    if 15 <= gate {
-        return 0;
+    if gate <= 10 {
+        return 1;
     }
-    let k = gate as usize;
-    OPERANDS[k]
+    if gate <= 14 {
+        return 2;
+    }
+    0
 }
 
 // A Pauli operator up to its phase: the qubits with an X part, and those with a Z part. Y has both.

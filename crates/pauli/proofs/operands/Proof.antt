@@ -1,25 +1,23 @@
--- `pauli::operands` meets its contract: the rule of the table is computed at each of its fifteen entries.
+-- `pauli::operands` meets its contract: one count over each of the two ranges of codes, computed at every code of the range.
 use mathlib.Core.Path.{refl}
-use mathlib.Core.List.{[], _∷_}
 use native.Mathlib.Omega.{arith}
-use lib.ListN.{getD}
 use Rattle.pauli.specs.Gate.{gates, gateFrom, gateOf, operandsOf}
 use Rattle.pauli.specs.Code.{operandCount}
 use Rattle.pauli.specs.Laws.Code.{same-at, gate-none}
-use borrow.Author.Needs.{needs}
 use Rattle.pauli.proofs.operands.Statement.{statement}
 use Rattle.pauli.proofs.operands.Tie as tie
 
 returns : tie.Need-returns
-unfolding operandCount
-returns c = rw (gate-none (c .before .args .gate) (c .if1 .taken))
-
-array-read-result : tie.Need-array-read-result
-array-read-result c = search needs
+unfolding operandCount operandsOf gateOf gateFrom gates
+returns c = same-at (λ _. 1) (λ k. operandCount (gateOf k)) 0 11 refl (c .before .args .gate) (omega arith) (omega arith)
 
 returns-2 : tie.Need-returns-2
 unfolding operandCount operandsOf gateOf gateFrom gates
-returns-2 c = same-at (λ k. getD (1 ∷ 1 ∷ 1 ∷ 1 ∷ 1 ∷ 1 ∷ 1 ∷ 1 ∷ 1 ∷ 1 ∷ 1 ∷ 2 ∷ 2 ∷ 2 ∷ 2 ∷ []) k 0) (λ k. operandCount (gateOf k)) 0 15 refl (c .before .args .gate) (omega arith) (omega arith)
+returns-2 c = same-at (λ _. 2) (λ k. operandCount (gateOf k)) 11 4 refl (c .before .before .args .gate) (omega arith) (omega arith)
+
+returns-3 : tie.Need-returns-3
+unfolding operandCount
+returns-3 c = rw (gate-none (c .before .before .args .gate) (omega arith))
 
 pub operands-spec : {M : Type 1} → statement M
-operands-spec = tie.close (tie.spec returns array-read-result returns-2)
+operands-spec = tie.close (tie.spec returns returns-2 returns-3)

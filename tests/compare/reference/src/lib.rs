@@ -3,6 +3,8 @@
 //! Frames, deltas, draws, annotation, locations and the correlation check come from the published Rust, compiled unchanged, and the walk's count from
 //! runs of it. What it hasn't, the text of jobs and their checks, comes from `checker`.
 
+pub mod landed;
+pub mod stored;
 pub mod vectors;
 
 use checker::calls::{Answer, Calls, Draws, Rows};

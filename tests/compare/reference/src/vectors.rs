@@ -1,10 +1,9 @@
-//! Stored calls with their answers: cases of lines `key value`, from `case N` to `end`.
+//! Calls with what they are handed and what they answer, and the form in which they are stored: lines `key value`, from `case N` to `end`.
 //!
 //! After `job N`, `text N` and `stdout N` follow exactly N bytes and one LF. Words are 16 hexadecimal digits each with commas between, `-` for none.
 
+use crate::stored::Case;
 use checker::calls::{Answer, Calls, Draws, Rows};
-use std::collections::HashMap;
-use std::path::{Path, PathBuf};
 
 /// The calls that have vectors: a file each.
 pub const CALLS: [Call; 8] =
@@ -131,115 +130,6 @@ impl Output {
     }
 }
 
-// ---- files
-
-/// The folder of the vectors: `KUNDATREZO_VECTORS`; without it, `shared/vectors` beside the repository.
-#[must_use]
-pub fn folder() -> PathBuf {
-    let beside_repository = || Path::new(env!("CARGO_MANIFEST_DIR")).join("../../../../shared/vectors");
-    std::env::var_os("KUNDATREZO_VECTORS").map_or_else(beside_repository, PathBuf::from)
-}
-
-/// A stored case.
-#[derive(Debug, Clone, PartialEq, Eq)]
-pub struct Case {
-    /// Its number in the file.
-    pub number: u64,
-    /// What is handed over.
-    pub input: Input,
-    /// What comes back.
-    pub output: Output,
-}
-
-/// The cases of a file's bytes.
-///
-/// # Panics
-///
-/// Panics if the file isn't in the form of the vectors.
-#[must_use]
-pub fn cases(call: Call, mut bytes: &[u8]) -> Vec<Case> {
-    let mut all = Vec::new();
-    let mut fields = HashMap::new();
-    while !bytes.is_empty() {
-        let (key, value) = take_field(&mut bytes);
-        if key == "end" {
-            all.push(case(call, &std::mem::take(&mut fields)));
-        } else {
-            fields.insert(key, value);
-        }
-    }
-    all
-}
-
-fn take_line<'a>(bytes: &mut &'a [u8]) -> &'a str {
-    let end = bytes.iter().position(|&byte| byte == b'\n').expect("a line ends");
-    let line = std::str::from_utf8(&bytes[..end]).expect("keys and values are text");
-    *bytes = &bytes[end + 1..];
-    line
-}
-
-fn take_field(bytes: &mut &[u8]) -> (String, Vec<u8>) {
-    let line = take_line(bytes);
-    let (key, value) = line.split_once(' ').unwrap_or((line, ""));
-    let value = match key {
-        "job" | "text" | "stdout" => {
-            let (text, rest) = bytes.split_at(value.parse().expect("a length"));
-            *bytes = rest.strip_prefix(b"\n").expect("LF after the bytes");
-            text.to_vec()
-        }
-        _ => value.as_bytes().to_vec(),
-    };
-    (key.to_owned(), value)
-}
-
-fn case(call: Call, fields: &HashMap<String, Vec<u8>>) -> Case {
-    let bytes = |key: &str| fields.get(key).cloned().unwrap_or_default();
-    let text = |key: &str| String::from_utf8(bytes(key)).expect("a value is text");
-    let number = |key: &str| text(key).parse::<u64>().unwrap_or(0);
-    let words = |key: &str| split(&text(key), 16);
-    let input = Input {
-        job: bytes("job"),
-        base: number("base"),
-        main: words("main"),
-        second: words("second"),
-        noiseless: words("noiseless"),
-        frames_x: words("frames_x"),
-        frames_z: words("frames_z"),
-        deltas: words("deltas"),
-        out_len: usize::try_from(number("out_len")).expect("a length"),
-        p: u64::from_str_radix(&text("p"), 16).unwrap_or(0),
-        shot: number("shot"),
-        set: split(&text("set"), 10),
-    };
-    let at_least = fields.contains_key("at_least");
-    let figure = number("count") + number("figure") + number("at_least");
-    let output = Output {
-        answer: Answer { number: number("refusal"), line: number("line"), figure },
-        frames_x: words("after_frames_x"),
-        frames_z: words("after_frames_z"),
-        deltas: words("after_deltas"),
-        bytes: match call {
-            Call::Print => bytes("stdout"),
-            Call::Settle | Call::Annotate => written_over(&bytes("text"), input.out_len),
-            _ => Vec::new(),
-        },
-        at_least,
-    };
-    Case { number: number("case"), input, output }
-}
-
-/// Fresh bytes with a text at their front.
-fn written_over(text: &[u8], length: usize) -> Vec<u8> {
-    let mut bytes = fresh_bytes(length);
-    bytes[..text.len()].copy_from_slice(text);
-    bytes
-}
-
-fn split(list: &str, radix: u32) -> Vec<u64> {
-    let entries = list.split(',').filter(|entry| !entry.is_empty() && *entry != "-");
-    entries.map(|entry| u64::from_str_radix(entry, radix).expect("a number")).collect()
-}
-
 // ---- writing
 
 /// A case as its file has it.
@@ -313,7 +203,8 @@ fn with_length(key: &str, text: &[u8]) -> Vec<u8> {
 }
 
 /// Words in hexadecimal or numbers in decimal, with commas; `-` for none.
-fn joined(words: &[u64], radix: u32) -> String {
+#[must_use]
+pub fn joined(words: &[u64], radix: u32) -> String {
     let entry = |word: &u64| if radix == 16 { format!("{word:016x}") } else { word.to_string() };
     let entries: Vec<String> = words.iter().map(entry).collect();
     if entries.is_empty() { "-".to_owned() } else { entries.join(",") }

@@ -3,21 +3,21 @@
 use checker::calls::Calls;
 use checker::plain::Plain;
 use reference::Reference;
-use reference::vectors::{CALLS, Call, cases, folder};
+use reference::stored::{Case, folder, held};
+use reference::vectors::{CALLS, Call};
 
 fn answers_the_vectors(calls: &dyn Calls, call: Call) {
-    let path = folder().join(format!("{}.txt", call.name()));
-    let Ok(bytes) = std::fs::read(&path) else {
-        println!("skipped: no vectors at {}", path.display());
+    if !folder().is_dir() {
+        println!("skipped: no vectors at {}", folder().display());
         return;
-    };
-    let cases = cases(call, &bytes);
+    }
+    let cases = held(call);
     assert!(!cases.is_empty());
     println!("{}: {} cases", call.name(), cases.len());
-    for case in cases {
+    for case in cases.into_iter().filter(Case::can_be_built) {
         let output = case.input.make(call, calls).expect("both can print");
         assert!(
-            case.output.allows(&output),
+            case.allows(&output),
             "{} case {}: {:?} instead of {:?}",
             call.name(),
             case.number,

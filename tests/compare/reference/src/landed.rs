@@ -1,0 +1,10 @@
+//! The notes of document 02 that have landed. A landing adds its number here: the stored cases that hold are chosen by it.
+
+/// The landed notes.
+pub const LANDED: &[u64] = &[4];
+
+/// Whether a note has landed.
+#[must_use]
+pub fn has_landed(note: u64) -> bool {
+    LANDED.contains(&note)
+}

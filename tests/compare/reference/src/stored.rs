@@ -1,0 +1,247 @@
+//! The stored vectors: files of cases, and which of them hold for the notes that have landed.
+//!
+//! A file of the folder holds for document 01 alone, a file of its `notes/` for the notes that each case names. `notes/overruled.txt` says by which
+//! notes a case of the folder no longer holds, and `notes/long/` has long cases: copies of bytes or words stand for a long job or list, and a hash for
+//! a long answer.
+
+use crate::landed::has_landed;
+use crate::vectors::{Call, Input, Output, fresh_bytes, joined};
+use checker::calls::Answer;
+use std::collections::HashMap;
+use std::path::{Path, PathBuf};
+
+/// The folder of the vectors: `KUNDATREZO_VECTORS`; without it, `shared/vectors` beside the repository.
+#[must_use]
+pub fn folder() -> PathBuf {
+    let beside_repository = || Path::new(env!("CARGO_MANIFEST_DIR")).join("../../../../shared/vectors");
+    std::env::var_os("KUNDATREZO_VECTORS").map_or_else(beside_repository, PathBuf::from)
+}
+
+/// A stored case.
+#[derive(Debug, Clone, PartialEq, Eq)]
+pub struct Case {
+    /// Its number in the file.
+    pub number: u64,
+    /// What is handed over.
+    pub input: Input,
+    /// What comes back.
+    pub output: Output,
+    /// What comes back and is too long to be stored: the key of an answer, and its hash.
+    pub hashes: Vec<(String, String)>,
+}
+
+/// The bytes that a text may have which is built to be compared; a longer one is only measured.
+const LONGEST_TEXT: u64 = 1 << 32;
+
+impl Case {
+    /// Whether an output is the one of this case.
+    #[must_use]
+    pub fn allows(&self, output: &Output) -> bool {
+        let mut expected = self.output.clone();
+        for (key, hash) in &self.hashes {
+            if *hash != hash_of(key, output) {
+                return false;
+            }
+            take_over(key, &mut expected, output);
+        }
+        expected.allows(output)
+    }
+
+    /// Whether the answer can be had by building all of its text.
+    #[must_use]
+    pub fn can_be_built(&self) -> bool {
+        self.output.answer.figure < LONGEST_TEXT
+    }
+}
+
+/// The list of a key of an answer.
+fn list_of<'a>(key: &str, output: &'a mut Output) -> &'a mut Vec<u64> {
+    match key {
+        "after_frames_x" => &mut output.frames_x,
+        "after_frames_z" => &mut output.frames_z,
+        "after_deltas" => &mut output.deltas,
+        _ => panic!("{key} has no hash"),
+    }
+}
+
+fn hash_of(key: &str, output: &Output) -> String {
+    if key == "text" {
+        let written = usize::try_from(output.answer.figure).expect("a text in memory");
+        return fnv1a(&output.bytes[..written.min(output.bytes.len())]);
+    }
+    fnv1a(joined(list_of(key, &mut output.clone()), 16).as_bytes())
+}
+
+/// Let what has a hash be what came back.
+fn take_over(key: &str, expected: &mut Output, output: &Output) {
+    if key == "text" {
+        let written = usize::try_from(output.answer.figure).expect("a text in memory");
+        expected.bytes[..written].copy_from_slice(&output.bytes[..written]);
+    } else {
+        *list_of(key, expected) = list_of(key, &mut output.clone()).clone();
+    }
+}
+
+/// 64-bit FNV-1a, in hexadecimal.
+fn fnv1a(bytes: &[u8]) -> String {
+    let step = |hash: u64, &byte: &u8| (hash ^ u64::from(byte)).wrapping_mul(1_099_511_628_211);
+    format!("{:016x}", bytes.iter().fold(14_695_981_039_346_656_037, step))
+}
+
+// ---- files
+
+/// The stored cases of a call that hold for the notes that have landed.
+#[must_use]
+pub fn held(call: Call) -> Vec<Case> {
+    let overruled = overruled();
+    let file = format!("{}.txt", call.name());
+    let mut all = Vec::new();
+    for (part, folder) in ["", "notes", "notes/long"].map(|part| (part, folder().join(part))) {
+        let Ok(bytes) = std::fs::read(folder.join(&file)) else {
+            continue;
+        };
+        for (fields, case) in fields_of(&bytes).iter().map(|fields| (fields, case(call, fields))) {
+            let by_notes =
+                if part.is_empty() { !overruled.contains(&(call.name().into(), case.number)) } else { holds(fields) };
+            if by_notes {
+                all.push(case);
+            }
+        }
+    }
+    all
+}
+
+/// The cases for document 01 alone that a landed note overrules: `CALL N: NOTES`.
+fn overruled() -> Vec<(String, u64)> {
+    let text = std::fs::read_to_string(folder().join("notes/overruled.txt")).unwrap_or_default();
+    let entry = |line: &str| {
+        let (case, notes) = line.split_once(": ")?;
+        let (call, number) = case.split_once(' ')?;
+        let number = number.parse().ok()?;
+        split(notes, 10).into_iter().any(has_landed).then(|| (call.to_owned(), number))
+    };
+    text.lines().filter_map(entry).collect()
+}
+
+/// Whether a case holds: all notes that it needs have landed, and none that it must come before.
+fn holds(fields: &Fields) -> bool {
+    let notes = |key: &str| split(&String::from_utf8_lossy(fields.get(key).map_or(&[], Vec::as_slice)), 10);
+    notes("needs").into_iter().all(has_landed) && !notes("not").into_iter().any(has_landed)
+}
+
+type Fields = HashMap<String, Vec<u8>>;
+
+/// The cases of a file's bytes.
+///
+/// # Panics
+///
+/// Panics if the file isn't in the form of the vectors.
+#[must_use]
+pub fn cases(call: Call, bytes: &[u8]) -> Vec<Case> {
+    fields_of(bytes).iter().map(|fields| case(call, fields)).collect()
+}
+
+fn fields_of(mut bytes: &[u8]) -> Vec<Fields> {
+    let mut all = Vec::new();
+    let mut fields = HashMap::new();
+    while !bytes.is_empty() {
+        let (key, value) = take_field(&mut bytes);
+        if key == "end" {
+            all.push(std::mem::take(&mut fields));
+        } else if let Some(list) = key.strip_suffix("_more") {
+            extend(fields.get_mut(list).expect("copies stand behind their list"), &value, list == "job");
+        } else {
+            fields.insert(key, value);
+        }
+    }
+    all
+}
+
+fn take_line<'a>(bytes: &mut &'a [u8]) -> &'a str {
+    let end = bytes.iter().position(|&byte| byte == b'\n').expect("a line ends");
+    let line = std::str::from_utf8(&bytes[..end]).expect("keys and values are text");
+    *bytes = &bytes[end + 1..];
+    line
+}
+
+/// A key and its value; of copies, their number, a space and what is copied.
+fn take_field(bytes: &mut &[u8]) -> (String, Vec<u8>) {
+    let line = take_line(bytes);
+    let (key, value) = line.split_once(' ').unwrap_or((line, ""));
+    let value = match key {
+        "job" | "text" | "stdout" => take_bytes(bytes, value),
+        "job_more" => {
+            let (copies, length) = value.split_once(' ').expect("a number of copies and a length");
+            [copies.as_bytes(), b" ", &take_bytes(bytes, length)].concat()
+        }
+        _ => value.as_bytes().to_vec(),
+    };
+    (key.to_owned(), value)
+}
+
+fn take_bytes(bytes: &mut &[u8], length: &str) -> Vec<u8> {
+    let (text, rest) = bytes.split_at(length.parse().expect("a length"));
+    *bytes = rest.strip_prefix(b"\n").expect("LF after the bytes");
+    text.to_vec()
+}
+
+/// Put copies behind bytes, or behind the words of a list.
+fn extend(value: &mut Vec<u8>, more: &[u8], bytes: bool) {
+    let space = more.iter().position(|&byte| byte == b' ').expect("a number of copies");
+    let copies = String::from_utf8_lossy(&more[..space]).parse().expect("a number of copies");
+    let copied = &more[space + 1..];
+    if bytes {
+        value.extend(copied.repeat(copies));
+    } else {
+        value.extend([b",", copied].concat().repeat(copies));
+    }
+}
+
+fn case(call: Call, fields: &Fields) -> Case {
+    let bytes = |key: &str| fields.get(key).cloned().unwrap_or_default();
+    let text = |key: &str| String::from_utf8(bytes(key)).expect("a value is text");
+    let number = |key: &str| text(key).parse::<u64>().unwrap_or(0);
+    let words = |key: &str| split(&text(key), 16);
+    let input = Input {
+        job: bytes("job"),
+        base: number("base"),
+        main: words("main"),
+        second: words("second"),
+        noiseless: words("noiseless"),
+        frames_x: words("frames_x"),
+        frames_z: words("frames_z"),
+        deltas: words("deltas"),
+        out_len: usize::try_from(number("out_len")).expect("a length"),
+        p: u64::from_str_radix(&text("p"), 16).unwrap_or(0),
+        shot: number("shot"),
+        set: split(&text("set"), 10),
+    };
+    let at_least = fields.contains_key("at_least") && !has_landed(10);
+    let figure = number("count") + number("figure") + number("at_least");
+    let output = Output {
+        answer: Answer { number: number("refusal"), line: number("line"), figure },
+        frames_x: words("after_frames_x"),
+        frames_z: words("after_frames_z"),
+        deltas: words("after_deltas"),
+        bytes: match call {
+            Call::Print => bytes("stdout"),
+            Call::Settle | Call::Annotate => written_over(&bytes("text"), input.out_len),
+            _ => Vec::new(),
+        },
+        at_least,
+    };
+    let hash = |key: &String| key.strip_suffix("_hash").map(|list| (list.to_owned(), text(key)));
+    Case { number: number("case"), input, output, hashes: fields.keys().filter_map(hash).collect() }
+}
+
+/// Fresh bytes with a text at their front.
+fn written_over(text: &[u8], length: usize) -> Vec<u8> {
+    let mut bytes = fresh_bytes(length);
+    bytes[..text.len()].copy_from_slice(text);
+    bytes
+}
+
+fn split(list: &str, radix: u32) -> Vec<u64> {
+    let entries = list.split(',').filter(|entry| !entry.is_empty() && *entry != "-");
+    entries.map(|entry| u64::from_str_radix(entry, radix).expect("a number")).collect()
+}
