@@ -60,7 +60,7 @@ struct kundatrezo_answer {
 /* What a call that writes a text says. */
 struct kundatrezo_text_answer {
     struct kundatrezo_answer answer;
-    uint64_t figure; /* with success, the bytes that were written; else 0, but for KUNDATREZO_ROOM from settling: the bytes that are needed */
+    uint64_t figure; /* with success, the bytes that were written; else 0, but for KUNDATREZO_ROOM from settling: exactly the bytes that the text takes */
 };
 
 /* What a call that counts says. */
@@ -184,7 +184,8 @@ struct kundatrezo_answer kundatrezo_run(const uint8_t *job, size_t job_len, uint
                                         size_t main_len, const uint64_t *second, size_t second_len, uint64_t base);
 
 /* Settling: the job with each noise instruction replaced by the injections that a run with the same words draws. Bytes of out beyond the text stay, and
- * a refusal writes nothing; the figure of KUNDATREZO_ROOM is the bytes that the text needs, which may be more than KUNDATREZO_MAX_BYTES. */
+ * a refusal writes nothing; the figure of KUNDATREZO_ROOM is exactly the bytes that the text takes, which may be more than KUNDATREZO_MAX_BYTES;
+ * with as many lent, and the same draws, a second call succeeds where it is not. */
 struct kundatrezo_text_answer kundatrezo_settle(const uint8_t *job, size_t job_len, const uint64_t *noiseless, size_t noiseless_len,
                                                 const uint64_t *main_words, size_t main_len, const uint64_t *second, size_t second_len,
                                                 uint64_t base, uint8_t *out, size_t out_len);

@@ -6,5 +6,6 @@ pub mod Walking
 pub mod Theorems
 pub mod Calls
 pub mod CallTheorems
+pub mod SizeTheorems
 -- Laws of these definitions.
 pub mod Laws

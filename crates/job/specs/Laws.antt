@@ -23,6 +23,8 @@ pub mod Gather
 pub mod Recorded
 -- Accepted lines instruction by instruction.
 pub mod Instructions
+-- The numbers of a job's tests are none of the calls' own.
+pub mod Numbers
 -- Sound lines pass: the other way round.
 pub mod Passes
 -- Texts that say instructions, noise with its element lines: they are accepted, and say what is gathered of them.

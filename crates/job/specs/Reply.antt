@@ -8,6 +8,10 @@ use Rattle.job.specs.declared.Answer.{Answer}
 use Rattle.job.specs.declared.CountReply.{CountReply}
 use Rattle.job.specs.Job.{maxBytes, accepted}
 
+-- whether a number is a call's own, and no test of a job
+abbrev pub ofCall : ℕ → Bool
+ofCall number = leb 13 number && leb number 19
+
 -- a lent list after its first words or bytes were written over
 abbrev pub over : List ℕ → List ℕ → List ℕ
 over front old = front ++ drop (length front) old

@@ -161,8 +161,8 @@ pub fn run(job: &[u8], rows: Rows<'_>, noiseless: &[u64], draws: Draws<'_>) -> A
 ///
 /// # Errors
 ///
-/// The refusal by 1 to 12, 13 (too few noiseless words), 14 or 15 (the text does not fit; [`Refusal::figure`] is then the bytes that it needs). Nothing
-/// is written then.
+/// The refusal by 1 to 12, 13 (too few noiseless words), 14 or 15 (the text does not fit; [`Refusal::figure`] is then exactly the
+/// bytes that it takes, also above [`MAX_BYTES`]). Nothing is written then.
 ///
 /// ```
 /// use kundatrezo::{Draws, Number, settle};
@@ -199,7 +199,37 @@ pub fn settle(job: &[u8], noiseless: &[u64], draws: Draws<'_>, out: &mut [u8]) -
 /// # Ok::<(), kundatrezo::Refusal>(())
 /// ```
 pub fn settled(job: &[u8], noiseless: &[u64], draws: Draws<'_>) -> Answer<Vec<u8>> {
-    text(|out| settle(job, noiseless, draws, out))
+    let mut out = vec![0; job.len()];
+    settle_into(job, noiseless, draws, &mut out)?;
+    Ok(out)
+}
+
+/// Settle a job into a vector, whose length becomes that of the settled job: first into the bytes that it has, and where these are too few into just as
+/// many as the first call found to be needed. That figure is exact, so there is at most one further call (`figure-enough` in docs/PROMISES.md).
+///
+/// # Errors
+///
+/// As [`settle`]; 15 where the text is longer than [`MAX_BYTES`].
+///
+/// ```
+/// use kundatrezo::{Draws, settle_into};
+///
+/// let job = b"op=job qubits=1 outcomes=0 shots=1\nop=u g=4 q=0\n";
+/// let mut out = Vec::new();
+/// assert_eq!(settle_into(job, &[], Draws::default(), &mut out)?, job.len());
+/// assert_eq!(out, job);
+/// # Ok::<(), kundatrezo::Refusal>(())
+/// ```
+pub fn settle_into(job: &[u8], noiseless: &[u64], draws: Draws<'_>, out: &mut Vec<u8>) -> Answer<usize> {
+    let bytes = match settle(job, noiseless, draws, out) {
+        Err(refusal) if refusal.number == Number::ROOM && refusal.figure <= MAX_BYTES as u64 => {
+            out.resize(size(refusal.figure), 0);
+            settle(job, noiseless, draws, out)?
+        }
+        answer => answer?,
+    };
+    out.truncate(bytes);
+    Ok(bytes)
 }
 
 /// Walk a job without noise back from its last line, with the observable of a set of recorded outcomes, and count the faults of a shot that flip the

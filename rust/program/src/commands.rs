@@ -156,8 +156,14 @@ fn run(arguments: &Arguments) -> Result<(), Failure> {
 fn settle(arguments: &Arguments) -> Result<(), Failure> {
     let (job, examined) = examined(arguments)?;
     let mut lent = Lent::read(arguments, &job, examined)?;
-    let mut out = room(arguments)?;
-    let bytes = lent.call(|noiseless, draws| kundatrezo::settle(&job, noiseless, draws, &mut out))?;
+    let mut out = match arguments.value(ROOM.name) {
+        Some(_) => room(arguments)?,
+        None => Vec::new(),
+    };
+    let bytes = lent.call(|noiseless, draws| match arguments.value(ROOM.name) {
+        Some(_) => kundatrezo::settle(&job, noiseless, draws, &mut out),
+        None => kundatrezo::settle_into(&job, noiseless, draws, &mut out),
+    })?;
     write_text(arguments, &out[..bytes])
 }
 

@@ -44,7 +44,7 @@ impl Case {
             }
             take_over(key, &mut expected, output);
         }
-        expected.allows(output)
+        expected == *output
     }
 
     /// Whether the answer can be had by building all of its text.
@@ -216,7 +216,7 @@ fn case(call: Call, fields: &Fields) -> Case {
         shot: number("shot"),
         set: split(&text("set"), 10),
     };
-    let at_least = fields.contains_key("at_least") && !has_landed(10);
+    // Cases made before note 10 call settling's figure with 15 a lower bound; it is the exact one.
     let figure = number("count") + number("figure") + number("at_least");
     let output = Output {
         answer: Answer { number: number("refusal"), line: number("line"), figure },
@@ -228,7 +228,6 @@ fn case(call: Call, fields: &Fields) -> Case {
             Call::Settle | Call::Annotate => written_over(&bytes("text"), input.out_len),
             _ => Vec::new(),
         },
-        at_least,
     };
     let hash = |key: &String| key.strip_suffix("_hash").map(|list| (list.to_owned(), text(key)));
     Case { number: number("case"), input, output, hashes: fields.keys().filter_map(hash).collect() }

@@ -69,8 +69,6 @@ pub struct Output {
     pub deltas: Vec<u64>,
     /// Every lent byte after the call, or what the program printed.
     pub bytes: Vec<u8>,
-    /// Whether the figure may be larger than the one given: settling's with its 15.
-    pub at_least: bool,
 }
 
 /// What lent bytes hold before a call, so that bytes that stay can be told from bytes written.
@@ -103,7 +101,6 @@ impl Input {
             Call::Settle => {
                 output.bytes = fresh_bytes(self.out_len);
                 output.answer = calls.settle(job, self.draws(), &self.noiseless, &mut output.bytes);
-                output.at_least = output.answer.number == 15;
             }
             Call::Walk => output.answer = calls.walk(job, self.shot, &self.set),
             Call::Annotate => {
@@ -115,18 +112,6 @@ impl Input {
             Call::Print => output.bytes = calls.print(job)?,
         }
         Some(output)
-    }
-}
-
-impl Output {
-    /// Whether another output is as this one says.
-    #[must_use]
-    pub fn allows(&self, other: &Output) -> bool {
-        let mut other = other.clone();
-        if self.at_least && other.answer.figure >= self.answer.figure {
-            other.answer.figure = self.answer.figure;
-        }
-        *self == other
     }
 }
 
@@ -177,7 +162,6 @@ fn output_bytes(call: Call, output: &Output) -> Vec<u8> {
     let mut bytes = format!("refusal {number}\nline {line}\n").into_bytes();
     let figure_key = match call {
         Call::Walk | Call::Locations => Some("count"),
-        Call::Settle if output.at_least => Some("at_least"),
         Call::Settle | Call::Annotate => Some("figure"),
         Call::Check | Call::Run | Call::Correlation | Call::Print => None,
     };
