@@ -41,7 +41,7 @@ module _ (job : List ℕ) (passes : checkJob job .number ≡ 0) (lent : Lent) (s
 
     -- and each unitary line takes it to its conjugate by the line's unitary (`job-conjugates` of crate frames says so of the job's lines).
     pub frames-conjugated : (shot : ℕ) (before : List Line) (l : Line) (after : List Line) → settledList ls ≡ before ++ (l ∷ after)
-        → isUnitaryKind (jobOf job .header .qubits) l ≡ true
+        → isUnitaryKind l ≡ true
         → IsConjugate (jobOf job .header .qubits) l
         (run (settingOf (jobOf job .header) shot) before start .frame)
         (run (settingOf (jobOf job .header) shot) (before ++ (l ∷ [])) start .frame)

@@ -9,9 +9,10 @@ use lib.Ieee.{Float}
 use lib.ListN.{length}
 use Rattle.text.specs.Bytes.{lines}
 use Rattle.text.specs.List.{isRising}
+use Rattle.pauli.specs.Pauli.{anticommutes}
 use Rattle.pauli.specs.Gate.{Gate, operandsOf}
 use Rattle.job.specs.declared.Header.{Header}
-use Rattle.job.specs.Line.{SparsePauli, Line, WeightedPauli, Distribution, Noise, Instruction, Placed}
+use Rattle.job.specs.Line.{SparsePauli, pauliOf, Line, WeightedPauli, Distribution, Noise, Instruction, Placed}
 use Rattle.job.specs.Float.{float, zeroFloat, totalFrom, isProbability, isWeight, isTotal}
 use Rattle.job.specs.Clifford.{isClifford}
 use Rattle.job.specs.Grammar.{Kind, NoiseLine, Written, readLine}
@@ -58,6 +59,7 @@ pub record CliffordSound (n : ℕ) (qs : List ℕ) (t : ℕ) : Type 0 where
 pub record ControlledSound (n : ℕ) (C T : SparsePauli) : Type 0 where
   pub control : PauliSound n C
   pub target : PauliSound n T
+  pub commute : anticommutes n (pauliOf C) (pauliOf T) ≡ false
 
 pub record PermuteSound (n : ℕ) (s qs : List ℕ) : Type 0 where
   pub operands : Operands n qs
