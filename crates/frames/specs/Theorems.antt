@@ -57,7 +57,7 @@ forward-conjugates c (Line.reset qs) u s = absurd (true≢false (sym u))
 forward-conjugates c (Line.inject shot P) u s = absurd (true≢false (sym u))
 forward-conjugates c (Line.flip shot id) u s = absurd (true≢false (sym u))
 
--- What tests 1 to 12 leave of a job's lines (`checked-sound` of crate job) are unitary lines: a gate,
+-- What the tests of a job leave of a job's lines (`checked-sound` of crate job) are unitary lines: a gate,
 pub sound-gate : (n : ℕ) (g : Gate) (qs : List ℕ) → UnitarySound n g qs → isUnitaryLine n (Line.unitary g qs) ≡ true
 unfolding isUnitaryLine
 sound-gate n g qs s = ap₂ _&&_ (ap₂ _&&_ (s .operands .below) (s .operands .apart)) (eq-eqb (length qs) (operandsOf g) (s .count))

@@ -1,5 +1,5 @@
 -- Definitions: what an accepted job is known for, the hypotheses that theorems and contracts use. The limits are document 01's, written out, so that
--- they do not depend on the tests' own. `checked-sound` (Theorems) proves all of it of a job that passes tests 1 to 12. Assumes nothing.
+-- they do not depend on the tests' own. `checked-sound` (Theorems) proves all of it of a job that passes the tests of a job. Assumes nothing.
 use Prim.Native.Nat.{ℕ, zero, suc, _+_, _^_, _≤_, _<_}
 use mathlib.Core.Path.{_≡_}
 use mathlib.Core.Bool.{Bool, true, false}

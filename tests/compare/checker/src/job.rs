@@ -191,7 +191,7 @@ pub struct Line<'a> {
     pub instruction: Instruction,
 }
 
-/// A job that has passed tests 1 to 12.
+/// A job that has passed the tests of a job.
 #[derive(Debug, Clone, PartialEq)]
 pub struct Job<'a> {
     /// The header's numbers.

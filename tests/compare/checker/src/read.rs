@@ -1,4 +1,4 @@
-//! Reading a job: its form, and the tests of a job: 1 to 12 and 20.
+//! Reading a job: its form, and its tests, 1 to 12 and 20.
 //!
 //! The first bad line counts, and its lowest number. A line is first read by its form (2, in [`crate::form`]); what it says is then put to the
 //! tests in the order of their numbers, each a yes or no on the whole line.
