@@ -81,7 +81,7 @@ struct kundatrezo_examination {
 
 /* ---- the numbers of refusals
  *
- * Every call but kundatrezo_line makes tests 1 to 12: the first bad line of the job counts, and its lowest number. After them come the call's own tests. */
+ * Every call but kundatrezo_line makes the tests of a job: the first bad line of the job counts, and its lowest number. After them come the call's own tests. */
 
 #define KUNDATREZO_LENGTH 1       /* line 0 */
 #define KUNDATREZO_FORM 2         /* the bad line; where element lines are missing, the last line */
@@ -102,6 +102,7 @@ struct kundatrezo_examination {
 #define KUNDATREZO_WALK 17        /* line 0 */
 #define KUNDATREZO_ANNOTATION 18  /* the first line whose noise does not fit a noise line */
 #define KUNDATREZO_SIZES 19       /* the later line */
+#define KUNDATREZO_CONTROL 20     /* the bad line; a test of the job, after 12 */
 
 /* What a number means, in words. */
 static inline const char *kundatrezo_refusal_text(uint64_t number)
@@ -127,6 +128,7 @@ static inline const char *kundatrezo_refusal_text(uint64_t number)
     case KUNDATREZO_WALK: return "the walk's shot not below the header's shots; its set not strictly rising, or with an outcome that is not recorded";
     case KUNDATREZO_ANNOTATION: return "annotation over a repeated qubit, or over more than 31";
     case KUNDATREZO_SIZES: return "sizes of one correlation differ";
+    case KUNDATREZO_CONTROL: return "control and target of a controlled Pauli anticommute";
     default: return "a number that this header does not know";
     }
 }
@@ -163,7 +165,7 @@ static inline size_t kundatrezo_outcome_words(struct kundatrezo_examination job)
 
 /* ---- the calls */
 
-/* Tests 1 to 12 of a job: number 0 if the job is accepted, else the first bad line and its lowest number. Nothing is written. */
+/* The tests of a job: number 0 if the job is accepted, else the first bad line and its lowest number. Nothing is written. */
 struct kundatrezo_answer kundatrezo_check(const uint8_t *job, size_t job_len);
 
 /* The same tests, and of an accepted job the numbers that a caller needs to lend memory for it. Nothing is written. */

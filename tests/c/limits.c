@@ -91,7 +91,7 @@ int main(int count, char **arguments)
 {
     (void)arguments;
     if (count > 1) {
-        for (uint64_t number = KUNDATREZO_LENGTH; number <= KUNDATREZO_SIZES; number++)
+        for (uint64_t number = KUNDATREZO_LENGTH; number <= KUNDATREZO_CONTROL; number++)
             printf("%llu: %s\n", (unsigned long long)number, kundatrezo_refusal_text(number));
         return 0;
     }

@@ -35,7 +35,7 @@ module _ (job : List ℕ) (s : Source) (out : List ℕ) (done : settleReply job 
       × (settleReply job s out ≡ writtenText (settledText (jobOf job .text) ls) out)
   writes-settled = let (ls, w) = settle-writes job s out done in (ls, w .settles, w .text, w .reply)
 
-  -- They pass tests 1 to 12.
+  -- They pass the tests of a job.
   pub written-accepted : checkJob (writtenBy (settleReply job s out)) ≡ accepted
   written-accepted = let (ls, w) = settle-writes job s out done in rw (w .text) (text-accepted job (w .passes) s ls (w .settles) (w .few))
 

@@ -16,7 +16,7 @@ settledAnswer j (Settled.settled ls) out =
     let text = settledText (j .text) ls in
     cond (textFits text out) (writtenText text out) (record { answered = answer 15 0; figure = length text; out = out })
 
--- Tests 1 to 12, then 13 (settling needs the noiseless bits only), 14 and 15.
+-- The tests of a job, then 13 (settling needs the noiseless bits only), 14 and 15.
 unfoldable pub settleReply : List ℕ → Source → List ℕ → TextReply
 settleReply job s out =
     let j = jobOf job in

@@ -45,7 +45,7 @@ walkAnswer j shot set none =
       count = walk (settingOf (j .header) shot) (plainLines (j .instructions)) (members set) .count;
     }
 
--- Tests 1 to 12, then 17, then 16.
+-- The tests of a job, then 17, then 16.
 unfoldable pub walkReply : List ℕ → ℕ → List ℕ → CountReply
 walkReply job shot set =
     let j = jobOf job in

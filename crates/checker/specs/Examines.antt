@@ -13,7 +13,7 @@ pub record Finds (job : List ℕ) (r : Examined) : Type 0 where
   pub recorded : r .recorded ≡ recordedIn (jobOf job .instructions)
   pub lines-in : r .lines ≡ length (lines job)
 
--- the answer of tests 1 to 12, and where they accept the job what was found
+-- the answer of the tests of a job, and where they accept the job what was found
 pub record Examines (job : List ℕ) (r : Examined) : Type 0 where
   pub answers : r .answer ≡ checkJob job
   pub finds : checkJob job .number ≡ 0 → Finds job r

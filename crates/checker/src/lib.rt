@@ -1,4 +1,4 @@
-// Tests 1 to 12 of a job.
+// The tests of a job.
 ghost use mathlib.Core.Path.{_≡_};
 ghost use Rattle.job.specs.Job.{wellEnded, checkJob};
 ghost use Rattle.checker.specs.Examines.{Examines};
@@ -29,7 +29,7 @@ fn well_ended(job: &[u8]) -> bool
     job[n - 1] == 10
 }
 
-// The answer of tests 1 to 12; of an accepted job also its header's numbers, how many outcomes it records, and how many lines it has.
+// The answer of the tests of a job; of an accepted job also its header's numbers, how many outcomes it records, and how many lines it has.
 pub struct Examined {
     pub answer: Answer,
     pub header: Header,
@@ -53,7 +53,7 @@ fn refused(number: u64, line: u64) -> Examined
     }
 }
 
-// Tests 1 to 12, and what the calls after them have to know of the job, so that they need not read it for that.
+// The tests of a job, and what the calls after them have to know of the job, so that they need not read it for that.
 pub fn examine(job: &[u8]) -> Examined
     ensures { λ r. ⌜ Examines (now (job .entry)) r ⌝ }
 {
@@ -84,7 +84,7 @@ pub fn examine(job: &[u8]) -> Examined
     }
 }
 
-// Tests 1 to 12: the first bad line, and its lowest number.
+// The tests of a job: the first bad line, and its lowest number.
 pub fn check(job: &[u8]) -> Answer
     ensures { λ r. ⌜ r ≡ checkJob (now (job .entry)) ⌝ }
 {

@@ -12,6 +12,7 @@ ghost use Rattle.reader.specs.Parsed.{isUnread, Said};
 ghost use Rattle.value_tests.specs.Contexts.{contextOf};
 use line_tests::clifford_number;
 use line_tests::conditional_number;
+use line_tests::controlled_number;
 use line_tests::flip_number;
 use line_tests::header::header_after;
 use line_tests::header::header_fits;
@@ -47,7 +48,7 @@ fn own_number(c: Context, form: Form, f: &[u64]) -> u64
         Form::Clifford => clifford_number(c, f),
         Form::Pauli => pauli_number(f, 0, 2, c.header.qubits),
         Form::Exponential => pauli_number(f, 0, 2, c.header.qubits),
-        Form::Controlled => pauli_number(f, 0, 4, c.header.qubits),
+        Form::Controlled => controlled_number(c, f),
         Form::Permute => permute_number(c, f),
         Form::Measure => measure_number(c, f),
         Form::Allocate => id_number(c, number(f, 0)),

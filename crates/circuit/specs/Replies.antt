@@ -20,14 +20,14 @@ annotateAnswer job p out none =
     let text = annotatedText p job in
     cond (textFits text out) (writtenText text out) (refusedText (answer 15 0) out)
 
--- Tests 1 to 12, annotation's own p last (11, line 0), then 18 and 15. p is given by its bits.
+-- The tests of a job, annotation's own p last (11, line 0), then 18 and 15. p is given by its bits.
 unfoldable pub annotateReply : List ℕ → ℕ → List ℕ → TextReply
 annotateReply job p out =
     let annotated = annotateAnswer job p out (firstUnfit 1 (lines job)) in
     let fitting = cond (isProbability (float p)) annotated (refusedText (answer 11 0) out) in
     cond (eqb (checkJob job .number) 0) fitting (refusedText (checkJob job) out)
 
--- Tests 1 to 12.
+-- The tests of a job.
 unfoldable pub locationsReply : List ℕ → CountReply
 locationsReply job =
     let counted : CountReply = record { answered = accepted; count = locations (lines job) } in
@@ -37,7 +37,7 @@ unfoldable pub correlationAnswer : Option ℕ → Answer
 correlationAnswer none = accepted
 correlationAnswer (some k) = answer 19 k
 
--- Tests 1 to 12, then 19.
+-- The tests of a job, then 19.
 unfoldable pub correlationReply : List ℕ → Answer
 correlationReply job =
     let compared = correlationAnswer (firstDiffering [] (jobOf job .instructions)) in

@@ -29,7 +29,7 @@ module _ (job : List ℕ) (passes : checkJob job .number ≡ 0) (p : ℕ) (small
     known : JobAnnotated p job
     known = job-annotated p small probability job passes fits
 
-    -- The annotated text passes tests 1 to 12 where it is not too long.
+    -- The annotated text passes the tests of a job where it is not too long.
     pub annotated-accepted : length (annotatedText p job) ≤ 1048576 → checkJob (annotatedText p job) ≡ accepted
     annotated-accepted few = known .accepted few
 
@@ -42,7 +42,7 @@ module _ (job : List ℕ) (passes : checkJob job .number ≡ 0) (p : ℕ) (small
     annotated-instructions = known .instructions
 
 -- In the call: where annotation answers 0, what it wrote (`writtenBy` gives the first bytes of its output, as many as its figure says) is the annotated
--- text, which passes tests 1 to 12 and has the annotated list for its instructions; no other byte is changed.
+-- text, which passes the tests of a job and has the annotated list for its instructions; no other byte is changed.
 module _ (job : List ℕ) (p : ℕ) (small : p < 2 ^ 64) (out : List ℕ) (done : annotateReply job p out .answered .number ≡ 0) where
   pub annotates : annotateReply job p out ≡ writtenText (annotatedText p job) out
   annotates = annotate-writes job p out done .reply

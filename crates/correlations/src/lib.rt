@@ -278,7 +278,7 @@ fn first_differing(job: &[u8]) -> u64
     differing
 }
 
-// Tests 1 to 12, then 19.
+// The tests of a job, then 19.
 pub fn correlation(job: &[u8]) -> Answer
     ensures { λ r. ⌜ r ≡ correlationReply (now (job .entry)) ⌝ }
 {

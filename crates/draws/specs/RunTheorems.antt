@@ -24,7 +24,7 @@ module _ (job : List ℕ) (passes : checkJob job .number ≡ 0) (lent : Lent) (s
 
     -- and where the instruction is a unitary line, the run goes on with the frame's conjugate by the line's unitary, in every shot.
     pub run-conjugated : (i : Placed) (after : List Placed) → jobOf job .instructions ≡ before ++ (i ∷ after) → (l : Line) → i .instruction ≡ Instruction.line l
-        → isUnitaryKind (jobOf job .header .qubits) l ≡ true
+        → isUnitaryKind l ≡ true
         → (next : States) × (execute (jobOf job .header) lent (before ++ (i ∷ [])) main starts ≡ Ended.ended next)
         × ((shot : ℕ) → IsConjugate (jobOf job .header .qubits) l (states shot .frame) (next shot .frame))
     unfolding InstructionSound forwardAll

@@ -41,7 +41,7 @@ module _ (job : List ℕ) (passes : checkJob job .number ≡ 0) (lent : Lent) (s
 
     -- and each unitary line takes it to its conjugate by the line's unitary (`job-conjugates` of crate frames says so of the job's lines).
     pub frames-conjugated : (shot : ℕ) (before : List Line) (l : Line) (after : List Line) → settledList ls ≡ before ++ (l ∷ after)
-        → isUnitaryKind (jobOf job .header .qubits) l ≡ true
+        → isUnitaryKind l ≡ true
         → IsConjugate (jobOf job .header .qubits) l
         (run (settingOf (jobOf job .header) shot) before start .frame)
         (run (settingOf (jobOf job .header) shot) (before ++ (l ∷ [])) start .frame)
@@ -51,7 +51,7 @@ module _ (job : List ℕ) (passes : checkJob job .number ≡ 0) (lent : Lent) (s
         let behind : run c (before ++ (l ∷ [])) start ≡ forward c l (run c before start) = run-append c before (l ∷ []) start ∙ unfold run in refl in
         rw behind (sound-conjugates (jobOf job .header) r l sound kind shot (run c before start) (frames-within shot before (l ∷ after) e))
 
-    -- The settled text passes tests 1 to 12 where it is not too long.
+    -- The settled text passes the tests of a job where it is not too long.
     pub settled-accepted : length (settledText (jobOf job .text) ls) ≤ 1048576 → checkJob (settledText (jobOf job .text) ls) ≡ accepted
     unfolding settledText
     settled-accepted few =

@@ -24,7 +24,7 @@ numbersOf j n =
 abbrev pub refusedNumbers : Answer → Examination
 refusedNumbers a = record { answered = a; qubits = 0; outcomes = 0; shots = 0; recorded = 0; lines = 0 }
 
--- Tests 1 to 12.
+-- The tests of a job.
 unfoldable pub examineReply : List ℕ → Examination
 examineReply job =
     let found = numbersOf (jobOf job) (length (lines job)) in

@@ -3,7 +3,7 @@ ghost use mathlib.Core.Path.{_≡_};
 ghost use Rattle.examination.specs.Reply.{examineReply};
 use job::Answer;
 
-// The answer of tests 1 to 12; of an accepted job also its header's numbers, how many outcomes it records, and how many lines it has. Calls hand it to C as it is.
+// The answer of the tests of a job; of an accepted job also its header's numbers, how many outcomes it records, and how many lines it has. Calls hand it to C as it is.
 #[repr(C)]
 pub struct Examination {
     pub answered: Answer,
@@ -14,7 +14,7 @@ pub struct Examination {
     pub lines: u64,
 }
 
-// Tests 1 to 12, and the numbers of an accepted job.
+// The tests of a job, and the numbers of an accepted job.
 pub fn examine(job: &[u8]) -> Examination
     ensures { λ r. ⌜ r ≡ examineReply (now (job .entry)) ⌝ }
 {

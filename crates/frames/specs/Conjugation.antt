@@ -264,20 +264,20 @@ HasUnitary n (Line.reset qs) = ⊥
 HasUnitary n (Line.inject shot P) = ⊥
 HasUnitary n (Line.flip shot id) = ⊥
 
--- Which lines of an accepted job are unitaries: u, c, p, e and m, and k if control and target commute; the tests see to the rest.
-unfoldable pub isUnitaryKind : ℕ → Line → Bool
-isUnitaryKind n (Line.unitary g qs) = true
-isUnitaryKind n (Line.clifford qs t) = true
-isUnitaryKind n (Line.pauli P) = true
-isUnitaryKind n (Line.exponential P) = true
-isUnitaryKind n (Line.controlled C T) = not (anticommutes n (pauliOf C) (pauliOf T))
-isUnitaryKind n (Line.permute s qs) = true
-isUnitaryKind n (Line.measure P id) = false
-isUnitaryKind n (Line.allocate id angle) = false
-isUnitaryKind n (Line.conditional P ids par) = false
-isUnitaryKind n (Line.reset qs) = false
-isUnitaryKind n (Line.inject shot P) = false
-isUnitaryKind n (Line.flip shot id) = false
+-- Which lines of an accepted job are unitaries: u, c, p, e, k and m.
+unfoldable pub isUnitaryKind : Line → Bool
+isUnitaryKind (Line.unitary g qs) = true
+isUnitaryKind (Line.clifford qs t) = true
+isUnitaryKind (Line.pauli P) = true
+isUnitaryKind (Line.exponential P) = true
+isUnitaryKind (Line.controlled C T) = true
+isUnitaryKind (Line.permute s qs) = true
+isUnitaryKind (Line.measure P id) = false
+isUnitaryKind (Line.allocate id angle) = false
+isUnitaryKind (Line.conditional P ids par) = false
+isUnitaryKind (Line.reset qs) = false
+isUnitaryKind (Line.inject shot P) = false
+isUnitaryKind (Line.flip shot id) = false
 
 -- Q′ is Q conjugated by the line's unitary, phases dropped: the line has a unitary, which takes Q to Q′, and on the n qubits to no other Pauli.
 pub record IsConjugate (n : ℕ) (l : Line) (Q Q′ : Pauli) : Type 0 where
@@ -289,6 +289,6 @@ pub record IsConjugate (n : ℕ) (l : Line) (Q Q′ : Pauli) : Type 0 where
 -- and the deltas stay. Of noise nothing is claimed.
 unfoldable pub ConjugatesFrames : Header → Instruction → Type 0
 ConjugatesFrames h (Instruction.line l) =
-    isUnitaryKind (h .qubits) l ≡ true → (shot : ℕ) (s : State) → Within (h .qubits) (s .frame)
+    isUnitaryKind l ≡ true → (shot : ℕ) (s : State) → Within (h .qubits) (s .frame)
     → IsConjugate (h .qubits) l (s .frame) (forward (settingOf h shot) l s .frame) × (forward (settingOf h shot) l s .deltas ≡ s .deltas)
 ConjugatesFrames h (Instruction.noise n) = Unit {0}

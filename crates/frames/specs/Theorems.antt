@@ -1,7 +1,7 @@
 -- Theorems on conjugation: what the lines do to a frame is conjugation by the unitaries that document 01 gives, and these determine it. Nothing
 -- here has to be believed.
-use mathlib.Core.Path.{_≡_, refl, sym, ap₂, _∙_}
-use mathlib.Core.Bool.{true, false, _&&_, _||_, cond, true≢false}
+use mathlib.Core.Path.{_≡_, refl, sym, ap, ap₂, _∙_}
+use mathlib.Core.Bool.{true, false, not, _&&_, _||_, cond, true≢false}
 use mathlib.Core.Logic.{_↔_}
 use mathlib.Core.List.{List, [], _∷_}
 use Prim.Native.Nat.{ℕ, _+_, _*_, _^_, _<_}
@@ -57,7 +57,7 @@ forward-conjugates c (Line.reset qs) u s = absurd (true≢false (sym u))
 forward-conjugates c (Line.inject shot P) u s = absurd (true≢false (sym u))
 forward-conjugates c (Line.flip shot id) u s = absurd (true≢false (sym u))
 
--- What tests 1 to 12 leave of a job's lines (`checked-sound` of crate job) are unitary lines: a gate,
+-- What the tests of a job leave of a job's lines (`checked-sound` of crate job) are unitary lines: a gate,
 pub sound-gate : (n : ℕ) (g : Gate) (qs : List ℕ) → UnitarySound n g qs → isUnitaryLine n (Line.unitary g qs) ≡ true
 unfolding isUnitaryLine
 sound-gate n g qs s = ap₂ _&&_ (ap₂ _&&_ (s .operands .below) (s .operands .apart)) (eq-eqb (length qs) (operandsOf g) (s .count))
@@ -265,13 +265,13 @@ conjugation-commutes n (Line.flip shot id) u P P′ Q Q′ w w′ a b = absurd a
 -- ---- accepted jobs
 
 -- A sound line of a unitary kind is a unitary line.
-pub sound-unitary : (h : Header) (r : ℕ) (l : Line) → LineSound h r l → isUnitaryKind (h .qubits) l ≡ true → isUnitaryLine (h .qubits) l ≡ true
+pub sound-unitary : (h : Header) (r : ℕ) (l : Line) → LineSound h r l → isUnitaryKind l ≡ true → isUnitaryLine (h .qubits) l ≡ true
 unfolding LineSound isUnitaryKind isUnitaryLine
 sound-unitary h r (Line.unitary g qs) o u = sound-gate (h .qubits) g qs o
 sound-unitary h r (Line.clifford qs t) o u = sound-clifford (h .qubits) qs t o
 sound-unitary h r (Line.pauli P) o u = refl
 sound-unitary h r (Line.exponential P) o u = refl
-sound-unitary h r (Line.controlled C T) o u = u
+sound-unitary h r (Line.controlled C T) o u = ap not (o .commute)
 sound-unitary h r (Line.permute s qs) o u = sound-permutation (h .qubits) s qs o
 sound-unitary h r (Line.measure P id) o u = u
 sound-unitary h r (Line.allocate id angle) o u = u
@@ -286,7 +286,7 @@ pub sound-within : (h : Header) (r : ℕ) (l : Line) → LineSound h r l → (sh
 sound-within h r l o shot s w = line-within h r shot l o s w
 
 -- and, where the line is of a unitary kind, it is the frame's conjugate by the line's unitary.
-pub sound-conjugates : (h : Header) (r : ℕ) (l : Line) → LineSound h r l → isUnitaryKind (h .qubits) l ≡ true
+pub sound-conjugates : (h : Header) (r : ℕ) (l : Line) → LineSound h r l → isUnitaryKind l ≡ true
     → (shot : ℕ) (s : State) → Within (h .qubits) (s .frame) → IsConjugate (h .qubits) l (s .frame) (forward (settingOf h shot) l s .frame)
 sound-conjugates h r l o kind shot s w =
     let u = sound-unitary h r l o kind in
@@ -307,7 +307,7 @@ instructions-conjugate h r (i ∷ is) o =
     (instruction-conjugates h r (i .instruction) (o .0), instructions-conjugate h (r + recordedBy (i .instruction)) is (o .1))
 
 -- Demand 2: for every job that passes the checks, each unitary line's effect on a frame is conjugation, phases dropped. Each of its instructions that is
--- u, c, p, e or m, or k with a control and a target that commute, has a unitary and takes every frame on the job's qubits to its conjugate by it.
+-- u, c, p, e, k or m has a unitary and takes every frame on the job's qubits to its conjugate by it.
 -- (`frames-within` of crate draws: every frame of a run is one on the job's qubits.)
 pub job-conjugates : (job : List ℕ) → checkJob job .number ≡ 0
     → Every (λ (i : Placed). ConjugatesFrames (jobOf job .header) (i .instruction)) (jobOf job .instructions)

@@ -8,9 +8,10 @@ use lib.Dec.{eqb, ltb, leb}
 use lib.ListN.{length}
 use lib.Ieee.{Float, binary64, add}
 use Rattle.pauli.specs.Bits.{members}
+use Rattle.pauli.specs.Pauli.{anticommutes}
 use Rattle.pauli.specs.Gate.{operandsOf}
 use Rattle.job.specs.declared.Header.{Header}
-use Rattle.job.specs.Line.{SparsePauli, Line}
+use Rattle.job.specs.Line.{SparsePauli, pauliOf, Line}
 use Rattle.job.specs.Float.{float, zeroFloat, isProbability, isWeight, isTotal}
 use Rattle.job.specs.Clifford.{isClifford}
 use Rattle.job.specs.Grammar.{Kind, NoiseLine, Written}
@@ -187,6 +188,10 @@ outcomeTest c ids = test 9 (allBelow (c .recorded) ids)
 abbrev pub shotTest : Context → ℕ → Test
 shotTest c shot = test 10 (ltb shot (c .header .shots))
 
+-- 20: control and target of an `op=k` line anticommute
+abbrev pub commuteTest : Context → SparsePauli → SparsePauli → Test
+commuteTest c C T = test 20 (not (anticommutes (c .header .qubits) (pauliOf C) (pauliOf T)))
+
 -- the two lists of a Pauli
 abbrev pub listsOf : SparsePauli → List (List ℕ)
 listsOf P = P .x ∷ P .z ∷ []
@@ -202,7 +207,7 @@ lineTests c (Line.clifford qs t) =
     qubitTest c (qs ∷ []) ∷ operandTest (leb (length qs) maxCliffordQubits && distinct qs) (qs ∷ []) ∷ test 7 (isClifford (length qs) t) ∷ []
 lineTests c (Line.pauli P) = pauliTests c P []
 lineTests c (Line.exponential P) = pauliTests c P []
-lineTests c (Line.controlled C T) = qubitTest c (listsOf C ++ listsOf T) ∷ operandTest true (listsOf C ++ listsOf T) ∷ []
+lineTests c (Line.controlled C T) = qubitTest c (listsOf C ++ listsOf T) ∷ operandTest true (listsOf C ++ listsOf T) ∷ commuteTest c C T ∷ []
 lineTests c (Line.permute s qs) = qubitTest c (qs ∷ []) ∷ operandTest (distinct qs) (s ∷ qs ∷ []) ∷ test 6 (isPermutation (length qs) s) ∷ []
 lineTests c (Line.measure P id) = pauliTests c P (idTest c id ∷ [])
 lineTests c (Line.allocate id angle) = idTest c id ∷ []

@@ -1,4 +1,4 @@
--- Definitions. A job of bytes: its refusal by tests 1 to 12, and the instructions of one that passes. Assumes nothing.
+-- Definitions. A job of bytes: its refusal by the tests of a job, and the instructions of one that passes. Assumes nothing.
 use Prim.Native.Nat.{ℕ, suc, _+_, _-_}
 use mathlib.Core.Bool.{Bool, true, false, cond, _&&_}
 use mathlib.Core.List.{List, [], _∷_, map}
@@ -45,7 +45,7 @@ checkLines k c (l ∷ ls) =
     let later = checkLines (suc k) (nextOf c said) ls in
     cond (eqb number 0) later (answer number k)
 
--- the answer of tests 1 to 12
+-- the answer of the tests of a job
 unfoldable pub checkJob : List ℕ → Answer
 checkJob job = let all = checkLines 1 noContext (lines job) in cond (wellEnded job) all (answer 1 0)
 

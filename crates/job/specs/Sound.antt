@@ -1,5 +1,5 @@
 -- Definitions: what an accepted job is known for, the hypotheses that theorems and contracts use. The limits are document 01's, written out, so that
--- they do not depend on the tests' own. `checked-sound` (Theorems) proves all of it of a job that passes tests 1 to 12. Assumes nothing.
+-- they do not depend on the tests' own. `checked-sound` (Theorems) proves all of it of a job that passes the tests of a job. Assumes nothing.
 use Prim.Native.Nat.{ℕ, zero, suc, _+_, _^_, _≤_, _<_}
 use mathlib.Core.Path.{_≡_}
 use mathlib.Core.Bool.{Bool, true, false}
@@ -9,9 +9,10 @@ use lib.Ieee.{Float}
 use lib.ListN.{length}
 use Rattle.text.specs.Bytes.{lines}
 use Rattle.text.specs.List.{isRising}
+use Rattle.pauli.specs.Pauli.{anticommutes}
 use Rattle.pauli.specs.Gate.{Gate, operandsOf}
 use Rattle.job.specs.declared.Header.{Header}
-use Rattle.job.specs.Line.{SparsePauli, Line, WeightedPauli, Distribution, Noise, Instruction, Placed}
+use Rattle.job.specs.Line.{SparsePauli, pauliOf, Line, WeightedPauli, Distribution, Noise, Instruction, Placed}
 use Rattle.job.specs.Float.{float, zeroFloat, totalFrom, isProbability, isWeight, isTotal}
 use Rattle.job.specs.Clifford.{isClifford}
 use Rattle.job.specs.Grammar.{Kind, NoiseLine, Written, readLine}
@@ -58,6 +59,7 @@ pub record CliffordSound (n : ℕ) (qs : List ℕ) (t : ℕ) : Type 0 where
 pub record ControlledSound (n : ℕ) (C T : SparsePauli) : Type 0 where
   pub control : PauliSound n C
   pub target : PauliSound n T
+  pub commute : anticommutes n (pauliOf C) (pauliOf T) ≡ false
 
 pub record PermuteSound (n : ℕ) (s qs : List ℕ) : Type 0 where
   pub operands : Operands n qs

@@ -30,7 +30,7 @@ behind-header : {job : List ℕ} (b : Begun job) → InstructionsSound (b .heade
 unfolding between
 behind-header b = gathered-sound 2 (between (b .header) 0) (b .rest) (b .passes) .instructions
 
--- What the tests let pass meets the hypotheses of the theorems. A job that tests 1 to 12 accept ends in LF and holds at most 1,048,576 bytes; its first
+-- What the tests let pass meets the hypotheses of the theorems. A job that the tests of a job accept ends in LF and holds at most 1,048,576 bytes; its first
 -- line is a header in range; and every instruction, in order, has what document 01 asks of it, where the outcomes recorded are those of the lines
 -- before it: operands as many as the gate takes, distinct and below qubits; Cliffords; permutations; Paulis of rising lists below qubits; the next id,
 -- below outcomes; ids that are recorded; shots below shots; and noise whose probability, elements, weights and total are as they must be.
@@ -54,7 +54,7 @@ checked-sound job e =
     }
 
 -- The tests refuse no job of sound instructions: a header in range and, behind it, texts of instructions that are sound in their order, noise with its
--- element lines among them, pass tests 1 to 12 where the bytes pass test 1; and they are the job's instructions.
+-- element lines among them, pass the tests of a job where the bytes pass test 1; and they are the job's instructions.
 module _ (job text : List ℕ) (texts : List (List ℕ)) (h : Header) (is : List Instruction) (split : lines job ≡ text ∷ texts)
     (reads : readLine text ≡ some (Written.header h)) (said : SaidAs texts is)
   where

@@ -1,4 +1,4 @@
-// The definitions of a job, of its lines, its instructions and tests 1 to 12 (specs/), and the types that answers have. The code is in the crates reader,
+// The definitions of a job, of its lines, its instructions and the tests of a job (specs/), and the types that answers have. The code is in the crates reader,
 // instructions, value_tests, line_tests, noise_tests and checker.
 
 // The header's numbers.

@@ -17,7 +17,7 @@ use job::CountReply;
 use line_reader::LinePart;
 use writer::TextAnswer;
 
-// Tests 1 to 12 of a job.
+// The tests of a job.
 #[no_mangle]
 pub extern "C" fn kundatrezo_check(job: &[u8]) -> Answer
     ensures { λ r. ⌜ r ≡ checkJob (now (job .entry)) ⌝ }
@@ -25,7 +25,7 @@ pub extern "C" fn kundatrezo_check(job: &[u8]) -> Answer
     checker::check(job)
 }
 
-// Tests 1 to 12 of a job, and the numbers of an accepted one.
+// The tests of a job, and the numbers of an accepted one.
 #[no_mangle]
 pub extern "C" fn kundatrezo_examine(job: &[u8]) -> Examination
     ensures { λ r. ⌜ r ≡ examineReply (now (job .entry)) ⌝ }

@@ -15,10 +15,12 @@ pub mod header;
 
 use reader::Form;
 use template::values::count;
+use template::values::list;
 use template::values::number;
 use value_tests::clifford::is_clifford;
 use value_tests::context::Context;
 use value_tests::lists::below;
+use value_tests::lists::overlap_is_odd;
 use value_tests::lists::pauli_number;
 use value_tests::lists::short;
 use value_tests::lists::slot_distinct;
@@ -57,6 +59,25 @@ pub fn clifford_number(c: Context, f: &[u64]) -> u64
     }
     if !is_clifford(number(f, 0), k) {
         return 7;
+    }
+    0
+}
+
+// Control and target commute where X parts on Z parts, plus the reverse, are even in number.
+pub fn controlled_number(c: Context, f: &[u64]) -> u64
+    requires { ⌜ Whole (now f) ⌝ }
+    ensures { λ r. ⌜ ((vs : List Value) (w : Written) → Said form.Controlled (now (f .entry)) vs w → r ≡ lowest (ownTests (contextOf c) w)) ⌝ }
+{
+    if !below(f, 0, 4, c.header.qubits) {
+        return 4;
+    }
+    if !short(f, 0, 4) {
+        return 5;
+    }
+    let x_on_z = overlap_is_odd(list(f, 0), list(f, 3));
+    let z_on_x = overlap_is_odd(list(f, 1), list(f, 2));
+    if x_on_z != z_on_x {
+        return 20;
     }
     0
 }

@@ -8,6 +8,7 @@ use mathlib.Core.Option.{none, some}
 use lib.ListN.{getD}
 use Rattle.text.specs.Template.{Value, valuesOf}
 use Rattle.template.specs.Fields.{numberLetters, listLetters, Held}
+use Rattle.job.specs.Laws.Forms.{WrittenFits}
 use Rattle.job.specs.Grammar.{Written, Form as TableForm, forms, readLine}
 use Rattle.reader.specs.declared.Form.{Form}
 use Rattle.reader.specs.declared.Form.the-variants as form
@@ -78,7 +79,8 @@ pub record Parsed (line : List ℕ) (f : Form) (fields : List ℕ) : Type 0 wher
   pub unread : isUnread f ≡ true → readLine line ≡ none
   pub read : isUnread f ≡ false → ParsedAs line f fields
 
--- lent words hold the values by which a line of a form says what it says
+-- lent words hold the values by which a line of a form says what it says, which is good for the letters of its form
 pub record Said (form : Form) (fields : List ℕ) (values : List Value) (written : Written) : Type 0 where
   pub says : formOf form .says values ≡ some written
+  pub fits : WrittenFits written
   pub held : Held fields (numberLetters (formOf form .template)) (listLetters (formOf form .template)) values

@@ -80,7 +80,7 @@ unfoldable pub endedReply : Header → Memory → Ended → RunReply
 endedReply h m (Ended.spentAt k) = spentReply h m k
 endedReply h m (Ended.ended states) = finishedReply h m states
 
--- Tests 1 to 12, then 13, then 14. Execution is from cleared frames and deltas.
+-- The tests of a job, then 13, then 14. Execution is from cleared frames and deltas.
 unfoldable pub runReply : List ℕ → Memory → RunReply
 runReply job m =
     let j = jobOf job in

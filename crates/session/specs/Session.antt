@@ -64,7 +64,7 @@ sessionLines j deltas =
 unfoldable pub replyLines : Job → RunReply → List (List ℕ)
 replyLines j r = let lines = sessionLines j (r .deltas) in cond (eqb (r .answered .number) 0) lines (refusalLines (r .answered))
 
--- A longer input is refused before any check, a larger header after 1 to 12.
+-- A longer input is refused before any check, a larger header after the tests of a job.
 unfoldable pub printed : List ℕ → List ℕ
 printed job =
     let j = jobOf job in

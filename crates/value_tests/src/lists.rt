@@ -3,7 +3,8 @@ ghost use mathlib.Core.Path.{_≡_};
 ghost use mathlib.Core.Bool.{true};
 ghost use mathlib.Core.List.{List, [], _∷_};
 ghost use Prim.Native.Nat.{ℕ, _-_, _≤_, _<_};
-ghost use Rattle.pauli.specs.Bits.{members as among};
+ghost use Rattle.pauli.specs.Bits.{sumOver, members as among};
+ghost use Rattle.text.specs.List.{isRising};
 ghost use Rattle.text.specs.Template.{Value, listAt};
 ghost use Rattle.template.specs.Values.{Whole, AllKept};
 ghost use Rattle.template.specs.Fields.{Held};
@@ -93,6 +94,26 @@ pub fn slot_distinct(f: &[u64], slot: usize) -> bool
     ensures { λ r. ⌜ ((numbers lists : ℕ) (vs : List Value) → Held (now (f .entry)) numbers lists vs → slot < lists → r ≡ Checks·distinct (listAt slot vs)) ⌝ }
 {
     distinct(list(f, slot))
+}
+
+// Whether two rising lists have an odd number of members in common. Both are gone through together, with no branch on their members.
+pub fn overlap_is_odd(a: &[u64], b: &[u64]) -> bool
+    ensures { λ r. ⌜ (isRising (now (a .entry)) ≡ true → isRising (now (b .entry)) ≡ true → r ≡ sumOver (now (a .entry)) (among (now (b .entry)))) ⌝ }
+{
+    let mut odd = false;
+    let mut i = 0;
+    let mut j = 0;
+    while i < a.len() {
+        if b.len() <= j {
+            return odd;
+        }
+        let x = a[i];
+        let y = b[j];
+        odd = odd != (x == y);
+        i += (x <= y) as usize;
+        j += (y <= x) as usize;
+    }
+    odd
 }
 
 // The number that refuses Paulis: 4 and 5 of the lists from slot a up to slot e; n is the number of qubits.

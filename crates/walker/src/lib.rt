@@ -173,7 +173,7 @@ fn all_below(numbers: &[u64], n: u64) -> bool
     true
 }
 
-// The walk of a set of outcomes in a shot: tests 1 to 12 of the job, then 17, then 16.
+// The walk of a set of outcomes in a shot: the tests of the job, then 17, then 16.
 pub fn walk(job: &[u8], shot: u64, set: &[u64]) -> CountReply
     ensures { λ r. ⌜ r ≡ walkReply (now (job .entry)) shot (now (set .entry)) ⌝ }
 {

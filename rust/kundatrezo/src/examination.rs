@@ -48,7 +48,7 @@ impl Examination {
     }
 }
 
-/// Make tests 1 to 12 of a job, as [`check`](crate::check) does, and say what it asks of its caller.
+/// Make the tests of a job, as [`check`](crate::check) does, and say what it asks of its caller.
 ///
 /// # Errors
 ///

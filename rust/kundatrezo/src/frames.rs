@@ -38,19 +38,19 @@ impl Frames {
     ///
     /// # Errors
     ///
-    /// The refusal by 1 to 12, 13 (too few noiseless words) or 14.
+    /// The refusal by a test of the job, 13 (too few noiseless words) or 14.
     pub fn of_run(job: &[u8], noiseless: &[u64], draws: Draws<'_>) -> Answer<Self> {
         let mut frames = Self::new();
         frames.run(job, noiseless, draws)?;
         Ok(frames)
     }
 
-    /// Run a job in this memory, which grows as the job's header asks. After a refusal by 13 or 14 every row is zero, and after one by 1 to 12 there are
+    /// Run a job in this memory, which grows as the job's header asks. After a refusal by 13 or 14 every row is zero, and after one by a test of the job there are
     /// no rows.
     ///
     /// # Errors
     ///
-    /// The refusal by 1 to 12, 13 (too few noiseless words) or 14.
+    /// The refusal by a test of the job, 13 (too few noiseless words) or 14.
     pub fn run(&mut self, job: &[u8], noiseless: &[u64], draws: Draws<'_>) -> Answer {
         let examined = examine(job);
         self.job = examined.unwrap_or_default();

@@ -5,7 +5,7 @@
 //!
 //! | call | gives |
 //! |---|---|
-//! | [`check`] | whether the job passes tests 1 to 12; [`examine`] says what it asks of its caller, too |
+//! | [`check`] | whether the job passes the tests of a job; [`examine`] says what it asks of its caller, too |
 //! | [`run`] | the frames and the outcome deltas of all shots; [`Frames`] has memory of its own |
 //! | [`settle`] | the job with its noise replaced by the injections that the same words draw; [`settled`] as a `Vec` |
 //! | [`walk`] | for a set of outcomes and a shot, the count of faults that flip the set's parity |
@@ -118,7 +118,7 @@ impl<'a> Rows<'a> {
     }
 }
 
-/// Make tests 1 to 12 of a job.
+/// Make the tests of a job.
 ///
 /// # Errors
 ///
@@ -140,7 +140,7 @@ pub fn check(job: &[u8]) -> Answer {
 ///
 /// # Errors
 ///
-/// The refusal by 1 to 12, 13 (a lent list is too short) or 14 (a draw lies past its list). 14 leaves the needed words of `rows` zero, the others
+/// The refusal by a test of the job, 13 (a lent list is too short) or 14 (a draw lies past its list). 14 leaves the needed words of `rows` zero, the others
 /// leave all memory untouched.
 ///
 /// ```
@@ -161,7 +161,7 @@ pub fn run(job: &[u8], rows: Rows<'_>, noiseless: &[u64], draws: Draws<'_>) -> A
 ///
 /// # Errors
 ///
-/// The refusal by 1 to 12, 13 (too few noiseless words), 14 or 15 (the text does not fit; [`Refusal::figure`] is then exactly the
+/// The refusal by a test of the job, 13 (too few noiseless words), 14 or 15 (the text does not fit; [`Refusal::figure`] is then exactly the
 /// bytes that it takes, also above [`MAX_BYTES`]). Nothing is written then.
 ///
 /// ```
@@ -237,7 +237,7 @@ pub fn settle_into(job: &[u8], noiseless: &[u64], draws: Draws<'_>, out: &mut Ve
 ///
 /// # Errors
 ///
-/// The refusal by 1 to 12, 17 (shot or set) or 16 (noise).
+/// The refusal by a test of the job, 17 (shot or set) or 16 (noise).
 ///
 /// ```
 /// use kundatrezo::walk;
@@ -256,7 +256,7 @@ pub fn walk(job: &[u8], shot: u64, set: &[u64]) -> Answer<u64> {
 ///
 /// # Errors
 ///
-/// The refusal by 1 to 12 (11 with line 0 for `p` itself), 18 or 15. Nothing is written then.
+/// The refusal by a test of the job (11 with line 0 for `p` itself), 18 or 15. Nothing is written then.
 ///
 /// ```
 /// use kundatrezo::annotate;
@@ -296,7 +296,7 @@ pub fn annotated(job: &[u8], p: f64) -> Answer<Vec<u8>> {
 ///
 /// # Errors
 ///
-/// The refusal by 1 to 12.
+/// The refusal by a test of the job.
 ///
 /// ```
 /// use kundatrezo::locations;
@@ -312,7 +312,7 @@ pub fn locations(job: &[u8]) -> Answer<u64> {
 ///
 /// # Errors
 ///
-/// The refusal by 1 to 12, or 19 at the first line whose size is not that of its correlation's first line.
+/// The refusal by a test of the job, or 19 at the first line whose size is not that of its correlation's first line.
 ///
 /// ```
 /// use kundatrezo::{Number, correlation};

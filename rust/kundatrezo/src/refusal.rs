@@ -70,6 +70,7 @@ numbers! {
     17 WALK "the walk's shot not below the header's shots; its set not strictly rising, or with an outcome that is not recorded"
     18 ANNOTATION "annotation over a repeated qubit, or over more than 31"
     19 SIZES "sizes of one correlation differ"
+    20 CONTROL "control and target of a controlled Pauli anticommute"
 }
 
 impl Number {

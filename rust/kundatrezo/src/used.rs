@@ -20,7 +20,7 @@ impl Draws<'_> {
     ///
     /// # Errors
     ///
-    /// The refusal of the run or of settling: by 1 to 12, 13 or 14.
+    /// The refusal of the run or of settling: by a test of the job, 13 or 14.
     ///
     /// ```
     /// use kundatrezo::Draws;

@@ -32,7 +32,7 @@ pub const COMMANDS: &[Command] = &[
         operand: Operand::Job,
         summary: "whether a job passes the checks, and its numbers",
         details: &["\
-Makes tests 1 to 12 of a job. Prints 'ok=1', the numbers of its header, 'recorded=' with the number of
+Makes the tests of a job. Prints 'ok=1', the numbers of its header, 'recorded=' with the number of
 outcomes that it records, and 'lines=' with that of its lines."],
         options: &[],
         obey: check,

@@ -17,6 +17,7 @@ use Rattle.job.specs.declared.Header.{Header}
 use Rattle.job.specs.Line.{SparsePauli, Line}
 use Rattle.job.specs.Grammar.{Kind, NoiseLine, Written, headerBy, isOne, optional, unitaryLine, noiseLine, forms, readLine}
 use Rattle.job.specs.Checks.{records, elementLines, firstTotal}
+use Rattle.job.specs.Laws.Forms.{SaidFits, line-fits}
 use Rattle.reader.specs.declared.Form.{Form}
 use Rattle.reader.specs.declared.Form.the-variants as form
 use Rattle.reader.specs.Parsed.{placeOf, noForm, formOf, isUnread, ParsedAs, Parsed, Said}
@@ -93,7 +94,8 @@ meaning form.WeightedElement vs w e = subst (Meaning form.WeightedElement) (some
 
 -- a line that was parsed is said
 pub said-by : {line : List ℕ} {f : Form} {fields : List ℕ} (p : ParsedAs line f fields) → Said f fields (p .values) (p .written)
-said-by p = record { says = p .says; held = p .held }
+unfolding SaidFits
+said-by {line} p = record { says = p .says; fits = rw (p .reads) at (line-fits line); held = p .held }
 
 -- a line that says something was read, and is said by its values
 pub read-says : {line : List ℕ} {f : Form} {fields : List ℕ} {w : Written} → Parsed line f fields → readLine line ≡ some w → (vs : List Value) × Said f fields vs w

@@ -3,7 +3,7 @@ use Prim.Native.Nat.{ℕ, _≤_}
 use mathlib.Core.Path.{_≡_}
 use mathlib.Core.Bool.{true, _&&_}
 use mathlib.Core.List.{List, [], _∷_, _++_}
-use borrow.Author.Tests.{ltb-true, leb-true, eqb-true, not-false}
+use borrow.Author.Tests.{ltb-true, leb-true, eqb-true, not-false, not-true}
 use lib.Dec.{eqb, ltb, leb}
 use lib.ListN.{length}
 use Rattle.text.specs.Written.{FitQ}
@@ -79,7 +79,7 @@ line-sound c (Line.pauli P) f t = pauli-sound _ P f (not-false _ (t .0)) (not-fa
 line-sound c (Line.exponential P) f t = pauli-sound _ P f (not-false _ (t .0)) (not-false _ (t .1 .0))
 line-sound c (Line.controlled C T) f t =
     let control = first-pauli _ C (listsOf T) (f .0) (not-false _ (t .0)) (not-false _ (t .1 .0)) in
-    record { control = control .0; target = pauli-sound _ T (f .1) (control .1) (control .2) }
+    record { control = control .0; target = pauli-sound _ T (f .1) (control .1) (control .2); commute = not-true _ (not-false _ (t .1 .1 .0)) }
 line-sound c (Line.permute s qs) f t =
     let lists = both (distinct qs) (eachShort (s ∷ qs ∷ [])) (not-false _ (t .1 .0)) in
     let rest = first-short s (qs ∷ []) (lists .1) in

@@ -80,7 +80,7 @@ line-passes h r (Line.pauli P) s = pauli-passes _ P s tt
 line-passes h r (Line.exponential P) s = pauli-passes _ P s tt
 line-passes h r (Line.controlled C T) s =
     passed (pauli-below _ C (listsOf T) (s .control) (one-below _ T (s .target)))
-    (passed (pauli-short _ C (listsOf T) (s .control) (one-short _ T (s .target))) tt)
+    (passed (pauli-short _ C (listsOf T) (s .control) (one-short _ T (s .target))) (passed (ap not (s .commute)) tt))
 line-passes h r (Line.permute p qs) s =
     let o = s .operands in
     let long : length p ≤ 31 = omega (arith, permutation-parts (length qs) p (s .places) .long, o .few) in

@@ -1,20 +1,28 @@
 -- The tests of the header and of a line of each form, by its values. Laws. Assumes nothing.
-use Prim.Native.Nat.{ℕ, _≤_}
+use Prim.Native.Nat.{ℕ, _≤_, _<_}
 use native.Mathlib.Omega.{arith}
-use mathlib.Core.Path.{_≡_, refl, sym, ap, _∙_}
-use mathlib.Core.Bool.{Bool, true, false, _&&_, and-true}
+use mathlib.Core.Path.{_≡_, refl, sym, ap, ap₂, subst, _∙_}
+use mathlib.Core.Bool.{Bool, true, false, not, Bool·beq, _&&_, and-true}
 use mathlib.Core.List.{List, [], _∷_}
 use mathlib.Core.Option.{Option, none, some}
 use borrow.Author.Tests.{eq-eqb, ne-eqb}
 use lib.Dec.{eqb, ltb, leb}
 use lib.ListN.{length}
-use Rattle.pauli.specs.Bits.{outside, members}
+use Rattle.pauli.specs.Bits.{_⊕_, outside, members, sumOver}
+use Rattle.pauli.specs.Pauli.{anticommutes}
 use Rattle.pauli.specs.Gate.{Gate, I, X, Y, Z, Hadamard, SqrtZ, SqrtZInv, SqrtX, SqrtXInv, SqrtY, SqrtYInv, ControlledX, ControlledZ, Swap, PrepareBell, gateOf, operandsOf}
 use Rattle.pauli.specs.Code.{operandCount}
 use Rattle.text.specs.Bytes.{bytes}
 use Rattle.text.specs.Template.{Value, numberAt, listAt}
 use Rattle.job.specs.Clifford.{isClifford}
-use Rattle.job.specs.Grammar.{Written, forms}
+use Rattle.job.specs.Line.{pauliOf}
+use Rattle.job.specs.Grammar.{Written, pauliAt, forms}
+use Rattle.job.specs.Laws.Forms.{PauliFits, LineFits, WrittenFits}
+use Rattle.text.specs.List.{isRising}
+use Rattle.text.specs.Laws.Values.{both}
+use Rattle.template.specs.Values.{Whole, AllKept, heldList}
+use Rattle.template.specs.Fields.{Held}
+use Rattle.template.specs.Laws.Fields.{list-held}
 use Rattle.job.specs.Checks.{test, allBelow, eachBelow, eachShort, distinct, isPermutation, idTest, lineTests, ownTests, lowest}
 use Rattle.reader.specs.declared.Form.the-variants as form
 use Rattle.reader.specs.Parsed.{placeOf, Said}
@@ -23,6 +31,7 @@ use Rattle.instructions.specs.Laws.Meaning.{some-same, unitary-said}
 use Rattle.value_tests.specs.Slots.{listsFrom}
 use Rattle.value_tests.specs.Contexts.{contextOf}
 use Rattle.value_tests.specs.Laws.Lowest.{Tested}
+use Rattle.value_tests.specs.Laws.Overlap.{anticommutes-listed}
 
 -- the third of three tests first
 third-first : (a b d : Bool) → (a && (b && (d && true))) ≡ (d && (a && (b && true)))
@@ -47,6 +56,38 @@ module _ (k : ℕ) (s : List ℕ) where
     pub by-distinct : allBelow k s ≡ true → distinct s ≡ isPermutation k s
     unfolding isPermutation
     by-distinct h = rw (eq-eqb (length s) k e, h)
+
+-- ---- commutation
+
+-- control and target as they stand on a line, by how often their lists meet
+module _ (n : ℕ) (vs : List Value) (C : PauliFits (pauliAt 0 1 vs)) (below : eachBelow n (listsFrom 0 4 vs) ≡ true) where
+  commutes-by : (sumOver (listAt 0 vs) (members (listAt 3 vs)) ⊕ sumOver (listAt 1 vs) (members (listAt 2 vs))) ≡ anticommutes n (pauliOf (pauliAt 0 1 vs)) (pauliOf (pauliAt 2 3 vs))
+  unfolding listsFrom eachBelow
+  commutes-by =
+      let first = both (allBelow n (listAt 0 vs)) _ below in
+      let second = both (allBelow n (listAt 1 vs)) _ (first .1) in
+      anticommutes-listed n (pauliAt 0 1 vs) (pauliAt 2 3 vs) (C .x .rising) (first .0) (C .z .rising) (second .0)
+
+  -- they commute where the two sums are the same
+  pub commute-test : (one other : Bool) → one ≡ sumOver (listAt 0 vs) (members (listAt 3 vs)) → other ≡ sumOver (listAt 1 vs) (members (listAt 2 vs))
+      → not (anticommutes n (pauliOf (pauliAt 0 1 vs)) (pauliOf (pauliAt 2 3 vs))) ≡ Bool·beq one other
+  unfolding _⊕_
+  commute-test one other p q = ap not (sym commutes-by ∙ sym (ap₂ _⊕_ p q)) ∙ even one other
+    where
+      even : (s t : Bool) → not (s ⊕ t) ≡ Bool·beq s t
+      even true true = refl
+      even true false = refl
+      even false true = refl
+      even false false = refl
+
+-- what two of a line's lists that rise have in common, by slices of them
+pub met : {f : List ℕ} {numbers : ℕ} {vs : List Value} {l m : List ℕ} {r : Bool} → Held f numbers 4 vs → Whole f → ((i : ℕ) → 0 ≤ i → i < 4 → AllKept f i)
+    → (i j : ℕ) → i < 4 → j < 4 → l ≡ heldList f i → m ≡ heldList f j → isRising (listAt i vs) ≡ true → isRising (listAt j vs) ≡ true
+    → (isRising l ≡ true → isRising m ≡ true → r ≡ sumOver l (members m)) → r ≡ sumOver (listAt i vs) (members (listAt j vs))
+met {l = l} {m = m} {r = r} held whole kept i j below below′ p q rises rises′ counted =
+    let first = p ∙ list-held held whole i below (kept i (omega arith) below) in
+    let second = q ∙ list-held held whole j below′ (kept j (omega arith) below′) in
+    rw (first, second) at counted rises rises′
 
 -- ---- how many operands a gate takes
 
@@ -170,9 +211,18 @@ module _ (c : Known) {f : List ℕ} {vs : List Value} {w : Written} where
   tests-exponential h = record { held = h .held; own = ap (λ (x : Written). lowest (ownTests (contextOf c) x)) (some-same (h .says)) }
 
   pub tests-controlled : Said form.Controlled f vs w
-      → Tested c f 0 4 vs w (test 4 (eachBelow (c .header .qubits) (listsFrom 0 4 vs)) ∷ test 5 (eachShort (listsFrom 0 4 vs)) ∷ [])
+      → Tested c f 0 4 vs w
+      (test 4 (eachBelow (c .header .qubits) (listsFrom 0 4 vs))
+      ∷ test 5 (eachShort (listsFrom 0 4 vs))
+      ∷ test 20 (not (anticommutes (c .header .qubits) (pauliOf (pauliAt 0 1 vs)) (pauliOf (pauliAt 2 3 vs))))
+      ∷ [])
   unfolding forms placeOf bytes ownTests lineTests contextOf listsFrom
   tests-controlled h = record { held = h .held; own = ap (λ (x : Written). lowest (ownTests (contextOf c) x)) (some-same (h .says)) }
+
+  -- control and target are good for the letters of the form
+  pub controlled-fits : Said form.Controlled f vs w → PauliFits (pauliAt 0 1 vs) × PauliFits (pauliAt 2 3 vs)
+  unfolding forms placeOf bytes WrittenFits LineFits
+  controlled-fits h = subst WrittenFits (sym (some-same (h .says))) (h .fits)
 
   pub tests-allocate : Said form.Allocate f vs w → Tested c f 2 0 vs w (idTest (contextOf c) (numberAt 0 vs) ∷ [])
   unfolding forms placeOf bytes ownTests lineTests contextOf

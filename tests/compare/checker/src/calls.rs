@@ -55,7 +55,7 @@ pub struct Rows<'a> {
 
 /// Every call, on lists of any length.
 pub trait Calls {
-    /// Tests 1 to 12.
+    /// The tests of a job.
     fn check(&self, job: &[u8]) -> Answer;
 
     /// Run a job to its end; frames and deltas are in `rows`.

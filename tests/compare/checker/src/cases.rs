@@ -1,4 +1,4 @@
-//! Jobs made for each sentence of tests 1 to 12, with their answers as worked out by hand: every limit and one past it, and the places where two
+//! Jobs made for each sentence of the tests of a job, with their answers as worked out by hand: every limit and one past it, and the places where two
 //! numbers meet.
 
 /// A job, and the number and line that its check answers.
@@ -121,7 +121,7 @@ impl Cases {
     fn lines_by_number(&mut self) {
         let long = &numbers(0..32);
         let full = &numbers(0..31);
-        let table: [(String, u64); 77] = [
+        let table: [(String, u64); 88] = [
             ("op=u g=14 q=0,39".into(), 0),
             ("op=u g=15 q=99".into(), 2),
             ("op=u g=04 q=0".into(), 2),
@@ -160,6 +160,18 @@ impl Cases {
             (format!("op=k x={long} z=- u=- v=40"), 4),
             (format!("op=k x={full} z={full} u={full} v={full}"), 0),
             (format!("op=k x={full} z={full} u={full} v={long}"), 5),
+            // Control and target commute where they meet an even number of times; 4 and 5 come first.
+            ("op=k x=0,1 z=- u=- v=0,1".into(), 0),
+            ("op=k x=0 z=1 u=1 v=0".into(), 0),
+            ("op=k x=0 z=0 u=0 v=0".into(), 0),
+            ("op=k x=- z=- u=- v=0".into(), 0),
+            ("op=k x=0 z=- u=- v=0".into(), 20),
+            ("op=k x=- z=0 u=0 v=-".into(), 20),
+            ("op=k x=0 z=- u=0 v=0".into(), 20),
+            ("op=k x=0,1,2 z=- u=- v=0,1,2".into(), 20),
+            (format!("op=k x={full} z=- u=- v={full}"), 20),
+            ("op=k x=0 z=- u=- v=0,40".into(), 4),
+            (format!("op=k x=0 z=- u=- v={long}"), 5),
             ("op=c q=0 t=0000000000000009".into(), 0),
             ("op=c q=0 t=0000000000000019".into(), 7),
             ("op=c q=0 t=0000000000000001".into(), 7),
@@ -208,6 +220,9 @@ impl Cases {
             self.lines(&lines, number, place);
         }
         self.line("x=- z=-", 2);
+        // The first bad line counts, whatever its number.
+        self.lines("op=k x=0 z=- u=- v=0\nop=z q=40", 20, 4);
+        self.lines("op=z q=40\nop=k x=0 z=- u=- v=0", 4, 4);
     }
 
     fn noise_lines(&mut self) {

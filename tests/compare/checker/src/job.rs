@@ -26,10 +26,15 @@ pub const MAX_ONE_QUBIT_GATE: u64 = 10;
 /// A list of numbers as written.
 pub type List = SmallVec<[u64; 2]>;
 
-/// Why a call says no: the number of document 01's table, and the line from 1 (0 where none fits).
+/// The numbers of the tests of a job, which every call makes.
+pub const TESTS: [u64; 13] = [1, 2, 3, 4, 5, 6, 7, 8, 9, 10, 11, 12, 20];
+/// The numbers that are calls' own.
+pub const OF_CALLS: [u64; 7] = [13, 14, 15, 16, 17, 18, 19];
+
+/// Why a call says no: the number of documents 01 and 02, and the line from 1 (0 where none fits).
 #[derive(Debug, Clone, Copy, PartialEq, Eq)]
 pub struct Refusal {
-    /// 1 to 19.
+    /// One of [`TESTS`] or [`OF_CALLS`].
     pub number: u64,
     /// From 1, or 0 where none fits.
     pub line: u64,
@@ -106,6 +111,13 @@ impl Pauli {
         qubits.dedup();
         qubits
     }
+
+    /// Whether X parts on the other's Z parts, plus the reverse, are odd in number.
+    #[must_use]
+    pub fn anticommutes(&self, other: &Pauli) -> bool {
+        let meetings = |one: &List, two: &List| one.iter().filter(|qubit| two.contains(qubit)).count();
+        (meetings(&self.x, &other.z) + meetings(&self.z, &other.x)) % 2 == 1
+    }
 }
 
 /// A line other than the header; a noise line with its element lines. What is large is boxed, so that the rest moves quickly.
@@ -179,7 +191,7 @@ pub struct Line<'a> {
     pub instruction: Instruction,
 }
 
-/// A job that has passed tests 1 to 12.
+/// A job that has passed the tests of a job.
 #[derive(Debug, Clone, PartialEq)]
 pub struct Job<'a> {
     /// The header's numbers.

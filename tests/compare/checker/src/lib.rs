@@ -1,7 +1,7 @@
 //! Document 01, read by hand and on its own: no line of it comes from the published Rust or from the engine under test.
 //!
 //! - [`job`]: what a job says, as data.
-//! - [`read`]: bytes to a job, or the refusal by tests 1 to 12.
+//! - [`read`]: bytes to a job, or the refusal by the tests of a job.
 //! - [`write`]: a job's data back to text.
 //! - [`calls`]: every call by its signature, so that implementations can be compared.
 //! - [`cases`]: jobs with their answers, worked out by hand.

@@ -1,4 +1,4 @@
-//! Reading a job: its form, and tests 1 to 12.
+//! Reading a job: its form, and its tests, 1 to 12 and 20.
 //!
 //! The first bad line counts, and its lowest number. A line is first read by its form (2, in [`crate::form`]); what it says is then put to the
 //! tests in the order of their numbers, each a yes or no on the whole line.
@@ -9,7 +9,7 @@ use crate::job::{
     MAX_ONE_QUBIT_GATE, MAX_OUTCOMES, MAX_QUBITS, MAX_SHOTS, Noise, Pauli, Refusal, table_row,
 };
 
-/// Make tests 1 to 12.
+/// Make the tests of a job.
 ///
 /// # Errors
 ///
@@ -20,7 +20,7 @@ pub fn check(bytes: &[u8]) -> Result<(), Refusal> {
     Ok(())
 }
 
-/// Make tests 1 to 12, and keep what the job says.
+/// Make the tests of a job, and keep what it says.
 ///
 /// # Errors
 ///
@@ -188,9 +188,9 @@ impl<'a> Reader<'a> {
                 .test_operands(qubits, qubits.len() <= MAX_CLIFFORD_QUBITS)
                 .or_else(|| (!is_clifford(*table, qubits.len())).then_some(7)),
             Instruction::Pauli(pauli) | Instruction::Exponential(pauli) => self.test_pauli(pauli),
-            Instruction::Controlled { control, target } => {
-                self.test_lists(&[&control.x, &control.z, &target.x, &target.z])
-            }
+            Instruction::Controlled { control, target } => self
+                .test_lists(&[&control.x, &control.z, &target.x, &target.z])
+                .or_else(|| control.anticommutes(target).then_some(20)),
             Instruction::Permute { places, qubits } => self
                 .test_operands(qubits, places.len() <= MAX_LIST)
                 .or_else(|| (!is_permutation(places, qubits.len())).then_some(6)),

@@ -1,6 +1,6 @@
 //! Which inputs the stored cases of a call have: random ones, each of which shows something that few before it show.
 
-use checker::job::{Distribution, Header, Instruction, Job, MAX_BYTES, Noise, usize_of};
+use checker::job::{Distribution, Header, Instruction, Job, MAX_BYTES, Noise, TESTS, usize_of};
 use checker::plain::settled;
 use checker::read::read;
 use generator::damage::damaged;
@@ -159,7 +159,7 @@ fn wanted(call: Call) -> Vec<String> {
         Call::Check | Call::Locations | Call::Print => &[],
     };
     let mut all: Vec<String> =
-        (0..=12).chain(own_numbers.iter().copied()).map(|number| format!("number {number}")).collect();
+        [0].iter().chain(&TESTS).chain(own_numbers).map(|number| format!("number {number}")).collect();
     all.extend((0..=14).map(|gate| format!("gate {gate}")));
     all.extend(KINDS.map(String::from));
     if call != Call::Walk {

@@ -92,6 +92,7 @@ fn report(under_test: &dyn Calls, call: Call, seed: u64, input: &Input) {
 mod tests {
     use super::{Refusals, passes};
     use checker::calls::{Answer, Calls, Draws, Rows};
+    use checker::job::{OF_CALLS, TESTS};
     use checker::plain::Plain;
     use reference::vectors::CALLS;
 
@@ -102,7 +103,8 @@ mod tests {
             assert!(passes(&Plain, call, 300, 1, &mut refusals));
         }
         println!("refusals of all calls: {refusals}");
-        let missing: Vec<u64> = (0..=19).filter(|number| !refusals.0.contains_key(number)).collect();
+        let numbers = [0].into_iter().chain(TESTS).chain(OF_CALLS);
+        let missing: Vec<u64> = numbers.filter(|number| !refusals.0.contains_key(number)).collect();
         assert_eq!(missing, []);
     }
 

@@ -14,6 +14,7 @@ pub fn damaged(random: &mut Random, job: &[u8]) -> Vec<u8> {
             0 | 1 => byte_damaged(random, copy),
             2 | 3 => line_damaged(random, &copy),
             4 => whole_damaged(random, copy),
+            5 | 6 => controls_damaged(random, &copy, &header),
             _ => value_damaged(random, &copy, &header),
         };
     }
@@ -50,6 +51,24 @@ fn line_damaged(random: &mut Random, job: &[u8]) -> Vec<u8> {
         4 => lines.insert(place, b"\n"),
         _ => lines.insert(place, lines[0]),
     }
+    lines.concat()
+}
+
+/// A controlled Pauli put in whose control and target anticommute, at one qubit or at three.
+fn controls_damaged(random: &mut Random, job: &[u8], header: &Header) -> Vec<u8> {
+    let mut lines: Vec<&[u8]> = job.split_inclusive(|&byte| byte == b'\n').collect();
+    if lines.is_empty() || header.qubits == 0 {
+        return job.to_vec();
+    }
+    let count = if header.qubits >= 3 && random.one_in(2) { 3 } else { 1 };
+    let mut qubits: Vec<u64> = random.distinct(header.qubits, count).into_iter().collect();
+    qubits.sort_unstable();
+    let list = qubits.iter().map(u64::to_string).collect::<Vec<_>>().join(",");
+    let line = match random.below(2) {
+        0 => format!("op=k x={list} z=- u=- v={list}\n"),
+        _ => format!("op=k x=- z={list} u={list} v=-\n"),
+    };
+    lines.insert(1 + random.index(lines.len()), line.as_bytes());
     lines.concat()
 }
 

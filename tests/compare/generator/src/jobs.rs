@@ -162,7 +162,7 @@ impl Maker<'_> {
             3..5 => self.clifford(),
             5 => Instruction::Pauli(self.pauli()),
             6 => Instruction::Exponential(self.pauli()),
-            7 => Instruction::Controlled { control: self.pauli(), target: Box::new(self.pauli()) },
+            7 => self.controlled(),
             8 => self.permute(),
             9..11 => Instruction::Measure { observable: self.pauli(), id: self.next_id()? },
             11 => Instruction::Allocate { id: self.next_id()?, angle: self.random.one_in(2) },
@@ -254,6 +254,20 @@ impl Maker<'_> {
         Instruction::Clifford { qubits, table }
     }
 
+    /// Control and target that commute; they often meet at several qubits.
+    fn controlled(&mut self) -> Instruction {
+        let control = self.pauli();
+        let mut target = self.pauli();
+        if self.random.one_in(3) {
+            // The other letter on the control's qubits.
+            target = Pauli { x: control.z.clone(), z: control.x.clone() };
+        }
+        if control.anticommutes(&target) {
+            part_toggled(&control, &mut target);
+        }
+        Instruction::Controlled { control, target: Box::new(target) }
+    }
+
     fn permute(&mut self) -> Instruction {
         let qubits = self.places();
         let places = self.random.distinct(qubits.len() as u64, qubits.len());
@@ -326,6 +340,19 @@ impl Maker<'_> {
         let many = self.random.pick(&[63, 64]);
         let free = if self.random.one_in(15) { many } else { few };
         usize_of(size.unwrap_or(free))
+    }
+}
+
+/// A part of the target changed at one of the control's qubits, so that the two meet once more or once less.
+fn part_toggled(control: &Pauli, target: &mut Pauli) {
+    let (qubit, list) = match control.x.first() {
+        Some(&qubit) => (qubit, &mut target.z),
+        None => (control.z[0], &mut target.x),
+    };
+    match list.binary_search(&qubit) {
+        Ok(place) => _ = list.remove(place),
+        Err(place) if list.len() < MAX_LIST => list.insert(place, qubit),
+        Err(_) => *target = Pauli::default(),
     }
 }
 

@@ -2,7 +2,7 @@
 use native.Mathlib.Omega.{arith}
 use mathlib.Core.Path.{_∙_}
 use Rattle.noise_tests.specs.Laws.Elements.{unread-said}
-use Rattle.line_tests.specs.Laws.Lines.{tests-header, tests-pauli, tests-exponential, tests-controlled, tests-allocate}
+use Rattle.line_tests.specs.Laws.Lines.{tests-header, tests-pauli, tests-exponential, tests-allocate}
 use Rattle.noise_tests.specs.Laws.Noise.{tests-uniform, tests-weighted, tests-element}
 use Rattle.noise_tests.specs.Laws.Elements.{no-weights, with-weights}
 use borrow.Author.Needs.{needs}
@@ -42,8 +42,8 @@ pauli-number-requires-2 c κs = search needs
 enum-told-7 : tie.Need-enum-told-7
 enum-told-7 c = search needs
 
-pauli-number-requires-3 : tie.Need-pauli-number-requires-3
-pauli-number-requires-3 c κs = search needs
+controlled-number-requires : tie.Need-controlled-number-requires
+controlled-number-requires c κs = search needs
 
 enum-told-8 : tie.Need-enum-told-8
 enum-told-8 c = search needs
@@ -117,8 +117,8 @@ listed-number-requires-2 c κs = search needs
 enum-told-19 : tie.Need-enum-told-19
 enum-told-19 c = search needs
 
-pauli-number-requires-4 : tie.Need-pauli-number-requires-4
-pauli-number-requires-4 c κs = search needs
+pauli-number-requires-3 : tie.Need-pauli-number-requires-3
+pauli-number-requires-3 c κs = search needs
 
 enum-told-20 : tie.Need-enum-told-20
 enum-told-20 c = search needs
@@ -151,10 +151,7 @@ returns-6 c =
     c .pauli-number2 .ensures _ _ vs (t .held) (omega arith) ∙ t .own
 
 returns-7 : tie.Need-returns-7
-returns-7 c =
-    λ vs w h x.
-    let t = tests-controlled (c .before .before .before .before .args .c) (rw (c .before .enum-told7 .given .1) at h) in
-    c .pauli-number3 .ensures _ _ vs (t .held) (omega arith) ∙ t .own
+returns-7 c = λ vs w h x. c .controlled-number .ensures vs w (rw (c .before .enum-told7 .given .1) at h)
 
 returns-8 : tie.Need-returns-8
 returns-8 c = λ vs w h x. c .permute-number .ensures vs w (rw (c .before .enum-told8 .given .1) at h)
@@ -204,7 +201,7 @@ returns-19 c =
     λ vs w h x.
     let s = rw (c .before .enum-told19 .given .1) at h in
     let t = tests-element (c .before .before .before .before .args .c) s (no-weights (c .before .before .before .before .args .c) s x) in
-    c .pauli-number4 .ensures _ _ vs (t .held) (omega arith) ∙ t .own
+    c .pauli-number3 .ensures _ _ vs (t .held) (omega arith) ∙ t .own
 
 returns-20 : tie.Need-returns-20
 returns-20 c =
@@ -227,7 +224,7 @@ own-number-spec =
     enum-told-6
     pauli-number-requires-2
     enum-told-7
-    pauli-number-requires-3
+    controlled-number-requires
     enum-told-8
     permute-number-requires
     enum-told-9
@@ -252,7 +249,7 @@ own-number-spec =
     enum-told-18
     listed-number-requires-2
     enum-told-19
-    pauli-number-requires-4
+    pauli-number-requires-3
     enum-told-20
     weighted-element-number-requires
     returns
