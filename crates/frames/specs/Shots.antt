@@ -47,7 +47,7 @@ unfoldable pub shotOf : ShotFault → ℕ
 shotOf (ShotFault.inject shot P) = shot
 shotOf (ShotFault.flip shot id) = shot
 
--- whether a line is one of the two
+-- the injection or flip that a line is, if it is one
 unfoldable pub faultIn : Line → Option ShotFault
 faultIn (Line.unitary g qs) = none
 faultIn (Line.clifford qs t) = none
@@ -93,7 +93,7 @@ unfoldable pub upTo : List Line → ℕ → List Line
 upTo [] g = []
 upTo (l ∷ ls) g = upToFrom (faultIn l) l (upTo ls) g
 
--- equal as they are written
+-- Equal as they are written. The lists of a job's Pauli rise, so that it is written in one way.
 unfoldable pub sameList : List ℕ → List ℕ → Bool
 sameList [] [] = true
 sameList [] (b ∷ k) = false
