@@ -7,5 +7,6 @@ pub mod Theorems
 pub mod Calls
 pub mod CallTheorems
 pub mod SizeTheorems
+pub mod ShotTheorems
 -- Laws of these definitions.
 pub mod Laws

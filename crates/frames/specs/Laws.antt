@@ -27,3 +27,6 @@ pub mod Within
 -- Linearity of the lines without a fault, and the faults of other shots.
 pub mod Linear
 pub mod RunShots
+-- Injections and flips by the other lines between which they stand.
+pub mod Gaps
+pub mod Times

@@ -1,6 +1,7 @@
 //! Frames and deltas in memory of their own.
 
 use crate::{Answer, Draws, Examination, Rows, examine, run};
+use std::ops::BitXorAssign;
 
 /// The frames and outcome deltas that a run leaves, in memory of their own, which a further run uses again.
 ///
@@ -123,6 +124,49 @@ impl Frames {
     fn row<'a>(&self, list: &'a [u64], place: usize) -> &'a [u64] {
         let words = self.job.words_per_row();
         &list[place * words..][..words]
+    }
+}
+
+/// Adds the rows of another run, by exclusive or; frames without rows take the other's.
+///
+/// Let the two jobs be without noise and have the same header and the same lines but for injections and flips. The sum is then what a job leaves that
+/// holds the injections and flips of both, each among the same lines, and twice where both hold it there (`faults-add-calls` in
+/// crates/backward/specs/ShotTheorems.antt of the repository).
+///
+/// # Panics
+///
+/// Panics if the headers of the two jobs differ.
+///
+/// ```
+/// use kundatrezo::{Draws, Frames};
+///
+/// let run = |faults: [&str; 2]| {
+///     let [first, second] = faults;
+///     let job = format!("op=job qubits=1 outcomes=2 shots=2\n{first}op=o x=- z=0 id=0\nop=z q=0\n{second}op=o x=- z=0 id=1\n");
+///     Frames::of_run(job.as_bytes(), &[0, 0], Draws::default())
+/// };
+/// let (x, y) = ("op=i shot=0 x=0 z=-\n", "op=i shot=1 x=0 z=0\n");
+/// let mut sum = run([x, y])?;
+/// sum ^= &run([x, ""])?;
+/// // both hold the X of shot 0 before the first measurement: there it stands twice, and cancels
+/// let both = run([&format!("{x}{x}"), y])?;
+/// assert_eq!((sum.x(), sum.z(), sum.deltas()), (both.x(), both.z(), both.deltas()));
+/// assert_eq!(sum.deltas(), [0b00, 0b10]);
+/// # Ok::<(), kundatrezo::Refusal>(())
+/// ```
+impl BitXorAssign<&Frames> for Frames {
+    fn bitxor_assign(&mut self, other: &Frames) {
+        if self.job == Examination::default() {
+            self.clone_from(other);
+            return;
+        }
+        let header = |frames: &Frames| (frames.job.qubits, frames.job.outcomes, frames.job.shots);
+        assert_eq!(header(self), header(other), "the headers of jobs whose frames are added");
+        for (rows, others) in [(&mut self.x, &other.x), (&mut self.z, &other.z), (&mut self.deltas, &other.deltas)] {
+            for (word, other) in rows.iter_mut().zip(others) {
+                *word ^= other;
+            }
+        }
     }
 }
 

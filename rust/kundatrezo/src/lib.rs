@@ -13,6 +13,8 @@
 //! | [`locations`] | the number of fault locations |
 //! | [`correlation`] | whether correlated noise lines agree in size |
 //!
+//! Beside the calls, [`split`] shares the shots of a settled job among several benches, and `^=` on [`Frames`] adds what they leave.
+//!
 //! # Rows
 //!
 //! A row has a bit for each shot: shot s is bit s mod 64 of word s / 64. The frames have an X row and a Z row for each qubit, deltas and noiseless bits a
@@ -76,6 +78,7 @@ mod examination;
 mod float_state;
 mod frames;
 mod refusal;
+mod split;
 mod sys;
 mod used;
 mod xorshift;
@@ -84,6 +87,7 @@ pub use draws::Draws;
 pub use examination::{Examination, examine};
 pub use frames::{Frames, bit};
 pub use refusal::{Answer, Number, Refusal};
+pub use split::{Part, restricted, split};
 pub use used::Used;
 pub use xorshift::Xorshift;
 

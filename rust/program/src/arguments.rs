@@ -22,7 +22,7 @@ pub struct Command {
 pub enum Operand {
     /// A job: a file, or - for standard input.
     Job,
-    /// One value or more.
+    /// One value or more; files where they are called so.
     Values(&'static str),
     /// One of these words.
     Word(&'static str, &'static [&'static str]),
@@ -49,7 +49,7 @@ pub struct Flag {
     pub text: &'static str,
 }
 
-/// The value of an option that names a file.
+/// The value of an option, or an operand, that names a file.
 pub const FILE: &str = "FILE";
 
 impl Command {

@@ -17,6 +17,11 @@ const ROOM: Flag =
     Flag { name: "--room", value: "N", text: "lend N bytes for the text; without it 1048576, the most it may have" };
 const SHOT: Flag = Flag { name: "--shot", value: "N", text: "the shot, from 0" };
 const SET: Flag = Flag { name: "--set", value: "L", text: "the outcomes, rising, with commas between; - for none" };
+const PARTS: Flag = Flag { name: "--parts", value: "N", text: "the number of parts, at most the job's shots" };
+const PREFIX: Flag =
+    Flag { name: "--prefix", value: "NAME", text: "write the jobs to the files NAME0.job, NAME1.job, .." };
+const SUM: Flag =
+    Flag { name: OUTPUT.name, value: FILE, text: "write the words to this file; without it, to standard output" };
 const P: Flag = Flag { name: "--p", value: "P", text: "the probability in decimal" };
 const P_BITS: Flag =
     Flag { name: "--p-bits", value: "H", text: "the probability by the 16 hexadecimal digits of its binary64" };
@@ -101,6 +106,30 @@ or --p-bits is wanted."],
         obey: correlation,
     },
     Command {
+        name: "split",
+        operand: Operand::Job,
+        summary: "a job for each of several benches, with a part of the shots",
+        details: &["\
+Shares the shots of a job without noise (settle another job first) among parts of the same size, and writes
+a job for each: all lines but the injections and flips of the other parts' shots. Prints 'job=' with its
+file and 'first=' and 'last=' with its shots. Run each of them, and 'add' the files of rows that the runs
+write: the sum is what a run of the whole job writes. In its own shots each run has the whole job's bits.
+--parts and --prefix are wanted."],
+        options: &[&[PARTS, PREFIX]],
+        obey: split,
+    },
+    Command {
+        name: "add",
+        operand: Operand::Values(FILE),
+        summary: "the sum of the rows of several runs",
+        details: &["\
+Adds files of rows, X, Z or deltas, by exclusive or. Where the jobs are without noise and have the same
+header and the same lines but for injections and flips, the sum is what a run of a job writes that holds
+the injections and flips of all, each among the same lines, and twice where two hold it there."],
+        options: &[&[SUM]],
+        obey: add,
+    },
+    Command {
         name: "bits",
         operand: Operand::Values("NUMBER"),
         summary: "the bits of probabilities or weights, as jobs have them, from decimal",
@@ -164,7 +193,7 @@ fn settle(arguments: &Arguments) -> Result<(), Failure> {
         Some(_) => kundatrezo::settle(&job, noiseless, draws, &mut out),
         None => kundatrezo::settle_into(&job, noiseless, draws, &mut out),
     })?;
-    write_text(arguments, &out[..bytes])
+    write_out(arguments, &out[..bytes])
 }
 
 fn walk(arguments: &Arguments) -> Result<(), Failure> {
@@ -203,7 +232,7 @@ fn annotate(arguments: &Arguments) -> Result<(), Failure> {
         let remedy = own.then(|| format!("the probability of {} or {} is {p:?}", P.name, P_BITS.name));
         Failure::refused(&refusal, &job, remedy.or_else(|| longer(&refusal)))
     })?;
-    write_text(arguments, &out[..bytes])
+    write_out(arguments, &out[..bytes])
 }
 
 fn locations(arguments: &Arguments) -> Result<(), Failure> {
@@ -216,6 +245,46 @@ fn correlation(arguments: &Arguments) -> Result<(), Failure> {
     let job = files::job(arguments.operand())?;
     kundatrezo::correlation(&job).map_err(refused(&job))?;
     print("ok=1\n")
+}
+
+fn split(arguments: &Arguments) -> Result<(), Failure> {
+    let parts = arguments.number(PARTS.name)?;
+    let (Some(parts), Some(prefix)) = (parts, arguments.value(PREFIX.name)) else {
+        return Err(Failure::Other(format!("{} and {} are wanted", PARTS.name, PREFIX.name)));
+    };
+    let (job, Examination { shots, .. }) = examined(arguments)?;
+    let parts = usize::try_from(parts).ok().filter(|parts| (1..=shots).contains(parts)).ok_or_else(|| {
+        Failure::Other(format!("the value of {} is to be from 1 to the job's shots, {shots}", PARTS.name))
+    })?;
+    let parts = kundatrezo::split(&job, parts).map_err(|refusal| {
+        let noisy = refusal.number == Number::NOISE;
+        let remedy =
+            noisy.then(|| "settle the job first ('kundatrezo settle --help'), and split the settled job".into());
+        Failure::refused(&refusal, &job, remedy)
+    })?;
+    let mut said = String::new();
+    for (place, part) in parts.into_iter().enumerate() {
+        let mut path = prefix.to_owned();
+        path.push(format!("{place}.job"));
+        files::write(&path, &part.job)?;
+        let (first, last) = (part.shots.start, part.shots.end - 1);
+        writeln!(said, "job={} first={first} last={last}", path.display()).expect("a string takes all");
+    }
+    print(said)
+}
+
+fn add(arguments: &Arguments) -> Result<(), Failure> {
+    let mut sum: Option<Vec<u64>> = None;
+    for path in arguments.operands() {
+        let rows = files::rows(path)?;
+        let sum = sum.get_or_insert_with(|| vec![0; rows.len()]);
+        if rows.len() != sum.len() {
+            let text = format!("{}: {} words, and the first file has {}", path.display(), rows.len(), sum.len());
+            return Err(Failure::Other(text));
+        }
+        sum.iter_mut().zip(rows).for_each(|(word, other)| *word ^= other);
+    }
+    write_out(arguments, &files::bytes_of(&sum.unwrap_or_default()))
 }
 
 // ---- what commands share
@@ -263,10 +332,11 @@ fn room(arguments: &Arguments) -> Result<Vec<u8>, Failure> {
     Ok(vec![0; usize::try_from(bytes).expect("no more than the longest text")])
 }
 
-fn write_text(arguments: &Arguments, text: &[u8]) -> Result<(), Failure> {
+/// Write to the file that `--output` names, or to standard output.
+fn write_out(arguments: &Arguments, bytes: &[u8]) -> Result<(), Failure> {
     match arguments.value(OUTPUT.name) {
-        Some(path) => files::write(path, text),
-        None => print(text),
+        Some(path) => files::write(path, bytes),
+        None => print(bytes),
     }
 }
 

@@ -80,6 +80,7 @@ fn zsh() -> String {
         let options: String = command.flags().map(option).collect();
         let operand = match command.operand {
             Operand::Job => "':job:_files'".into(),
+            Operand::Values(FILE) => format!("'*:{FILE}:_files'"),
             Operand::Values(name) => format!("'*:{name}:'"),
             Operand::Word(name, words) => format!("':{name}:({})'", words.join(" ")),
             Operand::None => String::new(),
@@ -126,7 +127,7 @@ fn fish() -> String {
                 .expect("a string takes all");
         }
         let operand = match command.operand {
-            Operand::Job => "-F".into(),
+            Operand::Job | Operand::Values(FILE) => "-F".into(),
             Operand::Word(_, words) => format!("-f -a '{}'", words.join(" ")),
             Operand::Values(_) | Operand::None => "-f".into(),
         };

@@ -1,7 +1,7 @@
 //! Jobs and words in files.
 
 use crate::Failure;
-use kundatrezo::MAX_BYTES;
+use kundatrezo::{MAX_BYTES, MAX_OUTCOMES, MAX_SHOTS};
 use std::ffi::OsStr;
 use std::fs::{self, File};
 use std::io::{self, Read};
@@ -39,10 +39,24 @@ pub fn skip_words(path: &OsStr, source: &mut dyn Read, count: u64) -> Result<(),
     io::copy(&mut source.take(bytes), &mut io::sink()).map_err(|error| fault(path, &error)).map(drop)
 }
 
-/// Write words to a file, eight bytes each, the lowest first.
+/// The words of a file of rows, no more than the largest job has.
+pub fn rows(path: &OsStr) -> Result<Vec<u64>, Failure> {
+    const MOST: usize = MAX_OUTCOMES * MAX_SHOTS / 64;
+    let words = words(path, &mut open(path)?, MOST + 1)?;
+    if words.len() > MOST {
+        return Err(Failure::Other(format!("{}: no job has rows of more than {MOST} words", path.display())));
+    }
+    Ok(words)
+}
+
+/// Words as bytes, eight each, the lowest first.
+pub fn bytes_of(words: &[u64]) -> Vec<u8> {
+    words.iter().flat_map(|word| word.to_le_bytes()).collect()
+}
+
+/// Write words to a file.
 pub fn write_words(path: &OsStr, words: &[u64]) -> Result<(), Failure> {
-    let bytes: Vec<u8> = words.iter().flat_map(|word| word.to_le_bytes()).collect();
-    write(path, &bytes)
+    write(path, &bytes_of(words))
 }
 
 /// Write bytes to a file. `-`, which stands for standard input elsewhere, is no file's name here.

@@ -36,7 +36,7 @@ use Rattle.backward.specs.Walking.{noiseFirst, firstNoise, lineFirst, pl
 -- ---- deltas
 
 -- bits of rows that were packed over others
-over-bit : (rows shots : ℕ) (bits : ℕ → ℕ → Bool) (old : List ℕ) (r s : ℕ) → r < rows → s < shots
+pub over-bit : (rows shots : ℕ) (bits : ℕ → ℕ → Bool) (old : List ℕ) (r s : ℕ) → r < rows → s < shots
     → bitIn (wordsPerRow shots) (over (pack rows shots bits) old) r s ≡ bits r s
 unfolding bitIn
 over-bit rows shots bits old r s hr hs =

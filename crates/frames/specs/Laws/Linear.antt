@@ -14,7 +14,7 @@ use Rattle.pauli.specs.Laws.Gates.{pauli-path}
 use Rattle.pauli.specs.Laws.Group.{group, ∗-self, when-⊕}
 use Rattle.job.specs.Line.{pauliOf, Line}
 use Rattle.frames.specs.Forward.{exponentiate, controlledPauli, Image, imageSum, imagesOf, placesOf, transformed, State, Setting, onFrame, forward, run, start}
-use Rattle.frames.specs.Shots.{concerns, within}
+use Rattle.frames.specs.Shots.{concerns, within, combined}
 
 -- f keeps products
 abbrev Linear : (Pauli → Pauli) → Type 0
@@ -137,10 +137,6 @@ inject-linear b e P F G = simp (e, group)
 flip-linear : (b : Bool) → b ≡ false → (D E : Bits) (id : ℕ) → added (D △ E) id b ≡ added D id b △ added E id b
 unfolding _⊕_
 flip-linear b e D E id = rw e (added-linear D E id false false)
-
--- two states in one: the frames' product and the deltas' sum
-unfoldable pub combined : State → State → State
-combined s t = record { frame = s .frame ∗ t .frame; deltas = s .deltas △ t .deltas }
 
 pub state-path : {s t : State} → s .frame ≡ t .frame → s .deltas ≡ t .deltas → s ≡ t
 state-path p q = λ i. record { frame = p i; deltas = q i }

@@ -3,4 +3,5 @@
 mod names;
 mod refusals;
 mod seeds;
+mod shots;
 mod starred;

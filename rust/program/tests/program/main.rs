@@ -5,3 +5,4 @@ mod common;
 mod documents;
 mod jobs;
 mod shells;
+mod shots;

@@ -48,6 +48,7 @@ fn bash_completes() {
         ("kundatrezo run job --se", "--seed --second --second-seed --second-state\n"),
         ("kundatrezo run job --main /dev/nul", "/dev/null\n"),
         ("kundatrezo check /dev/nul", "/dev/null\n"),
+        ("kundatrezo add /dev/nul", "/dev/null\n"),
         ("kundatrezo completions z", "zsh\n"),
     ];
     for (words, expected) in cases {

@@ -5,11 +5,13 @@
 //! - [`write`]: a job's data back to text.
 //! - [`calls`]: every call by its signature, so that implementations can be compared.
 //! - [`cases`]: jobs with their answers, worked out by hand.
+//! - [`gaps`]: a job's injections and flips among its other lines.
 //! - [`plain`]: the calls in the plainest form, a shot at a time.
 
 pub mod calls;
 pub mod cases;
 mod form;
+pub mod gaps;
 pub mod job;
 pub mod plain;
 pub mod read;

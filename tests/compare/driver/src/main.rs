@@ -5,12 +5,14 @@
 mod bench;
 mod brute;
 mod chosen;
+mod clauses;
 mod differences;
 #[cfg(feature = "linked")]
 mod linked;
 mod minimise;
 mod replay;
 mod settled;
+mod shots;
 mod stored;
 
 use checker::calls::Calls;
@@ -23,6 +25,8 @@ const USAGE: &str = "\
 usage: compare CALL N [SEED]      N random inputs of a call: check, run, settle, walk, annotate, locations, correlation, print
        compare settled N [SEED]   N jobs run with their draws, and as their settled text
        compare backward N [SEED]  N jobs: for sets and shots, all of a small job's, the sum of deltas is the walk's count modulo 2
+       compare apart N [SEED]     N pairs of jobs without noise: where they differ in other shots alone, a shot's frames and deltas are the same
+       compare add N [SEED]       N triples of them: where one holds the faults of both others, its frames and deltas are the exclusive or
        compare vectors            the stored vectors
        compare all N [SEED]       all of these
        compare write CALL N SEED  N vectors of a call, made by the reference, on standard output
@@ -35,6 +39,17 @@ A difference is seen again by `compare CALL 1 SEED` with the seed that it prints
 const UNDER_TEST: (&dyn Calls, &[Call]) = (&linked::Linked, linked::CALLS);
 #[cfg(not(feature = "linked"))]
 const UNDER_TEST: (&dyn Calls, &[Call]) = (&checker::plain::Plain, &[]);
+
+/// A comparison of several calls with each other: the calls, how many jobs, and the seed.
+type Comparison = fn(&dyn Calls, u64, u64) -> bool;
+
+/// The comparisons of several calls, by name.
+const TOGETHER: [(&str, Comparison); 4] = [
+    ("settled", settled::passes),
+    ("backward", brute::passes),
+    ("apart", shots::apart_passes),
+    ("add", shots::add_passes),
+];
 
 fn main() -> ExitCode {
     let arguments: Vec<String> = std::env::args().skip(1).collect();
@@ -74,7 +89,8 @@ fn counted(command: &str, count: &str, seed: Option<&str>) -> bool {
     };
     let asked = |name: &str| command == name || command == "all";
     let calls: Vec<Call> = CALLS.into_iter().filter(|call| asked(call.name())).collect();
-    if calls.is_empty() && !asked("settled") && !asked("backward") {
+    let together: Vec<Comparison> = TOGETHER.into_iter().filter(|(name, _)| asked(name)).map(|(_, all)| all).collect();
+    if calls.is_empty() && together.is_empty() {
         return usage();
     }
     println!("seed {seed}");
@@ -84,11 +100,8 @@ fn counted(command: &str, count: &str, seed: Option<&str>) -> bool {
     for call in calls {
         passed &= differences::passes(UNDER_TEST.0, call, count, seed, &mut refusals);
     }
-    if asked("settled") {
-        passed &= settled::passes(UNDER_TEST.0, count, seed);
-    }
-    if asked("backward") {
-        passed &= brute::passes(UNDER_TEST.0, count, seed);
+    for comparison in together {
+        passed &= comparison(UNDER_TEST.0, count, seed);
     }
     if command == "all" {
         passed &= stored::passes(UNDER_TEST.0);

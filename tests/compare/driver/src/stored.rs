@@ -1,10 +1,13 @@
 //! The stored vectors.
 
+use crate::shots::{Ran, Said};
 use checker::calls::Calls;
+use checker::gaps::Gaps;
+use checker::read::read;
 use generator::inputs::input;
 use generator::random::Random;
 use reference::Reference;
-use reference::stored::{Case, folder, held};
+use reference::stored::{Case, NOTES, Tie, folder, held, held_in};
 use reference::vectors::{CALLS, Call, case_bytes};
 use std::io::Write;
 
@@ -33,12 +36,37 @@ pub fn write(call: Call, count: u64, seed: u64) -> bool {
 fn case(call: Call, number: u64, seed: u64) -> Case {
     let input = input(&mut Random::new(seed), call);
     let output = input.make(call, &Reference).expect("the reference makes every call");
-    Case { number, input, output, hashes: Vec::new() }
+    Case { number, input, output, hashes: Vec::new(), tie: None }
 }
 
 /// Answer the vectors by the reference and by the calls under test, and print what was found.
 pub fn passes(under_test: &dyn Calls) -> bool {
-    CALLS.into_iter().all(|call| answers(under_test, call))
+    CALLS.into_iter().fold(true, |passed, call| answers(under_test, call) & passed) & ties(under_test)
+}
+
+/// See that what is said of some runs together is so of what the calls under test leave, and print what was found.
+fn ties(under_test: &dyn Calls) -> bool {
+    let cases = held_in(NOTES, Call::Run);
+    let ran = |number: u64| {
+        let input = &cases.iter().find(|case| case.number == number)?.input;
+        let job = Gaps::of_job(read(&input.job).ok()?);
+        Ran::of(job, &input.make(Call::Run, under_test)?)
+    };
+    let is_so = |case: &Case, tie: &Tie| {
+        let own = ran(case.number)?;
+        Some(match tie {
+            Tie::Apart(other, kept) => own.apart(&ran(*other)?, &|shot| kept.contains(&shot))? == Said::Equal,
+            Tie::Sum([one, other]) => own.sum(&ran(*one)?, &ran(*other)?)? == Said::Equal,
+            Tie::NoSum([one, other]) => own.sum(&ran(*one)?, &ran(*other)?)? == Said::Differ,
+        })
+    };
+    let tied: Vec<(&Case, &Tie)> = cases.iter().filter_map(|case| Some((case, case.tie.as_ref()?))).collect();
+    let wrong: Vec<_> = tied.iter().filter(|(case, tie)| is_so(case, tie) != Some(true)).collect();
+    for (case, tie) in &wrong {
+        println!("run case {}: {tie:?} is not so", case.number);
+    }
+    println!("runs together: {} cases, {} differences", tied.len(), wrong.len());
+    wrong.is_empty()
 }
 
 fn answers(under_test: &dyn Calls, call: Call) -> bool {
@@ -49,8 +77,10 @@ fn answers(under_test: &dyn Calls, call: Call) -> bool {
     let cases = held(call);
     let mut differences = 0;
     for case in &cases {
-        let reference = case.can_be_built().then_some(("reference", &Reference as &dyn Calls));
-        for (name, calls) in reference.into_iter().chain([("under test", under_test)]) {
+        // Of the calls only the engine's measure a text without building it.
+        let (by_hand, by_engine) = (case.can_be_built(), case.can_be_built() || cfg!(feature = "linked"));
+        let reference = by_hand.then_some(("reference", &Reference as &dyn Calls));
+        for (name, calls) in reference.into_iter().chain(by_engine.then_some(("under test", under_test))) {
             let Some(output) = case.input.make(call, calls) else {
                 continue;
             };

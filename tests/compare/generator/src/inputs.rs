@@ -4,8 +4,9 @@ use crate::damage::damaged;
 use crate::jobs::{ANY, DENSE, Made, Shape, job};
 use crate::random::Random;
 use checker::calls::{Calls, Draws};
+use checker::gaps::fault_shot;
 use checker::job::{
-    Distribution, Header, Instruction, Job, Line, List, MAX_BYTES, MAX_LIST, MAX_PRINTED_BYTES, Noise, Pauli, usize_of,
+    Distribution, Header, Instruction, Job, List, MAX_BYTES, MAX_LIST, MAX_PRINTED_BYTES, Noise, Pauli, usize_of,
 };
 use checker::plain::{Plain, settled};
 use checker::read::read;
@@ -138,11 +139,7 @@ fn own_probability(random: &mut Random) -> u64 {
 
 /// A walk's shot, mostly one in which something is injected or flipped.
 fn walk_shot(random: &mut Random, job: &Job<'_>) -> u64 {
-    let fault = |line: &Line<'_>| match line.instruction {
-        Instruction::Inject { shot, .. } | Instruction::Flip { shot, .. } => Some(shot),
-        _ => None,
-    };
-    let shots: Vec<u64> = job.lines.iter().filter_map(fault).collect();
+    let shots: Vec<u64> = job.lines.iter().filter_map(|line| fault_shot(&line.instruction)).collect();
     match random.below(12) {
         0 => past(random, job.header.shots),
         1..10 if !shots.is_empty() => random.pick(&shots),

@@ -28,6 +28,19 @@ pub struct Case {
     pub output: Output,
     /// What comes back and is too long to be stored: the key of an answer, and its hash.
     pub hashes: Vec<(String, String)>,
+    /// What is said of this case and others of its file.
+    pub tie: Option<Tie>,
+}
+
+/// What is said of a case and others of its file, which it names by their numbers.
+#[derive(Debug, Clone, PartialEq, Eq)]
+pub enum Tie {
+    /// The job differs from that of the other case only in injections and flips of other shots than these.
+    Apart(u64, Vec<u64>),
+    /// The job holds just the injections and flips of two.
+    Sum([u64; 2]),
+    /// It nearly does, and its deltas are not the exclusive or of theirs.
+    NoSum([u64; 2]),
 }
 
 /// The bytes that a text may have which is built to be compared; a longer one is only measured.
@@ -93,22 +106,30 @@ fn fnv1a(bytes: &[u8]) -> String {
 /// The stored cases of a call that hold for the notes that have landed.
 #[must_use]
 pub fn held(call: Call) -> Vec<Case> {
+    PARTS.into_iter().flat_map(|part| held_in(part, call)).collect()
+}
+
+/// The folder's parts: document 01 alone, the notes, and long cases of these.
+const PARTS: [&str; 3] = ["", NOTES, "notes/long"];
+
+/// The part of the cases for the notes.
+pub const NOTES: &str = "notes";
+
+/// Those of one part of the folder.
+#[must_use]
+pub fn held_in(part: &str, call: Call) -> Vec<Case> {
     let overruled = overruled();
-    let file = format!("{}.txt", call.name());
-    let mut all = Vec::new();
-    for (part, folder) in ["", "notes", "notes/long"].map(|part| (part, folder().join(part))) {
-        let Ok(bytes) = std::fs::read(folder.join(&file)) else {
-            continue;
-        };
-        for (fields, case) in fields_of(&bytes).iter().map(|fields| (fields, case(call, fields))) {
-            let by_notes =
-                if part.is_empty() { !overruled.contains(&(call.name().into(), case.number)) } else { holds(fields) };
-            if by_notes {
-                all.push(case);
-            }
-        }
-    }
-    all
+    let file = folder().join(part).join(format!("{}.txt", call.name()));
+    let holds = |fields: &Fields, case: &Case| match part {
+        "" => !overruled.contains(&(call.name().into(), case.number)),
+        _ => holds(fields),
+    };
+    let all = fields_of(&std::fs::read(file).unwrap_or_default());
+    all.iter()
+        .map(|fields| (fields, case(call, fields)))
+        .filter(|(fields, case)| holds(fields, case))
+        .map(|(_, case)| case)
+        .collect()
 }
 
 /// The cases for document 01 alone that a landed note overrules: `CALL N: NOTES`.
@@ -229,8 +250,11 @@ fn case(call: Call, fields: &Fields) -> Case {
             _ => Vec::new(),
         },
     };
+    let pair = |key: &str| <[u64; 2]>::try_from(split(&text(key), 10)).ok();
+    let apart = fields.contains_key("apart").then(|| Tie::Apart(number("apart"), split(&text("kept"), 10)));
+    let tie = apart.or_else(|| pair("sum").map(Tie::Sum)).or_else(|| pair("no_sum").map(Tie::NoSum));
     let hash = |key: &String| key.strip_suffix("_hash").map(|list| (list.to_owned(), text(key)));
-    Case { number: number("case"), input, output, hashes: fields.keys().filter_map(hash).collect() }
+    Case { number: number("case"), input, output, hashes: fields.keys().filter_map(hash).collect(), tie }
 }
 
 /// Fresh bytes with a text at their front.
