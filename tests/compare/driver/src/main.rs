@@ -3,6 +3,7 @@
 //! Each comparison prints its seed, what was compared, and the number of differences; a difference gives exit status 1 and its smallest form.
 
 mod bench;
+mod block;
 mod brute;
 mod chosen;
 mod clauses;
@@ -32,7 +33,7 @@ usage: compare CALL N [SEED]      N random inputs of a call: check, run, settle,
        compare all N [SEED]       all of these
        compare write CALL N SEED  N vectors of a call, made by the reference, on standard output
        compare replay             the list of the program replay_calls, on standard output
-       compare bench [PART]       times beside the published Rust's and document 01's by hand; PART is checks, runs or around
+       compare bench [PART]       times beside the published Rust's and document 01's by hand; PART is checks, runs, around or turns
 A difference is seen again by `compare CALL 1 SEED` with the seed that it prints.";
 
 /// The calls under test, and which of them are the library's; the others are document 01's plainest form.
