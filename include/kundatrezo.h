@@ -81,11 +81,12 @@ struct kundatrezo_examination {
 
 /* ---- the numbers of refusals
  *
- * Every call but kundatrezo_line makes the tests of a job: the first bad line of the job counts, and its lowest number. After them come the call's own tests. */
+ * Every call on a job but kundatrezo_line makes the tests of a job: the first bad line of the job counts, and its lowest number. After them come the call's own
+ * tests. */
 
 #define KUNDATREZO_LENGTH 1       /* line 0 */
 #define KUNDATREZO_FORM 2         /* the bad line; where element lines are missing, the last line */
-#define KUNDATREZO_HEADER 3       /* the bad line */
+#define KUNDATREZO_HEADER 3       /* the bad line; 0 for the counts that kundatrezo_by_shot and kundatrezo_by_outcome are given */
 #define KUNDATREZO_QUBIT 4        /* the bad line */
 #define KUNDATREZO_OPERANDS 5     /* the bad line */
 #define KUNDATREZO_PERMUTATION 6  /* the bad line */
@@ -218,6 +219,16 @@ struct kundatrezo_line_part {
 /* Where the line lies that an answer names by its number, from 1, so that a caller can show it: len bytes from start on. Where there is no such line,
  * start is job_len and len 0. The bytes need not be those of an accepted job. Nothing is written. */
 struct kundatrezo_line_part kundatrezo_line(const uint8_t *job, size_t job_len, uint64_t number);
+
+/* Outcomes by shot: deltas, which has a row of KUNDATREZO_ROW_WORDS(shots) words for each outcome, as a run leaves them, becomes a row of
+ * KUNDATREZO_ROW_WORDS(outcomes) words for each shot, in order: bit o % 64 of word o / 64 is outcome o, and bits past the last outcome are 0. Bits of deltas
+ * past the last shot go nowhere. Counts that a header may not hold are refused by KUNDATREZO_HEADER, and fewer words than that on either side by
+ * KUNDATREZO_WORDS, each with line 0. A refusal writes nothing, and words of out beyond the rows stay. */
+struct kundatrezo_answer kundatrezo_by_shot(uint64_t outcomes, uint64_t shots, const uint64_t *deltas, size_t deltas_len, uint64_t *out, size_t out_len);
+
+/* The way back: rows by shot become deltas, whose bits past the last shot are 0. Bits of rows past the last outcome go nowhere. The words needed on each side,
+ * and what is refused, are as for kundatrezo_by_shot. */
+struct kundatrezo_answer kundatrezo_by_outcome(uint64_t outcomes, uint64_t shots, const uint64_t *rows, size_t rows_len, uint64_t *out, size_t out_len);
 
 #ifdef __cplusplus
 }

@@ -75,6 +75,10 @@ static void correlation(void) { kundatrezo_correlation(NOISY); }
 
 static void line(void) { kundatrezo_line(NOISY, 20); }
 
+static void by_shot(void) { kundatrezo_by_shot(130, 129, main_words, 390, second, 387); }
+
+static void by_outcome(void) { kundatrezo_by_outcome(130, 129, main_words, 387, second, 390); }
+
 static unsigned char stack[1 << 18];
 static ucontext_t here, there;
 
@@ -109,6 +113,8 @@ static const struct {
     {"locations", locations, KUNDATREZO_OTHER_STACK},
     {"correlation", correlation, KUNDATREZO_CORRELATION_STACK},
     {"line", line, KUNDATREZO_OTHER_STACK},
+    {"by_shot", by_shot, KUNDATREZO_OTHER_STACK},
+    {"by_outcome", by_outcome, KUNDATREZO_OTHER_STACK},
 };
 
 /* 1 where the call takes more than is stated */
@@ -138,7 +144,9 @@ static int accepted(void)
     struct kundatrezo_count_answer walked = kundatrezo_walk(WITHOUT_NOISE, 129, set, 2);
     struct kundatrezo_text_answer settled = kundatrezo_settle(NOISY, noiseless, 40, main_words, 5000, second, 5000, 0, out, sizeof out);
     struct kundatrezo_text_answer annotated = kundatrezo_annotate(NOISY, 0, out, sizeof out);
-    return kundatrezo_correlation(NOISY).number == 0 && walked.answer.number == 0 && settled.answer.number == 0 && annotated.answer.number == 0;
+    struct kundatrezo_answer shots = kundatrezo_by_shot(130, 129, main_words, 390, second, 387);
+    struct kundatrezo_answer outcomes = kundatrezo_by_outcome(130, 129, main_words, 387, second, 390);
+    return shots.number == 0 && outcomes.number == 0 && kundatrezo_correlation(NOISY).number == 0 && walked.answer.number == 0 && settled.answer.number == 0 && annotated.answer.number == 0;
 }
 
 int main(void)

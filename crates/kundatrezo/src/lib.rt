@@ -11,6 +11,7 @@ ghost use Rattle.backward.specs.Settling.{settleReply};
 ghost use Rattle.backward.specs.Walking.{walkReply};
 ghost use Rattle.circuit.specs.Replies.{annotateReply, locationsReply, correlationReply};
 ghost use Rattle.line_reader.specs.Reading.{partNumbered};
+ghost use Rattle.by_shot.specs.Reply.{byShotReply, byOutcomeReply};
 use examination::Examination;
 use job::Answer;
 use job::CountReply;
@@ -103,4 +104,30 @@ pub extern "C" fn kundatrezo_line(job: &[u8], number: u64) -> LinePart
     ensures { λ r. ⌜ r ≡ partNumbered (now (job .entry)) number ⌝ }
 {
     line_reader::line_part(job, number)
+}
+
+// Deltas, a row per outcome, as rows by shot.
+#[no_mangle]
+pub extern "C" fn kundatrezo_by_shot(
+    outcomes: u64,
+    shots: u64,
+    deltas: &[u64],
+    out: &mut [u64],
+) -> Answer
+    ensures { λ r. ⌜ byShotReply outcomes shots (now (deltas .entry)) (now (out .entry)) ≡ record { answered = r; words = now (out .exit) } ⌝ }
+{
+    by_shot::by_shot(outcomes, shots, deltas, out)
+}
+
+// Rows by shot as deltas.
+#[no_mangle]
+pub extern "C" fn kundatrezo_by_outcome(
+    outcomes: u64,
+    shots: u64,
+    rows: &[u64],
+    out: &mut [u64],
+) -> Answer
+    ensures { λ r. ⌜ byOutcomeReply outcomes shots (now (rows .entry)) (now (out .entry)) ≡ record { answered = r; words = now (out .exit) } ⌝ }
+{
+    by_shot::by_outcome(outcomes, shots, rows, out)
 }

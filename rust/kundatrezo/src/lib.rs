@@ -12,6 +12,7 @@
 //! | [`annotate`] | the job with depolarizing noise before each measurement and after each gate; [`annotated`] as a `Vec` |
 //! | [`locations`] | the number of fault locations |
 //! | [`correlation`] | whether correlated noise lines agree in size |
+//! | [`by_shot`] | deltas as a row for each shot, and [`by_outcome`] the way back; [`Shots`] has memory of its own |
 //!
 //! Beside the calls, [`split`] shares the shots of a settled job among several benches, and `^=` on [`Frames`] adds what they leave.
 //!
@@ -73,6 +74,7 @@
 //! The build script links the library from the folder in the environment variable `KUNDATREZO_LIB_DIR`, an absolute path. The library is for x86-64
 //! Linux, keeps no state and takes no memory but the stack, so calls may be made from several threads at the same time.
 
+mod by_shot;
 mod draws;
 mod examination;
 mod float_state;
@@ -83,6 +85,7 @@ mod sys;
 mod used;
 mod xorshift;
 
+pub use by_shot::{Shots, by_outcome, by_shot};
 pub use draws::Draws;
 pub use examination::{Examination, examine};
 pub use frames::{Frames, bit};

@@ -96,6 +96,24 @@ unsafe extern "C" {
 
     fn kundatrezo_correlation(job: *const u8, job_len: usize) -> Answer;
 
+    fn kundatrezo_by_shot(
+        outcomes: u64,
+        shots: u64,
+        deltas: *const u64,
+        deltas_len: usize,
+        out: *mut u64,
+        out_len: usize,
+    ) -> Answer;
+
+    fn kundatrezo_by_outcome(
+        outcomes: u64,
+        shots: u64,
+        rows: *const u64,
+        rows_len: usize,
+        out: *mut u64,
+        out_len: usize,
+    ) -> Answer;
+
     fn kundatrezo_line(job: *const u8, job_len: usize, number: u64) -> LinePart;
 }
 
@@ -165,6 +183,18 @@ pub fn locations(job: &[u8]) -> Count {
 
 pub fn line(job: &[u8], number: u64) -> LinePart {
     in_default_state(|| unsafe { kundatrezo_line(job.as_ptr(), job.len(), number) })
+}
+
+pub fn by_shot(outcomes: u64, shots: u64, deltas: &[u64], out: &mut [u64]) -> Answer {
+    in_default_state(|| unsafe {
+        kundatrezo_by_shot(outcomes, shots, deltas.as_ptr(), deltas.len(), out.as_mut_ptr(), out.len())
+    })
+}
+
+pub fn by_outcome(outcomes: u64, shots: u64, rows: &[u64], out: &mut [u64]) -> Answer {
+    in_default_state(|| unsafe {
+        kundatrezo_by_outcome(outcomes, shots, rows.as_ptr(), rows.len(), out.as_mut_ptr(), out.len())
+    })
 }
 
 pub fn correlation(job: &[u8]) -> Answer {

@@ -3,14 +3,18 @@
 use crate::arguments::{Arguments, Command, FILE, Flag, Operand};
 use crate::completions::{self, SHELLS};
 use crate::words::{self, Lent};
-use crate::{Failure, files, manual, numbers, print};
-use kundatrezo::{Examination, Frames, MAX_BYTES, Number, Refusal, bit};
+use crate::{Failure, files, manual, numbers, print, shots};
+use kundatrezo::{Examination, Frames, MAX_BYTES, Number, Refusal, Shots, bit};
 use std::fmt::Write;
 
 const X: Flag = Flag { name: "--x", value: FILE, text: "write the X rows of the frames to this file" };
 const Z: Flag = Flag { name: "--z", value: FILE, text: "write the Z rows of the frames to this file" };
 const DELTAS: Flag =
     Flag { name: "--deltas", value: FILE, text: "write the rows of the deltas to this file, and do not print them" };
+const SHOTS: Flag =
+    Flag { name: "--shots", value: FILE, text: "write the deltas by shot as lines of digits, and do not print them" };
+const PACKED: Flag =
+    Flag { name: "--packed", value: FILE, text: "write the deltas by shot as packed bytes, and do not print them" };
 const OUTPUT: Flag =
     Flag { name: "--output", value: FILE, text: "write the text to this file; without it, to standard output" };
 const ROOM: Flag =
@@ -29,6 +33,10 @@ const P_BITS: Flag =
 const ROWS: &str = "\
 A row has a bit for each shot: shot s is bit s mod 64 of word s / 64. A file has the rows, each of
 ceil(shots / 64) words, in their order.";
+
+const BY_SHOT: &str = "\
+By shot, a line of text has a digit for each outcome of the header, outcome 0 first; packed, a shot has
+ceil(outcomes / 8) bytes, with eight outcomes to a byte, the lowest first. Shot 0 comes first.";
 
 /// Every command.
 pub const COMMANDS: &[Command] = &[
@@ -52,9 +60,10 @@ Runs a job in all of its shots. Prints 'ok=1' and the numbers of its header, the
 each recorded outcome, with a digit for each shot, shot 0 first.",
             words::SERIES,
             ROWS,
+            BY_SHOT,
             words::DETAILS,
         ],
-        options: &[words::FLAGS, &[X, Z, DELTAS]],
+        options: &[words::FLAGS, &[X, Z, DELTAS, SHOTS, PACKED]],
         obey: run,
     },
     Command {
@@ -178,7 +187,15 @@ fn run(arguments: &Arguments) -> Result<(), Failure> {
             files::write_words(path, words)?;
         }
     }
-    let printed = if arguments.value(DELTAS.name).is_some() { 0 } else { examined.recorded };
+    let by_shot = Shots::of_frames(&frames);
+    if let Some(path) = arguments.value(SHOTS.name) {
+        files::write(path, shots::text(&by_shot).as_bytes())?;
+    }
+    if let Some(path) = arguments.value(PACKED.name) {
+        files::write(path, &shots::packed(&by_shot))?;
+    }
+    let written = [DELTAS, SHOTS, PACKED].iter().any(|flag| arguments.value(flag.name).is_some());
+    let printed = if written { 0 } else { examined.recorded };
     print(session(&frames, printed) + &lent.report()?)
 }
 

@@ -1,5 +1,6 @@
 //! The calls through the library.
 
+mod by_shot;
 mod names;
 mod refusals;
 mod seeds;

@@ -76,6 +76,12 @@ pub trait Calls {
     /// Check that the sizes of each correlation agree.
     fn correlation(&self, job: &[u8]) -> Answer;
 
+    /// Write deltas, a row for each outcome, as rows by shot at the front of `rows`.
+    fn by_shot(&self, outcomes: u64, shots: u64, deltas: &[u64], rows: &mut [u64]) -> Answer;
+
+    /// Write rows by shot as deltas at the front of `deltas`.
+    fn by_outcome(&self, outcomes: u64, shots: u64, rows: &[u64], deltas: &mut [u64]) -> Answer;
+
     /// What the printing program writes for a standard input; none where the program isn't at hand.
     fn print(&self, input: &[u8]) -> Option<Vec<u8>>;
 }

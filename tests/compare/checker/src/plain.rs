@@ -1,6 +1,7 @@
 //! The calls in the plainest form: the sentences of document 01, one shot at a time.
 
 pub mod around;
+pub mod by_shot;
 mod draws;
 mod frame;
 mod settling;
@@ -9,6 +10,7 @@ mod walk;
 use crate::calls::{Answer, Calls, Draws, Rows};
 use crate::job::{Header, Job, MAX_BYTES, MAX_PRINTED_BYTES, Refusal, usize_of};
 use crate::read::{self, is_probability, read};
+use by_shot::{Shape, transpose};
 use frame::Frame;
 use settling::Settled;
 
@@ -54,6 +56,14 @@ impl Calls for Plain {
 
     fn correlation(&self, job: &[u8]) -> Answer {
         Answer::of(read(job).and_then(|job| around::correlation(&job)))
+    }
+
+    fn by_shot(&self, outcomes: u64, shots: u64, deltas: &[u64], rows: &mut [u64]) -> Answer {
+        Answer::of(Shape::of_counts(outcomes, shots).and_then(|shape| transpose(shape, deltas, rows)))
+    }
+
+    fn by_outcome(&self, outcomes: u64, shots: u64, rows: &[u64], deltas: &mut [u64]) -> Answer {
+        Answer::of(Shape::of_counts(outcomes, shots).and_then(|shape| transpose(shape.turned(), rows, deltas)))
     }
 
     fn print(&self, input: &[u8]) -> Option<Vec<u8>> {

@@ -3,9 +3,13 @@
 //! `published` is the published function on instructions that were read before; `with reading` goes from the job's text to the answer, with
 //! `checker` as the reader. Noiseless bits are ready for each in its own form. A time is the shortest of some rounds, in which the three take
 //! turns; the published Rust gets its frames anew in each, the engine clears those that it is lent.
+//!
+//! For outcomes by shot, `published` is a block transposition in plain Rust, and `with reading` one bit at a time.
 
+use crate::block;
 use checker::calls::{Calls, Draws, Rows};
 use checker::job::{Job, MAX_BYTES};
+use checker::plain::by_shot::Shape;
 use checker::plain::{Plain, settled};
 use checker::read::read;
 use generator::jobs::Made;
@@ -28,7 +32,7 @@ const LEAST_ROUNDS: usize = 7;
 
 /// Measure the loads of a part, or of all; whether there is such a part.
 pub fn run(part: &str) -> bool {
-    let parts: [(&str, fn()); 3] = [("checks", checks), ("runs", runs), ("around", around)];
+    let parts: [(&str, fn()); 4] = [("checks", checks), ("runs", runs), ("around", around), ("turns", turns)];
     let chosen: Vec<_> = parts.iter().filter(|(name, _)| part == "all" || part == *name).collect();
     let columns = ["published", "with reading", "engine", "/published", "/reading", "ns a byte"]
         .map(|name| format!("{name:>12}"));
@@ -254,4 +258,33 @@ fn around() {
         engine: engine(Call::Correlation).map(|engine| Box::new(|| _ = black_box(engine.correlation(&mixed))) as _),
     }
     .report("correlation, 10,000 mixed lines", mixed.len());
+}
+
+// ---- outcomes by shot
+
+fn turns() {
+    let (outcomes, shots) = (1_024, 4_096);
+    let by_outcome = Shape::of_counts(outcomes, shots).expect("counts of a header");
+    let random = &mut Random::new(5);
+    let words: Vec<u64> = (0..by_outcome.words()).map(|_| random.word()).collect();
+    let (mut plain, mut bits, mut out) = (words.clone(), words.clone(), words.clone());
+    Timed {
+        published: Some(Box::new(|| block::transpose(by_outcome, black_box(&words), &mut plain))),
+        with_reading: Box::new(|| assert_eq!(Plain.by_shot(outcomes, shots, black_box(&words), &mut bits).number, 0)),
+        engine: engine(Call::ByShot).map(|engine| {
+            Box::new(|| assert_eq!(engine.by_shot(outcomes, shots, black_box(&words), &mut out).number, 0)) as _
+        }),
+    }
+    .report("by shot, 1,024 outcomes, 4,096 shots", 8 * words.len());
+    let (mut plain, mut bits, mut out) = (words.clone(), words.clone(), words.clone());
+    Timed {
+        published: Some(Box::new(|| block::transpose(by_outcome.turned(), black_box(&words), &mut plain))),
+        with_reading: Box::new(|| {
+            assert_eq!(Plain.by_outcome(outcomes, shots, black_box(&words), &mut bits).number, 0)
+        }),
+        engine: engine(Call::ByOutcome).map(|engine| {
+            Box::new(|| assert_eq!(engine.by_outcome(outcomes, shots, black_box(&words), &mut out).number, 0)) as _
+        }),
+    }
+    .report("by outcome, 1,024 outcomes, 4,096 shots", 8 * words.len());
 }

@@ -156,7 +156,7 @@ fn wanted(call: Call) -> Vec<String> {
         Call::Walk => &[16, 17],
         Call::Annotate => &[15, 18],
         Call::Correlation => &[19],
-        Call::Check | Call::Locations | Call::Print => &[],
+        Call::Check | Call::Locations | Call::ByShot | Call::ByOutcome | Call::Print => &[],
     };
     let mut all: Vec<String> =
         [0].iter().chain(&TESTS).chain(own_numbers).map(|number| format!("number {number}")).collect();

@@ -78,7 +78,12 @@ fn report(under_test: &dyn Calls, call: Call, seed: u64, input: &Input) {
     for (name, calls) in [("expected", &Reference as &dyn Calls), ("got", under_test)] {
         let output = least.make(call, calls).expect("it was made before");
         println!("{name} {:?}", output.answer);
-        let words = [("frames_x", &output.frames_x), ("frames_z", &output.frames_z), ("deltas", &output.deltas)];
+        let words = [
+            ("frames_x", &output.frames_x),
+            ("frames_z", &output.frames_z),
+            ("deltas", &output.deltas),
+            ("rows", &output.rows),
+        ];
         for (key, words) in words.into_iter().filter(|(_, words)| !words.is_empty()) {
             println!("{name} {key} {words:x?}");
         }
@@ -138,6 +143,14 @@ mod tests {
 
         fn correlation(&self, job: &[u8]) -> Answer {
             self.check(job)
+        }
+
+        fn by_shot(&self, _: u64, _: u64, _: &[u64], _: &mut [u64]) -> Answer {
+            self.check(&[])
+        }
+
+        fn by_outcome(&self, _: u64, _: u64, _: &[u64], _: &mut [u64]) -> Answer {
+            self.check(&[])
         }
 
         fn print(&self, _: &[u8]) -> Option<Vec<u8>> {

@@ -14,6 +14,8 @@ pub const CALLS: &[Call] = &[
     Call::Annotate,
     Call::Locations,
     Call::Correlation,
+    Call::ByShot,
+    Call::ByOutcome,
     Call::Print,
 ];
 
@@ -70,6 +72,14 @@ impl Calls for Linked {
 
     fn correlation(&self, job: &[u8]) -> Answer {
         plain(kundatrezo::correlation(job))
+    }
+
+    fn by_shot(&self, outcomes: u64, shots: u64, deltas: &[u64], rows: &mut [u64]) -> Answer {
+        plain(kundatrezo::by_shot(outcomes, shots, deltas, rows))
+    }
+
+    fn by_outcome(&self, outcomes: u64, shots: u64, rows: &[u64], deltas: &mut [u64]) -> Answer {
+        plain(kundatrezo::by_outcome(outcomes, shots, rows, deltas))
     }
 
     /// The printing program is a program: its path is in `KUNDATREZO_PRINT`.

@@ -3,6 +3,7 @@
 //! Each comparison prints its seed, what was compared, and the number of differences; a difference gives exit status 1 and its smallest form.
 
 mod bench;
+mod block;
 mod brute;
 mod chosen;
 mod clauses;
@@ -22,16 +23,17 @@ use std::process::ExitCode;
 use std::time::{SystemTime, UNIX_EPOCH};
 
 const USAGE: &str = "\
-usage: compare CALL N [SEED]      N random inputs of a call: check, run, settle, walk, annotate, locations, correlation, print
+usage: compare CALL N [SEED]      N random inputs of a call: check, run, settle, walk, annotate, locations, correlation,
+                                  by_shot, by_outcome, print
        compare settled N [SEED]   N jobs run with their draws, and as their settled text
        compare backward N [SEED]  N jobs: for sets and shots, all of a small job's, the sum of deltas is the walk's count modulo 2
        compare apart N [SEED]     N pairs of jobs without noise: where they differ in other shots alone, a shot's frames and deltas are the same
        compare add N [SEED]       N triples of them: where one holds the faults of both others, its frames and deltas are the exclusive or
-       compare vectors            the stored vectors
+       compare vectors [CALL]     the stored vectors, or those of a call
        compare all N [SEED]       all of these
        compare write CALL N SEED  N vectors of a call, made by the reference, on standard output
        compare replay             the list of the program replay_calls, on standard output
-       compare bench [PART]       times beside the published Rust's and document 01's by hand; PART is checks, runs or around
+       compare bench [PART]       times beside the published Rust's and document 01's by hand; PART is checks, runs, around or turns
 A difference is seen again by `compare CALL 1 SEED` with the seed that it prints.";
 
 /// The calls under test, and which of them are the library's; the others are document 01's plainest form.
@@ -59,6 +61,7 @@ fn main() -> ExitCode {
             say_under_test();
             stored::passes(UNDER_TEST.0)
         }
+        ["vectors", call] => called(call).map_or_else(usage, |call| stored::answers(UNDER_TEST.0, call)),
         ["bench"] => bench::run("all") || usage(),
         ["bench", part] => bench::run(part) || usage(),
         ["write", call, count, seed] => write(call, count, seed),
@@ -76,11 +79,15 @@ fn usage() -> bool {
 }
 
 fn write(call: &str, count: &str, seed: &str) -> bool {
-    let call = CALLS.into_iter().find(|known| known.name() == call);
-    match (call, count.parse(), seed.parse()) {
+    match (called(call), count.parse(), seed.parse()) {
         (Some(call), Ok(count), Ok(seed)) => stored::write(call, count, seed),
         _ => usage(),
     }
+}
+
+/// The call of a name.
+fn called(name: &str) -> Option<Call> {
+    CALLS.into_iter().find(|call| call.name() == name)
 }
 
 fn counted(command: &str, count: &str, seed: Option<&str>) -> bool {

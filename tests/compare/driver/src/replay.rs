@@ -18,7 +18,7 @@ const REPEATED: usize = 4;
 
 /// Write the list to standard output.
 pub fn write() -> bool {
-    let others = CALLS.into_iter().filter(|call| !matches!(call, Call::Check | Call::Print));
+    let others = CALLS.into_iter().filter(|call| call.is_on_job() && !matches!(call, Call::Check | Call::Print));
     let others = others.flat_map(|call| chosen(call, |input, output| case(call, input, output)));
     let list: Vec<u8> = checks().into_iter().chain(others).flatten().collect();
     std::io::stdout().write_all(&list).is_ok()

@@ -221,6 +221,14 @@ mod tests {
             Plain.correlation(job)
         }
 
+        fn by_shot(&self, outcomes: u64, shots: u64, deltas: &[u64], rows: &mut [u64]) -> Answer {
+            Plain.by_shot(outcomes, shots, deltas, rows)
+        }
+
+        fn by_outcome(&self, outcomes: u64, shots: u64, rows: &[u64], deltas: &mut [u64]) -> Answer {
+            Plain.by_outcome(outcomes, shots, rows, deltas)
+        }
+
         fn print(&self, input: &[u8]) -> Option<Vec<u8>> {
             Plain.print(input)
         }

@@ -69,7 +69,8 @@ fn ties(under_test: &dyn Calls) -> bool {
     wrong.is_empty()
 }
 
-fn answers(under_test: &dyn Calls, call: Call) -> bool {
+/// The same for a single call.
+pub fn answers(under_test: &dyn Calls, call: Call) -> bool {
     if !folder().is_dir() {
         println!("vectors of {}: skipped, none at {}", call.name(), folder().display());
         return true;

@@ -6,7 +6,8 @@ use crate::random::Random;
 use checker::calls::{Calls, Draws};
 use checker::gaps::fault_shot;
 use checker::job::{
-    Distribution, Header, Instruction, Job, List, MAX_BYTES, MAX_LIST, MAX_PRINTED_BYTES, Noise, Pauli, usize_of,
+    Distribution, Header, Instruction, Job, List, MAX_BYTES, MAX_LIST, MAX_OUTCOMES, MAX_PRINTED_BYTES, MAX_SHOTS,
+    Noise, Pauli, usize_of,
 };
 use checker::plain::{Plain, settled};
 use checker::read::read;
@@ -15,6 +16,9 @@ use reference::vectors::{Call, Input};
 
 /// A random input of a call.
 pub fn input(random: &mut Random, call: Call) -> Input {
+    if !call.is_on_job() {
+        return counted(random);
+    }
     let shape = shape(random, call);
     let made = if random.one_in(300) { large(random, call) } else { job(random, &shape) };
     let bytes = made.bytes();
@@ -40,7 +44,7 @@ fn shape(random: &mut Random, call: Call) -> Shape {
         }
         Call::Check => Shape { noise: random.pick(&[2, 2, 30]), ..ANY },
         Call::Correlation => Shape { noise: 60, ..ANY },
-        Call::Annotate | Call::Locations => ANY,
+        Call::Annotate | Call::Locations | Call::ByShot | Call::ByOutcome => ANY,
     }
 }
 
@@ -114,9 +118,33 @@ pub fn lent(random: &mut Random, call: Call, bytes: &[u8]) -> Input {
             input.shot = walk_shot(random, &job);
             input.set = walk_set(random, job.recorded);
         }
-        Call::Check | Call::Locations | Call::Correlation | Call::Print => {}
+        Call::Check | Call::Locations | Call::Correlation | Call::ByShot | Call::ByOutcome | Call::Print => {}
     }
     input
+}
+
+/// Counts of outcomes and shots, often around multiples of 64 or a header's limits, and words for both sides.
+fn counted(random: &mut Random) -> Input {
+    let outcomes = count(random, 0, MAX_OUTCOMES);
+    let shots = count(random, 1, MAX_SHOTS);
+    let need = |rows: u64, columns: u64| usize_of(rows.min(MAX_SHOTS)) * usize_of(columns.min(MAX_SHOTS)).div_ceil(64);
+    let deltas = words_near(random, need(outcomes, shots));
+    let rows = words_near(random, need(shots, outcomes));
+    Input { outcomes, shots, deltas, rows, ..Input::default() }
+}
+
+/// A count that a header may hold, `first` to `last`; now and then one that it may not.
+fn count(random: &mut Random, first: u64, last: u64) -> u64 {
+    let around =
+        |random: &mut Random, most: u64| (64 * random.between(0, most / 64) + random.below(3)).saturating_sub(1);
+    match random.below(24) {
+        0 => past(random, last + 1),
+        1 => 0,
+        2 => last,
+        3 => around(random, last).clamp(first, last),
+        4..14 => around(random, 192).clamp(first, last),
+        _ => random.between(first, 200),
+    }
 }
 
 /// A number that isn't below `end`.

@@ -4,7 +4,7 @@ use crate::FramePropagator;
 use crate::circuit::{Circuit, Instruction as Published};
 use crate::noise::{PauliDistribution, PauliFault};
 use crate::sampling::{GeometricSampler, set_shots};
-use binar::{BitMatrix, Bitwise, IndexSet, Words};
+use binar::{BitMatrix, Bitwise, IndexSet, Words, WordsMut};
 use checker::calls::Draws;
 use checker::job::{Distribution, Header, Instruction, Job, List, Noise, Pauli, Refusal, table_row, usize_of};
 use paulimer::pauli::{Pauli as _, SparsePauli};
@@ -215,6 +215,18 @@ impl Executed {
 pub fn lend(job: &Job<'_>, draws: &Draws<'_>, noiseless: &[u64]) -> NoiselessOutcomes {
     rand::lend_second(draws.second);
     NoiselessOutcomes::new(job, noiseless)
+}
+
+/// Rows of bits with rows and columns exchanged, by `transposed`, as `sample_with_rng` turns deltas.
+#[must_use]
+pub fn transposed(words: &[u64], rows: usize, columns: usize) -> Vec<u64> {
+    let mut matrix = BitMatrix::with_shape(rows, columns);
+    let stride = columns.div_ceil(64);
+    for row in 0..rows {
+        matrix.row_mut(row).words_mut().copy_from_slice(&words[row * stride..][..stride]);
+    }
+    let turned = matrix.transposed();
+    (0..columns).flat_map(|row| turned.row(row).words().to_vec()).collect()
 }
 
 fn annotation(instruction: &Published, p: f64) -> Option<Annotation> {

@@ -10,10 +10,11 @@ pub mod vectors;
 use checker::calls::{Answer, Calls, Draws, Rows};
 use checker::job::{Header, Instruction, Job, Refusal, usize_of};
 use checker::plain::around::can_annotate;
+use checker::plain::by_shot::Shape;
 use checker::plain::{bit, deliver, deliver_settled, need_probability, need_walkable, need_words, print_with};
 use checker::read::{check, read};
 use checker::write;
-use pauliverse::bridge::{Executed, Program, lend};
+use pauliverse::bridge::{Executed, Program, lend, transposed};
 
 /// The calls on the published Rust.
 pub struct Reference;
@@ -49,9 +50,25 @@ impl Calls for Reference {
         Answer::of(read(job).and_then(|job| Program::new(&job).validate_correlated_faults()))
     }
 
+    fn by_shot(&self, outcomes: u64, shots: u64, deltas: &[u64], rows: &mut [u64]) -> Answer {
+        Answer::of(Shape::of_counts(outcomes, shots).and_then(|shape| transpose(shape, deltas, rows)))
+    }
+
+    fn by_outcome(&self, outcomes: u64, shots: u64, rows: &[u64], deltas: &mut [u64]) -> Answer {
+        Answer::of(Shape::of_counts(outcomes, shots).and_then(|shape| transpose(shape.turned(), rows, deltas)))
+    }
+
     fn print(&self, input: &[u8]) -> Option<Vec<u8>> {
         Some(print_with(self, input))
     }
+}
+
+/// The exchange as `sample_with_rng` makes it, by `transposed`.
+fn transpose(shape: Shape, source: &[u64], target: &mut [u64]) -> Result<(), Refusal> {
+    shape.need(source, target)?;
+    let turned = transposed(source, shape.rows, shape.columns);
+    target[..turned.len()].copy_from_slice(&turned);
+    Ok(())
 }
 
 /// Execute a checked job on the published code.

@@ -73,6 +73,7 @@ fn list_of<'a>(key: &str, output: &'a mut Output) -> &'a mut Vec<u64> {
         "after_frames_x" => &mut output.frames_x,
         "after_frames_z" => &mut output.frames_z,
         "after_deltas" => &mut output.deltas,
+        "after_rows" => &mut output.rows,
         _ => panic!("{key} has no hash"),
     }
 }
@@ -236,6 +237,9 @@ fn case(call: Call, fields: &Fields) -> Case {
         p: u64::from_str_radix(&text("p"), 16).unwrap_or(0),
         shot: number("shot"),
         set: split(&text("set"), 10),
+        outcomes: number("outcomes"),
+        shots: number("shots"),
+        rows: words("rows"),
     };
     // Cases made before note 10 call settling's figure with 15 a lower bound; it is the exact one.
     let figure = number("count") + number("figure") + number("at_least");
@@ -244,6 +248,7 @@ fn case(call: Call, fields: &Fields) -> Case {
         frames_x: words("after_frames_x"),
         frames_z: words("after_frames_z"),
         deltas: words("after_deltas"),
+        rows: words("after_rows"),
         bytes: match call {
             Call::Print => bytes("stdout"),
             Call::Settle | Call::Annotate => written_over(&bytes("text"), input.out_len),

@@ -6,8 +6,18 @@ use crate::stored::Case;
 use checker::calls::{Answer, Calls, Draws, Rows};
 
 /// The calls that have vectors: a file each.
-pub const CALLS: [Call; 8] =
-    [Call::Check, Call::Run, Call::Settle, Call::Walk, Call::Annotate, Call::Locations, Call::Correlation, Call::Print];
+pub const CALLS: [Call; 10] = [
+    Call::Check,
+    Call::Run,
+    Call::Settle,
+    Call::Walk,
+    Call::Annotate,
+    Call::Locations,
+    Call::Correlation,
+    Call::ByShot,
+    Call::ByOutcome,
+    Call::Print,
+];
 
 /// A call by name.
 #[derive(Debug, Clone, Copy, PartialEq, Eq)]
@@ -20,10 +30,18 @@ pub enum Call {
     Annotate,
     Locations,
     Correlation,
+    ByShot,
+    ByOutcome,
     Print,
 }
 
 impl Call {
+    /// Whether the call is on a job.
+    #[must_use]
+    pub fn is_on_job(self) -> bool {
+        !matches!(self, Call::ByShot | Call::ByOutcome)
+    }
+
     /// The call's name, as of its subcommand and its file.
     #[must_use]
     pub fn name(self) -> &'static str {
@@ -35,6 +53,8 @@ impl Call {
             Call::Annotate => "annotate",
             Call::Locations => "locations",
             Call::Correlation => "correlation",
+            Call::ByShot => "by_shot",
+            Call::ByOutcome => "by_outcome",
             Call::Print => "print",
         }
     }
@@ -56,6 +76,9 @@ pub struct Input {
     pub p: u64,
     pub shot: u64,
     pub set: Vec<u64>,
+    pub outcomes: u64,
+    pub shots: u64,
+    pub rows: Vec<u64>,
 }
 
 /// What a call answers and leaves.
@@ -67,6 +90,7 @@ pub struct Output {
     pub frames_x: Vec<u64>,
     pub frames_z: Vec<u64>,
     pub deltas: Vec<u64>,
+    pub rows: Vec<u64>,
     /// Every lent byte after the call, or what the program printed.
     pub bytes: Vec<u8>,
 }
@@ -109,6 +133,14 @@ impl Input {
             }
             Call::Locations => output.answer = calls.locations(job),
             Call::Correlation => output.answer = calls.correlation(job),
+            Call::ByShot => {
+                output.rows = self.rows.clone();
+                output.answer = calls.by_shot(self.outcomes, self.shots, &self.deltas, &mut output.rows);
+            }
+            Call::ByOutcome => {
+                output.deltas = self.deltas.clone();
+                output.answer = calls.by_outcome(self.outcomes, self.shots, &self.rows, &mut output.deltas);
+            }
             Call::Print => output.bytes = calls.print(job)?,
         }
         Some(output)
@@ -130,7 +162,7 @@ pub fn case_bytes(call: Call, case: &Case) -> Vec<u8> {
 /// What a call is handed: the first half of a case.
 #[must_use]
 pub fn input_bytes(call: Call, input: &Input) -> Vec<u8> {
-    let mut bytes = with_length("job", &input.job);
+    let mut bytes = if call.is_on_job() { with_length("job", &input.job) } else { Vec::new() };
     let base = || vec![("base", input.base.to_string())];
     let out_len = || vec![("out_len", input.out_len.to_string())];
     let draws = || {
@@ -141,11 +173,16 @@ pub fn input_bytes(call: Call, input: &Input) -> Vec<u8> {
         let lists = [("frames_x", &input.frames_x), ("frames_z", &input.frames_z), ("deltas", &input.deltas)];
         lists.map(|(key, words)| (key, joined(words, 16))).to_vec()
     };
+    let counts = || vec![("outcomes", input.outcomes.to_string()), ("shots", input.shots.to_string())];
+    let deltas = || vec![("deltas", joined(&input.deltas, 16))];
+    let by_shot = || vec![("rows", joined(&input.rows, 16))];
     let fields = match call {
         Call::Run => [base(), draws(), rows()].concat(),
         Call::Settle => [base(), out_len(), draws()].concat(),
         Call::Walk => vec![("shot", input.shot.to_string()), ("set", joined(&input.set, 10))],
         Call::Annotate => [out_len(), vec![("p", format!("{:016x}", input.p))]].concat(),
+        Call::ByShot => [counts(), deltas(), by_shot()].concat(),
+        Call::ByOutcome => [counts(), by_shot(), deltas()].concat(),
         Call::Check | Call::Locations | Call::Correlation | Call::Print => Vec::new(),
     };
     for (key, value) in fields {
@@ -163,7 +200,7 @@ fn output_bytes(call: Call, output: &Output) -> Vec<u8> {
     let figure_key = match call {
         Call::Walk | Call::Locations => Some("count"),
         Call::Settle | Call::Annotate => Some("figure"),
-        Call::Check | Call::Run | Call::Correlation | Call::Print => None,
+        Call::Check | Call::Run | Call::Correlation | Call::ByShot | Call::ByOutcome | Call::Print => None,
     };
     if let Some(key) = figure_key {
         bytes.extend(format!("{key} {figure}\n").into_bytes());
@@ -172,11 +209,16 @@ fn output_bytes(call: Call, output: &Output) -> Vec<u8> {
         let written = if number == 0 { usize::try_from(figure).expect("within the lent bytes") } else { 0 };
         bytes.extend(with_length("text", &output.bytes[..written]));
     }
-    if call == Call::Run {
-        let lists = [("frames_x", &output.frames_x), ("frames_z", &output.frames_z), ("deltas", &output.deltas)];
-        for (key, words) in lists {
-            bytes.extend(format!("after_{key} {}\n", joined(words, 16)).into_bytes());
+    let written = match call {
+        Call::Run => {
+            vec![("frames_x", &output.frames_x), ("frames_z", &output.frames_z), ("deltas", &output.deltas)]
         }
+        Call::ByShot => vec![("rows", &output.rows)],
+        Call::ByOutcome => vec![("deltas", &output.deltas)],
+        _ => Vec::new(),
+    };
+    for (key, words) in written {
+        bytes.extend(format!("after_{key} {}\n", joined(words, 16)).into_bytes());
     }
     bytes
 }

@@ -89,6 +89,18 @@ impl AlignedBitMatrix {
         unsafe { *self.words.get_unchecked_mut(row * self.stride + word) ^= mask };
     }
 
+    /// Rows and columns exchanged.
+    #[must_use]
+    pub fn transposed(&self) -> Self {
+        let mut turned = Self::with_shape(self.columns, self.rows);
+        for row in 0..self.rows {
+            for column in ones(self.row(row).0).filter(|&column| column < self.columns) {
+                turned.negate((column, row));
+            }
+        }
+        turned
+    }
+
     /// Change the shape; new bits are 0.
     pub fn resize(&mut self, rows: usize, columns: usize) {
         let old = std::mem::replace(self, Self::with_shape(rows, columns));
@@ -175,6 +187,16 @@ mod tests {
             matrix.row_mut(0).clear_bits();
             assert_eq!(support(&matrix, 0), []);
         }
+    }
+
+    #[test]
+    fn rows_become_columns() {
+        let mut matrix = AlignedBitMatrix::with_shape(3, 70);
+        matrix.negate((2, 69));
+        let turned = matrix.transposed();
+        assert_eq!(turned.shape(), (70, 3));
+        assert_eq!((support(&turned, 69), support(&turned, 2)), (vec![2], vec![]));
+        assert_eq!(turned.transposed(), matrix);
     }
 
     #[test]
