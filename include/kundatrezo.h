@@ -127,7 +127,7 @@ static inline const char *kundatrezo_refusal_text(uint64_t number)
     case KUNDATREZO_ROOM: return "the text is longer than the lent bytes or 1,048,576";
     case KUNDATREZO_NOISE: return "noise in a walk";
     case KUNDATREZO_WALK: return "the walk's shot not below the header's shots; its set not strictly rising, or with an outcome that is not recorded";
-    case KUNDATREZO_ANNOTATION: return "annotation over a repeated qubit, or over more than 31";
+    case KUNDATREZO_ANNOTATION: return "annotation over more than 31 qubits";
     case KUNDATREZO_SIZES: return "sizes of one correlation differ";
     case KUNDATREZO_CONTROL: return "control and target of a controlled Pauli anticommute";
     default: return "a number that this header does not know";
@@ -199,12 +199,12 @@ struct kundatrezo_count_answer kundatrezo_walk(const uint8_t *job, size_t job_le
 
 /* Annotation: the job with a depolarizing noise line before each measurement and after each gate (u, c, p, e, k, m lines). p_bits is the
  * probability by the bits of its double; one that is NaN or above 1 is refused by KUNDATREZO_PROBABILITY with line 0. Bytes of out beyond the text stay,
- * and a refusal writes nothing. KUNDATREZO_ANNOTATION names the first line whose noise line would have a qubit twice (control and target of a k line share
- * it) or more than KUNDATREZO_MAX_MEMBERS. */
+ * and a refusal writes nothing. A qubit that control and target of a k line share stands in its noise line once, with the control's.
+ * KUNDATREZO_ANNOTATION names the first line whose noise line would have more than KUNDATREZO_MAX_MEMBERS. */
 struct kundatrezo_text_answer kundatrezo_annotate(const uint8_t *job, size_t job_len, uint64_t p_bits, uint8_t *out, size_t out_len);
 
-/* How many fault locations the job has: twice the qubits of the noise lines that annotation adds, summed. It counts also where annotation refuses by
- * KUNDATREZO_ANNOTATION or KUNDATREZO_ROOM; a qubit that control and target of a k line share then counts for both. Nothing is written. */
+/* How many fault locations the job has: twice the qubits of the lines to which annotation adds noise, summed. A qubit that control and target of a k line
+ * share counts for both. It counts also where annotation refuses by KUNDATREZO_ANNOTATION or KUNDATREZO_ROOM. Nothing is written. */
 struct kundatrezo_count_answer kundatrezo_locations(const uint8_t *job, size_t job_len);
 
 /* The correlation check: whether noise lines of one correlation all have as many elements. Nothing is written. */

@@ -179,15 +179,33 @@ static void annotate(void)
     expect_figure("locations", 0, 0, 2, counted.answer, counted.count);
 }
 
-/* Locations are counted where annotation refuses a shared qubit, which then counts for control and target. */
+/* A qubit that control and target share gets noise once, and counts as a location for both. */
 static void annotate_shared(void)
 {
-    static const char shared[] = "op=job qubits=1 outcomes=0 shots=1\nop=u g=4 q=0\nop=k x=0 z=- u=0 v=-\n";
-    uint8_t out[1];
-    struct kundatrezo_text_answer got = kundatrezo_annotate((const uint8_t *)shared, sizeof shared - 1, 0, out, 0);
-    expect_figure("annotate", KUNDATREZO_ANNOTATION, 3, 0, got.answer, got.figure);
+    static const char shared[] = "op=job qubits=2 outcomes=0 shots=1\nop=k x=0,1 z=- u=- v=0,1\n";
+    static const char noisy[] = "op=job qubits=2 outcomes=0 shots=1\nop=k x=0,1 z=- u=- v=0,1\n"
+                                "op=n p=0000000000000000 corr=- cond=- parity=0 d=2 q=0,1\n";
+    uint8_t out[sizeof noisy];
+    struct kundatrezo_text_answer got = kundatrezo_annotate((const uint8_t *)shared, sizeof shared - 1, 0, out, sizeof out);
+    expect_figure("annotate", 0, 0, sizeof noisy - 1, got.answer, got.figure);
+    if (memcmp(out, noisy, sizeof noisy - 1) != 0) {
+        printf("annotate wrote something else over shared qubits\n");
+        failed = 1;
+    }
     struct kundatrezo_count_answer counted = kundatrezo_locations((const uint8_t *)shared, sizeof shared - 1);
-    expect_figure("locations", 0, 0, 6, counted.answer, counted.count);
+    expect_figure("locations", 0, 0, 8, counted.answer, counted.count);
+}
+
+/* Locations are counted where annotation refuses a line on more than 31 qubits. */
+static void annotate_wide(void)
+{
+    static const char wide[] = "op=job qubits=32 outcomes=0 shots=1\nop=u g=4 q=0\n"
+                               "op=p x=31 z=0,1,2,3,4,5,6,7,8,9,10,11,12,13,14,15,16,17,18,19,20,21,22,23,24,25,26,27,28,29,30\n";
+    uint8_t out[1];
+    struct kundatrezo_text_answer got = kundatrezo_annotate((const uint8_t *)wide, sizeof wide - 1, 0, out, 0);
+    expect_figure("annotate", KUNDATREZO_ANNOTATION, 3, 0, got.answer, got.figure);
+    struct kundatrezo_count_answer counted = kundatrezo_locations((const uint8_t *)wide, sizeof wide - 1);
+    expect_figure("locations", 0, 0, 66, counted.answer, counted.count);
 }
 
 static void correlation(void)
@@ -231,6 +249,7 @@ int main(void)
     walk();
     annotate();
     annotate_shared();
+    annotate_wide();
     correlation();
     line();
     puts(failed ? "calls from C: differences" : "calls from C: 0 differences");

@@ -1,5 +1,5 @@
 -- Definitions. Depolarizing annotation and the count of fault locations, as in document 01, "Around the engine". Assumes nothing.
-use mathlib.Core.Bool.{Bool, true, false, cond, _&&_}
+use mathlib.Core.Bool.{Bool, true, false, cond}
 use mathlib.Core.List.{List, [], _∷_, _++_}
 use mathlib.Core.Option.{Option, none, some}
 use Prim.Native.Nat.{ℕ, suc, _+_, _*_}
@@ -7,31 +7,48 @@ use lib.Dec.{leb}
 use lib.ListN.{length}
 use Rattle.text.specs.Bytes.{lines, unlines}
 use Rattle.text.specs.Template.{Value, lineText}
+use Rattle.pauli.specs.Bits.{members}
 use Rattle.job.specs.Line.{SparsePauli, Line}
 use Rattle.job.specs.Rising.{rising}
 use Rattle.job.specs.Grammar.{depolarizingTemplate, Written, readLine}
-use Rattle.job.specs.Checks.{maxMembers, distinct}
+use Rattle.job.specs.Checks.{maxMembers}
 
--- ---- the qubits of a line's noise
+-- ---- the qubits of a line, and those of its noise
 
 -- the support of a Pauli, rising; a Y counts once
 abbrev pub supportOf : SparsePauli → List ℕ
 supportOf P = rising (P .x ++ P .z)
 
--- the operands, or the support rising (control's, then target's); none for the other lines
+-- the operands, or the support rising, control's and then target's, so that a qubit of both stands twice; none for the other lines
+unfoldable pub locatedQubits : Line → List ℕ
+locatedQubits (Line.unitary g qs) = qs
+locatedQubits (Line.clifford qs t) = qs
+locatedQubits (Line.pauli P) = supportOf P
+locatedQubits (Line.exponential P) = supportOf P
+locatedQubits (Line.controlled C T) = supportOf C ++ supportOf T
+locatedQubits (Line.permute s qs) = qs
+locatedQubits (Line.measure P id) = supportOf P
+locatedQubits (Line.allocate id angle) = []
+locatedQubits (Line.conditional P ids par) = []
+locatedQubits (Line.reset qs) = []
+locatedQubits (Line.inject shot P) = []
+locatedQubits (Line.flip shot id) = []
+
+-- a number behind those seen, where it is not among them
+unfoldable pub addNew : List ℕ → ℕ → List ℕ
+addNew seen q = cond (members seen q) seen (seen ++ q ∷ [])
+
+unfoldable pub firstFrom : List ℕ → List ℕ → List ℕ
+firstFrom seen [] = seen
+firstFrom seen (q ∷ qs) = firstFrom (addNew seen q) qs
+
+-- each number of a list at its first appearance
+abbrev pub firstOnly : List ℕ → List ℕ
+firstOnly qs = firstFrom [] qs
+
+-- each qubit at its first appearance
 unfoldable pub noiseQubits : Line → List ℕ
-noiseQubits (Line.unitary g qs) = qs
-noiseQubits (Line.clifford qs t) = qs
-noiseQubits (Line.pauli P) = supportOf P
-noiseQubits (Line.exponential P) = supportOf P
-noiseQubits (Line.controlled C T) = supportOf C ++ supportOf T
-noiseQubits (Line.permute s qs) = qs
-noiseQubits (Line.measure P id) = supportOf P
-noiseQubits (Line.allocate id angle) = []
-noiseQubits (Line.conditional P ids par) = []
-noiseQubits (Line.reset qs) = []
-noiseQubits (Line.inject shot P) = []
-noiseQubits (Line.flip shot id) = []
+noiseQubits l = firstOnly (locatedQubits l)
 
 -- noise goes before a measurement, and after the others
 unfoldable pub noiseBefore : Line → Bool
@@ -78,42 +95,28 @@ annotatedText p job = unlines (annotated p (lines job))
 
 -- ---- 18 and the location count
 
--- the qubits of the noise of what a line says
-unfoldable pub noiseOn : Option Written → List ℕ
-noiseOn none = []
-noiseOn (some (Written.header h)) = []
-noiseOn (some (Written.noise n)) = []
-noiseOn (some (Written.element w P)) = []
-noiseOn (some (Written.line i)) = noiseQubits i
+-- the qubits of what a line says
+unfoldable pub locatedOn : Option Written → List ℕ
+locatedOn none = []
+locatedOn (some (Written.header h)) = []
+locatedOn (some (Written.noise n)) = []
+locatedOn (some (Written.element w P)) = []
+locatedOn (some (Written.line i)) = locatedQubits i
 
--- 18: annotation over a repeated qubit or above 31; the first such line, k being the number of the first of these lines
+-- those of its noise
+unfoldable pub noiseOn : Option Written → List ℕ
+noiseOn o = firstOnly (locatedOn o)
+
+-- 18: annotation over more than 31 qubits; the first such line, k being the number of the first of these lines
 unfoldable pub firstUnfit : ℕ → List (List ℕ) → Option ℕ
 firstUnfit k [] = none
 firstUnfit k (l ∷ ls) =
     let later = firstUnfit (suc k) ls in
-    cond (distinct (noiseOn (readLine l)) && leb (length (noiseOn (readLine l))) maxMembers) later (some k)
+    cond (leb (length (noiseOn (readLine l))) maxMembers) later (some k)
 
--- the locations of a line: twice those qubits
-unfoldable pub locationsOf : Line → ℕ
-locationsOf (Line.unitary g qs) = 2 * length qs
-locationsOf (Line.clifford qs t) = 2 * length qs
-locationsOf (Line.pauli P) = 2 * length (supportOf P)
-locationsOf (Line.exponential P) = 2 * length (supportOf P)
-locationsOf (Line.controlled C T) = 2 * (length (supportOf C) + length (supportOf T))
-locationsOf (Line.permute s qs) = 2 * length qs
-locationsOf (Line.measure P id) = 2 * length (supportOf P)
-locationsOf (Line.allocate id angle) = 0
-locationsOf (Line.conditional P ids par) = 0
-locationsOf (Line.reset qs) = 0
-locationsOf (Line.inject shot P) = 0
-locationsOf (Line.flip shot id) = 0
-
+-- the locations of a line: twice its operands or its weight, for a controlled Pauli both weights, whatever the two share
 unfoldable pub locationsAt : Option Written → ℕ
-locationsAt none = 0
-locationsAt (some (Written.header h)) = 0
-locationsAt (some (Written.line i)) = locationsOf i
-locationsAt (some (Written.noise n)) = 0
-locationsAt (some (Written.element w P)) = 0
+locationsAt o = 2 * length (locatedOn o)
 
 -- summed over the job
 unfoldable pub locations : List (List ℕ) → ℕ

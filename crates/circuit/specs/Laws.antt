@@ -1,3 +1,4 @@
--- Laws, for the proofs that cite them: annotated lines are accepted, and are the annotated list; replies. Nothing here has to be believed.
+-- Laws, for the proofs that cite them: each number of a list at its first appearance; annotated lines are accepted, and are the annotated list; replies. Nothing here has to be believed.
+pub mod First
 pub mod Annotated
 pub mod Replies

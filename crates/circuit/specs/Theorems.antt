@@ -1,26 +1,55 @@
--- Theorems: the annotated text of an accepted job is a job of the annotated list. Their proofs stand in Laws. Assumes nothing.
-use mathlib.Core.Path.{_≡_, refl}
-use mathlib.Core.Bool.{true}
-use mathlib.Core.List.{List, [], _∷_}
-use mathlib.Core.Option.{none}
-use Prim.Native.Nat.{ℕ, _^_, _<_, _≤_}
+-- Theorems: the annotated text of an accepted job is a job of the annotated list; each qubit of a line stands in its noise once. Their proofs stand in Laws.
+-- Assumes nothing.
+use mathlib.Core.Path.{_≡_, refl, _∙_}
+use mathlib.Core.Bool.{true, _||_}
+use mathlib.Core.List.{List, [], _∷_, _++_}
+use mathlib.Core.Option.{none, some}
+use Prim.Native.Nat.{ℕ, _+_, _^_, _<_, _≤_}
 use lib.ListN.{length}
 use Rattle.text.specs.Bytes.{bytes, until, extend, pieces, lines, unlines}
 use Rattle.text.specs.List.{withFirst, piecesOf, listQ, risesFrom, isRising, onlyRising, listL, oneMember, listC, commas, listText}
 use Rattle.text.specs.Number.{allDecimal, decimalFrom, numberOf, allHex, hexFrom, hexOf, bitOf, decimalDigits, hexDigits}
 use Rattle.text.specs.Template.{aNumber, aList, valueOf, andThen, sameByte, atEnd, valuesOf, numbersIn, listsIn, valueText, firstText, lineText}
+use Rattle.pauli.specs.Bits.{outside, members}
 use Rattle.pauli.specs.Gate.{gates, gateFrom, gateOf}
+use Rattle.job.specs.declared.Header.{Header}
+use Rattle.job.specs.Line.{SparsePauli, Line}
+use Rattle.job.specs.Checks.{distinct}
 use Rattle.job.specs.Grammar.{unitaryLine, optional, noiseLine, forms, said, orLater, readBy, readLine}
 use Rattle.job.specs.Rising.{including, rising}
 use Rattle.job.specs.Float.{float, isProbability}
 use Rattle.job.specs.Job.{accepted, jobOf, checkJob}
-use Rattle.job.specs.Sound.{instructionsOf}
+use Rattle.job.specs.Sound.{LineSound, instructionsOf}
 use Rattle.job.specs.Reply.{writtenText, writtenBy}
-use Rattle.circuit.specs.Annotate.{noiseQubits, noiseBefore, noiseText, noiseLines, around, annotated, annotatedText, firstUnfit, locationsOf, locationsAt, locations}
+use Rattle.circuit.specs.Annotate.{supportOf, locatedQubits, addNew, firstFrom, noiseQubits, noiseBefore, noiseText, noiseLines, around, annotated, annotatedText, locatedOn, noiseOn, firstUnfit, locationsAt, locations}
 use Rattle.circuit.specs.Annotated.{annotatedList}
 use Rattle.circuit.specs.Replies.{annotateReply}
 use Rattle.circuit.specs.Laws.Replies.{annotate-writes}
-use Rattle.circuit.specs.Laws.Annotated.{JobAnnotated, job-annotated}
+use Rattle.circuit.specs.Laws.First.{members-append, first-members, first-same}
+use Rattle.circuit.specs.Laws.Annotated.{qubits-apart, located-apart, JobAnnotated, job-annotated}
+
+-- ---- the qubits of a line's noise
+
+-- None stands twice, so 18 asks only how many they are.
+pub noise-apart : (l : Line) → distinct (noiseQubits l) ≡ true
+noise-apart l = qubits-apart l
+
+-- Where control and target share none, they are control's support and then target's.
+pub unshared-as-before : (C T : SparsePauli) → distinct (supportOf C ++ supportOf T) ≡ true → noiseQubits (Line.controlled C T) ≡ supportOf C ++ supportOf T
+unfolding noiseQubits locatedQubits
+unshared-as-before C T d = first-same [] (supportOf C ++ supportOf T) d
+
+-- For the other lines of an accepted job they are the operands or the support.
+pub others-as-before : (h : Header) (r : ℕ) (l : Line) → LineSound h r l → ((C T : SparsePauli) → l ≡ Line.controlled C T → ⊥) → noiseQubits l ≡ locatedQubits l
+unfolding noiseQubits
+others-as-before h r l s other = first-same [] (locatedQubits l) (located-apart h r l s other)
+
+-- Their members are those of both supports.
+pub shared-members : (C T : SparsePauli) (q : ℕ) → members (noiseQubits (Line.controlled C T)) q ≡ members (supportOf C) q || members (supportOf T) q
+unfolding noiseQubits locatedQubits members outside
+shared-members C T q = first-members [] (supportOf C ++ supportOf T) q ∙ members-append (supportOf C) (supportOf T) q
+
+-- ---- annotation
 
 -- For an accepted job, a probability by its bits, and no line that 18 refuses:
 module _ (job : List ℕ) (passes : checkJob job .number ≡ 0) (p : ℕ) (small : p < 2 ^ 64) (probability : isProbability (float p) ≡ true)
@@ -65,6 +94,11 @@ reading : Unit {0}
 unfolding bytes until extend pieces unlines withFirst piecesOf listQ risesFrom isRising onlyRising listL oneMember listC commas listText allDecimal decimalFrom numberOf allHex hexFrom hexOf bitOf decimalDigits hexDigits aNumber aList valueOf andThen sameByte atEnd valuesOf numbersIn listsIn valueText firstText lineText gates gateFrom gateOf unitaryLine optional noiseLine forms said orLater readBy readLine including rising
 reading = tt
 
+-- opens which qubits a line's noise has
+noising : Unit {0}
+unfolding outside members addNew firstFrom locatedQubits noiseQubits
+noising = tt
+
 -- p = 2^-10: operands as written; a Y counts once and the support rises; control's support, then target's; none for the identity; before a measurement; none
 -- for a reset, and existing noise is copied with its elements.
 abbrev pub plainCase : List (List ℕ)
@@ -98,10 +132,40 @@ annotatedCase =
     ∷ []
 
 pub annotated-case : annotatedText 0x3f50_0000_0000_0000 (unlines plainCase) ≡ unlines annotatedCase
-unfolding annotatedText annotated around noiseBefore noiseQubits noiseLines noiseText reading
+unfolding annotatedText annotated around noiseBefore noising noiseLines noiseText reading
 annotated-case = refl
 
 -- its locations: twice 2, 2, 3 and 1 qubits
 pub located-case : locations (lines (unlines plainCase)) ≡ 16
-unfolding locations locationsAt locationsOf reading
+unfolding locations locationsAt locatedOn noiseOn noising reading
 located-case = refl
+
+-- ---- control and target that share qubits
+
+-- each qubit at its first appearance, control's support rising and then target's
+abbrev pub sharedCase : List (List ℕ)
+sharedCase = bytes "op=job qubits=6 outcomes=0 shots=1" ∷ bytes "op=k x=0,1 z=- u=- v=0,1" ∷ bytes "op=k x=3,5 z=4 u=5 v=2,4" ∷ []
+
+pub shared-case : annotatedText 0x3f50_0000_0000_0000 (unlines sharedCase) ≡ unlines
+    (bytes "op=job qubits=6 outcomes=0 shots=1"
+    ∷ bytes "op=k x=0,1 z=- u=- v=0,1"
+    ∷ bytes "op=n p=3f50000000000000 corr=- cond=- parity=0 d=2 q=0,1"
+    ∷ bytes "op=k x=3,5 z=4 u=5 v=2,4"
+    ∷ bytes "op=n p=3f50000000000000 corr=- cond=- parity=0 d=2 q=3,4,5,2"
+    ∷ [])
+unfolding annotatedText annotated around noiseBefore noising noiseLines noiseText reading
+shared-case = refl
+
+-- both weights are counted: twice 2 and 2, and twice 3 and 3
+pub shared-located : locations (lines (unlines sharedCase)) ≡ 8 + 12
+unfolding locations locationsAt locatedOn noiseOn noising reading
+shared-located = refl
+
+-- 20 and 20 qubits, of which 10 are shared, and of which 8 are
+pub shared-fit : firstUnfit 1 (bytes "op=k x=0,1,2,3,4,5,6,7,8,9,10,11,12,13,14,15,16,17,18,19 z=- u=10,11,12,13,14,15,16,17,18,19,20,21,22,23,24,25,26,27,28,29 v=-" ∷ []) ≡ none
+unfolding firstUnfit noiseOn locatedOn noising reading
+shared-fit = refl
+
+pub shared-unfit : firstUnfit 1 (bytes "op=k x=0,1,2,3,4,5,6,7,8,9,10,11,12,13,14,15,16,17,18,19 z=- u=12,13,14,15,16,17,18,19,20,21,22,23,24,25,26,27,28,29,30,31 v=-" ∷ []) ≡ some 1
+unfolding firstUnfit noiseOn locatedOn noising reading
+shared-unfit = refl

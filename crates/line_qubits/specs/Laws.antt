@@ -3,5 +3,7 @@
 pub mod Least
 -- Two rising lists merged member by member.
 pub mod Merging
--- The noise of a line by its form.
+-- Each number at its first appearance.
+pub mod First
+-- The qubits of a line by its form.
 pub mod Noise

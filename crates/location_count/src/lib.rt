@@ -8,7 +8,7 @@ use checker::check;
 use instructions::next_line;
 use job::Answer;
 use job::CountReply;
-use line_qubits::noise_qubits;
+use line_qubits::located;
 use template::values::WORDS;
 
 // The locations of an accepted job.
@@ -23,14 +23,14 @@ fn count(job: &[u8]) -> u64
     while at < job.len() {
         let line = next_line(job, at, &mut fields);
         let form = line.form;
-        let n = noise_qubits(form, &fields, &mut qubits);
+        let n = located(form, &fields, &mut qubits);
         total += 2 * n as u64;
         at = line.end + 1;
     }
     total
 }
 
-// How many fault locations a job has: twice the qubits of its lines' noise.
+// How many fault locations a job has: twice the qubits of its lines, one of both control and target counted with each.
 pub fn locations(job: &[u8]) -> CountReply
     ensures { λ r. ⌜ r ≡ locationsReply (now (job .entry)) ⌝ }
 {

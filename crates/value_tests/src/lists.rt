@@ -59,7 +59,7 @@ pub fn short(f: &[u64], a: usize, e: usize) -> bool
 }
 
 // Whether n is among the members.
-fn contains(members: &[u64], n: u64) -> bool
+pub fn contains(members: &[u64], n: u64) -> bool
     ensures { λ r. ⌜ r ≡ among (now (members .entry)) n ⌝ }
 {
     let mut i = 0;

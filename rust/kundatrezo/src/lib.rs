@@ -299,7 +299,8 @@ pub fn annotated(job: &[u8], p: f64) -> Answer<Vec<u8>> {
     text(|out| annotate(job, p, out))
 }
 
-/// Count fault locations: twice the qubits that annotation gives noise, summed over the job.
+/// Count fault locations: twice the qubits of the lines that annotation gives noise, summed over the job. A qubit that control
+/// and target of an `op=k` line share counts for both.
 ///
 /// # Errors
 ///

@@ -68,7 +68,7 @@ numbers! {
     15 ROOM "the text is longer than the lent bytes or 1,048,576"
     16 NOISE "noise in a walk"
     17 WALK "the walk's shot not below the header's shots; its set not strictly rising, or with an outcome that is not recorded"
-    18 ANNOTATION "annotation over a repeated qubit, or over more than 31"
+    18 ANNOTATION "annotation over more than 31 qubits"
     19 SIZES "sizes of one correlation differ"
     20 CONTROL "control and target of a controlled Pauli anticommute"
 }

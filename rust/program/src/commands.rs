@@ -102,7 +102,9 @@ or --p-bits is wanted."],
         name: "locations",
         operand: Operand::Job,
         summary: "the number of fault locations",
-        details: &["Prints 'ok=1 locations=' and twice the qubits that annotation gives noise, summed over the job."],
+        details: &["\
+Prints 'ok=1 locations=' and twice the qubits of the lines that annotation gives noise, summed over the
+job. A qubit that control and target share counts for both."],
         options: &[],
         obey: locations,
     },

@@ -2,17 +2,16 @@
 use Prim.Native.Nat.{ℕ, suc, _+_, _-_, _*_, _^_, _≤_, _<_}
 use native.Mathlib.Omega.{arith}
 use mathlib.Core.Path.{_≡_, refl, sym, ap, subst, _∙_}
-use mathlib.Core.Bool.{Bool, true, false, _&&_}
+use mathlib.Core.Bool.{Bool, true, false}
 use mathlib.Core.List.{List, [], _∷_, _++_, append-nil}
 use mathlib.Core.Option.{some}
 use lib.Dec.{leb}
 use lib.ListN.{length, take, drop, length-append, drop-of-length-le}
 use borrow.Author.Tests.{leb-true}
 use Rattle.text.specs.Bytes.{LF, pieces, lines, unlines}
-use Rattle.text.specs.Laws.Values.{both}
 use Rattle.text.specs.Template.{Value, lineText}
 use Rattle.job.specs.Grammar.{Written, depolarizingTemplate}
-use Rattle.job.specs.Checks.{maxMembers, distinct}
+use Rattle.job.specs.Checks.{maxMembers}
 use Rattle.job.specs.Job.{checkJob}
 use Rattle.reader.specs.Parsed.{formOf}
 use Rattle.instructions.specs.declared.Next.{Next}
@@ -91,9 +90,9 @@ module _ {job : List ℕ} {p : ℕ} {out : List ℕ} {k at next : ℕ} {after : 
   over : take n words ≡ noiseOn (some (read .written))
   over = q .qubits (read .written) (line-read (a .left) l)
 
-  -- no member twice, at most 31
+  -- at most 31
   abbrev Fits : Bool → Type 0
-  Fits b = b ≡ (distinct (take n words) && leb (length (take n words)) maxMembers)
+  Fits b = b ≡ leb (length (take n words)) maxMembers
 
   pub put-stops : {last : List ℕ} → Fits false → Annotates job p (record { unfit = k; bytes = 0 }) out last
   put-stops h =
@@ -106,7 +105,7 @@ module _ {job : List ℕ} {p : ℕ} {out : List ℕ} {k at next : ℕ} {after : 
       }
 
   pub fits-few : Fits true → length (take n words) ≤ 31
-  fits-few h = leb-true _ _ (both (distinct (take n words)) (leb (length (take n words)) maxMembers) (sym h) .1)
+  fits-few h = leb-true _ _ (sym h)
 
   line-size : length (take (line .end + 1 - at) (drop at job)) ≤ line .end + 1 - at
   line-size = part-few (line .end + 1 - at) (drop at job)

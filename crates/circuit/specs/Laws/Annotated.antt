@@ -1,19 +1,19 @@
 -- Laws: annotated lines are accepted where the lines are, and are the annotated list of their instructions. Assumes nothing.
 use mathlib.Core.Path.{_≡_, refl, sym, ap, _∙_}
-use mathlib.Core.Bool.{Bool, true, false, cond, _&&_}
+use mathlib.Core.Bool.{Bool, true, false, cond}
 use mathlib.Core.List.{List, [], _∷_, _++_, append-assoc}
 use mathlib.Core.Option.{Option, none, some}
 use Prim.Native.Nat.{ℕ, suc, _+_, _^_, _<_, _≤_}
 use native.Mathlib.Nat.{add-zero}
 use native.Mathlib.Omega.{arith}
-use borrow.Author.Tests.{leb-true, lt-ltb}
+use borrow.Author.Tests.{leb-true}
 use lib.Dec.{leb}
 use lib.ListN.{length}
 use Rattle.text.specs.Bytes.{LF, lines, unlines}
 use Rattle.text.specs.List.{isRising}
 use Rattle.text.specs.Written.{Free, AllFree}
 use Rattle.text.specs.Theorems.{written-one-line, lines-free}
-use Rattle.text.specs.Laws.Values.{both, none-some}
+use Rattle.text.specs.Laws.Values.{none-some}
 use Rattle.job.specs.declared.Header.{Header}
 use Rattle.job.specs.Line.{SparsePauli, Line, WeightedPauli, Instruction}
 use Rattle.job.specs.Rising.{rising}
@@ -22,8 +22,8 @@ use Rattle.job.specs.Grammar.{depolarizingTemplate, NoiseLine, Written, readLin
 use Rattle.job.specs.Checks.{elementLines, allBelow, distinct}
 use Rattle.job.specs.Job.{answer, distributionOf, noiseOf, gathered, Job, jobOf, recordedBy, checkJob}
 use Rattle.job.specs.Sound.{PauliSound, SmallOption, LineSound, DistributionSound, InstructionSound, instructionsOf, ListSound, hasWeights, ElementsSaid, NoiseRead, SaidAs, HeaderSound}
-use Rattle.job.specs.Laws.Lists.{below-first}
-use Rattle.job.specs.Laws.Rising.{rising-below}
+use Rattle.job.specs.Laws.Lists.{rising-distinct}
+use Rattle.job.specs.Laws.Rising.{rising-rises, rising-below}
 use Rattle.job.specs.Contexts.{between}
 use Rattle.job.specs.Laws.Lines.{header-sound}
 use Rattle.job.specs.Laws.Begun.{Begun, job-begun}
@@ -31,34 +31,55 @@ use Rattle.job.specs.Laws.Gather.{gathered-sound}
 use Rattle.job.specs.Laws.Said.{instructions-accepted, placed-list}
 use Rattle.job.specs.Laws.SaidGathered.{said-gathers, accepted-said}
 use Rattle.job.specs.Laws.Texts.{small-below, depolarizingLine, noise-one-line, depolarizing-says, text-accepted, text-job}
-use Rattle.circuit.specs.Annotate.{noiseQubits, noiseBefore, noiseText, noiseLines, around, annotated, annotatedText, noiseOn, firstUnfit}
+use Rattle.circuit.specs.Annotate.{locatedQubits, noiseQubits, noiseBefore, noiseText, noiseLines, around, annotated, annotatedText, locatedOn, noiseOn, firstUnfit}
+use Rattle.circuit.specs.Laws.First.{below-append, first-distinct, first-below}
 use Rattle.circuit.specs.Annotated.{depolarizingNoise, noiseOver, withNoise, annotatedList}
 
 -- ---- the qubits of a line's noise
-
-below-append : (n : ℕ) (k l : List ℕ) → allBelow n k ≡ true → allBelow n l ≡ true → allBelow n (k ++ l) ≡ true
-unfolding allBelow
-below-append n [] l a b = b
-below-append n (q ∷ k) l a b = let parts = below-first n q k a in rw (lt-ltb q n (parts .0)) (below-append n k l (parts .1) b)
 
 support-below : (n : ℕ) (P : SparsePauli) → PauliSound n P → allBelow n (rising (P .x ++ P .z)) ≡ true
 support-below n P s = rising-below n (P .x ++ P .z) ∙ below-append n (P .x) (P .z) (s .x .below) (s .z .below)
 
 -- they are qubits of the job
+located-below : (h : Header) (r : ℕ) (l : Line) → LineSound h r l → allBelow (h .qubits) (locatedQubits l) ≡ true
+unfolding locatedQubits LineSound allBelow
+located-below h r (Line.unitary g qs) s = s .operands .below
+located-below h r (Line.clifford qs t) s = s .operands .below
+located-below h r (Line.pauli P) s = support-below _ P s
+located-below h r (Line.exponential P) s = support-below _ P s
+located-below h r (Line.controlled C T) s = below-append _ (rising (C .x ++ C .z)) (rising (T .x ++ T .z)) (support-below _ C (s .control)) (support-below _ T (s .target))
+located-below h r (Line.permute p qs) s = s .operands .below
+located-below h r (Line.measure P id) s = support-below _ P (s .observable)
+located-below h r (Line.allocate id angle) s = refl
+located-below h r (Line.conditional P ids par) s = refl
+located-below h r (Line.reset qs) s = refl
+located-below h r (Line.inject shot P) s = refl
+located-below h r (Line.flip shot id) s = refl
+
 qubits-below : (h : Header) (r : ℕ) (l : Line) → LineSound h r l → allBelow (h .qubits) (noiseQubits l) ≡ true
-unfolding noiseQubits LineSound allBelow
-qubits-below h r (Line.unitary g qs) s = s .operands .below
-qubits-below h r (Line.clifford qs t) s = s .operands .below
-qubits-below h r (Line.pauli P) s = support-below _ P s
-qubits-below h r (Line.exponential P) s = support-below _ P s
-qubits-below h r (Line.controlled C T) s = below-append _ (rising (C .x ++ C .z)) (rising (T .x ++ T .z)) (support-below _ C (s .control)) (support-below _ T (s .target))
-qubits-below h r (Line.permute p qs) s = s .operands .below
-qubits-below h r (Line.measure P id) s = support-below _ P (s .observable)
-qubits-below h r (Line.allocate id angle) s = refl
-qubits-below h r (Line.conditional P ids par) s = refl
-qubits-below h r (Line.reset qs) s = refl
-qubits-below h r (Line.inject shot P) s = refl
-qubits-below h r (Line.flip shot id) s = refl
+unfolding noiseQubits allBelow
+qubits-below h r l s = first-below (h .qubits) [] (locatedQubits l) refl (located-below h r l s)
+
+-- none stands twice
+pub qubits-apart : (l : Line) → distinct (noiseQubits l) ≡ true
+unfolding noiseQubits distinct
+qubits-apart l = first-distinct [] (locatedQubits l) refl
+
+-- as it is for a line other than a controlled Pauli
+pub located-apart : (h : Header) (r : ℕ) (l : Line) → LineSound h r l → ((C T : SparsePauli) → l ≡ Line.controlled C T → ⊥) → distinct (locatedQubits l) ≡ true
+unfolding locatedQubits LineSound distinct
+located-apart h r (Line.unitary g qs) s other = s .operands .apart
+located-apart h r (Line.clifford qs t) s other = s .operands .apart
+located-apart h r (Line.pauli P) s other = rising-distinct _ (rising-rises (P .x ++ P .z))
+located-apart h r (Line.exponential P) s other = rising-distinct _ (rising-rises (P .x ++ P .z))
+located-apart h r (Line.controlled C T) s other = absurd (other C T refl)
+located-apart h r (Line.permute p qs) s other = s .operands .apart
+located-apart h r (Line.measure P id) s other = rising-distinct _ (rising-rises (P .x ++ P .z))
+located-apart h r (Line.allocate id angle) s other = refl
+located-apart h r (Line.conditional P ids par) s other = refl
+located-apart h r (Line.reset qs) s other = refl
+located-apart h r (Line.inject shot P) s other = refl
+located-apart h r (Line.flip shot id) s other = refl
 
 -- noise over these qubits can be written: none, or at most 31, each once
 record Fit (n : ℕ) (qs : List ℕ) : Type 0 where
@@ -70,20 +91,18 @@ record Fit (n : ℕ) (qs : List ℕ) : Type 0 where
 
 -- the qubits of a line's noise pass it, and so do those of the lines behind it
 unfit-parts : (j : ℕ) (l : List ℕ) (ls : List (List ℕ)) → firstUnfit j (l ∷ ls) ≡ none
-    → ((distinct (noiseOn (readLine l)) && leb (length (noiseOn (readLine l))) 31) ≡ true) × (firstUnfit (suc j) ls ≡ none)
+    → (leb (length (noiseOn (readLine l))) 31 ≡ true) × (firstUnfit (suc j) ls ≡ none)
 unfolding firstUnfit
-unfit-parts j l ls e = go (distinct (noiseOn (readLine l)) && leb (length (noiseOn (readLine l))) 31) e
+unfit-parts j l ls e = go (leb (length (noiseOn (readLine l))) 31) e
   where
     go : (b : Bool) → cond b (firstUnfit (suc j) ls) (some j) ≡ none → (b ≡ true) × (firstUnfit (suc j) ls ≡ none)
     go true e = (refl, e)
     go false e = absurd (none-some (sym e))
 
 line-fit : (h : Header) (r : ℕ) (o : Option Written) (i : Line) → o ≡ some (Written.line i) → LineSound h r i
-    → (distinct (noiseOn o) && leb (length (noiseOn o)) 31) ≡ true → Fit (h .qubits) (noiseQubits i)
-unfolding noiseOn
-line-fit h r o i e s t =
-    let parts = both (distinct (noiseQubits i)) (leb (length (noiseQubits i)) 31) (rw e at t) in
-    record { apart = parts .0; few = leb-true _ _ (parts .1); below = qubits-below h r i s }
+    → leb (length (noiseOn o)) 31 ≡ true → Fit (h .qubits) (noiseQubits i)
+unfolding noiseOn locatedOn noiseQubits
+line-fit h r o i e s t = record { apart = qubits-apart i; few = leb-true _ _ (rw e at t); below = qubits-below h r i s }
 
 -- the lines behind some others
 unfit-behind : (j : ℕ) (us ts : List (List ℕ)) → firstUnfit j (us ++ ts) ≡ none → (k : ℕ) × (firstUnfit k ts ≡ none)

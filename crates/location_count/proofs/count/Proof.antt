@@ -23,20 +23,20 @@ slice-aggregate-next-line c = omega arith
 next-line-requires : tie.Need-next-line-requires Inv-loop μ-loop
 next-line-requires c κs = (c .before .before .loop .inv .0 .left .ended, c .before .loop-test .taken, omega arith)
 
-slice-aggregate-noise-qubits : tie.Need-slice-aggregate-noise-qubits Inv-loop μ-loop
-slice-aggregate-noise-qubits c = omega (arith, c .before .before .before .before .before .loop .inv .1, c .before .before .next-line .kept)
+slice-aggregate-located : tie.Need-slice-aggregate-located Inv-loop μ-loop
+slice-aggregate-located c = omega (arith, c .before .before .before .before .before .loop .inv .1, c .before .before .next-line .kept)
 
-slice-aggregate-noise-qubits-2 : tie.Need-slice-aggregate-noise-qubits-2 Inv-loop μ-loop
-slice-aggregate-noise-qubits-2 c = omega arith
+slice-aggregate-located-2 : tie.Need-slice-aggregate-located-2 Inv-loop μ-loop
+slice-aggregate-located-2 c = omega arith
 
-noise-qubits-requires : tie.Need-noise-qubits-requires Inv-loop μ-loop
-noise-qubits-requires c κs = (some-read (c .before .before .before .before .before .before .loop .inv .0 .left) (c .before .before .before .next-line .ensures), omega (arith, c .before .before .before .before .before .before .loop .inv .1, c .before .before .before .next-line .kept), omega (arith, c .before .before .before .before .before .before .loop .inv .2))
+located-requires : tie.Need-located-requires Inv-loop μ-loop
+located-requires c κs = (some-read (c .before .before .before .before .before .before .loop .inv .0 .left) (c .before .before .before .next-line .ensures), omega (arith, c .before .before .before .before .before .before .loop .inv .1, c .before .before .before .next-line .kept), omega (arith, c .before .before .before .before .before .before .loop .inv .2))
 
 mul-total : tie.Need-mul-total Inv-loop μ-loop
-mul-total c = omega (arith, c .before .noise-qubits .ensures .few)
+mul-total c = omega (arith, c .before .located .ensures .few)
 
 add-total : tie.Need-add-total Inv-loop μ-loop
-add-total c = omega (arith, c .before .noise-qubits .ensures .few, c .before .before .before .before .before .before .before .before .loop .inv .0 .bound, c .before .before .before .before .before .before .before .before .loop .inv .0 .left .within, c .before .before .before .before .before .before .before .before .loop .inv .0 .left .size)
+add-total c = omega (arith, c .before .located .ensures .few, c .before .before .before .before .before .before .before .before .loop .inv .0 .bound, c .before .before .before .before .before .before .before .before .loop .inv .0 .left .within, c .before .before .before .before .before .before .before .before .loop .inv .0 .left .size)
 
 add-at : tie.Need-add-at Inv-loop μ-loop
 add-at c = omega (arith, c .before .before .before .before .before .before .next-line .ensures .place .inside, c .before .before .before .before .before .before .before .before .before .loop .inv .0 .left .size)
@@ -45,7 +45,7 @@ loop-less : tie.Need-loop-less Inv-loop μ-loop
 loop-less c = omega (arith, c .before .before .before .before .before .before .next-line .ensures .place .inside, c .before .before .before .before .before .before .next-line .ensures .place .begins)
 
 loop-again : tie.Need-loop-again Inv-loop μ-loop
-loop-again c = (count-more (c .before .before .before .before .before .before .before .before .before .loop .inv .0) (c .before .before .before .before .before .before .next-line .ensures) (c .before .before .noise-qubits .ensures) (omega (arith, c .before .before .noise-qubits .ensures .few, c .before .before .noise-qubits .kept, c .before .before .before .before .before .before .before .before .before .loop .inv .2)), omega (arith, c .before .before .before .before .before .before .before .before .before .loop .inv .1, c .before .before .before .before .before .before .next-line .kept), omega (arith, c .before .before .before .before .before .before .before .before .before .loop .inv .2, c .before .before .noise-qubits .kept))
+loop-again c = (count-more (c .before .before .before .before .before .before .before .before .before .loop .inv .0) (c .before .before .before .before .before .before .next-line .ensures) (c .before .before .located .ensures) (omega (arith, c .before .before .located .ensures .few, c .before .before .located .kept, c .before .before .before .before .before .before .before .before .before .loop .inv .2)), omega (arith, c .before .before .before .before .before .before .before .before .before .loop .inv .1, c .before .before .before .before .before .before .next-line .kept), omega (arith, c .before .before .before .before .before .before .before .before .before .loop .inv .2, c .before .before .located .kept))
 
 returns : tie.Need-returns Inv-loop μ-loop
 returns c = count-all (c .before .loop .inv .0) (c .loop-test .left)
@@ -59,9 +59,9 @@ count-spec =
     loop-holds
     slice-aggregate-next-line
     next-line-requires
-    slice-aggregate-noise-qubits
-    slice-aggregate-noise-qubits-2
-    noise-qubits-requires
+    slice-aggregate-located
+    slice-aggregate-located-2
+    located-requires
     mul-total
     add-total
     add-at

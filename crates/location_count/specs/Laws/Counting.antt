@@ -3,11 +3,10 @@ use Prim.Native.Nat.{ℕ, _+_, _*_, _≤_}
 use mathlib.Core.Path.{_≡_, refl, sym, ap, _∙_}
 use mathlib.Core.List.{List, _∷_}
 use mathlib.Core.Option.{some}
-use lib.ListN.{length, length-append, drop, drop-of-length-le}
+use lib.ListN.{length, drop, drop-of-length-le}
 use Rattle.text.specs.Bytes.{pieces, lines}
-use Rattle.job.specs.Line.{Line}
 use Rattle.job.specs.Grammar.{Written, readLine}
-use Rattle.circuit.specs.Annotate.{noiseQubits, noiseOn, locationsOf, locationsAt, locations}
+use Rattle.circuit.specs.Annotate.{locatedOn, locationsAt, locations}
 use native.Mathlib.Omega.{arith}
 use lib.Seq.{length-take-le}
 use borrow.Author.Tests.{eq-eqb, ne-eqb}
@@ -16,34 +15,13 @@ use Rattle.instructions.specs.declared.Next.{Next}
 use Rattle.instructions.specs.Reading.{lineAt, NextLine}
 use Rattle.instructions.specs.Lines.{Left}
 use Rattle.instructions.specs.Laws.Lines.{left-all, here, line-read, left-more}
-use Rattle.line_qubits.specs.Qubits.{NoiseQubits}
+use Rattle.line_qubits.specs.Qubits.{LocatedQubits}
 use Rattle.job.specs.declared.Answer.{Answer}
 use Rattle.circuit.specs.Replies.{locationsReply}
 
-module _ (l : List ℕ) (ls : List (List ℕ)) (w : Written) (reads : readLine l ≡ some w) where
-  pub locations-line : locations (l ∷ ls) ≡ 2 * length (noiseOn (some w)) + locations ls
-  unfolding locations
-  locations-line = rw (reads, twice w)
-    where
-      twice-line : (i : Line) → locationsOf i ≡ 2 * length (noiseQubits i)
-      twice-line (Line.unitary g qs) = unfold locationsOf noiseQubits in refl
-      twice-line (Line.clifford qs t) = unfold locationsOf noiseQubits in refl
-      twice-line (Line.pauli P) = unfold locationsOf noiseQubits in refl
-      twice-line (Line.exponential P) = unfold locationsOf noiseQubits in refl
-      twice-line (Line.controlled C T) = unfold locationsOf noiseQubits in rw length-append
-      twice-line (Line.permute s qs) = unfold locationsOf noiseQubits in refl
-      twice-line (Line.measure P id) = unfold locationsOf noiseQubits in refl
-      twice-line (Line.allocate id angle) = unfold locationsOf noiseQubits in refl
-      twice-line (Line.conditional P ids par) = unfold locationsOf noiseQubits in refl
-      twice-line (Line.reset qs) = unfold locationsOf noiseQubits in refl
-      twice-line (Line.inject shot P) = unfold locationsOf noiseQubits in refl
-      twice-line (Line.flip shot id) = unfold locationsOf noiseQubits in refl
-
-      twice : (w : Written) → locationsAt (some w) ≡ 2 * length (noiseOn (some w))
-      twice (Written.header h) = unfold locationsAt noiseOn in refl
-      twice (Written.line i) = unfold locationsAt noiseOn in twice-line i
-      twice (Written.noise n) = unfold locationsAt noiseOn in refl
-      twice (Written.element v P) = unfold locationsAt noiseOn in refl
+locations-line : (l : List ℕ) (ls : List (List ℕ)) (w : Written) → readLine l ≡ some w → locations (l ∷ ls) ≡ 2 * length (locatedOn (some w)) + locations ls
+unfolding locations locationsAt
+locations-line l ls w reads = rw reads
 
 -- ---- the loop over a job's lines
 
@@ -57,10 +35,10 @@ pub count-none : (job : List ℕ) → checkJob job .number ≡ 0 → Counting jo
 count-none job e = record { number = 1; left = left-all job e; same = omega arith; bound = omega arith }
 
 pub count-more : {job : List ℕ} {at count : ℕ} {line : Next} {fields : List ℕ} {n : ℕ} {words : List ℕ} → Counting job at count
-    → NextLine job at line fields → NoiseQubits (line .form) fields n words → n ≤ length words → Counting job (line .end + 1) (count + 2 * n)
+    → NextLine job at line fields → LocatedQubits (line .form) fields n words → n ≤ length words → Counting job (line .end + 1) (count + 2 * n)
 count-more {job} {at} {count} {line} {fields} {n} {words} c l q h =
     let r = here (c .left) l in
-    let size : n ≡ length (noiseOn (some (r .written))) = sym (length-take-le n words h) ∙ ap length (q .qubits (r .written) (line-read (c .left) l)) in
+    let size : n ≡ length (locatedOn (some (r .written))) = sym (length-take-le n words h) ∙ ap length (q .qubits (r .written) (line-read (c .left) l)) in
     let step = ap locations (l .place .cut) ∙ locations-line (lineAt job at (line .end)) (lines (drop (line .end + 1) job)) (r .written) (r .reads) in
     record {
       number = c .number + 1;

@@ -71,7 +71,9 @@ fn numbers_of_the_calls() {
     assert_eq!(refused(walk(&job("op=r id=0 angle=0"), 0, &[0, 0])), (17, 0));
     assert_eq!(refused(walk(&job("op=z q=0"), 0, &[0])), (17, 0));
     assert_eq!(refused(annotated(&noisy, 1.5)), (11, 0));
-    assert_eq!(refused(annotated(&job("op=k x=0 z=- u=0 v=-"), 0.5)), (18, 2));
+    let many = (0..31).map(|qubit| qubit.to_string()).collect::<Vec<_>>().join(",");
+    let wide = format!("op=job qubits=32 outcomes=0 shots=1\nop=p x=31 z={many}\n");
+    assert_eq!(refused(annotated(wide.as_bytes(), 0.5)), (18, 2));
     let sizes = format!("{}\n{}", fault("3", "d=1 x=- z=-"), fault("3", "d=2 q=0"));
     assert_eq!(refused(correlation(&job(&sizes))), (19, 3));
     assert_eq!(correlation(&noisy), Ok(()));

@@ -9,7 +9,7 @@ pub mod vectors;
 
 use checker::calls::{Answer, Calls, Draws, Rows};
 use checker::job::{Header, Instruction, Job, Refusal, usize_of};
-use checker::plain::around::can_annotate;
+use checker::plain::around::noise_list;
 use checker::plain::by_shot::Shape;
 use checker::plain::{bit, deliver, deliver_settled, need_probability, need_walkable, need_words, print_with};
 use checker::read::{check, read};
@@ -161,10 +161,9 @@ fn annotated(bytes: &[u8], p: u64) -> Result<Vec<u8>, Refusal> {
             text.extend_from_slice(line.text);
             continue;
         };
-        if !can_annotate(&annotation.qubits) {
-            return Err(Refusal::at(18, line.number));
-        }
-        let noise = write::annotation(p, &annotation.qubits).into_bytes();
+        // Where control and target share a qubit the published list repeats it, and note 1 does not.
+        let qubits = noise_list(&annotation.qubits, line.number)?;
+        let noise = write::annotation(p, &qubits).into_bytes();
         let parts = if annotation.before { [&noise, line.text] } else { [line.text, &noise] };
         text.extend_from_slice(&parts.concat());
     }

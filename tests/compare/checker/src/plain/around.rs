@@ -3,8 +3,8 @@
 use crate::job::{Distribution, Instruction, Job, MAX_LIST, Refusal};
 use crate::write;
 
-/// The qubits that annotation gives noise: the operands, or the support rising (control's, then target's).
-fn noise_qubits(instruction: &Instruction) -> Vec<u64> {
+/// The qubits on which faults are located: the operands, or the support rising (control's, then target's).
+fn located_qubits(instruction: &Instruction) -> Vec<u64> {
     match instruction {
         Instruction::Unitary { qubits, .. }
         | Instruction::Clifford { qubits, .. }
@@ -22,23 +22,26 @@ fn noise_qubits(instruction: &Instruction) -> Vec<u64> {
     }
 }
 
-/// 18: whether noise can stand over these qubits.
-#[must_use]
-pub fn can_annotate(qubits: &[u64]) -> bool {
-    let mut sorted = qubits.to_vec();
-    sorted.sort_unstable();
-    sorted.dedup();
-    sorted.len() == qubits.len() && qubits.len() <= MAX_LIST
+/// The list that annotation gives noise: each of the qubits at its first appearance.
+///
+/// # Errors
+///
+/// 18 where that are more than a list may hold.
+pub fn noise_list(qubits: &[u64], line: u64) -> Result<Vec<u64>, Refusal> {
+    let mut list: Vec<u64> = Vec::new();
+    for &qubit in qubits {
+        if !list.contains(&qubit) {
+            list.push(qubit);
+        }
+    }
+    if list.len() <= MAX_LIST { Ok(list) } else { Err(Refusal::at(18, line)) }
 }
 
 /// The annotated job.
 pub(super) fn annotated(job: &Job<'_>, p: u64) -> Result<Vec<u8>, Refusal> {
     let mut text = job.header_text.to_vec();
     for line in &job.lines {
-        let qubits = noise_qubits(&line.instruction);
-        if !can_annotate(&qubits) {
-            return Err(Refusal::at(18, line.number));
-        }
+        let qubits = noise_list(&located_qubits(&line.instruction), line.number)?;
         let noise = if qubits.is_empty() { String::new() } else { write::annotation(p, &qubits) };
         let before = matches!(line.instruction, Instruction::Measure { .. });
         let parts = if before { [noise.as_bytes(), line.text] } else { [line.text, noise.as_bytes()] };
@@ -47,9 +50,9 @@ pub(super) fn annotated(job: &Job<'_>, p: u64) -> Result<Vec<u8>, Refusal> {
     Ok(text)
 }
 
-/// Twice the qubits that annotation gives noise, summed over the job.
+/// Twice the qubits on which faults are located, control's and target's both, summed over the job.
 pub(super) fn locations(job: &Job<'_>) -> u64 {
-    job.lines.iter().map(|line| 2 * noise_qubits(&line.instruction).len() as u64).sum()
+    job.lines.iter().map(|line| 2 * located_qubits(&line.instruction).len() as u64).sum()
 }
 
 /// 1, 4^k - 1 or n.
