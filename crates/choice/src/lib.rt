@@ -7,7 +7,8 @@ ghost use mathlib.Core.List.{List};
 ghost use Prim.Native.Nat.{_-_, _<_, _≤_};
 ghost use lib.ListN.{length, drop};
 ghost use Rattle.job.specs.Float.{zeroFloat, totalFrom};
-ghost use Rattle.draws.specs.Draws.{limitOf, bounded, runningSums, rustPlace, isPositive};
+ghost use Rattle.draws.specs.Draws.{limitOf, bounded, runningSums, isPositive};
+ghost use Rattle.draws.specs.Known.{rustPlace};
 ghost use Rattle.noise.specs.Kinds.{boundOf, Small};
 ghost use Rattle.choice.specs.Choice.{Chose, Weighed, Sized, ElementChosen, Totals, marked, markedBy, SumsOf};
 

@@ -3,7 +3,7 @@
 use mathlib.Core.Bool.{Bool, not, cond, _&&_, _||_}
 use mathlib.Core.List.{List, [], _∷_, map}
 use mathlib.Core.Option.{Option, none, some, Option·map, Option·getD}
-use Prim.Native.Nat.{ℕ, zero, suc, _+_, _-_, _/_, _%_, _^_, min}
+use Prim.Native.Nat.{ℕ, zero, suc, _+_, _-_, _/_, _%_, _^_}
 use lib.Dec.{eqb, ltb}
 use lib.ListN.{length, getD, drop, set}
 use lib.IntN.{pos}
@@ -68,15 +68,6 @@ runningFrom total s (w ∷ ws) = let t = add binary64 s (div binary64 w total) i
 -- and the last is set to 1.0
 abbrev pub runningSums : List Float → List Float
 runningSums ws = set (runningFrom (totalFrom zeroFloat ws) zeroFloat ws) (length ws - 1) one
-
--- how many running sums, from the first on, are below u
-unfoldable pub belowUnit : Float → List Float → ℕ
-belowUnit u [] = 0
-belowUnit u (s ∷ sums) = let more = suc (belowUnit u sums) in cond (lt s u) more 0
-
--- the Rust's choice: the first place whose running sum isn't below u, else the last
-abbrev pub rustPlace : Float → List Float → ℕ
-rustPlace u sums = min (belowUnit u sums) (length sums - 1)
 
 -- above zero, so -0 isn't positive
 unfoldable pub isPositive : Float → Bool

@@ -1,11 +1,11 @@
 -- Definitions that theorems on draws and settling use. Assumes nothing.
 use mathlib.Core.Path.{_≡_}
-use mathlib.Core.Bool.{Bool, true, false, _&&_, _||_}
+use mathlib.Core.Bool.{Bool, true, false, cond, _&&_, _||_}
 use mathlib.Core.List.{List, [], _∷_, _++_, map}
-use Prim.Native.Nat.{ℕ, _<_, _≤_}
+use Prim.Native.Nat.{ℕ, suc, _-_, _<_, _≤_, min}
 use lib.Dec.{ltb}
 use lib.ListN.{length, getD}
-use lib.Ieee.{Float}
+use lib.Ieee.{Float, lt}
 use Rattle.text.specs.List.{isRising}
 use Rattle.job.specs.declared.Header.{Header}
 use Rattle.job.specs.Float.{zeroFloat}
@@ -63,7 +63,16 @@ pub record PositiveAt (ws : List Float) (i : ℕ) : Type 0 where
   pub below : i < length ws
   pub positive : isPositive (getD ws i zeroFloat) ≡ true
 
--- there is a positive one
+-- how many running sums, from the first on, are below u
+unfoldable pub belowUnit : Float → List Float → ℕ
+belowUnit u [] = 0
+belowUnit u (s ∷ sums) = let more = suc (belowUnit u sums) in cond (lt s u) more 0
+
+-- the Rust's choice: the first place whose running sum isn't below u, else the last
+abbrev pub rustPlace : Float → List Float → ℕ
+rustPlace u sums = min (belowUnit u sums) (length sums - 1)
+
+-- there is a positive weight
 unfoldable pub anyPositive : List Float → Bool
 anyPositive [] = false
 anyPositive (w ∷ ws) = anyPositive ws || isPositive w

@@ -25,10 +25,10 @@ use Rattle.job.specs.Rising.{including, rising}
 use Rattle.job.specs.Checks.{allBelow, distinct}
 use Rattle.frames.specs.Forward.{settingOf, run}
 use Rattle.frames.specs.Shots.{within}
-use Rattle.draws.specs.Draws.{unitOf, falls, elementAt, selected, depolarizingElement, noPauli, Choice, limitOf, bounded, runningFrom, runningSums, belowUnit, rustPlace, isPositive, firstFitting, orElse, lastPositive, placeOf, byWeight, chooseFrom, isSatisfied, faultOf, drawShot, Lent, Fault, Draws, alsoFault, thenShots, drawShots, drawLine, partOf, mainAfter}
+use Rattle.draws.specs.Draws.{unitOf, falls, elementAt, selected, depolarizingElement, noPauli, Choice, limitOf, bounded, runningFrom, runningSums, isPositive, firstFitting, orElse, lastPositive, placeOf, byWeight, chooseFrom, isSatisfied, faultOf, drawShot, Lent, Fault, Draws, alsoFault, thenShots, drawShots, drawLine, partOf, mainAfter}
 use Rattle.draws.specs.Settle.{SettledLine, injectText, injection, Step, noiseStep, stepOf, Settled, prefixed, settleThen, settle, settledList}
 use Rattle.draws.specs.Execute.{States, Ended, execute}
-use Rattle.draws.specs.Known.{runAll, onSettled, SpentAt, lengthened, PositiveAt, shotsOf, elementsOf, Writable, Injections, allOwnBelow, noiseFree, copies}
+use Rattle.draws.specs.Known.{rustPlace, runAll, onSettled, SpentAt, lengthened, PositiveAt, shotsOf, elementsOf, Writable, Injections, allOwnBelow, noiseFree, copies}
 use Rattle.draws.specs.Laws.Settling.{execute-settle}
 use Rattle.draws.specs.Laws.Words as words
 use Rattle.draws.specs.Laws.Enough as enough

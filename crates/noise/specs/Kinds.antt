@@ -8,7 +8,8 @@ use lib.Ieee.{Float}
 use Rattle.job.specs.Line.{WeightedPauli, Distribution, Noise}
 use Rattle.job.specs.Float.{float, zeroFloat, totalFrom}
 use Rattle.job.specs.Sound.{weightsOf}
-use Rattle.draws.specs.Draws.{unitOf, rustPlace, placeOf}
+use Rattle.draws.specs.Draws.{unitOf, placeOf}
+use Rattle.draws.specs.Known.{rustPlace}
 use Rattle.noise.specs.declared.PauliDistribution.{PauliDistribution}
 use Rattle.noise.specs.declared.PauliDistribution.the-variants.{Single, Depolarizing, Uniform, Weighted}
 use Rattle.noise.specs.declared.Correlation.{Correlation}

@@ -10,10 +10,6 @@ use Rattle.choice.specs.Choice.{markedBy}
 use Rattle.choice.specs.Laws.Marks.{mark-step, positive-step, marked-none}
 use Rattle.choice.proofs.mark_sums.Statement.{statement}
 use Rattle.choice.proofs.mark_sums.Tie as tie
-use Rattle.choice.proofs.mark_sums.Reads as reads
-use Rattle.choice.proofs.mark_sums.Lts as lts
-use Rattle.choice.proofs.is_positive.Reads as is-positive-reads
-use Rattle.choice.proofs.mark.Reads as mark-reads
 
 abbrev Inv-loop : tie.InvT-loop
 Inv-loop sums₀ weights later₀ i₀ sums later i =
@@ -63,12 +59,13 @@ loop-again c =
     let a = c .before .before .before .before .before .before .before .before .args in
     let l = c .before .before .before .before .before .loop in
     let k : l .i ≡ l .i - 1 + 1 = omega arith in
-    let within : l .i - 1 < length (a .weights .now) = omega arith in
-    (omega arith,
-    length-set (l .sums) (l .i - 1) _ ∙ l .inv .1,
-    ap (set (l .sums) (l .i - 1)) (c .before .mark .ensures)
-    ∙ mark-step (a .weights .now) (a .sums .now) (l .sums) (l .later) (l .i) (l .i - 1) k within (l .inv .3) (c .before .before .before .before .before .before .before .before .pre) (l .inv .2),
-    c .is-positive .ensures ∙ positive-step (a .weights .now) (a .sums .now) (l .sums) (l .later) (l .i) (l .i - 1) k within (l .inv .3))
+    let within : l .i - 1 < length (a .weights .now) = omega arith in (
+      omega arith,
+      length-set (l .sums) (l .i - 1) _ ∙ l .inv .1,
+      ap (set (l .sums) (l .i - 1)) (c .before .mark .ensures)
+          ∙ mark-step (a .weights .now) (a .sums .now) (l .sums) (l .later) (l .i) (l .i - 1) k within (l .inv .3) (c .before .before .before .before .before .before .before .before .pre) (l .inv .2),
+      c .is-positive .ensures ∙ positive-step (a .weights .now) (a .sums .now) (l .sums) (l .later) (l .i) (l .i - 1) k within (l .inv .3),
+    )
 
 same-length : tie.Need-same-length Inv-loop μ-loop
 same-length c = c .before .loop .inv .1 ∙ sym (c .before .before .before .before .pre)

@@ -1,11 +1,9 @@
 -- `choice::weigh` meets its contract.
 use Rattle.choice.specs.Laws.Choice.{weighed, weighed-none}
-use Rattle.draws.specs.Draws.{rustPlace}
+use Rattle.draws.specs.Known.{rustPlace}
 use lib.Ieee.{Float}
-use lib.ListN.{drop}
 use native.Mathlib.Omega.{arith}
-use Prim.Native.Nat.{ℕ, _+_}
-use mathlib.Core.Path.{sym, ap, _∙_}
+use mathlib.Core.Path.{ap, _∙_}
 use borrow.Author.Needs.{needs}
 use Rattle.choice.proofs.weigh.Statement.{statement}
 use Rattle.choice.proofs.weigh.Tie as tie

@@ -13,7 +13,8 @@ use lib.Seq.{drop-cons}
 use lib.Ieee.{Float}
 use Rattle.job.specs.Line.{Distribution, sizeOf}
 use Rattle.job.specs.Sound.{weightsOf}
-use Rattle.draws.specs.Draws.{unitOf, Choice, limitOf, bounded, rustPlace, placeOf, byWeight, chooseFrom}
+use Rattle.draws.specs.Draws.{unitOf, Choice, limitOf, bounded, placeOf, byWeight, chooseFrom}
+use Rattle.draws.specs.Known.{rustPlace}
 use Rattle.draws.specs.Laws.Depolarizing.{four}
 use Rattle.noise.specs.declared.PauliDistribution.{PauliDistribution}
 use Rattle.noise.specs.declared.PauliDistribution.the-variants.{Single, Depolarizing, Uniform, Weighted}

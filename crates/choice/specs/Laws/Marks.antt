@@ -1,5 +1,5 @@
 -- Running sums that are marked where a weight isn't positive: they give the place that the weights choose. Laws. Assumes nothing.
-use Prim.Native.Nat.{ℕ, suc, _+_, _-_, _^_, _<_, _≤_, min}
+use Prim.Native.Nat.{ℕ, suc, _+_, _<_, _≤_}
 use native.Mathlib.Numerals.{add-one}
 use native.Mathlib.Omega.{arith}
 use mathlib.Core.Path.{_≡_, refl, sym, ap, _∙_}
@@ -10,8 +10,8 @@ use lib.ListN.{length, getD, take, drop, set, take-append-drop, drop-of-length-l
 use lib.Seq.{take-suc, drop-cons, set-at, getD-at, length-take-le}
 use lib.Ieee.{Float, nan, lt}
 use Rattle.job.specs.Float.{one}
-use Rattle.draws.specs.Draws.{unitOf, runningSums, belowUnit, rustPlace, isPositive, placeOf}
-use Rattle.draws.specs.Known.{anyPositive}
+use Rattle.draws.specs.Draws.{unitOf, runningSums, isPositive, placeOf}
+use Rattle.draws.specs.Known.{belowUnit, anyPositive}
 use Rattle.draws.specs.Laws.Unit.{unit-above, unit-within}
 use Rattle.draws.specs.Laws.Places.{sums-length, chosenIn, place-over, place-here, place-last}
 use Rattle.noise.specs.Kinds.{PlacesBy}

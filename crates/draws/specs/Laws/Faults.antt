@@ -17,7 +17,7 @@ use Rattle.job.specs.Float.{float, zeroFloat, isWeight}
 use Rattle.job.specs.Sound.{Every, weightsOf, ElementSound, WeightedSound}
 use Rattle.job.specs.Checks.{allBelow}
 use Rattle.draws.specs.Draws.{unitOf, falls, noPauli, elementAt, Choice, limitOf, bounded, placeOf, byWeight, chooseFrom, isSatisfied, ShotDraw, faultOf, drawShot, Lent, Fault, Draws, alsoFault, thenShots, drawShots, drawLine}
-use Rattle.draws.specs.Known.{PositiveAt, shotsOf, elementsOf}
+use Rattle.draws.specs.Known.{PositiveAt, anyPositive, shotsOf, elementsOf}
 use Rattle.draws.specs.Laws.Weights.{some-positive}
 use Rattle.draws.specs.Laws.Places.{place-below, place-positive}
 
@@ -213,12 +213,16 @@ weights-sound : (n : ℕ) (es : List WeightedPauli) → Every (ElementSound n) e
 weights-sound n [] s = tt
 weights-sound n (e ∷ es) s = (s .0 .weight, weights-sound n es (s .1))
 
--- A line that is sound draws places with positive weight alone.
+-- a line that is sound has a positive weight
+pub sound-positive : (n : ℕ) (es : List WeightedPauli) → WeightedSound n es → anyPositive (weightsOf es) ≡ true
+sound-positive n es s = some-positive (weightsOf es) (weights-sound n es (s .each)) (s .total)
+
+-- and draws places with positive weight alone
 pub choice-positive : (n : ℕ) (es : List WeightedPauli) → WeightedSound n es → (ws : List ℕ)
     → ChoiceIn (PositiveAt (weightsOf es)) (chooseFrom (Distribution.weighted es) ws)
 unfolding chooseFrom byWeight ChoiceIn
 choice-positive n es s [] = tt
-choice-positive n es s (w ∷ ws) = place-positive (weightsOf es) (unitOf w) (some-positive (weightsOf es) (weights-sound n es (s .each)) (s .total))
+choice-positive n es s (w ∷ ws) = place-positive (weightsOf es) (unitOf w) (sound-positive n es s)
 
 -- all Paulis but the identity on at least one qubit are some
 pub depolarizing-size : (qs : List ℕ) → 0 < length qs → 0 < sizeOf (Distribution.depolarizing qs)

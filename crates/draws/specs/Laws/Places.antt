@@ -6,12 +6,12 @@ use mathlib.Core.List.{List, [], _∷_}
 use mathlib.Core.Option.{Option, none, some, Option·map, Option·getD}
 use Prim.Native.Nat.{ℕ, suc, _-_, _<_, min}
 use native.Mathlib.Omega.{arith}
-use lib.ListN.{length, getD, length-set}
+use lib.ListN.{length, length-set}
 use lib.Ieee.{Float, lt}
 use Rattle.job.specs.Float.{zeroFloat, one, totalFrom}
 use Rattle.job.specs.Sound.{Every}
-use Rattle.draws.specs.Draws.{runningFrom, runningSums, belowUnit, rustPlace, isPositive, firstFitting, orElse, lastPositive, placeOf}
-use Rattle.draws.specs.Known.{anyPositive, PositiveAt}
+use Rattle.draws.specs.Draws.{runningFrom, runningSums, isPositive, firstFitting, orElse, lastPositive, placeOf}
+use Rattle.draws.specs.Known.{belowUnit, rustPlace, anyPositive, PositiveAt}
 use Rattle.draws.specs.Laws.Weights.{or-false-left, or-false-right}
 
 -- ---- as many running sums as weights
