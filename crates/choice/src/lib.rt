@@ -111,7 +111,7 @@ fn mark(weight: f64, sum: f64, later: bool) -> f64
 }
 
 // Whether a weight is positive, or one behind it.
-fn is_positive(weight: f64, later: bool) -> bool
+fn any_positive(weight: f64, later: bool) -> bool
     ensures { λ r. ⌜ r ≡ (later || isPositive weight) ⌝ }
 {
     if later {
@@ -131,7 +131,7 @@ fn mark_sums(sums: &mut [f64], weights: &[f64])
         i -= 1;
         let w = weights[i];
         sums[i] = mark(w, sums[i], later);
-        later = is_positive(w, later);
+        later = any_positive(w, later);
     }
 }
 

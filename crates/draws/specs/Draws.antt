@@ -1,5 +1,5 @@
--- Definitions. What a noise line draws from the lent words, as in document 01, "Draws". A list of words is what is left of it to read. Assumes
--- nothing.
+-- Definitions. What a noise line draws from the lent words, as in document 01, "Draws", and for d=4 in document 02, note 2. A list of words is what
+-- is left of it to read. Assumes nothing.
 use mathlib.Core.Bool.{Bool, not, cond, _&&_, _||_}
 use mathlib.Core.List.{List, [], _∷_, map}
 use mathlib.Core.Option.{Option, none, some, Option·map, Option·getD}

@@ -48,8 +48,8 @@ mul-sums c = omega arith
 slice-write-sums : tie.Need-slice-write-sums Inv-loop μ-loop
 slice-write-sums c = omega arith
 
-is-positive-requires : tie.Need-is-positive-requires Inv-loop μ-loop
-is-positive-requires c κs = search needs
+any-positive-requires : tie.Need-any-positive-requires Inv-loop μ-loop
+any-positive-requires c κs = search needs
 
 loop-less : tie.Need-loop-less Inv-loop μ-loop
 loop-less c = omega arith
@@ -64,7 +64,7 @@ loop-again c =
       length-set (l .sums) (l .i - 1) _ ∙ l .inv .1,
       ap (set (l .sums) (l .i - 1)) (c .before .mark .ensures)
           ∙ mark-step (a .weights .now) (a .sums .now) (l .sums) (l .later) (l .i) (l .i - 1) k within (l .inv .3) (c .before .before .before .before .before .before .before .before .pre) (l .inv .2),
-      c .is-positive .ensures ∙ positive-step (a .weights .now) (a .sums .now) (l .sums) (l .later) (l .i) (l .i - 1) k within (l .inv .3),
+      c .any-positive .ensures ∙ positive-step (a .weights .now) (a .sums .now) (l .sums) (l .later) (l .i) (l .i - 1) k within (l .inv .3),
     )
 
 same-length : tie.Need-same-length Inv-loop μ-loop
@@ -91,7 +91,7 @@ mark-sums-spec =
     mark-requires
     mul-sums
     slice-write-sums
-    is-positive-requires
+    any-positive-requires
     loop-less
     loop-again
     same-length
