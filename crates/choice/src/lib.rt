@@ -2,13 +2,15 @@
 use noise::PauliDistribution;
 use noise::words::unit;
 ghost use mathlib.Core.Path.{_≡_};
+ghost use mathlib.Core.Bool.{_||_};
 ghost use mathlib.Core.List.{List};
 ghost use Prim.Native.Nat.{_-_, _<_, _≤_};
 ghost use lib.ListN.{length, drop};
 ghost use Rattle.job.specs.Float.{zeroFloat, totalFrom};
-ghost use Rattle.draws.specs.Draws.{limitOf, bounded, runningSums, placeOf, byWeight};
+ghost use Rattle.draws.specs.Draws.{limitOf, bounded, runningSums, isPositive};
+ghost use Rattle.draws.specs.Known.{rustPlace};
 ghost use Rattle.noise.specs.Kinds.{boundOf, Small};
-ghost use Rattle.choice.specs.Choice.{Chose, Sized, ElementChosen, Totals, SumsOf};
+ghost use Rattle.choice.specs.Choice.{Chose, Weighed, Sized, ElementChosen, Totals, marked, markedBy, SumsOf};
 
 // An element, with the place of the next word; or a word was needed past the end.
 pub enum Choice {
@@ -94,20 +96,62 @@ pub fn running_sums(sums: &mut [f64], weights: &[f64], total: f64)
     sums[weights.len() - 1] = 1.0;
 }
 
-// The running sums by which a distribution chooses: the weighted one's, by the total that it carries. The others have none.
+// A running sum beside its weight, so that `place` needs one comparison: -1.0, which is below every u, if the weight isn't positive, and 1.0, which is
+// below none, if it is the last that is.
+fn mark(weight: f64, sum: f64, later: bool) -> f64
+    ensures { λ r. ⌜ r ≡ marked weight sum later ⌝ }
+{
+    if 0.0 < weight {
+        if later {
+            return sum;
+        }
+        return 1.0;
+    }
+    -1.0
+}
+
+// Whether a weight is positive, or one behind it.
+fn any_positive(weight: f64, later: bool) -> bool
+    ensures { λ r. ⌜ r ≡ (later || isPositive weight) ⌝ }
+{
+    if later {
+        return true;
+    }
+    0.0 < weight
+}
+
+// Marks the running sums of the weights, from the last to the first.
+fn mark_sums(sums: &mut [f64], weights: &[f64])
+    requires { ⌜ length (now sums) ≡ length (now weights) ⌝ }
+    ensures { λ _. ⌜ now (sums .exit) ≡ markedBy (now (weights .entry)) (now (sums .entry)) ⌝ }
+{
+    let mut later = false;
+    let mut i = weights.len();
+    while 0 < i {
+        i -= 1;
+        let w = weights[i];
+        sums[i] = mark(w, sums[i], later);
+        later = any_positive(w, later);
+    }
+}
+
+// The sums by which the weighted one of the distributions chooses, by the total that it carries. The others have none.
 pub fn fill_sums(d: PauliDistribution, sums: &mut [f64], weights: &[f64])
     requires { ⌜ (length (now sums) ≡ length (now weights)) × Totals d (now weights) ⌝ }
     ensures { λ _. ⌜ SumsOf d (now (weights .entry)) (now (sums .exit)) ⌝ }
 {
     match d {
-        PauliDistribution::Weighted(total) => running_sums(sums, weights, total),
+        PauliDistribution::Weighted(total) => {
+            running_sums(&mut *sums, weights, total);
+            mark_sums(sums, weights)
+        }
         _ => {}
     }
 }
 
 // The first place whose running sum is not below u, else the last.
 fn place(sums: &[f64], u: f64) -> usize
-    ensures { λ r. ⌜ r ≡ placeOf u (now (sums .entry)) ⌝ }
+    ensures { λ r. ⌜ r ≡ rustPlace u (now (sums .entry)) ⌝ }
 {
     let mut i = 0;
     while i + 1 < sums.len() {
@@ -122,7 +166,7 @@ fn place(sums: &[f64], u: f64) -> usize
 
 // One word chooses a place by its running sum.
 pub fn weigh(words: &[u64], at: usize, sums: &[f64]) -> Choice
-    ensures { λ r. ⌜ Chose (now (words .entry)) (byWeight (now (sums .entry)) (drop at (now (words .entry)))) r ⌝ }
+    ensures { λ r. ⌜ Weighed (now (words .entry)) at (now (sums .entry)) r ⌝ }
 {
     if words.len() <= at {
         return Choice::Spent;

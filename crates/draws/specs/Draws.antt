@@ -1,9 +1,9 @@
--- Definitions. What a noise line draws from the lent words, as in document 01, "Draws". A list of words is what is left of it to read. Assumes
--- nothing.
+-- Definitions. What a noise line draws from the lent words, as in document 01, "Draws", and for d=4 in document 02, note 2. A list of words is what
+-- is left of it to read. Assumes nothing.
 use mathlib.Core.Bool.{Bool, not, cond, _&&_, _||_}
 use mathlib.Core.List.{List, [], _∷_, map}
-use mathlib.Core.Option.{Option, none, some}
-use Prim.Native.Nat.{ℕ, zero, suc, _+_, _-_, _/_, _%_, _^_, min}
+use mathlib.Core.Option.{Option, none, some, Option·map, Option·getD}
+use Prim.Native.Nat.{ℕ, zero, suc, _+_, _-_, _/_, _%_, _^_}
 use lib.Dec.{eqb, ltb}
 use lib.ListN.{length, getD, drop, set}
 use lib.IntN.{pos}
@@ -69,25 +69,40 @@ runningFrom total s (w ∷ ws) = let t = add binary64 s (div binary64 w total) i
 abbrev pub runningSums : List Float → List Float
 runningSums ws = set (runningFrom (totalFrom zeroFloat ws) zeroFloat ws) (length ws - 1) one
 
--- how many running sums, from the first on, are below u
-unfoldable pub belowUnit : Float → List Float → ℕ
-belowUnit u [] = 0
-belowUnit u (s ∷ sums) = let more = suc (belowUnit u sums) in cond (lt s u) more 0
+-- above zero, so -0 isn't positive
+unfoldable pub isPositive : Float → Bool
+isPositive w = lt zeroFloat w
 
--- the first place whose running sum isn't below u, else the last
-abbrev pub placeOf : Float → List Float → ℕ
-placeOf u sums = min (belowUnit u sums) (length sums - 1)
+-- the first place with positive weight whose running sum isn't below u
+unfoldable pub firstFitting : Float → List Float → List Float → Option ℕ
+firstFitting u [] sums = none
+firstFitting u (w ∷ ws) [] = none
+firstFitting u (w ∷ ws) (s ∷ sums) = let later = Option·map suc (firstFitting u ws sums) in cond (isPositive w && not (lt s u)) (some 0) later
 
--- d=4 reads one u
-unfoldable pub byWeight : List Float → List ℕ → Choice
-byWeight sums [] = Choice.spent
-byWeight sums (w ∷ ws) = Choice.chosen (placeOf (unitOf w) sums) ws
+-- one place, else another
+unfoldable pub orElse : Option ℕ → Option ℕ → Option ℕ
+orElse none o = o
+orElse (some i) o = some i
+
+-- the last place with positive weight
+unfoldable pub lastPositive : List Float → Option ℕ
+lastPositive [] = none
+lastPositive (w ∷ ws) = orElse (Option·map suc (lastPositive ws)) (cond (isPositive w) (some 0) none)
+
+-- The first place with positive weight whose running sum isn't below u, else the last with positive weight. An accepted line has such a place.
+unfoldable pub placeOf : List Float → Float → ℕ
+placeOf ws u = Option·getD (orElse (firstFitting u ws (runningSums ws)) (lastPositive ws)) 0
+
+-- d=4 reads one u, which gives a place
+unfoldable pub byWeight : (Float → ℕ) → List ℕ → Choice
+byWeight place [] = Choice.spent
+byWeight place (w ∷ ws) = Choice.chosen (place (unitOf w)) ws
 
 unfoldable pub chooseFrom : Distribution → List ℕ → Choice
 chooseFrom (Distribution.single P) ws = Choice.chosen 0 ws
 chooseFrom (Distribution.depolarizing qs) ws = bounded (sizeOf (Distribution.depolarizing qs)) ws
 chooseFrom (Distribution.uniform Ps) ws = bounded (sizeOf (Distribution.uniform Ps)) ws
-chooseFrom (Distribution.weighted es) ws = byWeight (runningSums (map (λ (e : WeightedPauli). float (e .weight)) es)) ws
+chooseFrom (Distribution.weighted es) ws = byWeight (placeOf (map (λ (e : WeightedPauli). float (e .weight)) es)) ws
 
 -- ---- a shot
 

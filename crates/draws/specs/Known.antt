@@ -1,17 +1,19 @@
 -- Definitions that theorems on draws and settling use. Assumes nothing.
 use mathlib.Core.Path.{_≡_}
-use mathlib.Core.Bool.{Bool, true, false, _&&_}
+use mathlib.Core.Bool.{Bool, true, false, cond, _&&_, _||_}
 use mathlib.Core.List.{List, [], _∷_, _++_, map}
-use Prim.Native.Nat.{ℕ, _≤_}
+use Prim.Native.Nat.{ℕ, suc, _-_, _<_, _≤_, min}
 use lib.Dec.{ltb}
-use lib.ListN.{length}
+use lib.ListN.{length, getD}
+use lib.Ieee.{Float, lt}
 use Rattle.text.specs.List.{isRising}
 use Rattle.job.specs.declared.Header.{Header}
+use Rattle.job.specs.Float.{zeroFloat}
 use Rattle.job.specs.Line.{Line, Noise, Instruction, Placed}
 use Rattle.job.specs.Checks.{allBelow}
 use Rattle.frames.specs.Forward.{settingOf, run}
 use Rattle.frames.specs.Shots.{concerns}
-use Rattle.draws.specs.Draws.{Lent, Fault, Draws, drawLine, partOf}
+use Rattle.draws.specs.Draws.{isPositive, Lent, Fault, Draws, drawLine, partOf}
 use Rattle.draws.specs.Settle.{SettledLine, injection, Step, stepOf, Settled, settle, settledList}
 use Rattle.draws.specs.Execute.{States, Ended}
 
@@ -53,6 +55,27 @@ pub record SpentAt (lent : Lent) (main : List ℕ) (is : List Placed) (k : ℕ) 
 -- more words behind the second list
 abbrev pub lengthened : List ℕ → Lent → Lent
 lengthened us lent = record { noiseless = lent .noiseless; second = lent .second ++ us; base = lent .base; shots = lent .shots }
+
+-- ---- weights
+
+-- a place of the list whose weight is positive
+pub record PositiveAt (ws : List Float) (i : ℕ) : Type 0 where
+  pub below : i < length ws
+  pub positive : isPositive (getD ws i zeroFloat) ≡ true
+
+-- how many running sums, from the first on, are below u
+unfoldable pub belowUnit : Float → List Float → ℕ
+belowUnit u [] = 0
+belowUnit u (s ∷ sums) = let more = suc (belowUnit u sums) in cond (lt s u) more 0
+
+-- the Rust's choice: the first place whose running sum isn't below u, else the last
+abbrev pub rustPlace : Float → List Float → ℕ
+rustPlace u sums = min (belowUnit u sums) (length sums - 1)
+
+-- there is a positive weight
+unfoldable pub anyPositive : List Float → Bool
+anyPositive [] = false
+anyPositive (w ∷ ws) = anyPositive ws || isPositive w
 
 -- ---- faults
 

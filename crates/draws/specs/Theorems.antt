@@ -20,18 +20,20 @@ use Rattle.pauli.specs.Pauli.{Pauli, identity}
 use Rattle.job.specs.declared.Header.{Header}
 use Rattle.job.specs.Line.{SparsePauli, pauliOf, Line, WeightedPauli, Distribution, sizeOf, Noise, Instruction, Placed}
 use Rattle.job.specs.Float.{float, zeroFloat, one, totalFrom}
+use Rattle.job.specs.Sound.{Every, weightsOf, WeightedSound}
 use Rattle.job.specs.Rising.{including, rising}
 use Rattle.job.specs.Checks.{allBelow, distinct}
 use Rattle.frames.specs.Forward.{settingOf, run}
 use Rattle.frames.specs.Shots.{within}
-use Rattle.draws.specs.Draws.{unitOf, falls, elementAt, selected, depolarizingElement, noPauli, Choice, limitOf, bounded, runningFrom, runningSums, belowUnit, byWeight, chooseFrom, isSatisfied, faultOf, drawShot, Lent, Fault, Draws, alsoFault, thenShots, drawShots, drawLine, partOf, mainAfter}
+use Rattle.draws.specs.Draws.{unitOf, falls, elementAt, selected, depolarizingElement, noPauli, Choice, limitOf, bounded, runningFrom, runningSums, isPositive, firstFitting, orElse, lastPositive, placeOf, byWeight, chooseFrom, isSatisfied, faultOf, drawShot, Lent, Fault, Draws, alsoFault, thenShots, drawShots, drawLine, partOf, mainAfter}
 use Rattle.draws.specs.Settle.{SettledLine, injectText, injection, Step, noiseStep, stepOf, Settled, prefixed, settleThen, settle, settledList}
 use Rattle.draws.specs.Execute.{States, Ended, execute}
-use Rattle.draws.specs.Known.{runAll, onSettled, SpentAt, lengthened, shotsOf, elementsOf, Writable, Injections, allOwnBelow, noiseFree, copies}
+use Rattle.draws.specs.Known.{rustPlace, runAll, onSettled, SpentAt, lengthened, PositiveAt, shotsOf, elementsOf, Writable, Injections, allOwnBelow, noiseFree, copies}
 use Rattle.draws.specs.Laws.Settling.{execute-settle}
 use Rattle.draws.specs.Laws.Words as words
 use Rattle.draws.specs.Laws.Enough as enough
 use Rattle.draws.specs.Laws.Spent as spent
+use Rattle.draws.specs.Laws.Places as places
 use Rattle.draws.specs.Laws.Faults as faults
 use Rattle.draws.specs.Laws.Unit as unit
 use Rattle.draws.specs.Laws.Elements as elements
@@ -129,6 +131,19 @@ element-uniform Ps e P h = faults.element-uniform Ps e P h
 pub element-weighted : (es : List WeightedPauli) (e : ℕ) (w : WeightedPauli) → e < sizeOf (Distribution.weighted es)
     → elementAt (Distribution.weighted es) e ≡ getD es e w .pauli
 element-weighted es e w h = faults.element-weighted es e w h
+
+-- d=4: an accepted line never draws a place whose weight isn't positive.
+pub positive-drawn : (qubits : ℕ) (es : List WeightedPauli) → WeightedSound qubits es → (lent : Lent) (n : Noise) → n .distribution ≡ Distribution.weighted es
+    → (ws : List ℕ) (fs : List Fault) (left : List ℕ) → drawLine lent n ws ≡ Draws.drawn fs left → Every (PositiveAt (weightsOf es)) (elementsOf fs)
+positive-drawn qubits es sound lent n d ws fs left e =
+    faults.elements-in (PositiveAt (weightsOf es)) n (λ vs. rw d (faults.choice-positive qubits es sound vs)) lent ws fs left e
+
+-- Where all weights are positive the choice is the Rust's.
+pub positive-as-rust : (es : List WeightedPauli) → Every (λ (w : Float). isPositive w ≡ true) (weightsOf es) → (ws : List ℕ)
+    → chooseFrom (Distribution.weighted es) ws ≡ byWeight (λ u. rustPlace u (runningSums (weightsOf es))) ws
+unfolding chooseFrom byWeight
+positive-as-rust es v [] = refl
+positive-as-rust es v (w ∷ ws) = ap (λ (e : ℕ). Choice.chosen e ws) (places.place-as-rust (weightsOf es) v (unitOf w))
 
 -- u is finite, not negative, and exactly the fraction floor(w / 2048) / 2^53.
 pub unit-exact : (w : ℕ) → w < 2 ^ 64 → HasValue (unitOf w) false (w / 2048) (2 ^ 53)
@@ -273,22 +288,53 @@ sevenths = refl
 abbrev pub equal : ℕ → Distribution
 equal k = Distribution.weighted (replicate k record { weight = whole; pauli = record { x = []; z = [] } })
 
+-- opens what a choice by weights computes with
+weighing : Unit {0}
+unfolding chooseFrom byWeight placeOf orElse firstFitting lastPositive isPositive totalFrom runningFrom unitOf add div ofInt lt le ofBits
+weighing = tt
+
 -- Halves: u = 1/2 still takes the first place, the next u does not. Thirds: the two u about 1/3 take different places.
 pub halves : (chooseFrom (equal 2) ((2 ^ 63) ∷ []) ≡ Choice.chosen 0 [])
     × (chooseFrom (equal 2) ((2 ^ 63 + 2048) ∷ []) ≡ Choice.chosen 1 [])
     × (chooseFrom (equal 3) ((3002399751580330 * 2048) ∷ []) ≡ Choice.chosen 0 [])
     × (chooseFrom (equal 3) ((3002399751580331 * 2048) ∷ []) ≡ Choice.chosen 1 [])
     × (chooseFrom (equal 3) ((2 ^ 64 - 1) ∷ []) ≡ Choice.chosen 2 [])
-unfolding chooseFrom byWeight totalFrom runningFrom belowUnit unitOf add div ofInt lt le ofBits
+unfolding weighing
 halves = (refl, refl, refl, refl, refl)
 
--- u = 0 takes the first place though its weight is 0, and the next u does not
-pub weightless : (P Q : SparsePauli)
-    → map (λ (w : ℕ). chooseFrom (Distribution.weighted (record { weight = 0; pauli = P } ∷ record { weight = whole; pauli = Q } ∷ [])) (w ∷ []))
-    (2047 ∷ 2048 ∷ [])
-    ≡ Choice.chosen 0 [] ∷ Choice.chosen 1 [] ∷ []
-unfolding chooseFrom byWeight totalFrom runningFrom belowUnit unitOf add div ofInt lt le ofBits
-weightless P Q = refl
+-- weights by their bits
+abbrev pub weighted : List ℕ → Distribution
+weighted bits = Distribution.weighted (map (λ (b : ℕ). record { weight = b; pauli = record { x = []; z = [] } }) bits)
+
+-- the places that words choose
+abbrev pub chosenBy : List ℕ → List ℕ → List Choice
+chosenBy bits = map (λ (w : ℕ). chooseFrom (weighted bits) (w ∷ []))
+
+abbrev pub minusZero : ℕ
+minusZero = 0x8000_0000_0000_0000
+
+-- u = 0 passes over a leading zero, and over -0, and takes the next positive place. So does the next u.
+pub leading-zeros : (chosenBy (0 ∷ whole ∷ []) (2047 ∷ 2048 ∷ []) ≡ replicate 2 (Choice.chosen 1 []))
+    × (chosenBy (minusZero ∷ 0 ∷ whole ∷ []) (0 ∷ 2048 ∷ []) ≡ replicate 2 (Choice.chosen 2 []))
+unfolding weighing
+leading-zeros = (refl, refl)
+
+-- 1, 4, 1, 1 come to 1 - 2^-52, which is below the last u: zeros behind them aren't taken, though the last running sum is 1.0.
+pub trailing-zeros : chosenBy (whole ∷ 0x4010_0000_0000_0000 ∷ whole ∷ whole ∷ 0 ∷ minusZero ∷ []) ((2 ^ 64 - 2 * 2048) ∷ (2 ^ 64 - 1) ∷ [])
+    ≡ replicate 2 (Choice.chosen 3 [])
+unfolding weighing
+trailing-zeros = refl
+
+-- 2^-1074 is positive: beside 1.0, and beside 2.0, where its quotient is 0, u = 0 takes it, and the next u doesn't.
+pub smallest : (chosenBy (1 ∷ whole ∷ []) (2047 ∷ 2048 ∷ []) ≡ Choice.chosen 0 [] ∷ Choice.chosen 1 [] ∷ [])
+    × (chosenBy (1 ∷ 0x4000_0000_0000_0000 ∷ []) (2047 ∷ 2048 ∷ []) ≡ Choice.chosen 0 [] ∷ Choice.chosen 1 [] ∷ [])
+unfolding weighing
+smallest = (refl, refl)
+
+-- zero, with either sign, isn't positive, and 2^-1074 is
+pub positive-bits : map (λ (b : ℕ). isPositive (float b)) (0 ∷ minusZero ∷ 1 ∷ []) ≡ false ∷ false ∷ true ∷ []
+unfolding weighing
+positive-bits = refl
 
 -- ---- lines and jobs
 

@@ -8,7 +8,8 @@ use lib.Ieee.{Float}
 use Rattle.job.specs.Line.{WeightedPauli, Distribution, Noise}
 use Rattle.job.specs.Float.{float, zeroFloat, totalFrom}
 use Rattle.job.specs.Sound.{weightsOf}
-use Rattle.draws.specs.Draws.{runningSums}
+use Rattle.draws.specs.Draws.{unitOf, placeOf}
+use Rattle.draws.specs.Known.{rustPlace}
 use Rattle.noise.specs.declared.PauliDistribution.{PauliDistribution}
 use Rattle.noise.specs.declared.PauliDistribution.the-variants.{Single, Depolarizing, Uniform, Weighted}
 use Rattle.noise.specs.declared.Correlation.{Correlation}
@@ -42,10 +43,14 @@ Small (Depolarizing k) = k < 32
 Small (Uniform n) = Unit
 Small (Weighted t) = Unit
 
--- the kind of a distribution, and beside it the running sums of the weighted one
+-- The sums that lie beside weights: by the Rust's rule they give the place that the weights choose.
+pub record PlacesBy (weights sums : List Float) : Type 0 where
+  pub is : (w : ℕ) → w < 2 ^ 64 → rustPlace (unitOf w) sums ≡ placeOf weights (unitOf w)
+
+-- the kind of a distribution, and beside it the sums of the weighted one
 pub record Chooses (D : Distribution) (d : PauliDistribution) (sums : List Float) : Type 0 where
   pub kind : d ≡ kindOf D
-  pub beside : (es : List WeightedPauli) → D ≡ Distribution.weighted es → sums ≡ runningSums (weightsOf es)
+  pub beside : (es : List WeightedPauli) → D ≡ Distribution.weighted es → PlacesBy (weightsOf es) sums
 
 -- the probability and the distribution of a noise line
 pub record Represents (n : Noise) (p : Float) (d : PauliDistribution) (sums : List Float) : Type 0 where

@@ -20,7 +20,7 @@ pub struct Part {
 ///
 /// # Errors
 ///
-/// The refusal by 1 to 12, or 16 at the first noise line: settle the job first.
+/// The refusal by a test of the job, or 16 at the first noise line: settle the job first.
 ///
 /// ```
 /// use kundatrezo::{Draws, Frames, bit, split};
@@ -55,7 +55,7 @@ pub fn split(job: &[u8], parts: usize) -> Answer<Vec<Part>> {
 ///
 /// # Errors
 ///
-/// The refusal by 1 to 12, or 16 at the first noise line: settle the job first.
+/// The refusal by a test of the job, or 16 at the first noise line: settle the job first.
 ///
 /// ```
 /// use kundatrezo::{Number, restricted};

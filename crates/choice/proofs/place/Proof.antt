@@ -3,7 +3,7 @@ use mathlib.Core.Path.{_≡_}
 use Prim.Native.Nat.{_+_, _-_, _≤_}
 use native.Mathlib.Omega.{arith}
 use lib.ListN.{length, drop}
-use Rattle.draws.specs.Draws.{belowUnit}
+use Rattle.draws.specs.Known.{belowUnit}
 use Rattle.choice.specs.Laws.Sums.{below-more, below-stops}
 use Rattle.choice.proofs.place.Statement.{statement}
 use Rattle.choice.proofs.place.Tie as tie

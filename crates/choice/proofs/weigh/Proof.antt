@@ -1,17 +1,15 @@
 -- `choice::weigh` meets its contract.
-use Rattle.choice.specs.Laws.Choice.{chose, chose-none, weigh-takes, weigh-ends}
-use Rattle.draws.specs.Draws.{Choice, placeOf}
+use Rattle.choice.specs.Laws.Choice.{weighed, weighed-none}
+use Rattle.draws.specs.Known.{rustPlace}
 use lib.Ieee.{Float}
-use lib.ListN.{drop}
 use native.Mathlib.Omega.{arith}
-use Prim.Native.Nat.{ℕ, _+_}
-use mathlib.Core.Path.{sym, ap, _∙_}
+use mathlib.Core.Path.{ap, _∙_}
 use borrow.Author.Needs.{needs}
 use Rattle.choice.proofs.weigh.Statement.{statement}
 use Rattle.choice.proofs.weigh.Tie as tie
 
 returns : tie.Need-returns
-returns c = chose-none (weigh-ends _ _ _ (c .if1 .taken))
+returns c = weighed-none _ (c .if1 .taken)
 
 mul-unit : tie.Need-mul-unit
 mul-unit c = search needs
@@ -31,9 +29,7 @@ add-t5 c = search needs
 returns-2 : tie.Need-returns-2
 returns-2 c =
     let a = c .before .before .before .before .before .before .args in
-    chose _ _
-    (weigh-takes (a .sums .now) (a .words .now) (a .at) (omega arith) ∙ ap (λ (k : ℕ). Choice.chosen k (drop (a .at + 1) (a .words .now))) (sym (c .place .ensures ∙ ap (λ (u : Float). placeOf u (a .sums .now)) (c .before .unit .ensures))))
-    (omega arith)
+    weighed (a .at) (omega arith) (c .before .before .shared-slice-known3 .given (a .at) .fits) _ (c .place .ensures ∙ ap (λ (u : Float). rustPlace u (a .sums .now)) (c .before .unit .ensures))
 
 pub weigh-spec : {M : Type 1} → statement M
 weigh-spec =

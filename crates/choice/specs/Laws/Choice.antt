@@ -5,21 +5,23 @@ use native.Mathlib.Numerals.{add-one}
 use native.Mathlib.Omega.{arith}
 use mathlib.Core.Path.{_≡_, refl, sym, ap, _∙_, subst}
 use mathlib.Core.Bool.{true, false}
-use mathlib.Core.List.{List}
+use mathlib.Core.List.{List, []}
 use lib.Dec.{ltb}
 use lib.Pow.{pow-pos, pow-lt}
 use lib.ListN.{length, getD, drop, drop-of-length-le}
 use lib.Seq.{drop-cons}
 use lib.Ieee.{Float}
 use Rattle.job.specs.Line.{Distribution, sizeOf}
+use Rattle.job.specs.Sound.{weightsOf}
 use Rattle.draws.specs.Draws.{unitOf, Choice, limitOf, bounded, placeOf, byWeight, chooseFrom}
+use Rattle.draws.specs.Known.{rustPlace}
 use Rattle.draws.specs.Laws.Depolarizing.{four}
 use Rattle.noise.specs.declared.PauliDistribution.{PauliDistribution}
 use Rattle.noise.specs.declared.PauliDistribution.the-variants.{Single, Depolarizing, Uniform, Weighted}
 use Rattle.choice.specs.declared.Choice.{Choice as Answer}
 use Rattle.choice.specs.declared.Choice.the-variants.{Chosen, Spent}
-use Rattle.noise.specs.Kinds.{kindOf, boundOf, Small, Chooses}
-use Rattle.choice.specs.Choice.{choiceOf, nextOf, Chose, ElementChosen}
+use Rattle.noise.specs.Kinds.{kindOf, boundOf, Small, PlacesBy, Chooses}
+use Rattle.choice.specs.Choice.{choiceOf, nextOf, Chose, Weighed, ElementChosen}
 
 -- ---- what is chosen
 
@@ -58,14 +60,18 @@ choose-ends c ws i h = rw (drop-of-length-le ws h)
 
 -- ---- by weight
 
-pub weigh-takes : (sums : List Float) (ws : List ℕ) (i : ℕ) → i < length ws
-    → byWeight sums (drop i ws) ≡ Choice.chosen (placeOf (unitOf (getD ws i 0)) sums) (drop (i + 1) ws)
-unfolding byWeight
-weigh-takes sums ws i h = rw (add-one, drop-cons ws i 0)
+module _ {ws : List ℕ} {sums : List Float} (i : ℕ) where
+  pub weighed : i < length ws → getD ws i 0 < 2 ^ 64 → (e : ℕ) → e ≡ rustPlace (unitOf (getD ws i 0)) sums → Weighed ws i sums (Chosen e (i + 1))
+  unfolding byWeight choiceOf nextOf
+  weighed h small e is =
+      record {
+        within = omega arith;
+        is = λ weights p. rw (is, p .is (getD ws i 0) small, add-one, drop-cons ws i 0);
+      }
 
-pub weigh-ends : (sums : List Float) (ws : List ℕ) (i : ℕ) → length ws ≤ i → byWeight sums (drop i ws) ≡ Choice.spent
-unfolding byWeight
-weigh-ends sums ws i h = rw (drop-of-length-le ws h)
+  pub weighed-none : length ws ≤ i → Weighed ws i sums Spent
+  unfolding byWeight choiceOf nextOf
+  weighed-none h = record { within = omega arith; is = λ weights p. rw (drop-of-length-le ws h) }
 
 -- ---- the bound of a kind
 
@@ -82,40 +88,59 @@ small-qubits k e s = rw e at s
 
 -- ---- by the kind of a distribution
 
--- what the words choose, by the kind alone
+-- the weights of the weighted kind
+unfoldable weightsIn : Distribution → List Float
+weightsIn (Distribution.single P) = []
+weightsIn (Distribution.depolarizing qs) = []
+weightsIn (Distribution.uniform Ps) = []
+weightsIn (Distribution.weighted es) = weightsOf es
+
+weights-beside : (D : Distribution) {d : PauliDistribution} {sums : List Float} → Chooses D d sums → (t : Float) → d ≡ Weighted t → PlacesBy (weightsIn D) sums
+unfolding weightsIn kindOf
+weights-beside (Distribution.single P) r t e = let z : _≡_ {A = ℕ} 0 1 = cc (r .kind) in absurd (omega arith)
+weights-beside (Distribution.depolarizing qs) r t e = let z : _≡_ {A = ℕ} 0 1 = cc (r .kind) in absurd (omega arith)
+weights-beside (Distribution.uniform Ps) r t e = let z : _≡_ {A = ℕ} 0 1 = cc (r .kind) in absurd (omega arith)
+weights-beside (Distribution.weighted es) r t e = r .beside es refl
+
+-- what the words choose, by the kind and the weights
 unfoldable chosenBy : PauliDistribution → List Float → List ℕ → Choice
 unfolding boundOf
-chosenBy Single sums ws = Choice.chosen 0 ws
-chosenBy (Depolarizing k) sums ws = bounded (boundOf (Depolarizing k)) ws
-chosenBy (Uniform n) sums ws = bounded (boundOf (Uniform n)) ws
-chosenBy (Weighted t) sums ws = byWeight sums ws
+chosenBy Single weights ws = Choice.chosen 0 ws
+chosenBy (Depolarizing k) weights ws = bounded (boundOf (Depolarizing k)) ws
+chosenBy (Uniform n) weights ws = bounded (boundOf (Uniform n)) ws
+chosenBy (Weighted t) weights ws = byWeight (placeOf weights) ws
 
-chosen-by : (D : Distribution) {d : PauliDistribution} {sums : List Float} → Chooses D d sums → (ws : List ℕ) → chooseFrom D ws ≡ chosenBy d sums ws
-unfolding chooseFrom chosenBy kindOf boundOf sizeOf
-chosen-by (Distribution.single P) r ws = rw (r .kind)
-chosen-by (Distribution.depolarizing qs) r ws = rw (r .kind)
-chosen-by (Distribution.uniform Ps) r ws = rw (r .kind)
-chosen-by (Distribution.weighted es) r ws = rw (r .kind, r .beside es refl)
+chosen-by : (D : Distribution) {d : PauliDistribution} → d ≡ kindOf D → (ws : List ℕ) → chooseFrom D ws ≡ chosenBy d (weightsIn D) ws
+unfolding chooseFrom chosenBy kindOf boundOf sizeOf weightsIn
+chosen-by (Distribution.single P) e ws = rw e
+chosen-by (Distribution.depolarizing qs) e ws = rw e
+chosen-by (Distribution.uniform Ps) e ws = rw e
+chosen-by (Distribution.weighted es) e ws = rw e
 
 module _ {d : PauliDistribution} {sums : List Float} {words : List ℕ} (at : ℕ) where
   pub chosen-one : d ≡ Single → at ≤ length words → ElementChosen words at d sums (Chosen 0 at)
   unfolding chosenBy choiceOf nextOf
-  chosen-one e h = record { within = h; is = λ D r. sym (chosen-by D r (drop at words) ∙ rw e) }
+  chosen-one e h = record { within = h; is = λ D r. sym (chosen-by D (r .kind) (drop at words) ∙ rw e) }
 
   -- a choice by what the kind comes to
-  chosen-as : {o : Choice} {a : Answer} → chosenBy d sums (drop at words) ≡ o → Chose words o a → ElementChosen words at d sums a
-  chosen-as e q = record { within = q .within; is = λ D r. q .is ∙ sym (chosen-by D r (drop at words) ∙ e) }
+  chosen-as : {o : Choice} {a : Answer} → ((weights : List Float) → chosenBy d weights (drop at words) ≡ o) → Chose words o a
+      → ElementChosen words at d sums a
+  chosen-as e q = record { within = q .within; is = λ D r. q .is ∙ sym (chosen-by D (r .kind) (drop at words) ∙ e (weightsIn D)) }
 
   pub chosen-depolarizing : {a : Answer} (k c : ℕ) → d ≡ Depolarizing k → c ≡ boundOf d → Chose words (bounded c (drop at words)) a
       → ElementChosen words at d sums a
   unfolding chosenBy
-  chosen-depolarizing k c e b q = chosen-as (rw (b, e)) q
+  chosen-depolarizing k c e b q = chosen-as (λ weights. rw (b, e)) q
 
   pub chosen-uniform : {a : Answer} (n c : ℕ) → d ≡ Uniform n → c ≡ boundOf d → Chose words (bounded c (drop at words)) a
       → ElementChosen words at d sums a
   unfolding chosenBy
-  chosen-uniform n c e b q = chosen-as (rw (b, e)) q
+  chosen-uniform n c e b q = chosen-as (λ weights. rw (b, e)) q
 
-  pub chosen-weighted : {a : Answer} (t : Float) → d ≡ Weighted t → Chose words (byWeight sums (drop at words)) a → ElementChosen words at d sums a
+  pub chosen-weighted : {a : Answer} (t : Float) → d ≡ Weighted t → Weighed words at sums a → ElementChosen words at d sums a
   unfolding chosenBy
-  chosen-weighted t e q = chosen-as (rw e) q
+  chosen-weighted t e q =
+      record {
+        within = q .within;
+        is = λ D r. q .is (weightsIn D) (weights-beside D r t e) ∙ sym (chosen-by D (r .kind) (drop at words) ∙ rw e);
+      }

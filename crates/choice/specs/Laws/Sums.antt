@@ -9,7 +9,8 @@ use lib.ListN.{length, getD, take, drop, set, drop-of-length-le}
 use lib.Seq.{drop-cons, take-all, take-suc-set}
 use lib.Ieee.{Float, nan, binary64, add, div, lt}
 use Rattle.job.specs.Float.{zeroFloat, one, totalFrom}
-use Rattle.draws.specs.Draws.{runningFrom, runningSums, belowUnit}
+use Rattle.draws.specs.Draws.{runningFrom, runningSums}
+use Rattle.draws.specs.Known.{belowUnit}
 
 -- ---- the total
 

@@ -44,10 +44,10 @@ bounded-enough c h (v ∷ vs) m = go (ltb v (limitOf c)) (bounded-enough c h vs 
     go true t = unfold ChoiceEnds in ends-fewer record { before = vs; whole = refl }
     go false t = t
 
-weight-enough : (sums : List Float) (vs : List ℕ) (m : ℕ) → ChoiceEnds m (byWeight sums (vs ++ replicate (suc m) 0))
+weight-enough : (place : Float → ℕ) (vs : List ℕ) (m : ℕ) → ChoiceEnds m (byWeight place (vs ++ replicate (suc m) 0))
 unfolding byWeight ChoiceEnds
-weight-enough sums [] m = record { before = []; whole = refl }
-weight-enough sums (v ∷ vs) m = ends-fewer record { before = vs; whole = refl }
+weight-enough place [] m = record { before = []; whole = refl }
+weight-enough place (v ∷ vs) m = ends-fewer record { before = vs; whole = refl }
 
 choice-enough : (d : Distribution) → 0 < sizeOf d → sizeOf d < 2 ^ 64 → (vs : List ℕ) (m : ℕ)
     → ChoiceEnds m (chooseFrom d (vs ++ replicate (suc m) 0))

@@ -7,16 +7,19 @@ use Prim.Native.Nat.{ℕ, zero, suc, _+_, _-_, _*_, _/_, _^_, _%_, _<_, _≤_}
 use native.Mathlib.Nat.{mod-lt, div-add-mod', mul-mod-left, pow-le-pow-right, not-suc-le-zero}
 use native.Mathlib.Omega.{arith}
 use lib.Dec.{ltb, lit<}
-use lib.ListN.{length, getD, length-set, length-map, List·getD-map}
+use lib.ListN.{length, getD, length-map, List·getD-map}
 use lib.Ieee.{Float, le}
 use borrow.Author.Tests.{lt-ltb}
 use Rattle.text.specs.List.{risesFrom, isRising}
 use Rattle.pauli.specs.Bits.{Bits}
 use Rattle.job.specs.Line.{SparsePauli, WeightedPauli, Distribution, sizeOf, Noise}
-use Rattle.job.specs.Float.{float, zeroFloat, one, totalFrom}
+use Rattle.job.specs.Float.{float, zeroFloat, isWeight}
+use Rattle.job.specs.Sound.{Every, weightsOf, ElementSound, WeightedSound}
 use Rattle.job.specs.Checks.{allBelow}
-use Rattle.draws.specs.Draws.{falls, noPauli, elementAt, Choice, limitOf, bounded, runningFrom, runningSums, byWeight, chooseFrom, isSatisfied, ShotDraw, faultOf, drawShot, Lent, Fault, Draws, alsoFault, thenShots, drawShots, drawLine}
-use Rattle.draws.specs.Known.{shotsOf, elementsOf}
+use Rattle.draws.specs.Draws.{unitOf, falls, noPauli, elementAt, Choice, limitOf, bounded, placeOf, byWeight, chooseFrom, isSatisfied, ShotDraw, faultOf, drawShot, Lent, Fault, Draws, alsoFault, thenShots, drawShots, drawLine}
+use Rattle.draws.specs.Known.{PositiveAt, anyPositive, shotsOf, elementsOf}
+use Rattle.draws.specs.Laws.Weights.{some-positive}
+use Rattle.draws.specs.Laws.Places.{place-below, place-positive}
 
 -- ---- shots
 
@@ -96,12 +99,16 @@ module _ (lent : Lent) (n : Noise) (ws : List ℕ) (fs : List Fault) (left : Lis
 
 -- ---- elements
 
-unfoldable pub ChoiceBelow : ℕ → Choice → Type 0
-ChoiceBelow size Choice.spent = Unit
-ChoiceBelow size (Choice.chosen e left) = e < size
+-- the element that is chosen, if one is, has a property
+unfoldable pub ChoiceIn : (ℕ → Type 0) → Choice → Type 0
+ChoiceIn Q Choice.spent = Unit
+ChoiceIn Q (Choice.chosen e left) = Q e
+
+abbrev pub ChoiceBelow : ℕ → Choice → Type 0
+ChoiceBelow size = ChoiceIn (λ e. e < size)
 
 bounded-below : (c : ℕ) (ws : List ℕ) → 0 < c → ChoiceBelow c (bounded c ws)
-unfolding bounded ChoiceBelow
+unfolding bounded ChoiceIn
 bounded-below c [] h = tt
 bounded-below c (w ∷ ws) h = go (ltb w (limitOf c)) (bounded-below c ws h)
   where
@@ -115,88 +122,107 @@ limit-whole c h =
     let whole : limitOf c ≡ (2 ^ 64 - 1) / c * c = omega (arith, div-add-mod' (2 ^ 64 - 1) c) in
     ap (λ (k : ℕ). k % c) whole ∙ mul-mod-left ((2 ^ 64 - 1) / c) c
 
-running-length : (total s : Float) (ws : List Float) → length (runningFrom total s ws) ≡ length ws
-unfolding runningFrom
-running-length total s [] = refl
-running-length total s (w ∷ ws) = ap suc (running-length total _ ws)
-
-sums-length : (ws : List Float) → length (runningSums ws) ≡ length ws
-sums-length ws =
-    let running = runningFrom (totalFrom zeroFloat ws) zeroFloat ws in
-    length-set running (length ws - 1) one ∙ running-length (totalFrom zeroFloat ws) zeroFloat ws
-
-weight-below : (ws : List Float) (vs : List ℕ) → 0 < length ws → ChoiceBelow (length ws) (byWeight (runningSums ws) vs)
-unfolding byWeight ChoiceBelow
+weight-below : (ws : List Float) (vs : List ℕ) → 0 < length ws → ChoiceBelow (length ws) (byWeight (placeOf ws) vs)
+unfolding byWeight ChoiceIn
 weight-below ws [] h = tt
-weight-below ws (v ∷ vs) h = omega (arith, sums-length ws)
+weight-below ws (v ∷ vs) h = place-below ws (unitOf v) h
 
 pub choice-below : (d : Distribution) (ws : List ℕ) → 0 < sizeOf d → ChoiceBelow (sizeOf d) (chooseFrom d ws)
-unfolding sizeOf chooseFrom ChoiceBelow
+unfolding sizeOf chooseFrom ChoiceIn
 choice-below (Distribution.single P) ws h = lit< tt
 choice-below (Distribution.depolarizing qs) ws h = bounded-below (4 ^ length qs - 1) ws h
 choice-below (Distribution.uniform Ps) ws h = bounded-below (length Ps) ws h
 choice-below (Distribution.weighted es) ws h =
     let floats = map (λ (w : WeightedPauli). float (w .weight)) es in
     let same : length floats ≡ length es = length-map es (λ (w : WeightedPauli). float (w .weight)) in
-    subst (λ (k : ℕ). ChoiceBelow k (byWeight (runningSums floats) ws)) same (weight-below floats ws (omega arith))
+    subst (λ (k : ℕ). ChoiceBelow k (byWeight (placeOf floats) ws)) same (weight-below floats ws (omega arith))
 
-unfoldable pub ShotBelow : ℕ → ShotDraw → Type 0
-ShotBelow size ShotDraw.spent = Unit
-ShotBelow size (ShotDraw.drew none left) = Unit
-ShotBelow size (ShotDraw.drew (some e) left) = e < size
+unfoldable pub ShotIn : (ℕ → Type 0) → ShotDraw → Type 0
+ShotIn Q ShotDraw.spent = Unit
+ShotIn Q (ShotDraw.drew none left) = Unit
+ShotIn Q (ShotDraw.drew (some e) left) = Q e
+
+unfoldable DrawsIn : (ℕ → Type 0) → Draws → Type 0
+DrawsIn Q Draws.spent = Unit
+DrawsIn Q (Draws.drawn fs left) = Every Q (elementsOf fs)
+
+-- What holds of every choice from a distribution holds of the elements of a line's faults.
+module _ (Q : ℕ → Type 0) (n : Noise) (c : (ws : List ℕ) → ChoiceIn Q (chooseFrom (n .distribution) ws)) where
+  shot-in : (bits : Bits) (ws : List ℕ) → ShotIn Q (drawShot n bits ws)
+  unfolding drawShot ShotIn
+  shot-in bits [] = tt
+  shot-in bits (w ∷ ws) = go (falls w (float (n .probability)) && isSatisfied (n .condition) bits) (chooseFrom (n .distribution) ws) (c ws)
+    where
+      go : (b : Bool) (o : Choice) → ChoiceIn Q o → ShotIn Q (cond b (faultOf o) (ShotDraw.drew none ws))
+      go false o t = tt
+      go true Choice.spent t = unfold faultOf in tt
+      go true (Choice.chosen e left) t = unfold faultOf ChoiceIn in t
+
+  shots-in : (lent : Lent) (count shot : ℕ) (ws : List ℕ) → DrawsIn Q (drawShots lent n count shot ws)
+  unfolding drawShots DrawsIn
+  shots-in lent zero shot ws = tt
+  shots-in lent (suc count) shot ws =
+      go (drawShot n (λ id. lent .noiseless id shot) ws) (shot-in (λ id. lent .noiseless id shot) ws) (shots-in lent count (suc shot))
+    where
+      later : List ℕ → Draws
+      later = drawShots lent n count (suc shot)
+
+      fault : (e : ℕ) → Q e → (o : Draws) → DrawsIn Q o → DrawsIn Q (alsoFault record { shot = shot; element = e } o)
+      fault e b Draws.spent r = unfold alsoFault in tt
+      fault e b (Draws.drawn fs left) r = unfold alsoFault DrawsIn in (b, r)
+
+      go : (o : ShotDraw) → ShotIn Q o → ((vs : List ℕ) → DrawsIn Q (later vs)) → DrawsIn Q (thenShots shot o later)
+      go ShotDraw.spent b ih = unfold thenShots in tt
+      go (ShotDraw.drew none vs) b ih = unfold thenShots in ih vs
+      go (ShotDraw.drew (some e) vs) b ih = unfold thenShots ShotIn in fault e b (later vs) (ih vs)
+
+  line-in : (lent : Lent) (ws : List ℕ) → DrawsIn Q (drawLine lent n ws)
+  unfolding drawLine DrawsIn
+  line-in lent ws = go (le (float (n .probability)) zeroFloat) (shots-in lent (lent .shots) 0 ws)
+    where
+      go : (b : Bool) → DrawsIn Q (drawShots lent n (lent .shots) 0 ws)
+          → DrawsIn Q (cond b (Draws.drawn [] ws) (drawShots lent n (lent .shots) 0 ws))
+      go true r = tt
+      go false r = r
+
+  pub elements-in : (lent : Lent) (ws : List ℕ) (fs : List Fault) (left : List ℕ) → drawLine lent n ws ≡ Draws.drawn fs left → Every Q (elementsOf fs)
+  unfolding DrawsIn
+  elements-in lent ws fs left e = subst (DrawsIn Q) e (line-in lent ws)
+
+abbrev pub ShotBelow : ℕ → ShotDraw → Type 0
+ShotBelow size = ShotIn (λ e. e < size)
 
 pub shot-below : (n : Noise) (bits : Bits) (ws : List ℕ) → 0 < sizeOf (n .distribution) → ShotBelow (sizeOf (n .distribution)) (drawShot n bits ws)
-unfolding drawShot ShotBelow
-shot-below n bits [] h = tt
-shot-below n bits (w ∷ ws) h =
-    go (falls w (float (n .probability)) && isSatisfied (n .condition) bits) (chooseFrom (n .distribution) ws) (choice-below (n .distribution) ws h)
-  where
-    go : (b : Bool) (o : Choice) → ChoiceBelow (sizeOf (n .distribution)) o
-        → ShotBelow (sizeOf (n .distribution)) (cond b (faultOf o) (ShotDraw.drew none ws))
-    go false o t = tt
-    go true Choice.spent t = unfold faultOf in tt
-    go true (Choice.chosen e left) t = unfold faultOf ChoiceBelow in t
+shot-below n bits ws h = shot-in (λ e. e < sizeOf (n .distribution)) n (λ vs. choice-below (n .distribution) vs h) bits ws
 
-unfoldable DrawsBelow : ℕ → Draws → Type 0
-DrawsBelow size Draws.spent = Unit
-DrawsBelow size (Draws.drawn fs left) = allBelow size (elementsOf fs) ≡ true
-
-elements-within : (lent : Lent) (n : Noise) → 0 < sizeOf (n .distribution) → (count shot : ℕ) (ws : List ℕ)
-    → DrawsBelow (sizeOf (n .distribution)) (drawShots lent n count shot ws)
-unfolding drawShots DrawsBelow
-elements-within lent n h zero shot ws = unfold allBelow in refl
-elements-within lent n h (suc count) shot ws =
-    go (drawShot n (λ id. lent .noiseless id shot) ws) (shot-below n (λ id. lent .noiseless id shot) ws h) (elements-within lent n h count (suc shot))
-  where
-    size : ℕ
-    size = sizeOf (n .distribution)
-
-    later : List ℕ → Draws
-    later = drawShots lent n count (suc shot)
-
-    fault : (e : ℕ) → e < size → (o : Draws) → DrawsBelow size o → DrawsBelow size (alsoFault record { shot = shot; element = e } o)
-    fault e b Draws.spent r = unfold alsoFault in tt
-    fault e b (Draws.drawn fs left) r = unfold alsoFault DrawsBelow allBelow in rw (lt-ltb e size b, r)
-
-    go : (o : ShotDraw) → ShotBelow size o → ((vs : List ℕ) → DrawsBelow size (later vs)) → DrawsBelow size (thenShots shot o later)
-    go ShotDraw.spent b ih = unfold thenShots in tt
-    go (ShotDraw.drew none vs) b ih = unfold thenShots in ih vs
-    go (ShotDraw.drew (some e) vs) b ih = unfold thenShots ShotBelow in fault e b (later vs) (ih vs)
-
-line-below : (lent : Lent) (n : Noise) (ws : List ℕ) → 0 < sizeOf (n .distribution) → DrawsBelow (sizeOf (n .distribution)) (drawLine lent n ws)
-unfolding drawLine DrawsBelow
-line-below lent n ws h = go (le (float (n .probability)) zeroFloat) (elements-within lent n h (lent .shots) 0 ws)
-  where
-    go : (b : Bool) → DrawsBelow (sizeOf (n .distribution)) (drawShots lent n (lent .shots) 0 ws)
-        → DrawsBelow (sizeOf (n .distribution)) (cond b (Draws.drawn [] ws) (drawShots lent n (lent .shots) 0 ws))
-    go true r = unfold allBelow in refl
-    go false r = r
+every-below : (size : ℕ) (l : List ℕ) → Every (λ (e : ℕ). e < size) l → allBelow size l ≡ true
+unfolding allBelow
+every-below size [] b = refl
+every-below size (e ∷ l) b = rw (lt-ltb e size (b .0), every-below size l (b .1))
 
 -- elements of the distribution, wherever it has any
 pub elements-below : (lent : Lent) (n : Noise) (ws : List ℕ) (fs : List Fault) (left : List ℕ) → 0 < sizeOf (n .distribution)
     → drawLine lent n ws ≡ Draws.drawn fs left → allBelow (sizeOf (n .distribution)) (elementsOf fs) ≡ true
-unfolding DrawsBelow
-elements-below lent n ws fs left h e = subst (DrawsBelow (sizeOf (n .distribution))) e (line-below lent n ws h)
+elements-below lent n ws fs left h e =
+    every-below (sizeOf (n .distribution)) (elementsOf fs)
+    (elements-in (λ k. k < sizeOf (n .distribution)) n (λ vs. choice-below (n .distribution) vs h) lent ws fs left e)
+
+-- ---- positive weights
+
+weights-sound : (n : ℕ) (es : List WeightedPauli) → Every (ElementSound n) es → Every (λ (w : Float). isWeight w ≡ true) (weightsOf es)
+weights-sound n [] s = tt
+weights-sound n (e ∷ es) s = (s .0 .weight, weights-sound n es (s .1))
+
+-- a line that is sound has a positive weight
+pub sound-positive : (n : ℕ) (es : List WeightedPauli) → WeightedSound n es → anyPositive (weightsOf es) ≡ true
+sound-positive n es s = some-positive (weightsOf es) (weights-sound n es (s .each)) (s .total)
+
+-- and draws places with positive weight alone
+pub choice-positive : (n : ℕ) (es : List WeightedPauli) → WeightedSound n es → (ws : List ℕ)
+    → ChoiceIn (PositiveAt (weightsOf es)) (chooseFrom (Distribution.weighted es) ws)
+unfolding chooseFrom byWeight ChoiceIn
+choice-positive n es s [] = tt
+choice-positive n es s (w ∷ ws) = place-positive (weightsOf es) (unitOf w) (sound-positive n es s)
 
 -- all Paulis but the identity on at least one qubit are some
 pub depolarizing-size : (qs : List ℕ) → 0 < length qs → 0 < sizeOf (Distribution.depolarizing qs)

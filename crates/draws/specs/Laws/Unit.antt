@@ -1,19 +1,20 @@
--- Laws: u is exact in binary64, and so a fault falls where the fraction is below p. Assumes nothing.
+-- Laws: u is exact in binary64, so it lies from 0 to 1, and a fault falls where the fraction is below p. Assumes nothing.
 use mathlib.Core.Path.{_≡_, refl, sym, _∙_, subst}
 use mathlib.Core.Bool.{Bool, true, false, true≢false}
-use Prim.Native.Nat.{ℕ, _*_, _/_, _^_, _<_, _≤_}
+use Prim.Native.Nat.{ℕ, _+_, _*_, _/_, _^_, _<_, _≤_}
 use native.Mathlib.Nat.{mul-assoc, mul-comm, mul-one, one-mul, mul-pos, mul-lt-mul-of-pos-right, lt-of-lt-of-le, le-of-lt}
 use native.Mathlib.Omega.{arith}
 use lib.Dec.{ltb, lit<, lit≤}
 use lib.Pow.{pow-pos}
 use lib.IntN.{pos}
-use lib.Ieee.{Float, nan, inf, fin, binary64, round, ofInt, div, lt, up, down}
+use lib.Ieee.{Float, nan, inf, fin, binary64, ofBits, round, ofInt, div, lt, up, down}
 use lib.Ieee.Fits.{down-pos}
 use lib.Ieee.Exact.{HasValue, round-exact}
 use lib.Ieee.Back.{round-whole}
 use lib.Ieee.Scale.{round-same}
 use lib.Ieee.Order.{transfer}
-use borrow.Author.Tests.{ltb-true, ltb-false}
+use borrow.Author.Tests.{ltb-true, ltb-false, lt-ltb, le-ltb}
+use Rattle.job.specs.Float.{float, one}
 use Rattle.draws.specs.Draws.{unitOf, falls}
 
 -- x / 2 ^ 53, where x is the whole number n, is the fraction n / 2 ^ 53
@@ -65,3 +66,19 @@ compared (fin false m e) (fin false m′ e′) n d a c D C v w =
 -- So for a probability p that is the fraction a / c, a fault falls where floor(w / 2048) / 2 ^ 53 < a / c, in whole numbers.
 pub falls-exact : (w : ℕ) (p : Float) (a c : ℕ) → w < 2 ^ 64 → 0 < c → HasValue p false a c → falls w p ≡ ltb (w / 2048 * c) (a * 2 ^ 53)
 falls-exact w p a c h C v = compared (unitOf w) p (w / 2048) (2 ^ 53) a c (lit< tt) C (unit-exact w h) v
+
+-- u lies above -1.0, and not above 1.0.
+pub unit-above : (w : ℕ) → w < 2 ^ 64 → lt (float 0xbff0_0000_0000_0000) (unitOf w) ≡ true
+unit-above w h = go (unitOf w) (unit-exact w h)
+  where
+    go : (x : Float) → HasValue x false (w / 2048) (2 ^ 53) → lt (float 0xbff0_0000_0000_0000) x ≡ true
+    go nan v = absurd v
+    go (inf s) v = absurd v
+    go (fin true m e) v = absurd (true≢false (v .0))
+    go (fin false m e) v = unfold lt ofBits in lt-ltb 0 (1 * down e + m * up e * 1) (omega (arith, down-pos e))
+
+pub unit-within : (w : ℕ) → w < 2 ^ 64 → lt one (unitOf w) ≡ false
+unfolding ofBits
+unit-within w h =
+    compared one (unitOf w) 1 1 (w / 2048) (2 ^ 53) (lit< tt) (lit< tt) (refl, refl) (unit-exact w h)
+    ∙ le-ltb (1 * 2 ^ 53) (w / 2048 * 1) (omega arith)

@@ -102,10 +102,10 @@ bounded-took c (w ∷ ws) = go (ltb w (limitOf c)) refl (bounded c ws) (bounded-
     go false e Choice.spent t = tt
     go false e (Choice.chosen a left) t = took-word w (λ vs. rw e) t
 
-weight-took : (sums : List Float) (ws : List ℕ) → ChoiceTook (byWeight sums) ws (byWeight sums ws)
+weight-took : (place : Float → ℕ) (ws : List ℕ) → ChoiceTook (byWeight place) ws (byWeight place ws)
 unfolding byWeight ChoiceTook
-weight-took sums [] = tt
-weight-took sums (w ∷ ws) = record { used = w ∷ []; whole = refl; alone = λ vs. refl }
+weight-took place [] = tt
+weight-took place (w ∷ ws) = record { used = w ∷ []; whole = refl; alone = λ vs. refl }
 
 pub choice-took : (d : Distribution) (ws : List ℕ) → ChoiceTook (chooseFrom d) ws (chooseFrom d ws)
 unfolding chooseFrom ChoiceTook

@@ -13,9 +13,9 @@ use lib.Ieee.{Float}
 use Rattle.text.specs.Template.{Value}
 use Rattle.template.specs.Fields.{Held}
 use Rattle.job.specs.Line.{WeightedPauli}
-use Rattle.job.specs.Float.{float, zeroFloat, isWeight, totalFrom}
+use Rattle.job.specs.Float.{float, zeroFloat, isWeight}
 use Rattle.job.specs.Sound.{weightsOf}
-use Rattle.draws.specs.Draws.{noPauli, runningSums}
+use Rattle.draws.specs.Draws.{noPauli}
 use Rattle.instructions.specs.declared.Next.{Next}
 use Rattle.instructions.specs.Reading.{NextLine}
 use Rattle.instructions.specs.Ahead.{elementBy, ElementRead}

@@ -24,15 +24,17 @@ use Rattle.instructions.specs.Reading.{hasTotal}
 use Rattle.instructions.specs.Ahead.{instructionsAt, Among, hasWeights, NoiseRead}
 use Rattle.instructions.specs.Laws.Meaning.{noiseBy}
 use Rattle.instructions.specs.Laws.Elements.{among-done}
-use Rattle.draws.specs.Draws.{noPauli, runningSums}
+use Rattle.draws.specs.Draws.{noPauli}
+use Rattle.draws.specs.Laws.Faults.{sound-positive}
 use Rattle.rows.specs.Words.{bitIn}
 use Rattle.rows.specs.Listed.{RowsIn}
 use Rattle.rows.specs.Laws.Overwrite.{before-row}
 use Rattle.noise.specs.declared.PauliDistribution.the-variants.{Single, Depolarizing, Uniform, Weighted}
 use Rattle.noise.specs.declared.PauliFault.{PauliFault}
-use Rattle.noise.specs.Kinds.{kindOf, correlationOf, Small, Represents}
+use Rattle.noise.specs.Kinds.{kindOf, correlationOf, Small, PlacesBy, Represents}
 use Rattle.noise.specs.Condition.{conditionOf, Masks}
 use Rattle.choice.specs.Choice.{Totals, SumsOf}
+use Rattle.choice.specs.Laws.Marks.{marked-places}
 use Rattle.faults.specs.declared.Prepared.{Prepared}
 use Rattle.faults.specs.Elements.{kept, ElementHeld, DistributionHeld}
 use Rattle.faults.specs.Line.{kindBy, FaultOf, FaultHeld}
@@ -74,13 +76,16 @@ kind-same (Kind.weighted n) es t count e = ap Weighted e
 weighted-same : {a b : List WeightedPauli} → Distribution.weighted a ≡ Distribution.weighted b → a ≡ b
 weighted-same e = cc
 
-sums-beside : (k : Kind) (es fs : List WeightedPauli) (t : Float) (sums : List Float) → SumsOf (kindBy k t) (weightsOf es) sums
-    → distributionOf k es ≡ Distribution.weighted fs → sums ≡ runningSums (weightsOf fs)
-unfolding distributionOf kindBy
-sums-beside (Kind.single P) es fs t sums h e = let z : _≡_ {A = ℕ} 0 1 = cc in absurd (omega arith)
-sums-beside (Kind.depolarizing qs) es fs t sums h e = let z : _≡_ {A = ℕ} 0 1 = cc in absurd (omega arith)
-sums-beside (Kind.uniform n) es fs t sums h e = let z : _≡_ {A = ℕ} 0 1 = cc in absurd (omega arith)
-sums-beside (Kind.weighted n) es fs t sums h e = h .is t refl ∙ ap (λ (l : List WeightedPauli). runningSums (weightsOf l)) (weighted-same e)
+-- the marked sums give the places, since a sound line has a positive weight
+sums-beside : (n : ℕ) (k : Kind) (es fs : List WeightedPauli) (t : Float) (sums : List Float) → DistributionSound n (distributionOf k es)
+    → SumsOf (kindBy k t) (weightsOf es) sums → distributionOf k es ≡ Distribution.weighted fs → PlacesBy (weightsOf fs) sums
+unfolding distributionOf kindBy DistributionSound
+sums-beside n (Kind.single P) es fs t sums s h e = let z : _≡_ {A = ℕ} 0 1 = cc in absurd (omega arith)
+sums-beside n (Kind.depolarizing qs) es fs t sums s h e = let z : _≡_ {A = ℕ} 0 1 = cc in absurd (omega arith)
+sums-beside n (Kind.uniform m) es fs t sums s h e = let z : _≡_ {A = ℕ} 0 1 = cc in absurd (omega arith)
+sums-beside n (Kind.weighted m) es fs t sums s h e =
+    subst (λ (l : List WeightedPauli). PlacesBy (weightsOf l) sums) (weighted-same e)
+    (rw (h .is t refl) (marked-places (weightsOf es) (sound-positive n es s)))
 
 -- the kind that carries a total has weights, and the total is the one that was given
 weighted-kind : (k : Kind) (t u : Float) → kindBy k t ≡ Weighted u → hasWeights k ≡ true
@@ -195,7 +200,7 @@ module _ {job : List ℕ} {at : ℕ} {g : Form} {f noiseless : List ℕ} {w : �
           chooses =
               record {
                 kind = h .distribution ∙ kind-same (q .noise .kind) (q .elements) t (q .count) total;
-                beside = λ es e. sums-beside (q .noise .kind) (q .elements) es t sums (rw (h .distribution) at running) e;
+                beside = λ es e. sums-beside (q .header .qubits) (q .noise .kind) (q .elements) es t sums (q .sound .distribution) (rw (h .distribution) at running) e;
               };
         }
 

@@ -12,7 +12,7 @@ use Rattle.job.specs.declared.Header.{Header}
 use Rattle.job.specs.Line.{Line, sizeOf, Noise}
 use Rattle.draws.specs.Draws.{elementAt, ShotDraw, drawShot, Lent, Draws, alsoFault, thenShots, drawShots}
 use Rattle.draws.specs.Execute.{States, forwardAll, Executed, thenInPlace, injectShots}
-use Rattle.draws.specs.Laws.Faults.{ShotBelow, shot-below}
+use Rattle.draws.specs.Laws.Faults.{ShotIn, ShotBelow, shot-below}
 use Rattle.noise.specs.declared.PauliDistribution.{PauliDistribution}
 use Rattle.shots.specs.declared.NextFault.{NextFault}
 use Rattle.shots.specs.declared.NextFault.the-variants as next
@@ -136,7 +136,7 @@ first-below lent n h (suc left) shot ws =
         → FirstBelow (sizeOf (n .distribution)) (orLater shot o (firstFault lent n left (suc shot)))
     go ShotDraw.spent b ih = unfold orLater in tt
     go (ShotDraw.drew none vs) b ih = unfold orLater in ih vs
-    go (ShotDraw.drew (some e) vs) b ih = unfold orLater ShotBelow FirstBelow in b
+    go (ShotDraw.drew (some e) vs) b ih = unfold orLater ShotIn FirstBelow in b
 
 -- ---- what callers use
 

@@ -378,6 +378,13 @@ fn weights(random: &mut Random, count: usize) -> Vec<u64> {
     for _ in 0..count {
         weights.push(if random.one_in(3) { random.pick(&special) } else { random.unit() });
     }
+    // Zeros at the front or the end, where no earlier or later place can be drawn for them.
+    let zeros = random.index(count);
+    match random.below(6) {
+        0 => weights[..zeros].fill(random.pick(&[0.0, -0.0])),
+        1 => weights[count - zeros..].fill(random.pick(&[0.0, -0.0])),
+        _ => {}
+    }
     if weights.iter().sum::<f64>() == 0.0 {
         weights[random.index(count)] = 0.5;
     }

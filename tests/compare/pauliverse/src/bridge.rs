@@ -306,15 +306,27 @@ fn step(instruction: &Instruction) -> Step {
     })
 }
 
+/// A weighted distribution: the published one, where all weights are positive. Elsewhere an element of weight zero is never drawn (note 2): the sums
+/// of the leading ones lie below every u, and that of the last positive one is 1.
+fn weighted(elements: &[(u64, Pauli)]) -> PauliDistribution {
+    let pairs = elements.iter().map(|(weight, pauli)| (of(pauli), f64::from_bits(*weight)));
+    let mut distribution = PauliDistribution::weighted(pairs.collect());
+    if let PauliDistribution::Weighted { cdf, .. } = &mut distribution {
+        let is_positive = |(weight, _): &(u64, Pauli)| f64::from_bits(*weight) > 0.0;
+        let first = elements.iter().position(is_positive).expect("a total above zero");
+        let last = elements.iter().rposition(is_positive).expect("a total above zero");
+        cdf[..first].fill(-1.0);
+        cdf[last..].fill(1.0);
+    }
+    distribution
+}
+
 fn fault(noise: &Noise) -> PauliFault {
     let distribution = match &noise.distribution {
         Distribution::Single(pauli) => PauliDistribution::single(of(pauli)),
         Distribution::Depolarizing(qubits) => PauliDistribution::depolarizing(&indices(qubits)),
         Distribution::Uniform(paulis) => PauliDistribution::uniform(paulis.iter().map(of).collect()),
-        Distribution::Weighted(elements) => {
-            let pairs = elements.iter().map(|(weight, pauli)| (of(pauli), f64::from_bits(*weight)));
-            PauliDistribution::weighted(pairs.collect())
-        }
+        Distribution::Weighted(elements) => weighted(elements),
     };
     let fault = PauliFault {
         probability: noise.probability(),

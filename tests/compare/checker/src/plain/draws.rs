@@ -104,21 +104,24 @@ fn depolarizing(qubits: &[u64], bits: u64) -> Pauli {
     Pauli { x: with_bit(0), z: with_bit(1) }
 }
 
-/// The first place whose running sum isn't below u, else the last.
+/// The first place with positive weight whose running sum isn't below u, else the last place with positive weight.
 fn weighted_place(elements: &[(u64, Pauli)], u: f64) -> usize {
     let weights = || elements.iter().map(|(weight, _)| f64::from_bits(*weight));
     let mut total = 0.0;
     for weight in weights() {
         total += weight;
     }
-    let last = elements.len() - 1;
     let mut sum = 0.0;
+    let mut last_positive = 0;
     for (place, weight) in weights().enumerate() {
         sum += weight / total;
-        let running = if place == last { 1.0 } else { sum };
-        if running >= u {
-            return place;
+        let running = if place + 1 == elements.len() { 1.0 } else { sum };
+        if weight > 0.0 {
+            if running >= u {
+                return place;
+            }
+            last_positive = place;
         }
     }
-    last
+    last_positive
 }
