@@ -1,7 +1,7 @@
 -- `choice::mark` meets its contract.
-use lib.Ieee.{neg, ofBits}
 use Rattle.draws.specs.Draws.{isPositive}
 use Rattle.choice.specs.Choice.{marked}
+use Rattle.choice.specs.Laws.Marks.{minus-one}
 use Rattle.choice.proofs.mark.Statement.{statement}
 use Rattle.choice.proofs.mark.Tie as tie
 
@@ -14,8 +14,8 @@ unfolding marked isPositive
 returns-2 c = rw (c .before .if1 .taken, c .if2 .left)
 
 returns-3 : tie.Need-returns-3
-unfolding marked isPositive neg ofBits
-returns-3 c = rw (c .if1 .left)
+unfolding marked isPositive
+returns-3 c = rw (c .if1 .left) minus-one
 
 pub mark-spec : {M : Type 1} → statement M
 mark-spec = tie.close (tie.spec returns returns-2 returns-3)

@@ -8,7 +8,7 @@ use mathlib.Core.List.{List, [], _∷_, _++_, append-assoc}
 use mathlib.Core.Option.{Option, some, Option·getD}
 use lib.ListN.{length, getD, take, drop, set, take-append-drop, drop-of-length-le}
 use lib.Seq.{take-suc, drop-cons, set-at, getD-at, length-take-le}
-use lib.Ieee.{Float, nan, lt}
+use lib.Ieee.{Float, nan, lt, neg, ofBits}
 use Rattle.job.specs.Float.{one}
 use Rattle.draws.specs.Draws.{unitOf, runningSums, isPositive, placeOf}
 use Rattle.draws.specs.Known.{belowUnit, anyPositive}
@@ -16,6 +16,11 @@ use Rattle.draws.specs.Laws.Unit.{unit-above, unit-within}
 use Rattle.draws.specs.Laws.Places.{sums-length, chosenIn, place-over, place-here, place-last}
 use Rattle.noise.specs.Kinds.{PlacesBy}
 use Rattle.choice.specs.Choice.{minusOne, marked, markedBy}
+
+-- the mark, as the code writes it
+pub minus-one : neg one ≡ minusOne
+unfolding neg ofBits
+minus-one = refl
 
 -- ---- marking, by places
 
