@@ -7,5 +7,5 @@ pub mod Floats
 pub mod Rows
 -- The lowest number, test by test.
 pub mod Lowest
--- How often two rising lists meet, modulo 2.
+-- How often two lists meet, modulo 2.
 pub mod Overlap

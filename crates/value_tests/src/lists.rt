@@ -3,6 +3,7 @@ ghost use mathlib.Core.Path.{_≡_};
 ghost use mathlib.Core.Bool.{true};
 ghost use mathlib.Core.List.{List, [], _∷_};
 ghost use Prim.Native.Nat.{ℕ, _-_, _≤_, _<_};
+ghost use lib.ListN.{set};
 ghost use Rattle.pauli.specs.Bits.{sumOver, members as among};
 ghost use Rattle.text.specs.List.{isRising};
 ghost use Rattle.text.specs.Template.{Value, listAt};
@@ -10,11 +11,14 @@ ghost use Rattle.template.specs.Values.{Whole, AllKept};
 ghost use Rattle.template.specs.Fields.{Held};
 ghost use Rattle.job.specs.Checks.{test, allBelow, eachBelow, eachShort, lowest, distinct as Checks·distinct};
 ghost use Rattle.value_tests.specs.Slots.{listsFrom};
+ghost use Rattle.value_tests.specs.Marks.{Unmarked, MarksOf};
 use template::values::count;
 use template::values::largest;
 use template::values::list;
 
 const MAX_MEMBERS: u64 = 31;
+
+const MAX_QUBITS: usize = 256;
 
 // Whether every member of the list in a slot is below n.
 fn slot_below(f: &[u64], slot: usize, n: u64) -> bool
@@ -96,22 +100,51 @@ pub fn slot_distinct(f: &[u64], slot: usize) -> bool
     distinct(list(f, slot))
 }
 
-// Whether two rising lists have an odd number of members in common. Both are gone through together, with no branch on their members.
+// Marks a number, if it has a mark.
+fn mark(marks: &mut [bool], n: usize)
+    ensures { λ _. ⌜ now (marks .exit) ≡ set (now (marks .entry)) n true ⌝ }
+{
+    if n < marks.len() {
+        marks[n] = true;
+    }
+}
+
+// Marks the members.
+fn mark_all(marks: &mut [bool], members: &[u64])
+    requires { ⌜ Unmarked (now marks) ⌝ }
+    ensures { λ _. ⌜ MarksOf (now (marks .exit)) (now (members .entry)) ⌝ }
+{
+    let mut i = 0;
+    while i < members.len() {
+        mark(marks, members[i] as usize);
+        i += 1;
+    }
+}
+
+// Whether n is among the members, by its mark; one that has none is looked for.
+fn is_marked(marks: &[bool], members: &[u64], n: u64) -> bool
+    requires { ⌜ MarksOf (now marks) (now members) ⌝ }
+    ensures { λ r. ⌜ r ≡ among (now (members .entry)) n ⌝ }
+{
+    let k = n as usize;
+    if k < marks.len() {
+        return marks[k];
+    }
+    contains(members, n)
+}
+
+// Whether two rising lists have an odd number of members in common. Every qubit of a job has a mark, so that no member is looked for and no turn waits for
+// the one before it.
 pub fn overlap_is_odd(a: &[u64], b: &[u64]) -> bool
     ensures { λ r. ⌜ (isRising (now (a .entry)) ≡ true → isRising (now (b .entry)) ≡ true → r ≡ sumOver (now (a .entry)) (among (now (b .entry)))) ⌝ }
 {
+    let mut marks = [false; MAX_QUBITS];
+    mark_all(&mut marks, b);
     let mut odd = false;
     let mut i = 0;
-    let mut j = 0;
     while i < a.len() {
-        if b.len() <= j {
-            return odd;
-        }
-        let x = a[i];
-        let y = b[j];
-        odd = odd != (x == y);
-        i += (x <= y) as usize;
-        j += (y <= x) as usize;
+        odd = odd != is_marked(&marks, b, a[i]);
+        i += 1;
     }
     odd
 }
