@@ -1,13 +1,15 @@
--- Theorems: what is written reads back. Their proofs stand in Laws. Assumes nothing.
-use Prim.Native.Nat.{ℕ, _-_, _<_}
+-- Theorems: what is written reads back, and what is no number. Their proofs stand in Laws. Assumes nothing.
+use Prim.Native.Nat.{ℕ, _-_, _^_, _<_, _≤_}
 use mathlib.Core.Path.{_≡_}
 use mathlib.Core.Bool.{true}
-use mathlib.Core.List.{List}
-use mathlib.Core.Option.{some}
+use mathlib.Core.List.{List, _∷_}
+use mathlib.Core.Option.{none, some}
 use lib.ListN.{length, getD}
 use Rattle.text.specs.Bytes.{LF, lines, unlines}
+use Rattle.text.specs.Number.{decimalFrom, numberOf}
 use Rattle.text.specs.Template.{Value, valuesOf, lineText}
 use Rattle.text.specs.Written.{AllSuit, ofOneLine, Free, AllFree}
+use Rattle.text.specs.Laws.Numbers as numbers
 use Rattle.text.specs.Laws.Written as written
 
 module _ (ts : List ℕ) (one : ofOneLine ts ≡ true) where
@@ -29,3 +31,10 @@ lines-free l = written.lines-free l
 
 pub unlines-lines : (l : List ℕ) → (0 < length l → getD l (length l - 1) 0 ≡ LF) → unlines (lines l) ≡ l
 unlines-lines l e = written.unlines-lines l e
+
+-- Bytes with a 0 in front of others are no number, nor are those whose digits come to 2^64 or more.
+pub leading-zero : (b : ℕ) (l : List ℕ) → numberOf (48 ∷ b ∷ l) ≡ none
+leading-zero b l = numbers.leading-zero b l
+
+pub too-large : (l : List ℕ) → 2 ^ 64 ≤ decimalFrom 0 l → numberOf l ≡ none
+too-large l h = numbers.number-large l h

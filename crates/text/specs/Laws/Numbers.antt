@@ -72,6 +72,10 @@ module _ (l : List ℕ) where
   unfolding numberOf
   number-good p d h = simp (p, d, lt-ltb _ _ h)
 
+-- a 0 in front of other bytes
+pub leading-zero : (b : ℕ) (l : List ℕ) → numberOf (48 ∷ b ∷ l) ≡ none
+leading-zero b l = number-improper (48 ∷ b ∷ l) (simp (ne-eqb (length (48 ∷ b ∷ l)) 1 (λ (e : length (48 ∷ b ∷ l) ≡ 1). omega arith), and-false))
+
 -- ---- hexadecimal
 
 module _ (s : List ℕ) (i : ℕ) (h : i < length s) where
