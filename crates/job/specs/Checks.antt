@@ -244,6 +244,8 @@ noiseTests c n =
     -- 11: p NaN or above 1
     ∷ test 11 (isProbability (float (n .probability)))
     ∷ test 12 (elementsFit (n .kind))
+    -- 21: the size written differs from the distribution's
+    ∷ test 21 (eqb (n .size) (kindSize (n .kind)))
     ∷ []
 
 -- 12: w below zero or not finite; at the last element line, total zero or not finite
