@@ -4,7 +4,7 @@ use mathlib.Core.List.{List, [], _∷_, _++_}
 use mathlib.Core.Option.{Option, none, some}
 use Prim.Native.Nat.{ℕ}
 use lib.Dec.{eqb}
-use Rattle.job.specs.Line.{Instruction, Placed}
+use Rattle.job.specs.Line.{sizeOf, Instruction, Placed}
 
 -- a correlation with the size of the first noise line that has it
 pub record Seen : Type 0 where
@@ -33,6 +33,11 @@ correlationOf (Instruction.noise n) = n .correlation
 unfoldable pub elementCount : Instruction → ℕ
 elementCount (Instruction.line l) = 0
 elementCount (Instruction.noise n) = n .size
+
+-- the size of its distribution, worked out
+unfoldable pub distributionSize : Instruction → ℕ
+distributionSize (Instruction.line l) = 0
+distributionSize (Instruction.noise n) = sizeOf (n .distribution)
 
 -- the first line whose size, by some measure, differs from that of the first line with its corr
 unfoldable pub firstDifferingBy : (Instruction → ℕ) → List Seen → List Placed → Option ℕ

@@ -72,7 +72,7 @@ onThree line =
 
 -- one shot of depolarizing noise on one qubit, in which a fault falls
 unfoldable pub noisy : String
-noisy = "op=job qubits=1 outcomes=0 shots=1\nop=n p=3ff0000000000000 corr=- cond=- parity=0 d=2 q=0\n"
+noisy = "op=job qubits=1 outcomes=0 shots=1\nop=n p=3ff0000000000000 corr=- cond=- parity=0 d=2 q=0 size=3\n"
 
 -- inject X0, measure Z0, conditional X0 on 0, measure Z0
 unfoldable pub undone : String
@@ -114,7 +114,7 @@ cases =
     ∷ Case.prints undone "ok=1 qubits=1 outcomes=2 shots=1\nid=0 delta=1\nid=1 delta=0\n"
     ∷ Case.walks undone 0 (1 ∷ []) 0
     -- also: p 3ff0000000000001 is 11
-    ∷ Case.refuses "op=job qubits=1 outcomes=0 shots=64\nop=n p=3ff0000000000001 corr=- cond=- parity=0 d=2 q=0\n" 11 2
+    ∷ Case.refuses "op=job qubits=1 outcomes=0 shots=64\nop=n p=3ff0000000000001 corr=- cond=- parity=0 d=2 q=0 size=3\n" 11 2
     -- a refusal's line is printed; so is that of spent draws, since none are lent
     ∷ Case.prints "op=job qubits=1 outcomes=0 shots=1\nop=u g=4 q=1\n" "ok=0 refusal=4 line=2\n"
     ∷ Case.prints noisy "ok=0 refusal=14 line=2\n"
