@@ -47,22 +47,22 @@ module _ {fields : List ℕ} where
   pub few-depolarizing : FewRead form.Depolarizing fields → getD fields 6 0 ≤ 31
   unfolding forms placeOf bytes Few FewOperands noiseBy
   few-depolarizing r =
-      let e = noise-said _ (r .values) (r .written) (r .said .says) in
+      let e = noise-said _ _ (r .values) (r .written) (r .said .says) in
       let few : length (listAt 2 (r .values)) ≤ 31 = subst Few (sym e) (r .few) in
       omega (arith, r .said .held .count 2 (omega arith))
 
   module _ {vs : List Value} {n : NoiseLine} where
     pub size-depolarizing : Said form.Depolarizing fields vs (Written.noise n) → 4 ^ getD fields 6 0 - 1 ≡ kindSize (n .kind)
     unfolding forms placeOf bytes kindSize
-    size-depolarizing s = rw (s .held .count 2 (omega arith)) (kind-by (Kind.depolarizing (listAt 2 vs)) vs n (noise-said _ vs (Written.noise n) (s .says)))
+    size-depolarizing s = rw (s .held .count 2 (omega arith)) (kind-by (Kind.depolarizing (listAt 2 vs)) vs n (noise-said _ _ vs (Written.noise n) (s .says)))
 
     pub size-uniform : Said form.Uniform fields vs (Written.noise n) → getD fields 2 0 ≡ kindSize (n .kind)
     unfolding forms placeOf bytes kindSize
-    size-uniform s = s .held .number 2 (omega arith) ∙ kind-by (Kind.uniform (numberAt 2 vs)) vs n (noise-said _ vs (Written.noise n) (s .says))
+    size-uniform s = s .held .number 2 (omega arith) ∙ kind-by (Kind.uniform (numberAt 2 vs)) vs n (noise-said _ _ vs (Written.noise n) (s .says))
 
     pub size-weighted : Said form.Weighted fields vs (Written.noise n) → getD fields 2 0 ≡ kindSize (n .kind)
     unfolding forms placeOf bytes kindSize
-    size-weighted s = s .held .number 2 (omega arith) ∙ kind-by (Kind.weighted (numberAt 2 vs)) vs n (noise-said _ vs (Written.noise n) (s .says))
+    size-weighted s = s .held .number 2 (omega arith) ∙ kind-by (Kind.weighted (numberAt 2 vs)) vs n (noise-said _ _ vs (Written.noise n) (s .says))
 
 -- a form of noise that is none of the other three
 single-left : (f : Form) → (f ≡ form.Depolarizing → ⊥) → (f ≡ form.Uniform → ⊥) → (f ≡ form.Weighted → ⊥) → noiseForm f ≡ true → f ≡ form.Single
@@ -94,7 +94,7 @@ pub size-other : (f : Form) (vs : List Value) (n : NoiseLine) → (f ≡ form.De
 unfolding forms placeOf bytes kindSize
 size-other f vs n a b d s =
     let single = single-left f a b d (noise-is-noise (meaning f vs (Written.noise n) s)) in
-    kind-by (Kind.single (pauliAt 2 3 vs)) vs n (noise-said _ vs (Written.noise n) (subst (λ (g : Form). formOf g .says vs ≡ some (Written.noise n)) single s))
+    kind-by (Kind.single (pauliAt 2 3 vs)) vs n (noise-said _ _ vs (Written.noise n) (subst (λ (g : Form). formOf g .says vs ≡ some (Written.noise n)) single s))
 
 -- ---- the correlation
 
@@ -140,10 +140,10 @@ corr-in form.Conditional t s = absurd (true≢false (sym t))
 corr-in form.Reset t s = absurd (true≢false (sym t))
 corr-in form.Inject t s = absurd (true≢false (sym t))
 corr-in form.Flip t s = absurd (true≢false (sym t))
-corr-in form.Single {fields} {vs} {w} t s = corr-held _ vs w (s .held) (omega arith) (noise-said _ vs w (s .says))
-corr-in form.Depolarizing {fields} {vs} {w} t s = corr-held _ vs w (s .held) (omega arith) (noise-said _ vs w (s .says))
-corr-in form.Uniform {fields} {vs} {w} t s = corr-held _ vs w (s .held) (omega arith) (noise-said _ vs w (s .says))
-corr-in form.Weighted {fields} {vs} {w} t s = corr-held _ vs w (s .held) (omega arith) (noise-said _ vs w (s .says))
+corr-in form.Single {fields} {vs} {w} t s = corr-held _ vs w (s .held) (omega arith) (noise-said _ _ vs w (s .says))
+corr-in form.Depolarizing {fields} {vs} {w} t s = corr-held _ vs w (s .held) (omega arith) (noise-said _ _ vs w (s .says))
+corr-in form.Uniform {fields} {vs} {w} t s = corr-held _ vs w (s .held) (omega arith) (noise-said _ _ vs w (s .says))
+corr-in form.Weighted {fields} {vs} {w} t s = corr-held _ vs w (s .held) (omega arith) (noise-said _ _ vs w (s .says))
 corr-in form.Element t s = absurd (true≢false (sym t))
 corr-in form.WeightedElement t s = absurd (true≢false (sym t))
 
