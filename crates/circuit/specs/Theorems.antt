@@ -14,20 +14,23 @@ use Rattle.text.specs.Template.{aNumber, aList, valueOf, andThen, sameByte, atE
 use Rattle.pauli.specs.Bits.{outside, members}
 use Rattle.pauli.specs.Gate.{gates, gateFrom, gateOf}
 use Rattle.job.specs.declared.Header.{Header}
-use Rattle.job.specs.Line.{SparsePauli, Line}
+use Rattle.job.specs.Line.{SparsePauli, Line, sizeOf}
 use Rattle.job.specs.Checks.{distinct}
 use Rattle.job.specs.Grammar.{unitaryLine, optional, noiseLine, forms, said, orLater, readBy, readLine}
 use Rattle.job.specs.Rising.{including, rising}
 use Rattle.job.specs.Float.{float, isProbability}
 use Rattle.job.specs.Job.{accepted, jobOf, checkJob}
 use Rattle.job.specs.Sound.{LineSound, instructionsOf}
+use Rattle.job.specs.Theorems.{size-said}
 use Rattle.job.specs.Reply.{writtenText, writtenBy}
 use Rattle.circuit.specs.Annotate.{supportOf, locatedQubits, addNew, firstFrom, noiseQubits, noiseBefore, noiseText, noiseLines, around, annotated, annotatedText, locatedOn, noiseOn, firstUnfit, locationsAt, locations}
 use Rattle.circuit.specs.Annotated.{annotatedList}
+use Rattle.circuit.specs.Correlation.{distributionSize, firstDifferingBy, firstDiffering}
 use Rattle.circuit.specs.Replies.{annotateReply}
 use Rattle.circuit.specs.Laws.Replies.{annotate-writes}
 use Rattle.circuit.specs.Laws.First.{members-append, first-members, first-same}
 use Rattle.circuit.specs.Laws.Annotated.{qubits-apart, located-apart, JobAnnotated, job-annotated}
+use Rattle.circuit.specs.Laws.Correlation.{measured-same}
 
 -- ---- the qubits of a line's noise
 
@@ -140,7 +143,7 @@ annotatedCase =
     ∷ []
 
 pub annotated-case : annotatedText 0x3f50_0000_0000_0000 (unlines plainCase) ≡ unlines annotatedCase
-unfolding annotatedText annotated around noiseBefore noising noiseLines noiseText reading
+unfolding annotatedText annotated around noiseBefore noising noiseLines noiseText sizeOf reading
 annotated-case = refl
 
 -- its locations: twice 2, 2, 3 and 1 qubits
@@ -161,7 +164,7 @@ pub shared-case : annotatedText 0x3f50_0000_0000_0000 (unlines sharedCase) ≡ u
     ∷ bytes "op=k x=3,5 z=4 u=5 v=2,4"
     ∷ bytes "op=n p=3f50000000000000 corr=- cond=- parity=0 d=2 q=3,4,5,2 size=255"
     ∷ [])
-unfolding annotatedText annotated around noiseBefore noising noiseLines noiseText reading
+unfolding annotatedText annotated around noiseBefore noising noiseLines noiseText sizeOf reading
 shared-case = refl
 
 -- both weights are counted: twice 2 and 2, and twice 3 and 3
