@@ -1,5 +1,5 @@
 -- Laws: a measure of the instructions that is another in each of them gives the same line. Assumes nothing.
-use mathlib.Core.Path.{_≡_, refl, sym}
+use mathlib.Core.Path.{_≡_, refl}
 use mathlib.Core.List.{List, [], _∷_}
 use Rattle.job.specs.Line.{Instruction, Placed}
 use Rattle.job.specs.Sound.{Every, SizeSaid}

@@ -1,5 +1,5 @@
 -- The size of a depolarizing distribution, 4 ^ k - 1. Laws. Assumes nothing.
-use Prim.Native.Nat.{ℕ, zero, suc, _-_, _*_, _%_, _^_, _<_, _≤_}
+use Prim.Native.Nat.{ℕ, zero, suc, _*_, _%_, _^_, _<_, _≤_}
 use native.Mathlib.Nat.{one-mul, mul-suc, pow-suc, mod-eq-of-lt}
 use native.Mathlib.Omega.{arith}
 use mathlib.Core.Path.{_≡_, refl, sym, subst}

@@ -1,7 +1,6 @@
 -- `writer::noise_lines::put_depolarizing` meets its contract. Assumes nothing.
-use mathlib.Core.Path.{_≡_, refl, _∙_}
 use Rattle.text.specs.Bytes.{bytes}
-use Rattle.job.specs.Line.{Distribution, sizeOf}
+use Rattle.job.specs.Line.{sizeOf}
 use Rattle.writer.specs.Laws.Placing.{puts-more}
 use Rattle.writer.specs.Laws.Lines.{end-lent, end-values, end-length, depolarizing-line}
 use borrow.Author.Needs.{needs}
