@@ -49,13 +49,6 @@ pub fn put_depolarizing(out: &mut [u8], at: usize, start: &[u8], qubits: &[u64])
     let k = qubits.len() as u64;
     let numbers = [depolarizing_size(k)];
     let counts = [k];
-    let end = put_line(
-        &mut *out,
-        next,
-        b" q=Q size=N",
-        &numbers,
-        &counts,
-        qubits,
-    );
+    let end = put_line(&mut *out, next, b" q=Q size=N", &numbers, &counts, qubits);
     put_byte(out, end, 10)
 }
