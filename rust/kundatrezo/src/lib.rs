@@ -316,7 +316,7 @@ pub fn locations(job: &[u8]) -> Answer<u64> {
     answer_of(&said.answer, said.count)
 }
 
-/// Check that noise lines of one correlation have distributions of one size: 1, 4^k - 1 over k qubits, or the number of elements.
+/// Check that noise lines of one correlation have one size, as their field `size=` says it: 1, 4^k - 1 over k qubits, or the number of elements.
 ///
 /// # Errors
 ///
