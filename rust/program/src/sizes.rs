@@ -18,7 +18,7 @@ pub fn added(job: &[u8]) -> Result<Vec<u8>, Failure> {
         if text.starts_with(b"op=n ") && !has_size(text) {
             let size = std::str::from_utf8(text).ok().and_then(hints::size).ok_or_else(|| {
                 let line = place + 1;
-                Failure::Refused(format!("the size of the noise line {line} can't be told: {}", shortened(text)))
+                Failure::Refused(format!("the size of the noise at line {line} can't be told: {}", shortened(text)))
             })?;
             sized.extend_from_slice(format!(" size={size}").as_bytes());
         }

@@ -94,7 +94,7 @@ fn a_line_whose_size_cannot_be_told_is_named() {
         let job = format!("op=job qubits=1 outcomes=0 shots=1\n{NOISE} d=1 x=0 z=-\n{line}\nop=z q=0\n");
         let done = kundatrezo(["sizes".as_ref(), "-".as_ref(), "--output".as_ref(), out.as_os_str()], job.as_bytes());
         assert_eq!((done.status, done.stdout.as_slice()), (1, b"".as_slice()), "{line}");
-        assert!(done.stderr.starts_with("the size of the noise line 3 can't be told: op=n "), "{done:?}");
+        assert!(done.stderr.starts_with("the size of the noise at line 3 can't be told: op=n "), "{done:?}");
     }
     assert!(!out.exists());
 }
