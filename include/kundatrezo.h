@@ -104,6 +104,7 @@ struct kundatrezo_examination {
 #define KUNDATREZO_ANNOTATION 18  /* the first line whose noise does not fit a noise line */
 #define KUNDATREZO_SIZES 19       /* the later line */
 #define KUNDATREZO_CONTROL 20     /* the bad line; a test of the job, after 12 */
+#define KUNDATREZO_SIZE 21        /* the noise line; a test of the job, after 12 */
 
 /* What a number means, in words. */
 static inline const char *kundatrezo_refusal_text(uint64_t number)
@@ -130,6 +131,7 @@ static inline const char *kundatrezo_refusal_text(uint64_t number)
     case KUNDATREZO_ANNOTATION: return "annotation over more than 31 qubits";
     case KUNDATREZO_SIZES: return "sizes of one correlation differ";
     case KUNDATREZO_CONTROL: return "control and target of a controlled Pauli anticommute";
+    case KUNDATREZO_SIZE: return "the size written differs from the distribution's";
     default: return "a number that this header does not know";
     }
 }
@@ -199,7 +201,8 @@ struct kundatrezo_count_answer kundatrezo_walk(const uint8_t *job, size_t job_le
 
 /* Annotation: the job with a depolarizing noise line before each measurement and after each gate (u, c, p, e, k, m lines). p_bits is the
  * probability by the bits of its double; one that is NaN or above 1 is refused by KUNDATREZO_PROBABILITY with line 0. Bytes of out beyond the text stay,
- * and a refusal writes nothing. A qubit that control and target of a k line share stands in its noise line once, with the control's.
+ * and a refusal writes nothing. A qubit that control and target of a k line share stands in its noise line once, with the control's; size= is that of
+ * the list as it stands there.
  * KUNDATREZO_ANNOTATION names the first line whose noise line would have more than KUNDATREZO_MAX_MEMBERS. */
 struct kundatrezo_text_answer kundatrezo_annotate(const uint8_t *job, size_t job_len, uint64_t p_bits, uint8_t *out, size_t out_len);
 
@@ -207,7 +210,7 @@ struct kundatrezo_text_answer kundatrezo_annotate(const uint8_t *job, size_t job
  * share counts for both. It counts also where annotation refuses by KUNDATREZO_ANNOTATION or KUNDATREZO_ROOM. Nothing is written. */
 struct kundatrezo_count_answer kundatrezo_locations(const uint8_t *job, size_t job_len);
 
-/* The correlation check: whether noise lines of one correlation all have as many elements. Nothing is written. */
+/* The correlation check: whether noise lines of one correlation all have one size, as their field size= says it. Nothing is written. */
 struct kundatrezo_answer kundatrezo_correlation(const uint8_t *job, size_t job_len);
 
 /* Where a line lies in the job's bytes. */

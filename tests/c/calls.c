@@ -99,7 +99,7 @@ static void walk(void)
 
 /* One qubit, one outcome, 65 shots: two words a row. The first shot's word brings a fault, the others bring none; then the words are spent. */
 static const char drawn[] = "op=job qubits=1 outcomes=1 shots=65\n"
-                            "op=n p=3fe0000000000000 corr=- cond=- parity=0 d=1 x=0 z=-\n"
+                            "op=n p=3fe0000000000000 corr=- cond=- parity=0 d=1 x=0 z=- size=1\n"
                             "op=o x=- z=0 id=0\n";
 
 static void run(void)
@@ -124,7 +124,7 @@ static void padding(void)
 {
     static const char job[] = "op=job qubits=1 outcomes=1 shots=2\n"
                               "op=o x=- z=0 id=0\n"
-                              "op=n p=3ff0000000000000 corr=- cond=0 parity=1 d=1 x=0 z=-\n";
+                              "op=n p=3ff0000000000000 corr=- cond=0 parity=1 d=1 x=0 z=- size=1\n";
     uint64_t words[2] = {0, 0}, x[1] = {7}, z[1] = {7}, deltas[1] = {7};
     for (int padded = 0; padded < 2; padded++) {
         uint64_t noiseless[1] = {padded ? ~(uint64_t)1 : 2};
@@ -158,7 +158,7 @@ static void annotate(void)
 {
     static const char measured[] = "op=job qubits=1 outcomes=1 shots=1\nop=o x=- z=0 id=0\n";
     static const char noisy[] = "op=job qubits=1 outcomes=1 shots=1\n"
-                                "op=n p=3fe0000000000000 corr=- cond=- parity=0 d=2 q=0\n"
+                                "op=n p=3fe0000000000000 corr=- cond=- parity=0 d=2 q=0 size=3\n"
                                 "op=o x=- z=0 id=0\n";
     uint8_t out[sizeof noisy + 1];
     const uint8_t *job = (const uint8_t *)measured;
@@ -184,7 +184,7 @@ static void annotate_shared(void)
 {
     static const char shared[] = "op=job qubits=2 outcomes=0 shots=1\nop=k x=0,1 z=- u=- v=0,1\n";
     static const char noisy[] = "op=job qubits=2 outcomes=0 shots=1\nop=k x=0,1 z=- u=- v=0,1\n"
-                                "op=n p=0000000000000000 corr=- cond=- parity=0 d=2 q=0,1\n";
+                                "op=n p=0000000000000000 corr=- cond=- parity=0 d=2 q=0,1 size=15\n";
     uint8_t out[sizeof noisy];
     struct kundatrezo_text_answer got = kundatrezo_annotate((const uint8_t *)shared, sizeof shared - 1, 0, out, sizeof out);
     expect_figure("annotate", 0, 0, sizeof noisy - 1, got.answer, got.figure);
@@ -211,8 +211,8 @@ static void annotate_wide(void)
 static void correlation(void)
 {
     static const char job[] = "op=job qubits=2 outcomes=0 shots=1\n"
-                              "op=n p=0000000000000000 corr=5 cond=- parity=0 d=2 q=0\n"
-                              "op=n p=0000000000000000 corr=5 cond=- parity=0 d=2 q=0,1\n";
+                              "op=n p=0000000000000000 corr=5 cond=- parity=0 d=2 q=0 size=3\n"
+                              "op=n p=0000000000000000 corr=5 cond=- parity=0 d=2 q=0,1 size=15\n";
     struct kundatrezo_answer got = kundatrezo_correlation((const uint8_t *)job, sizeof job - 1);
     expect_figure("correlation", KUNDATREZO_SIZES, 3, 0, got, 0);
 }

@@ -4,6 +4,9 @@
 
 #include "kundatrezo.h"
 
+/* noise on the qubits of a list; over 31 of them it has 4^31 - 1 elements */
+#define NOISE "op=n p=0000000000000000 corr=- cond=- parity=0 d=2 q="
+
 static int failed;
 
 static void expect(const char *limit, const char *job, size_t length, uint64_t number)
@@ -50,7 +53,7 @@ static void gate(unsigned code, uint64_t number)
 static void elements(unsigned n, uint64_t number)
 {
     char job[2000];
-    size_t at = (size_t)sprintf(job, "op=job qubits=1 outcomes=0 shots=1\nop=n p=0000000000000000 corr=- cond=- parity=0 d=3 n=%u\n", n);
+    size_t at = (size_t)sprintf(job, "op=job qubits=1 outcomes=0 shots=1\nop=n p=0000000000000000 corr=- cond=- parity=0 d=3 n=%u size=%u\n", n, n);
     for (unsigned i = 0; i < n; i++)
         at += (size_t)sprintf(job + at, "x=0 z=-\n");
     expect("elements", job, at, number);
@@ -91,7 +94,7 @@ int main(int count, char **arguments)
 {
     (void)arguments;
     if (count > 1) {
-        for (uint64_t number = KUNDATREZO_LENGTH; number <= KUNDATREZO_CONTROL; number++)
+        for (uint64_t number = KUNDATREZO_LENGTH; number <= KUNDATREZO_SIZE; number++)
             printf("%llu: %s\n", (unsigned long long)number, kundatrezo_refusal_text(number));
         return 0;
     }
@@ -104,6 +107,9 @@ int main(int count, char **arguments)
     listed("op=p x=- z=", KUNDATREZO_MAX_MEMBERS + 1, "", KUNDATREZO_OPERANDS);
     listed("op=c q=", KUNDATREZO_MAX_CLIFFORD_QUBITS, " t=8040201008040201", 0);
     listed("op=c q=", KUNDATREZO_MAX_CLIFFORD_QUBITS + 1, " t=8040201008040201", KUNDATREZO_OPERANDS);
+    listed(NOISE, KUNDATREZO_MAX_MEMBERS, " size=4611686018427387903", 0);
+    listed(NOISE, KUNDATREZO_MAX_MEMBERS, " size=4611686018427387904", KUNDATREZO_SIZE);
+    listed(NOISE, KUNDATREZO_MAX_MEMBERS + 1, " size=0", KUNDATREZO_OPERANDS);
     gate(KUNDATREZO_MAX_GATE, 0);
     gate(KUNDATREZO_MAX_GATE + 1, KUNDATREZO_FORM);
     elements(KUNDATREZO_MAX_ELEMENTS, 0);

@@ -29,16 +29,16 @@
     "op=o x=- z=0,1 id=2\n"
 
 #define NOISE \
-    "op=n p=3ff0000000000000 corr=- cond=- parity=0 d=1 x=0 z=1\n" \
-    "op=n p=3ff0000000000000 corr=- cond=0,1 parity=0 d=2 q=0,1,2,3,4,5,6,7,8,9,10,11,12,13,14,15,16,17,18,19,20,21,22,23,24,25,26,27,28,29,30\n" \
-    "op=n p=3fe0000000000000 corr=3 cond=- parity=0 d=3 n=2\n" \
+    "op=n p=3ff0000000000000 corr=- cond=- parity=0 d=1 x=0 z=1 size=1\n" \
+    "op=n p=3ff0000000000000 corr=- cond=0,1 parity=0 d=2 q=0,1,2,3,4,5,6,7,8,9,10,11,12,13,14,15,16,17,18,19,20,21,22,23,24,25,26,27,28,29,30 size=4611686018427387903\n" \
+    "op=n p=3fe0000000000000 corr=3 cond=- parity=0 d=3 n=2 size=2\n" \
     "x=0 z=-\n" \
     "x=0,1 z=2\n" \
-    "op=n p=3fe0000000000000 corr=- cond=2 parity=0 d=4 n=3\n" \
+    "op=n p=3fe0000000000000 corr=- cond=2 parity=0 d=4 n=3 size=3\n" \
     "w=3fe0000000000000 x=0 z=-\n" \
     "w=3fd0000000000000 x=1 z=-\n" \
     "w=0000000000000001 x=2 z=3,4\n" \
-    "op=n p=3fe0000000000000 corr=4 cond=- parity=0 d=2 q=5\n"
+    "op=n p=3fe0000000000000 corr=4 cond=- parity=0 d=2 q=5 size=3\n"
 
 static const char plain[] = PLAIN, noisy[] = PLAIN NOISE;
 

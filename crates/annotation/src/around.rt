@@ -24,7 +24,7 @@ use writer::put_bytes;
 
 // A line's noise, from how its line begins: none over no qubits.
 fn put_noise(out: &mut [u8], at: usize, start: &[u8], qubits: &[u64]) -> usize
-    requires { ⌜ (length (now qubits) ≤ 31) × (at + (length (now start) + (21 * length (now qubits) + 5)) < 2 ^ 64) ⌝ }
+    requires { ⌜ (length (now qubits) ≤ 31) × (at + (length (now start) + (21 * length (now qubits) + 31)) < 2 ^ 64) ⌝ }
     ensures { λ r. ⌜ ((p : ℕ) → now (start .entry) ≡ depolarizingStart p → Puts at (unlines (noiseLines p (now (qubits .entry)))) (now (out .entry)) (now (out .exit)) r) ⌝ }
 {
     if qubits.len() == 0 {
@@ -42,7 +42,7 @@ fn put_around(
     start: &[u8],
     qubits: &[u64],
 ) -> usize
-    requires { ⌜ StartOf (now start) × (length (now qubits) ≤ 31) × (at + (length (now line) + (21 * length (now qubits) + 60)) < 2 ^ 64) ⌝ }
+    requires { ⌜ StartOf (now start) × (length (now qubits) ≤ 31) × (at + (length (now line) + (21 * length (now qubits) + 81)) < 2 ^ 64) ⌝ }
     ensures { λ r. ⌜ ((p : ℕ) → now (start .entry) ≡ depolarizingStart p → Puts at (aroundText before (now (line .entry)) (unlines (noiseLines p (now (qubits .entry))))) (now (out .entry)) (now (out .exit)) r) ⌝ }
 {
     if before {

@@ -1,4 +1,5 @@
 // The choice of an element. An element is known by its number, from 0.
+use job::depolarizing_size;
 use noise::PauliDistribution;
 use noise::words::unit;
 ghost use mathlib.Core.Path.{_≡_};
@@ -34,7 +35,7 @@ fn bound(d: PauliDistribution) -> u64
 {
     match d {
         PauliDistribution::Single => 0,
-        PauliDistribution::Depolarizing(k) => (1u64 << (2 * k)) - 1,
+        PauliDistribution::Depolarizing(k) => depolarizing_size(k),
         PauliDistribution::Uniform(n) => n,
         PauliDistribution::Weighted(_) => 0,
     }

@@ -8,7 +8,7 @@ use lib.ListN.{length}
 use Rattle.text.specs.Bytes.{lines, unlines}
 use Rattle.text.specs.Template.{Value, lineText}
 use Rattle.pauli.specs.Bits.{members}
-use Rattle.job.specs.Line.{SparsePauli, Line}
+use Rattle.job.specs.Line.{SparsePauli, Line, Distribution, sizeOf}
 use Rattle.job.specs.Rising.{rising}
 use Rattle.job.specs.Grammar.{depolarizingTemplate, Written, readLine}
 use Rattle.job.specs.Checks.{maxMembers}
@@ -67,10 +67,10 @@ noiseBefore (Line.flip shot id) = false
 
 -- ---- the annotated text
 
--- `op=n p=H corr=- cond=- parity=0 d=2 q=...`
+-- `op=n p=H corr=- cond=- parity=0 d=2 q=... size=...`
 unfoldable pub noiseText : ℕ → List ℕ → List ℕ
 noiseText p qs =
-    lineText depolarizingTemplate (Value.number p ∷ Value.list [] ∷ Value.list [] ∷ Value.number 0 ∷ Value.list qs ∷ [])
+    lineText depolarizingTemplate (Value.number p ∷ Value.list [] ∷ Value.list [] ∷ Value.number 0 ∷ Value.list qs ∷ Value.number (sizeOf (Distribution.depolarizing qs)) ∷ [])
 
 -- none for an empty list of qubits
 unfoldable pub noiseLines : ℕ → List ℕ → List (List ℕ)

@@ -3,13 +3,19 @@ use mathlib.Core.Bool.{false, cond}
 use mathlib.Core.List.{List, [], _∷_, _++_}
 use mathlib.Core.Option.{none}
 use Prim.Native.Nat.{ℕ}
-use Rattle.job.specs.Line.{Distribution, Noise, Instruction}
+use Rattle.job.specs.Line.{Distribution, sizeOf, Noise, Instruction}
 use Rattle.circuit.specs.Annotate.{noiseQubits, noiseBefore}
 
 -- depolarizing noise without correlation and condition; p by its bits
 abbrev pub depolarizingNoise : ℕ → List ℕ → Noise
 depolarizingNoise p qs =
-    record { probability = p; correlation = none; condition = record { outcomes = []; parity = false }; distribution = Distribution.depolarizing qs }
+    record {
+      probability = p;
+      correlation = none;
+      condition = record { outcomes = []; parity = false };
+      distribution = Distribution.depolarizing qs;
+      size = sizeOf (Distribution.depolarizing qs);
+    }
 
 -- none for an empty list of qubits
 unfoldable pub noiseOver : ℕ → List ℕ → List Instruction

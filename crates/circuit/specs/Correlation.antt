@@ -25,20 +25,29 @@ unfoldable pub sizeFits : List Seen → Option ℕ → ℕ → Bool
 sizeFits seen none size = true
 sizeFits seen (some c) size = agrees seen c size
 
--- the correlation of an instruction and the size of its distribution; a line has no correlation
+-- the correlation of an instruction and the size that it says; a line has no correlation
 unfoldable pub correlationOf : Instruction → Option ℕ
 correlationOf (Instruction.line l) = none
 correlationOf (Instruction.noise n) = n .correlation
 
 unfoldable pub elementCount : Instruction → ℕ
 elementCount (Instruction.line l) = 0
-elementCount (Instruction.noise n) = sizeOf (n .distribution)
+elementCount (Instruction.noise n) = n .size
 
--- 19: sizes of one corr differ; the later line, which is the first whose size differs from that of the first line with its corr
-unfoldable pub firstDiffering : List Seen → List Placed → Option ℕ
-firstDiffering seen [] = none
-firstDiffering seen (i ∷ is) =
+-- the size of its distribution, worked out
+unfoldable pub distributionSize : Instruction → ℕ
+distributionSize (Instruction.line l) = 0
+distributionSize (Instruction.noise n) = sizeOf (n .distribution)
+
+-- the first line whose size, by some measure, differs from that of the first line with its corr
+unfoldable pub firstDifferingBy : (Instruction → ℕ) → List Seen → List Placed → Option ℕ
+firstDifferingBy measure seen [] = none
+firstDifferingBy measure seen (i ∷ is) =
     let corr = correlationOf (i .instruction) in
-    let size = elementCount (i .instruction) in
-    let later = firstDiffering (seenAfter seen corr size) is in
+    let size = measure (i .instruction) in
+    let later = firstDifferingBy measure (seenAfter seen corr size) is in
     cond (sizeFits seen corr size) later (some (i .line))
+
+-- 19: sizes of one corr differ; the later line. The sizes are those written.
+abbrev pub firstDiffering : List Seen → List Placed → Option ℕ
+firstDiffering = firstDifferingBy elementCount

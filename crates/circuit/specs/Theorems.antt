@@ -1,4 +1,5 @@
--- Theorems: the annotated text of an accepted job is a job of the annotated list; each qubit of a line stands in its noise once. Their proofs stand in Laws.
+-- Theorems: the annotated text of an accepted job is a job of the annotated list; each qubit of a line stands in its noise once; the correlation check by the
+-- sizes written is the one by the distributions. Their proofs stand in Laws.
 -- Assumes nothing.
 use mathlib.Core.Path.{_≡_, refl, _∙_}
 use mathlib.Core.Bool.{true, _||_}
@@ -13,20 +14,23 @@ use Rattle.text.specs.Template.{aNumber, aList, valueOf, andThen, sameByte, atE
 use Rattle.pauli.specs.Bits.{outside, members}
 use Rattle.pauli.specs.Gate.{gates, gateFrom, gateOf}
 use Rattle.job.specs.declared.Header.{Header}
-use Rattle.job.specs.Line.{SparsePauli, Line}
+use Rattle.job.specs.Line.{SparsePauli, Line, sizeOf}
 use Rattle.job.specs.Checks.{distinct}
 use Rattle.job.specs.Grammar.{unitaryLine, optional, noiseLine, forms, said, orLater, readBy, readLine}
 use Rattle.job.specs.Rising.{including, rising}
 use Rattle.job.specs.Float.{float, isProbability}
 use Rattle.job.specs.Job.{accepted, jobOf, checkJob}
 use Rattle.job.specs.Sound.{LineSound, instructionsOf}
+use Rattle.job.specs.Theorems.{size-said}
 use Rattle.job.specs.Reply.{writtenText, writtenBy}
 use Rattle.circuit.specs.Annotate.{supportOf, locatedQubits, addNew, firstFrom, noiseQubits, noiseBefore, noiseText, noiseLines, around, annotated, annotatedText, locatedOn, noiseOn, firstUnfit, locationsAt, locations}
 use Rattle.circuit.specs.Annotated.{annotatedList}
+use Rattle.circuit.specs.Correlation.{distributionSize, firstDifferingBy, firstDiffering}
 use Rattle.circuit.specs.Replies.{annotateReply}
 use Rattle.circuit.specs.Laws.Replies.{annotate-writes}
 use Rattle.circuit.specs.Laws.First.{members-append, first-members, first-same}
 use Rattle.circuit.specs.Laws.Annotated.{qubits-apart, located-apart, JobAnnotated, job-annotated}
+use Rattle.circuit.specs.Laws.Correlation.{measured-same}
 
 -- ---- the qubits of a line's noise
 
@@ -87,6 +91,13 @@ module _ (job : List ℕ) (p : ℕ) (small : p < 2 ^ 64) (out : List ℕ) (done 
       let w = annotate-writes job p out done in
       rw (w .text) (annotated-instructions job (w .passes) p small (w .probability) (w .fits))
 
+-- ---- the correlation check
+
+-- For an accepted job it finds, by the sizes written, what it would find by those of the distributions.
+pub correlation-as-before : (job : List ℕ) → checkJob job .number ≡ 0
+    → firstDiffering [] (jobOf job .instructions) ≡ firstDifferingBy distributionSize [] (jobOf job .instructions)
+correlation-as-before job e = measured-same [] (jobOf job .instructions) (size-said job e)
+
 -- ---- a case of document 01, computed
 
 -- opens what lines are read and written with
@@ -110,7 +121,7 @@ plainCase =
     ∷ bytes "op=e x=- z=-"
     ∷ bytes "op=o x=- z=2 id=0"
     ∷ bytes "op=z q=3"
-    ∷ bytes "op=n p=3fe0000000000000 corr=- cond=- parity=0 d=3 n=1"
+    ∷ bytes "op=n p=3fe0000000000000 corr=- cond=- parity=0 d=3 n=1 size=1"
     ∷ bytes "x=1 z=-"
     ∷ []
 
@@ -118,21 +129,21 @@ abbrev pub annotatedCase : List (List ℕ)
 annotatedCase =
     bytes "op=job qubits=4 outcomes=1 shots=8"
     ∷ bytes "op=u g=11 q=1,0"
-    ∷ bytes "op=n p=3f50000000000000 corr=- cond=- parity=0 d=2 q=1,0"
+    ∷ bytes "op=n p=3f50000000000000 corr=- cond=- parity=0 d=2 q=1,0 size=15"
     ∷ bytes "op=p x=3 z=0,3"
-    ∷ bytes "op=n p=3f50000000000000 corr=- cond=- parity=0 d=2 q=0,3"
+    ∷ bytes "op=n p=3f50000000000000 corr=- cond=- parity=0 d=2 q=0,3 size=15"
     ∷ bytes "op=k x=2 z=- u=- v=0,1"
-    ∷ bytes "op=n p=3f50000000000000 corr=- cond=- parity=0 d=2 q=2,0,1"
+    ∷ bytes "op=n p=3f50000000000000 corr=- cond=- parity=0 d=2 q=2,0,1 size=63"
     ∷ bytes "op=e x=- z=-"
-    ∷ bytes "op=n p=3f50000000000000 corr=- cond=- parity=0 d=2 q=2"
+    ∷ bytes "op=n p=3f50000000000000 corr=- cond=- parity=0 d=2 q=2 size=3"
     ∷ bytes "op=o x=- z=2 id=0"
     ∷ bytes "op=z q=3"
-    ∷ bytes "op=n p=3fe0000000000000 corr=- cond=- parity=0 d=3 n=1"
+    ∷ bytes "op=n p=3fe0000000000000 corr=- cond=- parity=0 d=3 n=1 size=1"
     ∷ bytes "x=1 z=-"
     ∷ []
 
 pub annotated-case : annotatedText 0x3f50_0000_0000_0000 (unlines plainCase) ≡ unlines annotatedCase
-unfolding annotatedText annotated around noiseBefore noising noiseLines noiseText reading
+unfolding annotatedText annotated around noiseBefore noising noiseLines noiseText sizeOf reading
 annotated-case = refl
 
 -- its locations: twice 2, 2, 3 and 1 qubits
@@ -149,11 +160,11 @@ sharedCase = bytes "op=job qubits=6 outcomes=0 shots=1" ∷ bytes "op=k x=0,1 z=
 pub shared-case : annotatedText 0x3f50_0000_0000_0000 (unlines sharedCase) ≡ unlines
     (bytes "op=job qubits=6 outcomes=0 shots=1"
     ∷ bytes "op=k x=0,1 z=- u=- v=0,1"
-    ∷ bytes "op=n p=3f50000000000000 corr=- cond=- parity=0 d=2 q=0,1"
+    ∷ bytes "op=n p=3f50000000000000 corr=- cond=- parity=0 d=2 q=0,1 size=15"
     ∷ bytes "op=k x=3,5 z=4 u=5 v=2,4"
-    ∷ bytes "op=n p=3f50000000000000 corr=- cond=- parity=0 d=2 q=3,4,5,2"
+    ∷ bytes "op=n p=3f50000000000000 corr=- cond=- parity=0 d=2 q=3,4,5,2 size=255"
     ∷ [])
-unfolding annotatedText annotated around noiseBefore noising noiseLines noiseText reading
+unfolding annotatedText annotated around noiseBefore noising noiseLines noiseText sizeOf reading
 shared-case = refl
 
 -- both weights are counted: twice 2 and 2, and twice 3 and 3

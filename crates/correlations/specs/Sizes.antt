@@ -1,15 +1,10 @@
 -- The correlation and the size that a line says. Definitions. Assumes nothing.
-use Prim.Native.Nat.{ℕ, _≤_}
+use Prim.Native.Nat.{ℕ}
 use mathlib.Core.Bool.{Bool, true, false, cond}
 use mathlib.Core.List.{List, [], _∷_, _++_}
 use mathlib.Core.Option.{Option, none, some}
 use lib.Dec.{eqb}
-use lib.ListN.{length}
-use Rattle.text.specs.Template.{Value}
-use Rattle.job.specs.Grammar.{Kind, Written}
-use Rattle.job.specs.Checks.{kindSize}
-use Rattle.reader.specs.declared.Form.{Form}
-use Rattle.reader.specs.Parsed.{Said}
+use Rattle.job.specs.Grammar.{Written}
 use Rattle.circuit.specs.Correlation.{Seen}
 use Rattle.correlations.specs.declared.Looked.{Looked}
 
@@ -20,32 +15,12 @@ correlationIn (Written.line i) = none
 correlationIn (Written.noise n) = n .correlation
 correlationIn (Written.element w P) = none
 
--- the size of its distribution
+-- the size that it says
 unfoldable pub sizeIn : Written → ℕ
 sizeIn (Written.header h) = 0
 sizeIn (Written.line i) = 0
-sizeIn (Written.noise n) = kindSize (n .kind)
+sizeIn (Written.noise n) = n .size
 sizeIn (Written.element w P) = 0
-
--- at most 31 operands
-unfoldable pub FewOperands : Kind → Type 0
-FewOperands (Kind.single P) = Unit {0}
-FewOperands (Kind.depolarizing qs) = length qs ≤ 31
-FewOperands (Kind.uniform n) = Unit {0}
-FewOperands (Kind.weighted n) = Unit {0}
-
-unfoldable pub Few : Written → Type 0
-Few (Written.header h) = Unit {0}
-Few (Written.line i) = Unit {0}
-Few (Written.noise n) = FewOperands (n .kind)
-Few (Written.element w P) = Unit {0}
-
--- a line of an accepted job was read
-pub record FewRead (f : Form) (fields : List ℕ) : Type 0 where
-  pub written : Written
-  pub values : List Value
-  pub said : Said f fields values written
-  pub few : Few written
 
 -- whether there is a number
 unfoldable pub present : Option ℕ → Bool

@@ -3,21 +3,20 @@
 ghost use mathlib.Core.Path.{_≡_};
 ghost use mathlib.Core.Bool.{_&&_, true};
 ghost use mathlib.Core.List.{List, []};
-ghost use Prim.Native.Nat.{_≤_, _<_, _^_};
+ghost use Prim.Native.Nat.{_≤_, _<_};
 ghost use lib.Dec.{eqb};
 ghost use lib.ListN.{length};
 ghost use Rattle.text.specs.Bytes.{until};
 ghost use Rattle.text.specs.Template.{Value};
 ghost use Rattle.template.specs.Values.{Whole};
 ghost use Rattle.job.specs.Grammar.{NoiseLine, Written};
-ghost use Rattle.job.specs.Checks.{kindSize};
 ghost use Rattle.job.specs.Job.{checkJob, jobOf};
 ghost use Rattle.reader.specs.Parsed.{Said};
 ghost use Rattle.instructions.specs.Lines.{Left, numbered};
 ghost use Rattle.instructions.specs.Ahead.{instructionsAt};
 ghost use Rattle.circuit.specs.Correlation.{firstDiffering};
 ghost use Rattle.circuit.specs.Replies.{correlationReply};
-ghost use Rattle.correlations.specs.Sizes.{correlationIn, sizeIn, FewRead, present, tableOf, lookOf};
+ghost use Rattle.correlations.specs.Sizes.{correlationIn, sizeIn, present, tableOf, lookOf};
 ghost use Rattle.correlations.specs.Rounds.{unlike, earliest, Remembers, Collects, RoundOf};
 use checker::check;
 use instructions::is_noise;
@@ -43,29 +42,15 @@ fn is_correlated(form: Form, f: &[u64]) -> bool
     count(f, 0) != 0
 }
 
-fn power_of_four(k: u64) -> u64
-    requires { ⌜ k ≤ 31 ⌝ }
-    ensures { λ r. ⌜ r ≡ 4 ^ k ⌝ }
-{
-    let mut r: u64 = 1;
-    let mut i: u64 = 0;
-    while i < k {
-        r *= 4;
-        i += 1;
-    }
-    r
-}
-
-// How many elements the distribution of a noise line has.
+// The size that a noise line says: its third number, or the fourth where n stands before it.
 fn size(form: Form, f: &[u64]) -> u64
-    requires { ⌜ FewRead form (now f) × Whole (now f) ⌝ }
-    ensures { λ r. ⌜ ((vs : List Value) (n : NoiseLine) → Said form (now (f .entry)) vs (Written.noise n) → r ≡ kindSize (n .kind)) ⌝ }
+    requires { ⌜ Whole (now f) ⌝ }
+    ensures { λ r. ⌜ ((vs : List Value) (n : NoiseLine) → Said form (now (f .entry)) vs (Written.noise n) → r ≡ n .size) ⌝ }
 {
     match form {
-        Form::Depolarizing => power_of_four(count(f, 2)) - 1,
-        Form::Uniform => number(f, 2),
-        Form::Weighted => number(f, 2),
-        _ => 1,
+        Form::Uniform => number(f, 3),
+        Form::Weighted => number(f, 3),
+        _ => number(f, 2),
     }
 }
 
@@ -92,7 +77,7 @@ struct Looked {
 }
 
 fn look(form: Form, f: &[u64], seen: &[u64], sizes: &[u64]) -> Looked
-    requires { ⌜ FewRead form (now f) × Whole (now f) × (length (now seen) ≡ length (now sizes)) ⌝ }
+    requires { ⌜ Whole (now f) × (length (now seen) ≡ length (now sizes)) ⌝ }
     ensures { λ r. ⌜ ((vs : List Value) (w : Written) → Said form (now (f .entry)) vs w → r ≡ lookOf (tableOf (now (seen .entry)) (now (sizes .entry))) (correlationIn w) (sizeIn w)) ⌝ }
 {
     if !is_correlated(form, f) {

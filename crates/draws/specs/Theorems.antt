@@ -341,7 +341,13 @@ positive-bits = refl
 -- depolarizing noise on one qubit, with a probability, a corr and a condition
 abbrev pub noiseOn : ℕ → ℕ → Option ℕ → List ℕ → Bool → Noise
 noiseOn q p corr ids par =
-    record { probability = p; correlation = corr; condition = record { outcomes = ids; parity = par }; distribution = Distribution.depolarizing (q ∷ []) }
+    record {
+      probability = p;
+      correlation = corr;
+      condition = record { outcomes = ids; parity = par };
+      distribution = Distribution.depolarizing (q ∷ []);
+      size = 3;
+    }
 
 -- what is lent beside the main list, for so many shots: outcome 3 is 1 in shot 1 alone, and the others are 0
 abbrev pub lentFor : ℕ → Lent

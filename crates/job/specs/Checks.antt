@@ -1,4 +1,4 @@
--- Definitions. Tests 2 to 12, line by line: each is a Bool on what the whole line says and on what the lines before it said. The first that fails,
+-- Definitions. Tests 2 to 12, 20 and 21, line by line: each is a Bool on what the whole line says and on what the lines before it said. The first that fails,
 -- in document 01's order, is the number that refuses the line. Assumes nothing.
 use Prim.Native.Nat.{ℕ, suc, _-_, _^_}
 use mathlib.Core.Bool.{Bool, true, false, cond, not, _&&_, _||_}
@@ -244,6 +244,8 @@ noiseTests c n =
     -- 11: p NaN or above 1
     ∷ test 11 (isProbability (float (n .probability)))
     ∷ test 12 (elementsFit (n .kind))
+    -- 21: the size written differs from the distribution's
+    ∷ test 21 (eqb (n .size) (kindSize (n .kind)))
     ∷ []
 
 -- 12: w below zero or not finite; at the last element line, total zero or not finite

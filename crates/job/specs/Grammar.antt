@@ -24,6 +24,8 @@ pub record NoiseLine : Type 0 where
   pub correlation : Option ℕ
   pub condition : OutcomeCondition
   pub kind : Kind
+  -- the distribution's size, as it is written
+  pub size : ℕ
 
 -- what one line says
 pub data Written : Type 0 where
@@ -63,15 +65,17 @@ unfoldable pub optional : List ℕ → Option ℕ
 optional [] = none
 optional (c ∷ cs) = some c
 
--- where the condition is none, the parity is 0. The numbers of the line are p and the parity, its lists corr and cond, before the kind's own.
-unfoldable pub noiseLine : Kind → List Value → Option Written
-noiseLine kind v =
+-- where the condition is none, the parity is 0. The numbers of the line are p and the parity, its lists corr and cond, before the kind's own; the size,
+-- behind those, is the last.
+unfoldable pub noiseLine : Kind → ℕ → List Value → Option Written
+noiseLine kind size v =
     cond (eqb (length (listAt 1 v)) 0 && isOne (numberAt 1 v)) none
     (some (Written.noise record {
       probability = numberAt 0 v;
       correlation = optional (listAt 0 v);
       condition = record { outcomes = listAt 1 v; parity = isOne (numberAt 1 v) };
       kind = kind;
+      size = size;
     }))
 
 -- ---- the forms
@@ -92,7 +96,7 @@ abbrev pub injectTemplate : List ℕ
 injectTemplate = bytes "op=i shot=N x=L z=L"
 
 abbrev pub depolarizingTemplate : List ℕ
-depolarizingTemplate = bytes "op=n p=H corr=C cond=L parity=B d=2 q=Q"
+depolarizingTemplate = bytes "op=n p=H corr=C cond=L parity=B d=2 q=Q size=N"
 
 unfoldable pub forms : List Form
 unfolding bytes
@@ -110,10 +114,10 @@ forms =
     ∷ form "op=z q=N" (λ v. plain (Line.reset (numberAt 0 v ∷ [])))
     ∷ formBy injectTemplate (λ v. plain (Line.inject (numberAt 0 v) (pauliAt 0 1 v)))
     ∷ form "op=t shot=N id=N" (λ v. plain (Line.flip (numberAt 0 v) (numberAt 1 v)))
-    ∷ form "op=n p=H corr=C cond=L parity=B d=1 x=L z=L" (λ v. noiseLine (Kind.single (pauliAt 2 3 v)) v)
-    ∷ formBy depolarizingTemplate (λ v. noiseLine (Kind.depolarizing (listAt 2 v)) v)
-    ∷ form "op=n p=H corr=C cond=L parity=B d=3 n=N" (λ v. noiseLine (Kind.uniform (numberAt 2 v)) v)
-    ∷ form "op=n p=H corr=C cond=L parity=B d=4 n=N" (λ v. noiseLine (Kind.weighted (numberAt 2 v)) v)
+    ∷ form "op=n p=H corr=C cond=L parity=B d=1 x=L z=L size=N" (λ v. noiseLine (Kind.single (pauliAt 2 3 v)) (numberAt 2 v) v)
+    ∷ formBy depolarizingTemplate (λ v. noiseLine (Kind.depolarizing (listAt 2 v)) (numberAt 2 v) v)
+    ∷ form "op=n p=H corr=C cond=L parity=B d=3 n=N size=N" (λ v. noiseLine (Kind.uniform (numberAt 2 v)) (numberAt 3 v) v)
+    ∷ form "op=n p=H corr=C cond=L parity=B d=4 n=N size=N" (λ v. noiseLine (Kind.weighted (numberAt 2 v)) (numberAt 3 v) v)
     ∷ form "x=L z=L" (λ v. some (Written.element none (pauliAt 0 1 v)))
     ∷ form "w=H x=L z=L" (λ v. some (Written.element (some (numberAt 0 v)) (pauliAt 0 1 v)))
     ∷ []

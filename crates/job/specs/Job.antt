@@ -65,6 +65,7 @@ noiseOf n es =
       correlation = n .correlation;
       condition = n .condition;
       distribution = distributionOf (n .kind) es;
+      size = n .size;
     }
 
 unfoldable pub weightOf : Option ℕ → ℕ

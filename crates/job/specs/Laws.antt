@@ -3,6 +3,8 @@
 pub mod Lists
 -- A list made rising.
 pub mod Rising
+-- The size of a depolarizing distribution.
+pub mod Sizes
 -- Permutations of the places (test 6).
 pub mod Permutation
 -- The tests of a line that passes.

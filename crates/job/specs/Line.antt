@@ -66,12 +66,13 @@ pub record OutcomeCondition : Type 0 where
   pub outcomes : List ℕ
   pub parity : Bool
 
--- A noise line's probability (by its bits), correlation, condition and distribution.
+-- A noise line's probability (by its bits), correlation, condition, distribution and the distribution's size, as it is written.
 pub record Noise : Type 0 where
   pub probability : ℕ
   pub correlation : Option ℕ
   pub condition : OutcomeCondition
   pub distribution : Distribution
+  pub size : ℕ
 
 -- Noise and its element lines make one instruction.
 pub data Instruction : Type 0 where

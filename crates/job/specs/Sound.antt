@@ -12,7 +12,7 @@ use Rattle.text.specs.List.{isRising}
 use Rattle.pauli.specs.Pauli.{anticommutes}
 use Rattle.pauli.specs.Gate.{Gate, operandsOf}
 use Rattle.job.specs.declared.Header.{Header}
-use Rattle.job.specs.Line.{SparsePauli, pauliOf, Line, WeightedPauli, Distribution, Noise, Instruction, Placed}
+use Rattle.job.specs.Line.{SparsePauli, pauliOf, Line, WeightedPauli, Distribution, sizeOf, Noise, Instruction, Placed}
 use Rattle.job.specs.Float.{float, zeroFloat, totalFrom, isProbability, isWeight, isTotal}
 use Rattle.job.specs.Clifford.{isClifford}
 use Rattle.job.specs.Grammar.{Kind, NoiseLine, Written, readLine}
@@ -153,12 +153,19 @@ pub record NoiseSound (n recorded : ℕ) (i : Noise) : Type 0 where
   -- where the condition is none, the parity is 0
   pub parity : length (i .condition .outcomes) ≡ 0 → i .condition .parity ≡ false
   pub distribution : DistributionSound n (i .distribution)
+  -- the size written is the distribution's
+  pub size : i .size ≡ sizeOf (i .distribution)
 
 -- ---- the job
 
 unfoldable pub InstructionSound : Header → ℕ → Instruction → Type 0
 InstructionSound h r (Instruction.line l) = LineSound h r l
 InstructionSound h r (Instruction.noise i) = NoiseSound (h .qubits) r i
+
+-- a noise instruction says the size of its distribution
+unfoldable pub SizeSaid : Instruction → Type 0
+SizeSaid (Instruction.line l) = Unit {0}
+SizeSaid (Instruction.noise i) = i .size ≡ sizeOf (i .distribution)
 
 -- the instructions in order, each with the number of outcomes recorded before it
 unfoldable pub InstructionsSound : Header → ℕ → List Placed → Type 0

@@ -8,16 +8,16 @@ use mathlib.Core.List.{List, _∷_}
 use mathlib.Core.Option.{some}
 use Rattle.text.specs.Bytes.{lines}
 use Rattle.job.specs.declared.Header.{Header}
-use Rattle.job.specs.Line.{Instruction}
+use Rattle.job.specs.Line.{Instruction, Placed}
 use Rattle.job.specs.Grammar.{Written, readLine}
 use Rattle.job.specs.Checks.{Context, noContext, next, Test, tests, refusalOf}
 use Rattle.job.specs.Job.{accepted, wellEnded, checkJob, gathered, Job, jobOfLines, jobOf, recordedIn}
 use Rattle.job.specs.Marks.{markOf, readAs, formByMark}
 use Rattle.job.specs.Contexts.{contextAfter, between}
-use Rattle.job.specs.Sound.{Every, InstructionsSound, instructionsOf, ListSound, SaidAs, HeaderSound, JobSound}
+use Rattle.job.specs.Sound.{Every, SizeSaid, InstructionsSound, instructionsOf, ListSound, SaidAs, HeaderSound, JobSound}
 use Rattle.job.specs.Laws.Lines.{header-sound}
 use Rattle.job.specs.Laws.Begun.{ended-parts, job-passes, Begun, job-begun}
-use Rattle.job.specs.Laws.Gather.{gathered-sound, gathered-said}
+use Rattle.job.specs.Laws.Gather.{gathered-sound, gathered-said, sizes-said}
 use Rattle.job.specs.Laws.Recorded.{recorded-within, ids-count, after-first, recorded-after, header-after}
 use Rattle.job.specs.Laws.Tests.{tests-rise, lowest-least}
 use Rattle.job.specs.Laws.Passes.{header-accepted}
@@ -33,7 +33,7 @@ behind-header b = gathered-sound 2 (between (b .header) 0) (b .rest) (b .passes)
 -- What the tests let pass meets the hypotheses of the theorems. A job that the tests of a job accept ends in LF and holds at most 1,048,576 bytes; its first
 -- line is a header in range; and every instruction, in order, has what document 01 asks of it, where the outcomes recorded are those of the lines
 -- before it: operands as many as the gate takes, distinct and below qubits; Cliffords; permutations; Paulis of rising lists below qubits; the next id,
--- below outcomes; ids that are recorded; shots below shots; and noise whose probability, elements, weights and total are as they must be.
+-- below outcomes; ids that are recorded; shots below shots; and noise whose probability, elements, weights, total and size are as they must be.
 pub checked-sound : (job : List ℕ) → checkJob job .number ≡ 0 → JobSound job (jobOf job)
 checked-sound job e =
     let b = job-begun job e in
@@ -52,6 +52,10 @@ checked-sound job e =
       ids = ids-count (b .header) 0 _ sound;
       recorded = rw zero-add at (recorded-within (b .header) 0 _ sound (omega arith));
     }
+
+-- In an accepted job the size that a noise line says is its distribution's.
+pub size-said : (job : List ℕ) → checkJob job .number ≡ 0 → Every (λ (p : Placed). SizeSaid (p .instruction)) (jobOf job .instructions)
+size-said job e = sizes-said (jobOf job .header) 0 (jobOf job .instructions) (checked-sound job e .instructions)
 
 -- The tests refuse no job of sound instructions: a header in range and, behind it, texts of instructions that are sound in their order, noise with its
 -- element lines among them, pass the tests of a job where the bytes pass test 1; and they are the job's instructions.

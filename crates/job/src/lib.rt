@@ -1,5 +1,7 @@
-// The definitions of a job, of its lines, its instructions and the tests of a job (specs/), and the types that answers have. The code is in the crates reader,
-// instructions, value_tests, line_tests, noise_tests and checker.
+// The definitions of a job, of its lines, its instructions and the tests of a job (specs/), the types that answers have, and the size of a depolarizing
+// distribution. The code of the tests is in the crates reader, instructions, value_tests, line_tests, noise_tests and checker.
+ghost use mathlib.Core.Path.{_≡_};
+ghost use Prim.Native.Nat.{_-_, _^_, _<_};
 
 // The header's numbers.
 pub struct Header {
@@ -20,4 +22,12 @@ pub struct Answer {
 pub struct CountReply {
     pub answered: Answer,
     pub count: u64,
+}
+
+// How many elements depolarizing noise over k qubits has: every Pauli on them but the identity.
+pub fn depolarizing_size(k: u64) -> u64
+    requires { ⌜ k < 32 ⌝ }
+    ensures { λ r. ⌜ r ≡ 4 ^ k - 1 ⌝ }
+{
+    (1u64 << (2 * k)) - 1
 }

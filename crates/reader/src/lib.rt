@@ -83,28 +83,28 @@ fn single(line: &[u8], p: Progress, fields: &mut [u64]) -> Form
     requires { ⌜ NoiseBegun (now line) p (now fields) × Whole (now fields) ⌝ }
     ensures { λ r. ⌜ Tried (only Forms.Single) (now (line .entry)) r (now (fields .exit)) ⌝ }
 {
-    kind_by(line, b"1 x=L z=L", p, Form::Single, fields)
+    kind_by(line, b"1 x=L z=L size=N", p, Form::Single, fields)
 }
 
 fn depolarizing(line: &[u8], p: Progress, fields: &mut [u64]) -> Form
     requires { ⌜ NoiseBegun (now line) p (now fields) × Whole (now fields) ⌝ }
     ensures { λ r. ⌜ Tried (only Forms.Depolarizing) (now (line .entry)) r (now (fields .exit)) ⌝ }
 {
-    kind_by(line, b"2 q=Q", p, Form::Depolarizing, fields)
+    kind_by(line, b"2 q=Q size=N", p, Form::Depolarizing, fields)
 }
 
 fn uniform(line: &[u8], p: Progress, fields: &mut [u64]) -> Form
     requires { ⌜ NoiseBegun (now line) p (now fields) × Whole (now fields) ⌝ }
     ensures { λ r. ⌜ Tried (only Forms.Uniform) (now (line .entry)) r (now (fields .exit)) ⌝ }
 {
-    kind_by(line, b"3 n=N", p, Form::Uniform, fields)
+    kind_by(line, b"3 n=N size=N", p, Form::Uniform, fields)
 }
 
 fn weighted(line: &[u8], p: Progress, fields: &mut [u64]) -> Form
     requires { ⌜ NoiseBegun (now line) p (now fields) × Whole (now fields) ⌝ }
     ensures { λ r. ⌜ Tried (only Forms.Weighted) (now (line .entry)) r (now (fields .exit)) ⌝ }
 {
-    kind_by(line, b"4 n=N", p, Form::Weighted, fields)
+    kind_by(line, b"4 n=N size=N", p, Form::Weighted, fields)
 }
 
 // The last fields of a noise line, by its digit of d.

@@ -24,7 +24,7 @@ pub data Case : Type 0 where
   settles : String → List ℕ → String → Case
   -- a job and the words of the main list, and the number and line that refuse settling
   stops : String → List ℕ → ℕ → ℕ → Case
-  -- a job, and the number and line that refuse it
+  -- a job, and the number and line that refuse it, 0 and 0 where none does
   refuses : String → ℕ → ℕ → Case
 
 unfoldable pub sameBytes : List ℕ → List ℕ → Bool
@@ -70,9 +70,15 @@ onThree line =
     append "op=job qubits=1 outcomes=2 shots=3\nop=i shot=0 x=0 z=-\nop=i shot=1 x=- z=0\nop=i shot=2 x=0 z=0\n"
     (append line "\nop=o x=- z=0 id=0\nop=o x=0 z=- id=1\n")
 
--- one shot of depolarizing noise on one qubit, in which a fault falls
+-- one shot of noise with these last fields, in which a fault falls, and what stands behind it; on so many qubits
+unfoldable pub noiseOn : String → String → String
+noiseOn qubits fields =
+    append "op=job qubits=" (append qubits (append " outcomes=0 shots=1\nop=n p=3ff0000000000000 corr=- cond=- parity=0 " (append fields "\n")))
+
+-- depolarizing noise on one qubit
 unfoldable pub noisy : String
-noisy = "op=job qubits=1 outcomes=0 shots=1\nop=n p=3ff0000000000000 corr=- cond=- parity=0 d=2 q=0\n"
+unfolding noiseOn
+noisy = noiseOn "1" "d=2 q=0 size=3"
 
 -- inject X0, measure Z0, conditional X0 on 0, measure Z0
 unfoldable pub undone : String
@@ -82,7 +88,7 @@ undone =
 -- ---- the table
 
 unfoldable pub cases : List Case
-unfolding session onThree noisy undone
+unfolding session onThree noiseOn noisy undone
 cases =
     -- ★1 the session; ★2 its walk of {0,1} in shot 1 counts 1
     Case.prints session "ok=1 qubits=2 outcomes=2 shots=3\nid=0 delta=010\nid=1 delta=001\n"
@@ -114,7 +120,7 @@ cases =
     ∷ Case.prints undone "ok=1 qubits=1 outcomes=2 shots=1\nid=0 delta=1\nid=1 delta=0\n"
     ∷ Case.walks undone 0 (1 ∷ []) 0
     -- also: p 3ff0000000000001 is 11
-    ∷ Case.refuses "op=job qubits=1 outcomes=0 shots=64\nop=n p=3ff0000000000001 corr=- cond=- parity=0 d=2 q=0\n" 11 2
+    ∷ Case.refuses "op=job qubits=1 outcomes=0 shots=64\nop=n p=3ff0000000000001 corr=- cond=- parity=0 d=2 q=0 size=3\n" 11 2
     -- a refusal's line is printed; so is that of spent draws, since none are lent
     ∷ Case.prints "op=job qubits=1 outcomes=0 shots=1\nop=u g=4 q=1\n" "ok=0 refusal=4 line=2\n"
     ∷ Case.prints noisy "ok=0 refusal=14 line=2\n"
@@ -124,4 +130,20 @@ cases =
     ∷ Case.prints "op=job qubits=64 outcomes=257 shots=64\n" "ok=0 refusal=13 line=0\n"
     ∷ Case.prints "op=job qubits=64 outcomes=256 shots=65\n" "ok=0 refusal=13 line=0\n"
     ∷ Case.prints "op=job qubits=65 outcomes=0 shots=1\nop=z q=65\n" "ok=0 refusal=4 line=2\n"
+    -- document 02, note 6: the size written is 1, 4^k - 1 or n, else 21, before any fault of the element lines
+    ∷ Case.refuses (noiseOn "1" "d=1 x=0 z=- size=2") 21 2
+    ∷ Case.refuses (noiseOn "1" "d=2 q=0 size=4") 21 2
+    ∷ Case.refuses (noiseOn "1" "d=3 n=1 size=2\nx=9 z=-") 21 2
+    ∷ Case.refuses (noiseOn "1" "d=4 n=1 size=0\nw=3ff0000000000000 x=0 z=-") 21 2
+    -- it is a number, on the noise line, and always there
+    ∷ Case.refuses (noiseOn "1" "d=2 q=0") 2 2
+    ∷ Case.refuses (noiseOn "1" "d=2 q=0 size=03") 2 2
+    ∷ Case.refuses (noiseOn "1" "d=2 q=0 size=18446744073709551616") 2 2
+    ∷ Case.refuses (noiseOn "1" "d=3 n=1 size=1\nx=0 z=- size=1") 2 3
+    -- other numbers of the line come before: a missing element line, d=2 over 32 qubits, n of 0
+    ∷ Case.refuses (noiseOn "1" "d=3 n=1 size=2") 2 2
+    ∷ Case.refuses (noiseOn "32" "d=2 q=0,1,2,3,4,5,6,7,8,9,10,11,12,13,14,15,16,17,18,19,20,21,22,23,24,25,26,27,28,29,30,31 size=0") 5 2
+    ∷ Case.refuses (noiseOn "1" "d=3 n=0 size=1") 12 2
+    -- and over 31 qubits none refuses
+    ∷ Case.refuses (noiseOn "31" "d=2 q=0,1,2,3,4,5,6,7,8,9,10,11,12,13,14,15,16,17,18,19,20,21,22,23,24,25,26,27,28,29,30 size=4611686018427387903") 0 0
     ∷ []

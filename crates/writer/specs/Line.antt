@@ -8,6 +8,8 @@ use lib.Dec.{eqb}
 use lib.ListN.{length, getD, take, drop}
 use Rattle.text.specs.Bytes.{bytes}
 use Rattle.text.specs.Template.{Value, isLetter, lineText}
+use Rattle.job.specs.Line.{Distribution, sizeOf}
+use Rattle.job.specs.Grammar.{depolarizingTemplate}
 
 -- whether a letter stands for a list: L, Q, C
 unfoldable pub isList : ℕ → Bool
@@ -48,6 +50,11 @@ pub record PauliLent (counts members : List ℕ) : Type 0 where
 -- how each line of annotation's noise begins
 unfoldable pub depolarizingStart : ℕ → List ℕ
 depolarizingStart p = lineText (bytes "op=n p=H corr=- cond=- parity=0 d=2") (Value.number p ∷ [])
+
+-- such a line: depolarizing noise without correlation and condition
+abbrev pub depolarizingText : ℕ → List ℕ → List ℕ
+depolarizingText p qs =
+    lineText depolarizingTemplate (Value.number p ∷ Value.list [] ∷ Value.list [] ∷ Value.number 0 ∷ Value.list qs ∷ Value.number (sizeOf (Distribution.depolarizing qs)) ∷ [])
 
 -- bytes that are such a start
 pub record StartOf (start : List ℕ) : Type 0 where

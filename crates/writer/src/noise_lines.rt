@@ -5,13 +5,14 @@ ghost use Prim.Native.Nat.{ℕ, _+_, _*_, _^_, _<_, _≤_};
 ghost use lib.ListN.{length, getD, take, drop};
 ghost use Rattle.text.specs.Bytes.{LF};
 ghost use Rattle.text.specs.Template.{Value, lineText};
-ghost use Rattle.job.specs.Grammar.{injectTemplate, depolarizingTemplate};
+ghost use Rattle.job.specs.Grammar.{injectTemplate};
 ghost use Rattle.writer.specs.Placed.{Puts};
-ghost use Rattle.writer.specs.Line.{PauliLent, depolarizingStart};
+ghost use Rattle.writer.specs.Line.{PauliLent, depolarizingStart, depolarizingText};
 use crate::line::put_line;
 use crate::line::put_numbers;
 use crate::put_byte;
 use crate::put_bytes;
+use job::depolarizing_size;
 use pauli::Shot;
 
 // `op=i shot=N x=L z=L`: the counts of x and z, and 31 words for the members of each.
@@ -39,13 +40,15 @@ pub fn put_start(out: &mut [u8], p: u64) -> usize
     put_numbers(out, 0, b"op=n p=H corr=- cond=- parity=0 d=2", &numbers)
 }
 
-// `op=n p=H corr=- cond=- parity=0 d=2 q=Q`, from its start.
+// `op=n p=H corr=- cond=- parity=0 d=2 q=Q size=N`, from its start.
 pub fn put_depolarizing(out: &mut [u8], at: usize, start: &[u8], qubits: &[u64]) -> usize
-    requires { ⌜ (length (now qubits) ≤ 31) × (at + (length (now start) + (21 * length (now qubits) + 5)) < 2 ^ 64) ⌝ }
-    ensures { λ r. ⌜ ((p : ℕ) → now (start .entry) ≡ depolarizingStart p → Puts at (lineText depolarizingTemplate (Value.number p ∷ Value.list [] ∷ Value.list [] ∷ Value.number 0 ∷ Value.list (now (qubits .entry)) ∷ []) ++ LF ∷ []) (now (out .entry)) (now (out .exit)) r) ⌝ }
+    requires { ⌜ (length (now qubits) ≤ 31) × (at + (length (now start) + (21 * length (now qubits) + 31)) < 2 ^ 64) ⌝ }
+    ensures { λ r. ⌜ ((p : ℕ) → now (start .entry) ≡ depolarizingStart p → Puts at (depolarizingText p (now (qubits .entry)) ++ LF ∷ []) (now (out .entry)) (now (out .exit)) r) ⌝ }
 {
     let next = put_bytes(&mut *out, at, start);
-    let counts = [qubits.len() as u64];
-    let end = put_line(&mut *out, next, b" q=Q", &qubits[..0], &counts, qubits);
+    let k = qubits.len() as u64;
+    let numbers = [depolarizing_size(k)];
+    let counts = [k];
+    let end = put_line(&mut *out, next, b" q=Q size=N", &numbers, &counts, qubits);
     put_byte(out, end, 10)
 }

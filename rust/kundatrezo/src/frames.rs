@@ -10,7 +10,7 @@ use std::ops::BitXorAssign;
 ///
 /// // X on both qubits with probability 1, then a measurement of Z on qubit 1
 /// let job = b"op=job qubits=2 outcomes=1 shots=70
-/// op=n p=3ff0000000000000 corr=- cond=- parity=0 d=1 x=0,1 z=-
+/// op=n p=3ff0000000000000 corr=- cond=- parity=0 d=1 x=0,1 z=- size=1
 /// op=o x=- z=1 id=0
 /// ";
 /// let words = [0; 70];

@@ -175,7 +175,7 @@ pub fn run(job: &[u8], rows: Rows<'_>, noiseless: &[u64], draws: Draws<'_>) -> A
 /// use kundatrezo::{Draws, Number, settle};
 ///
 /// let header = "op=job qubits=1 outcomes=0 shots=2\n";
-/// let job = format!("{header}op=n p=3fe0000000000000 corr=- cond=- parity=0 d=1 x=0 z=-\n");
+/// let job = format!("{header}op=n p=3fe0000000000000 corr=- cond=- parity=0 d=1 x=0 z=- size=1\n");
 /// // the second word is not below one half
 /// let draws = Draws::new(&[0, u64::MAX]);
 /// let mut out = [0; 100];
@@ -271,7 +271,7 @@ pub fn walk(job: &[u8], shot: u64, set: &[u64]) -> Answer<u64> {
 /// let job = "op=job qubits=1 outcomes=0 shots=1\nop=u g=4 q=0\n";
 /// let mut out = [0; 200];
 /// let bytes = annotate(job.as_bytes(), 0.5, &mut out)?;
-/// let noise = "op=n p=3fe0000000000000 corr=- cond=- parity=0 d=2 q=0\n";
+/// let noise = "op=n p=3fe0000000000000 corr=- cond=- parity=0 d=2 q=0 size=3\n";
 /// assert_eq!(out[..bytes], *format!("{job}{noise}").as_bytes());
 /// # Ok::<(), kundatrezo::Refusal>(())
 /// ```
@@ -316,7 +316,7 @@ pub fn locations(job: &[u8]) -> Answer<u64> {
     answer_of(&said.answer, said.count)
 }
 
-/// Check that noise lines of one correlation have distributions of one size: 1, 4^k - 1 over k qubits, or the number of elements.
+/// Check that noise lines of one correlation have one size, as their field `size=` says it: 1, 4^k - 1 over k qubits, or the number of elements.
 ///
 /// # Errors
 ///
@@ -326,8 +326,8 @@ pub fn locations(job: &[u8]) -> Answer<u64> {
 /// use kundatrezo::{Number, correlation};
 ///
 /// let job = b"op=job qubits=2 outcomes=0 shots=1
-/// op=n p=3fe0000000000000 corr=7 cond=- parity=0 d=2 q=0
-/// op=n p=3fe0000000000000 corr=7 cond=- parity=0 d=2 q=0,1
+/// op=n p=3fe0000000000000 corr=7 cond=- parity=0 d=2 q=0 size=3
+/// op=n p=3fe0000000000000 corr=7 cond=- parity=0 d=2 q=0,1 size=15
 /// ";
 /// let refusal = correlation(job).unwrap_err();
 /// assert_eq!((refusal.number, refusal.line), (Number::SIZES, 3));

@@ -71,6 +71,7 @@ numbers! {
     18 ANNOTATION "annotation over more than 31 qubits"
     19 SIZES "sizes of one correlation differ"
     20 CONTROL "control and target of a controlled Pauli anticommute"
+    21 SIZE "the size written differs from the distribution's"
 }
 
 impl Number {

@@ -65,7 +65,7 @@ pub fn split(job: &[u8], parts: usize) -> Answer<Vec<Part>> {
 /// let part = restricted(job.as_bytes(), |shot| shot < 2)?;
 /// assert_eq!(part, format!("{header}op=i shot=1 x=0 z=-\nop=o x=- z=0 id=0\n").as_bytes());
 ///
-/// let noisy = format!("{header}op=n p=3fe0000000000000 corr=- cond=- parity=0 d=1 x=0 z=-\n");
+/// let noisy = format!("{header}op=n p=3fe0000000000000 corr=- cond=- parity=0 d=1 x=0 z=- size=1\n");
 /// let refusal = restricted(noisy.as_bytes(), |_| true).unwrap_err();
 /// assert_eq!((refusal.number, refusal.line), (Number::NOISE, 2));
 /// # Ok::<(), kundatrezo::Refusal>(())

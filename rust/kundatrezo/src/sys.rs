@@ -215,17 +215,19 @@ mod tests {
 
     /// The least p above zero: a word of 0 faults.
     fn least_p() -> Vec<u8> {
-        job("0000000000000001 corr=- cond=- parity=0 d=1 x=0 z=-")
+        job("0000000000000001 corr=- cond=- parity=0 d=1 x=0 z=- size=1")
     }
 
     /// A lone weight of 2^-1074.
     fn least_weight() -> Vec<u8> {
-        job("3ff0000000000000 corr=- cond=- parity=0 d=4 n=1\nw=0000000000000001 x=0 z=-")
+        job("3ff0000000000000 corr=- cond=- parity=0 d=4 n=1 size=1\nw=0000000000000001 x=0 z=-")
     }
 
     /// The largest number and 1, whose sum is the largest number but for rounding up.
     fn large_total() -> Vec<u8> {
-        job("3ff0000000000000 corr=- cond=- parity=0 d=4 n=2\nw=7fefffffffffffff x=0 z=-\nw=3ff0000000000000 x=- z=0")
+        job(
+            "3ff0000000000000 corr=- cond=- parity=0 d=4 n=2 size=2\nw=7fefffffffffffff x=0 z=-\nw=3ff0000000000000 x=- z=0",
+        )
     }
 
     #[test]

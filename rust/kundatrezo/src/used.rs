@@ -26,7 +26,7 @@ impl Draws<'_> {
     /// use kundatrezo::Draws;
     ///
     /// // two shots read a word each, and the fault in shot 0 another for the choice of its Pauli
-    /// let job = b"op=job qubits=1 outcomes=0 shots=2\nop=n p=3fe0000000000000 corr=- cond=- parity=0 d=2 q=0\n";
+    /// let job = b"op=job qubits=1 outcomes=0 shots=2\nop=n p=3fe0000000000000 corr=- cond=- parity=0 d=2 q=0 size=3\n";
     /// let draws = Draws::new(&[0, 1, u64::MAX, 8, 9]);
     /// assert_eq!(draws.used(job, &[])?.main, 3);
     /// # Ok::<(), kundatrezo::Refusal>(())
@@ -113,8 +113,7 @@ impl Noise {
         let among = |size: u64| Some(Choice::Below(u64::MAX - u64::MAX.checked_rem(size)?));
         let choice = match field("d")? {
             "1" => Choice::None,
-            "2" => among((1 << (2 * numbers(field("q")?)?.len())) - 1)?,
-            "3" => among(field("n")?.parse().ok()?)?,
+            "2" | "3" => among(field("size")?.parse().ok()?)?,
             _ => Choice::One,
         };
         Some(Self {
@@ -181,17 +180,17 @@ mod tests {
         let job = b"op=job qubits=2 outcomes=2 shots=70
 op=r id=0 angle=0
 op=r id=1 angle=0
-op=n p=3fe0000000000000 corr=- cond=- parity=0 d=1 x=0 z=-
-op=n p=3fe0000000000000 corr=- cond=0,1 parity=1 d=2 q=0,1
-op=n p=3fd0000000000000 corr=- cond=- parity=0 d=3 n=3
+op=n p=3fe0000000000000 corr=- cond=- parity=0 d=1 x=0 z=- size=1
+op=n p=3fe0000000000000 corr=- cond=0,1 parity=1 d=2 q=0,1 size=15
+op=n p=3fd0000000000000 corr=- cond=- parity=0 d=3 n=3 size=3
 x=0 z=-
 x=1 z=-
 x=- z=0
-op=n p=0000000000000000 corr=- cond=- parity=0 d=2 q=0
-op=n p=3fe0000000000000 corr=7 cond=1 parity=0 d=4 n=2
+op=n p=0000000000000000 corr=- cond=- parity=0 d=2 q=0 size=3
+op=n p=3fe0000000000000 corr=7 cond=1 parity=0 d=4 n=2 size=2
 w=3ff0000000000000 x=0 z=-
 w=3ff0000000000000 x=1 z=-
-op=n p=3ff0000000000000 corr=150 cond=- parity=0 d=2 q=1
+op=n p=3ff0000000000000 corr=150 cond=- parity=0 d=2 q=1 size=3
 ";
         let noiseless = [0x5555_5555_5555_5555, 3, 0xffff_0000_0f0f_3333, 1];
         for seed in 0..20 {

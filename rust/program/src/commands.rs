@@ -3,7 +3,7 @@
 use crate::arguments::{Arguments, Command, FILE, Flag, Operand};
 use crate::completions::{self, SHELLS};
 use crate::words::{self, Lent};
-use crate::{Failure, files, manual, numbers, print, shots};
+use crate::{Failure, files, manual, numbers, print, shots, sizes};
 use kundatrezo::{Examination, Frames, MAX_BYTES, Number, Refusal, Shots, bit};
 use std::fmt::Write;
 
@@ -112,7 +112,9 @@ job. A qubit that control and target share counts for both."],
         name: "correlation",
         operand: Operand::Job,
         summary: "whether correlated noise lines agree in size",
-        details: &["Prints 'ok=1' if the noise lines of each correlation have distributions of one size."],
+        details: &[
+            "Prints 'ok=1' if the noise lines of each correlation have one size, as their field 'size=' says it.",
+        ],
         options: &[],
         obey: correlation,
     },
@@ -139,6 +141,14 @@ header and the same lines but for injections and flips, the sum is what a run of
 the injections and flips of all, each among the same lines, and twice where two hold it there."],
         options: &[&[SUM]],
         obey: add,
+    },
+    Command {
+        name: "sizes",
+        operand: Operand::Job,
+        summary: "an older job with the size of the distribution on each noise line",
+        details: &[sizes::DETAILS],
+        options: &[&[OUTPUT]],
+        obey: |arguments| write_out(arguments, &sizes::added(&files::job(arguments.operand())?)?),
     },
     Command {
         name: "bits",

@@ -46,7 +46,7 @@ const FORMS: [(&str, &str); 14] = [
     ("n", "p=H corr=C cond=L parity=B"),
 ];
 
-/// The further fields of a noise line, and those of its element lines.
+/// The further fields of a noise line, behind which its size stands, and those of its element lines.
 const KINDS: [(&str, &str); 4] = [("1", "x=L z=L"), ("2", "q=Q"), ("3", "n=N"), ("4", "n=N")];
 const ELEMENTS: [(&str, &str); 2] = [("3", "x=L z=L"), ("4", "w=H x=L z=L")];
 
@@ -108,6 +108,10 @@ impl Job<'_> {
                 Some("put noise lines around this line by hand, and annotate the job without it".into())
             }
             Number::SIZES => Some("give this line a corr= of its own".into()),
+            Number::SIZE => {
+                let (distribution, _) = self.line.rsplit_once(" size=")?;
+                Some(format!("the size of this distribution is {}", size(distribution)?))
+            }
             _ => None,
         }
     }
@@ -215,20 +219,47 @@ impl Job<'_> {
         let Some(form) = named(&FORMS, op) else {
             return Some(no_such_op(op));
         };
-        if op != "n" {
-            return fields(self.line, &split(form), &format!("op={op}"));
-        }
+        if op == "n" { self.noise_form() } else { fields(self.line, &split(form), &format!("op={op}")) }
+    }
+
+    /// What is wrong with the form of the noise line.
+    fn noise_form(&self) -> Option<String> {
         let kind = field(self.line, "d").unwrap_or_default();
-        let Some(more) = named(&KINDS, kind) else {
+        let Some(without_size) = form_without_size(kind) else {
             return Some("a noise line is op=n p=H corr= cond= parity= d=, with d= 1, 2, 3 or 4".into());
         };
-        let whole: Vec<(&str, &str)> = split(form).into_iter().chain([("d", "N")]).chain(split(more)).collect();
+        if let Some(size) = size(self.line) {
+            return Some(format!(
+                "the line lacks its last field, size={size}: 'kundatrezo sizes' writes it into a job"
+            ));
+        }
+        let whole: Vec<(&str, &str)> = without_size.into_iter().chain([("size", "N")]).collect();
         let fault = fields(self.line, &whole, &format!("op=n with d={kind}"));
         let condition =
             || (field(self.line, "cond")? == "-").then(|| "without a condition (cond=-) parity is 0".into());
         let ends = || wanted(self.line).map(|(_, count)| format!("the job ends before the {count} element lines"));
         let parity = field(self.line, "parity") == Some("1");
         fault.or_else(|| if parity { condition() } else { None }).or_else(|| if self.is_last { ends() } else { None })
+    }
+}
+
+/// The fields of a noise line but for the last, its size.
+fn form_without_size(kind: &str) -> Option<Vec<(&'static str, &'static str)>> {
+    let common = split(named(&FORMS, "n")?).into_iter().chain([("d", "N")]);
+    Some(common.chain(split(named(&KINDS, kind)?)).collect())
+}
+
+/// The size of the distribution on a noise line that has all other fields in their form: 1, 4^k - 1 over k qubits, or n. None where it has not, or where
+/// 4^k is not below 2^64.
+pub fn size(line: &str) -> Option<u64> {
+    let kind = field(line, "d")?;
+    if fields(line, &form_without_size(kind)?, "").is_some() {
+        return None;
+    }
+    match kind {
+        "1" => Some(1),
+        "2" => Some(4_u64.checked_pow(field(line, "q")?.split(',').count().try_into().ok()?)? - 1),
+        _ => field(line, "n")?.parse().ok(),
     }
 }
 
@@ -362,26 +393,45 @@ mod tests {
             ("op=z q=\u{b2}", "the line has bytes that are not ASCII"),
             ("x=0 z=-", "a line begins with op="),
             (
-                "op=n p=0.001 corr=- cond=- parity=0 d=2 q=0",
+                "op=n p=0.001 corr=- cond=- parity=0 d=2 q=0 size=3",
                 "p= is a binary64 by its 16 hexadecimal digits, in lower case: 0.001 is 3f50624dd2f1a9fc",
             ),
             (
-                "op=n p=3FE0000000000000 corr=- cond=- parity=0 d=2 q=0",
+                "op=n p=3FE0000000000000 corr=- cond=- parity=0 d=2 q=0 size=3",
                 "p= is a binary64 by its 16 hexadecimal digits, in lower case",
             ),
             ("op=c q=0 t=9", "t= is a table by its 16 hexadecimal digits"),
-            ("op=n p=3fe0000000000000 corr=-1 cond=- parity=0 d=2 q=0", "corr= is a number, or - for none"),
-            (&format!("{noise} parity=1 d=2 q=0"), "without a condition (cond=-) parity is 0"),
-            (&format!("{noise} parity=0 d=5 q=0"), "a noise line is op=n"),
-            (&format!("{noise} parity=0 d=2 x=0 z=-"), "the fields of op=n with d=2 are p= corr= cond= parity= d= q="),
-            (&format!("{noise} parity=0 d=3 n=2"), "the job ends before the 2 element lines"),
+            ("op=n p=3fe0000000000000 corr=-1 cond=- parity=0 d=2 q=0 size=3", "corr= is a number, or - for none"),
+            (&format!("{noise} parity=1 d=2 q=0 size=3"), "without a condition (cond=-) parity is 0"),
+            (&format!("{noise} parity=0 d=5 q=0 size=3"), "a noise line is op=n"),
             (
-                &format!("{noise} parity=0 d=3 n=3\nx=0 z=-"),
+                &format!("{noise} parity=0 d=2 x=0 z=- size=1"),
+                "the fields of op=n with d=2 are p= corr= cond= parity= d= q= size=, in this order",
+            ),
+            (
+                &format!("{noise} parity=0 d=1 x=0 z=-"),
+                "the line lacks its last field, size=1: 'kundatrezo sizes' writes",
+            ),
+            (&format!("{noise} parity=0 d=2 q=1,0"), "the line lacks its last field, size=15:"),
+            (&format!("{noise} parity=0 d=3 n=2\nx=0 z=-\nx=- z=0"), "the line lacks its last field, size=2:"),
+            (&format!("{noise} parity=0 d=1 size=1 x=0 z=-"), "the fields of op=n with d=1 are p= corr="),
+            (
+                &format!("{noise} parity=0 d=2 q=1,0 size=015"),
+                "size= is one number, in decimal and without leading zeros",
+            ),
+            (&format!("{noise} parity=0 d=2 q=1,0 size=16"), "the size of this distribution is 15"),
+            (
+                &format!("{noise} parity=0 d=4 n=1 size=2\nw=3ff0000000000000 x=0 z=-"),
+                "the size of this distribution is 1",
+            ),
+            (&format!("{noise} parity=0 d=3 n=2 size=2"), "the job ends before the 2 element lines"),
+            (
+                &format!("{noise} parity=0 d=3 n=3 size=3\nx=0 z=-"),
                 "the job ends here; element lines of d=3 that are missing: 2",
             ),
-            (&format!("{noise} parity=0 d=4 n=1\nx=0 z=-"), "the fields of an element line of d=4 are w= x= z="),
+            (&format!("{noise} parity=0 d=4 n=1 size=1\nx=0 z=-"), "the fields of an element line of d=4 are w= x= z="),
             (
-                &format!("{noise} parity=0 d=4 n=1\nw=0.5 x=0 z=-"),
+                &format!("{noise} parity=0 d=4 n=1 size=1\nw=0.5 x=0 z=-"),
                 "w= is a binary64 by its 16 hexadecimal digits, in lower case: 0.5 is 3fe0000000000000",
             ),
             ("op=job qubits=1 outcomes=0 shots=1", "the header is the first line alone"),
@@ -396,11 +446,11 @@ mod tests {
             ("op=t shot=0 id=0", "no outcome is recorded before this line"),
             ("op=r id=0 angle=0\nop=t shot=0 id=4", "before this line outcomes 0 to 0 are recorded"),
             ("op=i shot=3 x=0 z=-", "the header has shots=3"),
-            ("op=n p=3ff8000000000000 corr=- cond=- parity=0 d=2 q=0", "p= is 1.5 in decimal"),
-            (&format!("{noise} parity=0 d=3 n=65\nx=0 z=-"), "n=65: a distribution has 1 to 64 elements"),
-            (&format!("{noise} parity=0 d=4 n=1\nw=bff0000000000000 x=0 z=-"), "this weight is -1.0 in decimal"),
+            ("op=n p=3ff8000000000000 corr=- cond=- parity=0 d=2 q=0 size=3", "p= is 1.5 in decimal"),
+            (&format!("{noise} parity=0 d=3 n=65 size=65\nx=0 z=-"), "n=65: a distribution has 1 to 64 elements"),
+            (&format!("{noise} parity=0 d=4 n=1 size=1\nw=bff0000000000000 x=0 z=-"), "this weight is -1.0 in decimal"),
             (
-                &format!("{noise} parity=0 d=4 n=1\nw=0000000000000000 x=0 z=-"),
+                &format!("{noise} parity=0 d=4 n=1 size=1\nw=0000000000000000 x=0 z=-"),
                 "the weights of this noise line sum to zero",
             ),
         ];

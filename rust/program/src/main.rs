@@ -8,6 +8,7 @@ mod hints;
 mod manual;
 mod numbers;
 mod shots;
+mod sizes;
 mod words;
 
 use arguments::{Arguments, Command};

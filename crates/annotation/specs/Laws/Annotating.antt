@@ -9,8 +9,8 @@ use lib.Dec.{leb}
 use lib.ListN.{length, take, drop, length-append, drop-of-length-le}
 use borrow.Author.Tests.{leb-true}
 use Rattle.text.specs.Bytes.{LF, pieces, lines, unlines}
-use Rattle.text.specs.Template.{Value, lineText}
-use Rattle.job.specs.Grammar.{Written, depolarizingTemplate}
+use Rattle.text.specs.Template.{Value}
+use Rattle.job.specs.Grammar.{Written}
 use Rattle.job.specs.Checks.{maxMembers}
 use Rattle.job.specs.Job.{checkJob}
 use Rattle.reader.specs.Parsed.{formOf}
@@ -20,7 +20,7 @@ use Rattle.instructions.specs.Lines.{Left, numbered}
 use Rattle.instructions.specs.Laws.Lines.{Passed, left-all, here, line-read, left-more, numbered-some}
 use Rattle.instructions.specs.Laws.Places.{whole-line}
 use Rattle.writer.specs.Placed.{Puts}
-use Rattle.writer.specs.Line.{depolarizingStart, StartOf}
+use Rattle.writer.specs.Line.{depolarizingStart, depolarizingText, StartOf}
 use Rattle.writer.specs.Laws.Placing.{placed-over, puts-length, Rest, rest-all, rest-more, rest-none}
 use Rattle.writer.specs.Laws.Lines.{start-length, depolarizing-next}
 use Rattle.circuit.specs.Annotate.{noiseText, noiseLines, annotated, annotatedText, noiseOn, firstUnfit}
@@ -49,23 +49,23 @@ noise-empty p [] h = refl
 noise-empty p (q ∷ qs) h = absurd (omega arith)
 
 pub noise-some : (p : ℕ) (qs : List ℕ) → (length qs ≡ 0 → ⊥)
-    → unlines (noiseLines p qs) ≡ lineText depolarizingTemplate (Value.number p ∷ Value.list [] ∷ Value.list [] ∷ Value.number 0 ∷ Value.list qs ∷ []) ++ LF ∷ []
+    → unlines (noiseLines p qs) ≡ depolarizingText p qs ++ LF ∷ []
 unfolding unlines noiseLines noiseText
 noise-some p [] h = absurd (h refl)
 noise-some p (q ∷ qs) h = refl
 
 -- how long it is
-noise-length : (p : ℕ) (qs : List ℕ) → length (unlines (noiseLines p qs)) ≤ 21 * length qs + 60
+noise-length : (p : ℕ) (qs : List ℕ) → length (unlines (noiseLines p qs)) ≤ 21 * length qs + 81
 noise-length p [] = rw (noise-empty p [] refl) (omega arith)
 noise-length p (q ∷ qs) =
     let text = noise-some p (q ∷ qs) (λ (e : suc (length qs) ≡ 0). omega arith) in
     rw text (omega (arith, depolarizing-next p (q ∷ qs) {at = 0} {out = []} (record { bytes = refl; place = refl })))
 
-pub noise-next : (p : ℕ) (qs : List ℕ) {at : ℕ} {out after : List ℕ} {next : ℕ} → Puts at (unlines (noiseLines p qs)) out after next → next ≤ at + (21 * length qs + 60)
+pub noise-next : (p : ℕ) (qs : List ℕ) {at : ℕ} {out after : List ℕ} {next : ℕ} → Puts at (unlines (noiseLines p qs)) out after next → next ≤ at + (21 * length qs + 81)
 noise-next p qs w = omega (arith, w .place, noise-length p qs)
 
 pub around-next : (before : Bool) (line : List ℕ) (p : ℕ) (qs : List ℕ) {at : ℕ} {out after : List ℕ} {next : ℕ}
-    → Puts at (aroundText before line (unlines (noiseLines p qs))) out after next → next ≤ at + length line + (21 * length qs + 60)
+    → Puts at (aroundText before line (unlines (noiseLines p qs))) out after next → next ≤ at + length line + (21 * length qs + 81)
 around-next true line p qs w = omega (arith, w .place, length-append (unlines (noiseLines p qs)) line, noise-length p qs)
 around-next false line p qs w = omega (arith, w .place, length-append line (unlines (noiseLines p qs)), noise-length p qs)
 
@@ -76,7 +76,7 @@ pub record Annotating (job : List ℕ) (p : ℕ) (out : List ℕ) (k at next : �
   pub left : Left job k at
   pub unfit : firstUnfit 1 (lines job) ≡ firstUnfit k (lines (drop at job))
   pub rest : Rest 0 (annotatedText p job) out next (unlines (annotated p (lines (drop at job)))) after
-  pub bound : next ≤ 712 * at
+  pub bound : next ≤ 733 * at
 
 pub put-none : {job : List ℕ} {p : ℕ} {out : List ℕ} → checkJob job .number ≡ 0 → Annotating job p out 1 0 0 out
 unfolding annotatedText
@@ -111,7 +111,7 @@ module _ {job : List ℕ} {p : ℕ} {out : List ℕ} {k at next : ℕ} {after : 
   line-size = part-few (line .end + 1 - at) (drop at job)
 
   -- there is room for the line and its noise
-  pub put-room : Fits true → next + (length (take (line .end + 1 - at) (drop at job)) + (21 * length (take n words) + 60)) < 2 ^ 64
+  pub put-room : Fits true → next + (length (take (line .end + 1 - at) (drop at job)) + (21 * length (take n words) + 81)) < 2 ^ 64
   put-room h = omega (arith, fits-few h, line-size, a .bound, a .left .within, a .left .size, l .place .inside)
 
   pub put-more : {more : List ℕ} {end : ℕ} (before : Bool) → Fits true

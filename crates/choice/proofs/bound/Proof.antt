@@ -1,7 +1,6 @@
--- `choice::bound` meets its contract: a shift by 2k is 4 ^ k.
-use native.Mathlib.Omega.{arith}
+-- `choice::bound` meets its contract. Assumes nothing.
 use Rattle.noise.specs.Kinds.{boundOf}
-use Rattle.choice.specs.Laws.Choice.{shifted, four-pos, small-qubits}
+use Rattle.choice.specs.Laws.Choice.{small-qubits}
 use borrow.Author.Needs.{needs}
 use Rattle.choice.proofs.bound.Statement.{statement}
 use Rattle.choice.proofs.bound.Tie as tie
@@ -12,14 +11,8 @@ enum-told c = search needs
 enum-known-d : tie.Need-enum-known-d
 enum-known-d c = search needs
 
-mul-result : tie.Need-mul-result
-mul-result c = omega (arith, small-qubits _ (c .before .d .given .1) (c .before .before .before .pre))
-
-shl-result : tie.Need-shl-result
-shl-result c = omega (arith, small-qubits _ (c .before .d .given .1) (c .before .before .before .pre))
-
-sub-result : tie.Need-sub-result
-sub-result c = rw (shifted _ (small-qubits _ (c .before .d .given .1) (c .before .before .before .pre))) (four-pos _)
+depolarizing-size-requires : tie.Need-depolarizing-size-requires
+depolarizing-size-requires c κs = small-qubits _ (c .before .d .given .1) (c .before .before .before .pre)
 
 enum-known-d-2 : tie.Need-enum-known-d-2
 enum-known-d-2 c = search needs
@@ -33,7 +26,7 @@ returns c = rw (c .enum-told .given .1)
 
 returns-2 : tie.Need-returns-2
 unfolding boundOf
-returns-2 c = rw (c .before .d .given .1, shifted _ (small-qubits _ (c .before .d .given .1) (c .before .before .before .pre)))
+returns-2 c = rw (c .before .before .d .given .1) (c .depolarizing-size .ensures)
 
 returns-3 : tie.Need-returns-3
 unfolding boundOf
@@ -49,9 +42,7 @@ bound-spec =
     (tie.spec
     enum-told
     enum-known-d
-    mul-result
-    shl-result
-    sub-result
+    depolarizing-size-requires
     enum-known-d-2
     enum-told-2
     returns

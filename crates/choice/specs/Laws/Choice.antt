@@ -1,13 +1,12 @@
 -- The choice of an element, by the place of its words. Laws. Assumes nothing.
-use Prim.Native.Nat.{ℕ, zero, suc, _+_, _-_, _*_, _%_, _^_, _<_, _≤_}
-use native.Mathlib.Nat.{one-mul, mod-eq-of-lt, mod-zero}
+use Prim.Native.Nat.{ℕ, zero, suc, _+_, _-_, _%_, _^_, _<_, _≤_}
+use native.Mathlib.Nat.{mod-zero}
 use native.Mathlib.Numerals.{add-one}
 use native.Mathlib.Omega.{arith}
-use mathlib.Core.Path.{_≡_, refl, sym, ap, _∙_, subst}
+use mathlib.Core.Path.{_≡_, refl, sym, ap, _∙_}
 use mathlib.Core.Bool.{true, false}
 use mathlib.Core.List.{List, []}
 use lib.Dec.{ltb}
-use lib.Pow.{pow-pos, pow-lt}
 use lib.ListN.{length, getD, drop, drop-of-length-le}
 use lib.Seq.{drop-cons}
 use lib.Ieee.{Float}
@@ -15,7 +14,6 @@ use Rattle.job.specs.Line.{Distribution, sizeOf}
 use Rattle.job.specs.Sound.{weightsOf}
 use Rattle.draws.specs.Draws.{unitOf, Choice, limitOf, bounded, placeOf, byWeight, chooseFrom}
 use Rattle.draws.specs.Known.{rustPlace}
-use Rattle.draws.specs.Laws.Depolarizing.{four}
 use Rattle.noise.specs.declared.PauliDistribution.{PauliDistribution}
 use Rattle.noise.specs.declared.PauliDistribution.the-variants.{Single, Depolarizing, Uniform, Weighted}
 use Rattle.choice.specs.declared.Choice.{Choice as Answer}
@@ -74,13 +72,6 @@ module _ {ws : List ℕ} {sums : List Float} (i : ℕ) where
   weighed-none h = record { within = omega arith; is = λ weights p. rw (drop-of-length-le ws h) }
 
 -- ---- the bound of a kind
-
--- 4 ^ k by a shift
-pub shifted : (k : ℕ) → k < 32 → 1 * 2 ^ (2 * k) % 2 ^ 64 ≡ 4 ^ k
-shifted k h = let small : 2 * k < 64 = omega arith in rw (one-mul, mod-eq-of-lt (pow-lt small)) (four k)
-
-pub four-pos : (k : ℕ) → 1 ≤ 4 ^ k
-four-pos k = subst (λ (n : ℕ). 1 ≤ n) (four k) (pow-pos (2 * k))
 
 pub small-qubits : {d : PauliDistribution} (k : ℕ) → d ≡ Depolarizing k → Small d → k < 32
 unfolding Small

@@ -15,7 +15,7 @@ use Rattle.text.specs.Written.{Free, AllFree}
 use Rattle.text.specs.Theorems.{written-one-line, lines-free}
 use Rattle.text.specs.Laws.Values.{none-some}
 use Rattle.job.specs.declared.Header.{Header}
-use Rattle.job.specs.Line.{SparsePauli, Line, WeightedPauli, Instruction}
+use Rattle.job.specs.Line.{SparsePauli, Line, WeightedPauli, Distribution, sizeOf, Instruction}
 use Rattle.job.specs.Rising.{rising}
 use Rattle.job.specs.Float.{float, isProbability}
 use Rattle.job.specs.Grammar.{depolarizingTemplate, NoiseLine, Written, readLine}
@@ -23,6 +23,7 @@ use Rattle.job.specs.Checks.{elementLines, allBelow, distinct}
 use Rattle.job.specs.Job.{answer, distributionOf, noiseOf, gathered, Job, jobOf, recordedBy, checkJob}
 use Rattle.job.specs.Sound.{PauliSound, SmallOption, LineSound, DistributionSound, InstructionSound, instructionsOf, ListSound, hasWeights, ElementsSaid, NoiseRead, SaidAs, HeaderSound}
 use Rattle.job.specs.Laws.Lists.{rising-distinct}
+use Rattle.job.specs.Laws.Sizes.{depolarizing-small}
 use Rattle.job.specs.Laws.Rising.{rising-rises, rising-below}
 use Rattle.job.specs.Contexts.{between}
 use Rattle.job.specs.Laws.Lines.{header-sound}
@@ -133,13 +134,18 @@ module _ (p : ℕ) (small : p < 2 ^ 64) (probability : isProbability (float p) �
   noise-before r (q ∷ qs) ts is f a =
       record {
         said =
-            SaidAs.noise (noiseText p (q ∷ qs)) [] ts (depolarizingLine p (q ∷ qs)) [] is
+            SaidAs.noise (noiseText p (q ∷ qs)) [] ts (depolarizingLine p (q ∷ qs) size) [] is
             (record { line = says; count = unfold elementLines in refl; elements = unfold ElementsSaid in tt }) (a .said);
         sound = unfold ListSound recordedBy in (noise-sound, rw add-zero (a .sound));
       }
     where
-      says : readLine (noiseText p (q ∷ qs)) ≡ some (Written.noise (depolarizingLine p (q ∷ qs)))
-      says = depolarizing-says p (q ∷ qs) small record { filled = omega arith; small = small-below (h .qubits) (q ∷ qs) (range .few-qubits) (f .below) }
+      size : ℕ
+      size = sizeOf (Distribution.depolarizing (q ∷ qs))
+
+      says : readLine (noiseText p (q ∷ qs)) ≡ some (Written.noise (depolarizingLine p (q ∷ qs) size))
+      says =
+          depolarizing-says p (q ∷ qs) size small
+          (record { filled = omega arith; small = small-below (h .qubits) (q ∷ qs) (range .few-qubits) (f .below) }) (omega (arith, depolarizing-small (q ∷ qs) (f .few)))
 
       noise-sound : InstructionSound h r (Instruction.noise (depolarizingNoise p (q ∷ qs)))
       noise-sound =
@@ -151,6 +157,7 @@ module _ (p : ℕ) (small : p < 2 ^ 64) (probability : isProbability (float p) �
             outcomes = record { rising = refl; below = refl; few = omega arith };
             parity = λ _. refl;
             distribution = record { filled = omega arith; few = f .few; apart = f .apart; below = f .below };
+            size = refl;
           }
 
   -- a line in front of others

@@ -5,7 +5,7 @@ use borrow.Author.Tests.{not-true, not-false}
 use lib.ListN.{length}
 use lib.Seq.{length-take-le}
 use Rattle.correlations.specs.Rounds.{Collecting}
-use Rattle.correlations.specs.Laws.Loops.{few-read, full, not-full, collect-none, collect-stops, collect-more, collect-ends}
+use Rattle.correlations.specs.Laws.Loops.{full, not-full, collect-none, collect-stops, collect-more, collect-ends}
 use native.Mathlib.Omega.{arith}
 use Rattle.correlations.proofs.collect.Statement.{statement}
 use Rattle.correlations.proofs.collect.Tie as tie
@@ -41,7 +41,7 @@ slice-aggregate-look-3 : tie.Need-slice-aggregate-look-3 Inv-loop μ-loop
 slice-aggregate-look-3 c = sym (length-take-le _ _ (omega (arith, c .before .before .before .before .before .before .before .loop .inv .0 .room, c .before .before .before .before .before .before .before .loop .inv .0 .beside)))
 
 look-requires : tie.Need-look-requires Inv-loop μ-loop
-look-requires c κs = (few-read (c .before .before .before .before .before .before .before .loop .inv .0 .left) (c .before .before .before .before .next-line .ensures), omega (arith, c .before .before .before .before .before .before .before .loop .inv .1, c .before .before .before .before .next-line .kept), length-take-le _ _ (c .before .before .before .before .before .before .before .loop .inv .0 .room) ∙ sym (length-take-le _ _ (omega (arith, c .before .before .before .before .before .before .before .loop .inv .0 .room, c .before .before .before .before .before .before .before .loop .inv .0 .beside))))
+look-requires c κs = (omega (arith, c .before .before .before .before .before .before .before .loop .inv .1, c .before .before .before .before .next-line .kept), length-take-le _ _ (c .before .before .before .before .before .before .before .loop .inv .0 .room) ∙ sym (length-take-le _ _ (omega (arith, c .before .before .before .before .before .before .before .loop .inv .0 .room, c .before .before .before .before .before .before .before .loop .inv .0 .beside))))
 
 same-length : tie.Need-same-length Inv-loop μ-loop
 same-length c = c .before .before .before .before .before .before .before .before .before .before .loop .inv .2

@@ -4,7 +4,7 @@ use mathlib.Core.Path.{_≡_, refl}
 use borrow.Author.Tests.{not-true, not-false}
 use lib.ListN.{length}
 use Rattle.correlations.specs.Sizes.{tableOf}
-use Rattle.correlations.specs.Laws.Loops.{few-read, Comparing, compare-none, compare-stops, compare-more, compare-ends}
+use Rattle.correlations.specs.Laws.Loops.{Comparing, compare-none, compare-stops, compare-more, compare-ends}
 use native.Mathlib.Omega.{arith}
 use Rattle.correlations.proofs.compare.Statement.{statement}
 use Rattle.correlations.proofs.compare.Tie as tie
@@ -28,7 +28,7 @@ slice-aggregate-look : tie.Need-slice-aggregate-look Inv-loop μ-loop
 slice-aggregate-look c = omega (arith, c .before .before .before .before .before .loop .inv .1, c .before .before .next-line .kept)
 
 look-requires : tie.Need-look-requires Inv-loop μ-loop
-look-requires c κs = (few-read (c .before .before .before .before .before .loop .inv .0 .left) (c .before .before .next-line .ensures), omega (arith, c .before .before .before .before .before .loop .inv .1, c .before .before .next-line .kept), c .before .before .before .before .before .before .before .before .before .pre .1)
+look-requires c κs = (omega (arith, c .before .before .before .before .before .loop .inv .1, c .before .before .next-line .kept), c .before .before .before .before .before .before .before .before .before .pre .1)
 
 returns : tie.Need-returns Inv-loop μ-loop
 returns c = compare-stops (c .before .before .before .before .before .before .before .before .loop .inv .0) (c .before .before .before .before .before .next-line .ensures) (c .before .before .look .ensures) (not-true _ (c .if1 .taken))

@@ -31,10 +31,10 @@ mul-t10 : tie.Need-mul-t10
 mul-t10 c = omega (arith, until-within (getD (c .before .before .before .before .before .before .before .before .before .args .f .now) 12 0) (c .before .before .before .before .before .before .before .before .before .args .seen .now), rw (c .before .before .before .member .ensures) at (c .before .place .ensures))
 
 shared-slice-read-t12 : tie.Need-shared-slice-read-t12
-shared-slice-read-t12 c = omega (arith, until-within (getD (c .before .before .before .before .before .before .before .before .before .before .args .f .now) 12 0) (c .before .before .before .before .before .before .before .before .before .before .args .seen .now), rw (c .before .before .before .before .member .ensures) at (c .before .before .place .ensures), c .before .if2 .left, c .before .before .before .before .before .before .before .before .before .before .pre .2)
+shared-slice-read-t12 c = omega (arith, until-within (getD (c .before .before .before .before .before .before .before .before .before .before .args .f .now) 12 0) (c .before .before .before .before .before .before .before .before .before .before .args .seen .now), rw (c .before .before .before .before .member .ensures) at (c .before .before .place .ensures), c .before .if2 .left, c .before .before .before .before .before .before .before .before .before .before .pre .1)
 
 returns-3 : tie.Need-returns-3
-returns-3 c = λ vs w s. rw (c .before .before .before .before .member .ensures) (look-old s _ _ (sym (c .before .before .before .before .before .before .is-correlated .ensures vs w s) ∙ not-false _ (c .before .before .before .before .before .if1 .left)) (c .before .before .before .size .ensures) (rw (c .before .before .before .before .member .ensures) at (c .before .before .place .ensures)) (c .before .before .before .before .before .before .before .before .before .before .pre .2) (c .before .if2 .left))
+returns-3 c = λ vs w s. rw (c .before .before .before .before .member .ensures) (look-old s _ _ (sym (c .before .before .before .before .before .before .is-correlated .ensures vs w s) ∙ not-false _ (c .before .before .before .before .before .if1 .left)) (c .before .before .before .size .ensures) (rw (c .before .before .before .before .member .ensures) at (c .before .before .place .ensures)) (c .before .before .before .before .before .before .before .before .before .before .pre .1) (c .before .if2 .left))
 
 pub look-spec : {M : Type 1} → statement M
 look-spec =

@@ -2,79 +2,39 @@
 use Prim.Native.Nat.{ℕ, suc, _+_, _≤_, _<_}
 use native.Mathlib.Numerals.{add-one}
 use native.Mathlib.Omega.{arith}
-use mathlib.Core.Path.{_≡_, refl, sym, ap, subst, _∙_}
+use mathlib.Core.Path.{_≡_, refl, sym, ap, _∙_}
 use mathlib.Core.Bool.{Bool, true, false, cond, _&&_}
 use mathlib.Core.List.{List, [], _∷_}
 use mathlib.Core.Option.{Option, some}
-use borrow.Author.Tests.{not-false, eqb-true, eqb-false, eq-eqb, ne-eqb}
+use borrow.Author.Tests.{eqb-true, eqb-false, eq-eqb, ne-eqb}
 use lib.Dec.{eqb}
 use lib.ListN.{length, getD, set, take, drop, length-set}
 use Rattle.text.specs.Bytes.{until, lines}
 use Rattle.text.specs.Laws.Values.{both}
 use Rattle.text.specs.Template.{Value}
-use Rattle.job.specs.Line.{sizeOf, Placed}
-use Rattle.job.specs.Grammar.{Kind, NoiseLine, Written, readLine}
-use Rattle.job.specs.Checks.{Context, kindSize, next as nextContext, headerFits, noiseTests, ownTests, kindDistinct, kindQubits, eachShort}
+use Rattle.job.specs.Line.{Placed}
+use Rattle.job.specs.Grammar.{NoiseLine, Written, readLine}
 use Rattle.job.specs.declared.Answer.{Answer}
-use Rattle.job.specs.Job.{answer, accepted, distributionOf, noiseOf, gather, gathered, Job, checkJob, jobOf}
-use Rattle.job.specs.Laws.Tests.{AllPass}
-use Rattle.job.specs.Laws.Lines.{first-short}
-use Rattle.job.specs.Contexts.{Accepted}
-use Rattle.job.specs.Laws.Accepted.{passes-first, Passing, passing, accepted-first}
+use Rattle.job.specs.Job.{answer, accepted, noiseOf, gather, gathered, Job, checkJob, jobOf}
 use Rattle.job.specs.Laws.Begun.{job-begun}
-use Rattle.job.specs.Laws.Gather.{kind-size, gathered-sound}
 use Rattle.reader.specs.declared.Form.{Form}
 use Rattle.reader.specs.Parsed.{Said}
 use Rattle.instructions.specs.declared.Next.{Next}
 use Rattle.instructions.specs.Reading.{lineAt, NextLine}
 use Rattle.instructions.specs.Ahead.{instructionsAt}
-use Rattle.instructions.specs.Lines.{Passes, Left, numbered}
-use Rattle.instructions.specs.Laws.Meaning.{some-same}
+use Rattle.instructions.specs.Lines.{Left, numbered}
 use Rattle.instructions.specs.Laws.Steps.{none-left}
 use Rattle.instructions.specs.Laws.Lines.{numbered-some, here, line-read, left-all, left-more}
-use Rattle.circuit.specs.Correlation.{Seen, sizeFits, seenAfter, correlationOf, elementCount, firstDiffering}
+use Rattle.circuit.specs.Correlation.{Seen, sizeFits, seenAfter, correlationOf, elementCount, firstDifferingBy, firstDiffering}
 use Rattle.circuit.specs.Replies.{correlationAnswer, correlationReply}
 use Rattle.correlations.specs.declared.Looked.{Looked}
 use Rattle.correlations.specs.declared.Collected.{Collected}
 use Rattle.correlations.specs.declared.Found.{Found}
-use Rattle.correlations.specs.Sizes.{correlationIn, sizeIn, FewOperands, Few, FewRead, present, tableOf, lookFor, lookOf, grown}
+use Rattle.correlations.specs.Sizes.{correlationIn, sizeIn, present, tableOf, lookFor, lookOf, grown}
 use Rattle.correlations.specs.Rounds.{unlike, earliest, Remembers, Collecting, Collects, RoundOf}
 use Rattle.correlations.specs.Laws.Sizes.{NoiseWith, correlated, absent, noise-size}
 use Rattle.correlations.specs.Laws.Tables.{size-unseen, size-seen, table-more}
 use Rattle.correlations.specs.Laws.Rounds.{look-fits, look-grown, gathered-from, round-parts, earliest-none, earliest-assoc}
-
--- ---- a noise line and its elements
-
-few-operands : (c : Context) (n : NoiseLine) → AllPass (noiseTests c n) → FewOperands (n .kind)
-unfolding noiseTests
-few-operands c n t =
-    let lists = both (kindDistinct (n .kind)) (eachShort (n .condition .outcomes ∷ kindQubits (n .kind))) (not-false _ (t .1 .0)) in
-    go (n .kind) (first-short (n .condition .outcomes) (kindQubits (n .kind)) (lists .1) .1)
-  where
-    go : (k : Kind) → eachShort (kindQubits k) ≡ true → FewOperands k
-    go (Kind.single P) e = unfold FewOperands in tt
-    go (Kind.depolarizing qs) e = unfold FewOperands kindQubits in first-short qs [] (unfold kindQubits in e) .0
-    go (Kind.uniform n) e = unfold FewOperands in tt
-    go (Kind.weighted n) e = unfold FewOperands in tt
-
-record NoisePassed (k : ℕ) (n : NoiseLine) (ls : List (List ℕ)) : Type 0 where
-  few : FewOperands (n .kind)
-  size : sizeOf (distributionOf (n .kind) (gathered (suc k) ls .elements)) ≡ kindSize (n .kind)
-
-noise-passed : {k : ℕ} {l : List ℕ} {ls : List (List ℕ)} (n : NoiseLine) → Passes k (l ∷ ls) → readLine l ≡ some (Written.noise n) → NoisePassed k n ls
-unfolding headerFits ownTests nextContext
-noise-passed {k} {l} {ls} n a reads =
-    let c = a .context in
-    let parts = passes-first k c l ls (a .passes) in
-    let own : Passing c ls (Written.noise n) = passing c ls (Written.noise n) (rw reads at (parts .0)) in
-    let all : Accepted k c (l ∷ ls) = record { begun = own .header; ends = refl; passes = a .passes } in
-    let f = accepted-first all in
-    let says : f .says ≡ Written.noise n = some-same (sym (f .reads) ∙ reads) in
-    let rest : Accepted (suc k) (nextContext c (Written.noise n)) ls = subst (λ (w : Written). Accepted (suc k) (nextContext c w) ls) says (f .rest) in
-    record {
-      few = few-operands c n (own .own);
-      size = kind-size (n .kind) (gathered (suc k) ls .elements) (gathered-sound (suc k) (nextContext c (Written.noise n)) ls rest .count);
-    }
 
 -- ---- one line
 
@@ -83,51 +43,33 @@ module _ (k : ℕ) (l : List ℕ) (ls : List (List ℕ)) (w : Written) (reads : 
   abbrev behind : List Placed
   behind = gathered (suc k) ls .instructions
 
-  gathered-differing : ((n : NoiseLine) → w ≡ Written.noise n → NoisePassed k n ls)
-      → firstDiffering seen (gathered k (l ∷ ls) .instructions)
+  gathered-differing : firstDiffering seen (gathered k (l ∷ ls) .instructions)
       ≡ cond (sizeFits seen (correlationIn w) (sizeIn w)) (firstDiffering (seenAfter seen (correlationIn w) (sizeIn w)) behind) (some k)
   unfolding gathered
-  gathered-differing p = rw reads (go w p)
+  gathered-differing = rw reads (go w)
     where
-      go : (w : Written) → ((n : NoiseLine) → w ≡ Written.noise n → NoisePassed k n ls)
-          → firstDiffering seen (gather k l (some w) (gathered (suc k) ls) .instructions)
+      go : (w : Written) → firstDiffering seen (gather k l (some w) (gathered (suc k) ls) .instructions)
           ≡ cond (sizeFits seen (correlationIn w) (sizeIn w)) (firstDiffering (seenAfter seen (correlationIn w) (sizeIn w)) behind) (some k)
-      go (Written.header h) p = unfold gather correlationIn sizeIn sizeFits seenAfter in refl
-      go (Written.line i) p = unfold gather correlationIn sizeIn firstDiffering correlationOf elementCount in refl
-      go (Written.noise n) p = unfold gather correlationIn sizeIn firstDiffering correlationOf elementCount noiseOf in rw (p n refl .size)
-      go (Written.element v P) p = unfold gather correlationIn sizeIn sizeFits seenAfter in refl
+      go (Written.header h) = unfold gather correlationIn sizeIn sizeFits seenAfter in refl
+      go (Written.line i) = unfold gather correlationIn sizeIn firstDifferingBy correlationOf elementCount in refl
+      go (Written.noise n) = unfold gather correlationIn sizeIn firstDifferingBy correlationOf elementCount noiseOf in refl
+      go (Written.element v P) = unfold gather correlationIn sizeIn sizeFits seenAfter in refl
 
-  gathered-unlike : ((n : NoiseLine) → w ≡ Written.noise n → NoisePassed k n ls)
-      → unlike seen (gathered k (l ∷ ls) .instructions) ≡ cond (sizeFits seen (correlationIn w) (sizeIn w)) (unlike seen behind) (some k)
+  gathered-unlike : unlike seen (gathered k (l ∷ ls) .instructions) ≡ cond (sizeFits seen (correlationIn w) (sizeIn w)) (unlike seen behind) (some k)
   unfolding gathered
-  gathered-unlike p = rw reads (go w p)
+  gathered-unlike = rw reads (go w)
     where
-      go : (w : Written) → ((n : NoiseLine) → w ≡ Written.noise n → NoisePassed k n ls)
-          → unlike seen (gather k l (some w) (gathered (suc k) ls) .instructions) ≡ cond (sizeFits seen (correlationIn w) (sizeIn w)) (unlike seen behind) (some k)
-      go (Written.header h) p = unfold gather correlationIn sizeIn sizeFits in refl
-      go (Written.line i) p = unfold gather correlationIn sizeIn unlike correlationOf elementCount in refl
-      go (Written.noise n) p = unfold gather correlationIn sizeIn unlike correlationOf elementCount noiseOf in rw (p n refl .size)
-      go (Written.element v P) p = unfold gather correlationIn sizeIn sizeFits in refl
+      go : (w : Written) → unlike seen (gather k l (some w) (gathered (suc k) ls) .instructions) ≡ cond (sizeFits seen (correlationIn w) (sizeIn w)) (unlike seen behind) (some k)
+      go (Written.header h) = unfold gather correlationIn sizeIn sizeFits in refl
+      go (Written.line i) = unfold gather correlationIn sizeIn unlike correlationOf elementCount in refl
+      go (Written.noise n) = unfold gather correlationIn sizeIn unlike correlationOf elementCount noiseOf in refl
+      go (Written.element v P) = unfold gather correlationIn sizeIn sizeFits in refl
 
 -- ---- a line that was read
 
 module _ {job : List ℕ} {k at : ℕ} (a : Left job k at) {next : Next} {fields : List ℕ} (n : NextLine job at next fields) where
   abbrev said : Written
   said = here a n .written
-
-  passed : (m : NoiseLine) → said ≡ Written.noise m → NoisePassed k m (lines (drop (next .end + 1) job))
-  passed m e = noise-passed m (subst (Passes k) (n .place .cut) (a .passes)) (here a n .reads ∙ ap some e)
-
-  pub few-read : FewRead (next .form) fields
-  few-read =
-      let r = line-read a n in
-      record { written = said; values = r .values; said = r .said; few = go said passed }
-    where
-      go : (w : Written) → ((m : NoiseLine) → w ≡ Written.noise m → NoisePassed k m (lines (drop (next .end + 1) job))) → Few w
-      go (Written.header h) p = unfold Few in tt
-      go (Written.line i) p = unfold Few in tt
-      go (Written.noise m) p = unfold Few in p m refl .few
-      go (Written.element v P) p = unfold Few in tt
 
   -- what the code found of the line beside a table
   module _ (seen : List Seen) {l : Looked} (looks : (vs : List Value) (w : Written) → Said (next .form) fields vs w → l ≡ lookOf seen (correlationIn w) (sizeIn w)) where
@@ -139,14 +81,14 @@ module _ {job : List ℕ} {k at : ℕ} (a : Left job k at) {next : Next} {fields
     unfolding instructionsAt
     differing-line =
         ap (λ (ls : List (List ℕ)). firstDiffering seen (gathered k ls .instructions)) (n .place .cut)
-        ∙ gathered-differing k (lineAt job at (next .end)) (lines (drop (next .end + 1) job)) said (here a n .reads) seen passed
+        ∙ gathered-differing k (lineAt job at (next .end)) (lines (drop (next .end + 1) job)) said (here a n .reads) seen
         ∙ rw (look, add-one k, look-fits seen (sizeIn said) (correlationIn said), look-grown seen (sizeIn said) (gathered (suc k) (lines (drop (next .end + 1) job)) .instructions) (correlationIn said))
 
     pub unlike-line : unlike seen (instructionsAt job k at) ≡ cond (l .fits) (unlike seen (instructionsAt job (k + 1) (next .end + 1))) (some k)
     unfolding instructionsAt
     unlike-line =
         ap (λ (ls : List (List ℕ)). unlike seen (gathered k ls .instructions)) (n .place .cut)
-        ∙ gathered-unlike k (lineAt job at (next .end)) (lines (drop (next .end + 1) job)) said (here a n .reads) seen passed
+        ∙ gathered-unlike k (lineAt job at (next .end)) (lines (drop (next .end + 1) job)) said (here a n .reads) seen
         ∙ rw (look, add-one k, look-fits seen (sizeIn said) (correlationIn said))
 
 -- ---- the table
@@ -158,7 +100,7 @@ module _ {f : Form} {fields : List ℕ} {vs : List Value} {w : Written} (s : Sai
   look-absent seen h = rw (absent (correlationIn w) h)
 
   module _ (seen sizes : List ℕ) {i size : ℕ} (h : present (correlationIn w) ≡ true)
-      (e : (vs : List Value) (n : NoiseLine) → Said f fields vs (Written.noise n) → size ≡ kindSize (n .kind)) (p : i ≡ until (getD fields 12 0) seen) where
+      (e : (vs : List Value) (n : NoiseLine) → Said f fields vs (Written.noise n) → size ≡ n .size) (p : i ≡ until (getD fields 12 0) seen) where
     corr : NoiseWith (getD fields 12 0) w
     corr = correlated s h
 
@@ -248,7 +190,7 @@ module _ {job : List ℕ} {number from k at : ℕ} {seen : List Seen} (c : Compa
 
 module _ {job : List ℕ} {number from : ℕ} {r : Collected} {seen sizes : List ℕ} (c : Collects job number from r seen sizes) where
   pub round-stops : from < length job → (r .differing ≡ 0 → ⊥) → RoundOf job number from (record { differing = r .differing; at = length job; number = 0 })
-  unfolding firstDiffering
+  unfolding firstDifferingBy
   round-stops h d =
       record {
         onward = h;
@@ -299,7 +241,7 @@ search-more {job} {k} {at} {differing} {r} {d} s q e =
     }
 
 pub search-ends : {job : List ℕ} {k at differing : ℕ} → Searching job k at differing → length job ≤ at → numbered differing ≡ firstDiffering [] (jobOf job .instructions)
-unfolding firstDiffering
+unfolding firstDifferingBy
 search-ends {job} {k} {at} {differing} s h = sym (s .same ∙ rw (none-left job k at h) (earliest-none (numbered differing)))
 
 -- ---- the call

@@ -10,7 +10,7 @@ use lib.Dec.{eqb}
 use Rattle.job.specs.Line.{Placed}
 use Rattle.job.specs.Grammar.{Written, readLine}
 use Rattle.job.specs.Job.{Gathered, gather, gathered}
-use Rattle.circuit.specs.Correlation.{Seen, seenAfter, sizeFits, correlationOf, elementCount, firstDiffering}
+use Rattle.circuit.specs.Correlation.{Seen, seenAfter, sizeFits, correlationOf, elementCount, firstDifferingBy, firstDiffering}
 use Rattle.instructions.specs.Lines.{numbered}
 use Rattle.instructions.specs.Laws.Lines.{numbered-some}
 use Rattle.correlations.specs.Sizes.{sizeFor, lookFor, lookOf, grown}
@@ -36,7 +36,7 @@ same-fits a b none s e = unfold sizeFits in refl
 same-fits a b (some c) s e = fits-by a c s ∙ ap (λ (o : Option ℕ). sameSize o s) (e c) ∙ sym (fits-by b c s)
 
 pub differing-same : (a b : List Seen) (is : List Placed) → ((c : ℕ) → sizeFor a c ≡ sizeFor b c) → firstDiffering a is ≡ firstDiffering b is
-unfolding firstDiffering
+unfolding firstDifferingBy
 differing-same a b [] e = refl
 differing-same a b (i ∷ is) e =
     let o = correlationOf (i .instruction) in
@@ -121,7 +121,7 @@ unlike-from k seen (i ∷ is) f =
     at-least k (i .line) (sizeFits seen (correlationOf (i .instruction)) (elementCount (i .instruction))) (unlike seen is) (f .0) (unlike-from (i .line) seen is (f .1))
 
 differing-from : (k : ℕ) (seen : List Seen) (is : List Placed) → LinesFrom k is → AtLeast k (firstDiffering seen is)
-unfolding firstDiffering
+unfolding firstDifferingBy
 differing-from k seen [] f = tt
 differing-from k seen (i ∷ is) f =
     let more = seenAfter seen (correlationOf (i .instruction)) (elementCount (i .instruction)) in
@@ -197,7 +197,7 @@ module _ (a : List Seen) where
       (apart-line a b is m c s f (sizeFor a c) (sizeFor b c) (n c) (λ h. later (b ++ record { correlation = c; size = s } ∷ []) (consistent-more a b c s n h)))
 
   apart : (b : List Seen) (k : ℕ) (is : List Placed) → LinesFrom k is → Consistent a b → firstDiffering (a ++ b) is ≡ earliest (unlike a is) (firstDiffering b is)
-  unfolding firstDiffering unlike earliest
+  unfolding firstDifferingBy unlike earliest
   apart b k [] f n = refl
   apart b k (i ∷ is) f n = apart-step b (i .line) (elementCount (i .instruction)) is (correlationOf (i .instruction)) (f .1) n (λ b′ n′. apart b′ (i .line) is (f .1) n′)
 

@@ -1,100 +1,69 @@
 -- The correlation and the size that a line says, by its form. Laws. Assumes nothing.
-use Prim.Native.Nat.{ℕ, suc, _+_, _-_, _*_, _^_, _≤_, _<_}
-use native.Mathlib.Nat.{pow-suc, pow-le-pow-right}
-use native.Mathlib.Numerals.{add-one}
+use Prim.Native.Nat.{ℕ, suc, _<_}
 use native.Mathlib.Omega.{arith}
 use mathlib.Core.Path.{_≡_, refl, sym, ap, subst, _∙_}
 use mathlib.Core.Bool.{Bool, true, false, not, true≢false}
 use mathlib.Core.List.{List, [], _∷_}
 use mathlib.Core.Option.{Option, none, some}
 use borrow.Author.Tests.{ne-eqb}
-use lib.Dec.{eqb, lit≤}
+use lib.Dec.{eqb}
 use lib.ListN.{length, getD}
 use Rattle.text.specs.Bytes.{bytes}
 use Rattle.text.specs.Template.{Value, numberAt, listAt}
 use Rattle.template.specs.Fields.{Held}
-use Rattle.job.specs.Grammar.{Kind, NoiseLine, Written, optional, pauliAt, forms}
-use Rattle.job.specs.Checks.{kindSize}
+use Rattle.job.specs.Grammar.{Kind, NoiseLine, Written, optional, noiseLine, forms}
 use Rattle.reader.specs.declared.Form.{Form}
 use Rattle.reader.specs.declared.Form.the-variants as form
 use Rattle.reader.specs.Parsed.{placeOf, formOf, Said}
 use Rattle.instructions.specs.Reading.{noiseForm}
 use Rattle.instructions.specs.Laws.Meaning.{noiseBy, noise-said, Meaning, meaning, noise-is-noise}
-use Rattle.correlations.specs.Sizes.{correlationIn, sizeIn, FewOperands, Few, FewRead, present}
-
--- ---- powers of four
-
-pub four-more : (r i : ℕ) → r ≡ 4 ^ i → r * 4 ≡ 4 ^ (i + 1)
-four-more r i e = rw (e, add-one, pow-suc)
-
-pub four-small : (i : ℕ) → i < 31 → 4 ^ i ≤ 4 ^ 30
-four-small i h = let k : i ≤ 30 = omega arith in pow-le-pow-right {n = 4} (lit≤ tt) k
-
-pub four-some : (i : ℕ) → 1 ≤ 4 ^ i
-four-some i = let h : 0 ≤ i = omega arith in pow-le-pow-right {n = 4} (lit≤ tt) h
+use Rattle.correlations.specs.Sizes.{correlationIn, sizeIn, present}
 
 -- ---- the size
 
 noise-same : {m n : NoiseLine} → Written.noise m ≡ Written.noise n → m ≡ n
 noise-same e = cc
 
--- what a noise line's kind is, by its form
-kind-by : (kind : Kind) (vs : List Value) (n : NoiseLine) → Written.noise (noiseBy kind vs) ≡ Written.noise n → kindSize kind ≡ kindSize (n .kind)
+-- what a noise line says of it
+size-by : (kind : Kind) (size : ℕ) (vs : List Value) (n : NoiseLine) → noiseLine kind size vs ≡ some (Written.noise n) → size ≡ n .size
 unfolding noiseBy
-kind-by kind vs n e = ap (λ (m : NoiseLine). kindSize (m .kind)) (noise-same e)
+size-by kind size vs n e = ap (λ (m : NoiseLine). m .size) (noise-same (noise-said kind size vs (Written.noise n) e))
 
-module _ {fields : List ℕ} where
-  pub few-depolarizing : FewRead form.Depolarizing fields → getD fields 6 0 ≤ 31
-  unfolding forms placeOf bytes Few FewOperands noiseBy
-  few-depolarizing r =
-      let e = noise-said _ (r .values) (r .written) (r .said .says) in
-      let few : length (listAt 2 (r .values)) ≤ 31 = subst Few (sym e) (r .few) in
-      omega (arith, r .said .held .count 2 (omega arith))
+module _ {fields : List ℕ} {vs : List Value} {n : NoiseLine} where
+  pub size-uniform : Said form.Uniform fields vs (Written.noise n) → getD fields 3 0 ≡ n .size
+  unfolding forms placeOf bytes
+  size-uniform s = s .held .number 3 (omega arith) ∙ size-by _ (numberAt 3 vs) vs n (s .says)
 
-  module _ {vs : List Value} {n : NoiseLine} where
-    pub size-depolarizing : Said form.Depolarizing fields vs (Written.noise n) → 4 ^ getD fields 6 0 - 1 ≡ kindSize (n .kind)
-    unfolding forms placeOf bytes kindSize
-    size-depolarizing s = rw (s .held .count 2 (omega arith)) (kind-by (Kind.depolarizing (listAt 2 vs)) vs n (noise-said _ vs (Written.noise n) (s .says)))
+  pub size-weighted : Said form.Weighted fields vs (Written.noise n) → getD fields 3 0 ≡ n .size
+  unfolding forms placeOf bytes
+  size-weighted s = s .held .number 3 (omega arith) ∙ size-by _ (numberAt 3 vs) vs n (s .says)
 
-    pub size-uniform : Said form.Uniform fields vs (Written.noise n) → getD fields 2 0 ≡ kindSize (n .kind)
-    unfolding forms placeOf bytes kindSize
-    size-uniform s = s .held .number 2 (omega arith) ∙ kind-by (Kind.uniform (numberAt 2 vs)) vs n (noise-said _ vs (Written.noise n) (s .says))
+  other-size : (f : Form) → (f ≡ form.Uniform → ⊥) → (f ≡ form.Weighted → ⊥) → noiseForm f ≡ true → Said f fields vs (Written.noise n) → getD fields 2 0 ≡ n .size
+  unfolding forms placeOf bytes noiseForm
+  other-size form.Unread a b t s = absurd (true≢false (sym t))
+  other-size form.Header a b t s = absurd (true≢false (sym t))
+  other-size form.Unitary a b t s = absurd (true≢false (sym t))
+  other-size form.Clifford a b t s = absurd (true≢false (sym t))
+  other-size form.Pauli a b t s = absurd (true≢false (sym t))
+  other-size form.Exponential a b t s = absurd (true≢false (sym t))
+  other-size form.Controlled a b t s = absurd (true≢false (sym t))
+  other-size form.Permute a b t s = absurd (true≢false (sym t))
+  other-size form.Measure a b t s = absurd (true≢false (sym t))
+  other-size form.Allocate a b t s = absurd (true≢false (sym t))
+  other-size form.Conditional a b t s = absurd (true≢false (sym t))
+  other-size form.Reset a b t s = absurd (true≢false (sym t))
+  other-size form.Inject a b t s = absurd (true≢false (sym t))
+  other-size form.Flip a b t s = absurd (true≢false (sym t))
+  other-size form.Single a b t s = s .held .number 2 (omega arith) ∙ size-by _ (numberAt 2 vs) vs n (s .says)
+  other-size form.Depolarizing a b t s = s .held .number 2 (omega arith) ∙ size-by _ (numberAt 2 vs) vs n (s .says)
+  other-size form.Uniform a b t s = absurd (a refl)
+  other-size form.Weighted a b t s = absurd (b refl)
+  other-size form.Element a b t s = absurd (true≢false (sym t))
+  other-size form.WeightedElement a b t s = absurd (true≢false (sym t))
 
-    pub size-weighted : Said form.Weighted fields vs (Written.noise n) → getD fields 2 0 ≡ kindSize (n .kind)
-    unfolding forms placeOf bytes kindSize
-    size-weighted s = s .held .number 2 (omega arith) ∙ kind-by (Kind.weighted (numberAt 2 vs)) vs n (noise-said _ vs (Written.noise n) (s .says))
-
--- a form of noise that is none of the other three
-single-left : (f : Form) → (f ≡ form.Depolarizing → ⊥) → (f ≡ form.Uniform → ⊥) → (f ≡ form.Weighted → ⊥) → noiseForm f ≡ true → f ≡ form.Single
-unfolding noiseForm
-single-left form.Unread a b d t = absurd (true≢false (sym t))
-single-left form.Header a b d t = absurd (true≢false (sym t))
-single-left form.Unitary a b d t = absurd (true≢false (sym t))
-single-left form.Clifford a b d t = absurd (true≢false (sym t))
-single-left form.Pauli a b d t = absurd (true≢false (sym t))
-single-left form.Exponential a b d t = absurd (true≢false (sym t))
-single-left form.Controlled a b d t = absurd (true≢false (sym t))
-single-left form.Permute a b d t = absurd (true≢false (sym t))
-single-left form.Measure a b d t = absurd (true≢false (sym t))
-single-left form.Allocate a b d t = absurd (true≢false (sym t))
-single-left form.Conditional a b d t = absurd (true≢false (sym t))
-single-left form.Reset a b d t = absurd (true≢false (sym t))
-single-left form.Inject a b d t = absurd (true≢false (sym t))
-single-left form.Flip a b d t = absurd (true≢false (sym t))
-single-left form.Single a b d t = refl
-single-left form.Depolarizing a b d t = absurd (a refl)
-single-left form.Uniform a b d t = absurd (b refl)
-single-left form.Weighted a b d t = absurd (d refl)
-single-left form.Element a b d t = absurd (true≢false (sym t))
-single-left form.WeightedElement a b d t = absurd (true≢false (sym t))
-
--- a noise line of another form has one element
-pub size-other : (f : Form) (vs : List Value) (n : NoiseLine) → (f ≡ form.Depolarizing → ⊥) → (f ≡ form.Uniform → ⊥) → (f ≡ form.Weighted → ⊥)
-    → formOf f .says vs ≡ some (Written.noise n) → 1 ≡ kindSize (n .kind)
-unfolding forms placeOf bytes kindSize
-size-other f vs n a b d s =
-    let single = single-left f a b d (noise-is-noise (meaning f vs (Written.noise n) s)) in
-    kind-by (Kind.single (pauliAt 2 3 vs)) vs n (noise-said _ vs (Written.noise n) (subst (λ (g : Form). formOf g .says vs ≡ some (Written.noise n)) single s))
+  -- of a noise line without n
+  pub size-other : (f : Form) → (f ≡ form.Uniform → ⊥) → (f ≡ form.Weighted → ⊥) → Said f fields vs (Written.noise n) → getD fields 2 0 ≡ n .size
+  size-other f a b s = other-size f a b (noise-is-noise (meaning f vs (Written.noise n) (s .says))) s
 
 -- ---- the correlation
 
@@ -120,9 +89,10 @@ record CorrIn (fields : List ℕ) (vs : List Value) (w : Written) : Type 0 where
   count : getD fields 4 0 ≡ length (listAt 0 vs)
   member : 0 < length (listAt 0 vs) → getD fields 12 0 ≡ getD (listAt 0 vs) 0 0
 
-corr-held : {fields : List ℕ} {n m : ℕ} (kind : Kind) (vs : List Value) (w : Written) → Held fields n m vs → 0 < m → Written.noise (noiseBy kind vs) ≡ w → CorrIn fields vs w
+corr-held : {fields : List ℕ} {n m : ℕ} (kind : Kind) (size : ℕ) (vs : List Value) (w : Written) → Held fields n m vs → 0 < m
+    → Written.noise (noiseBy kind size vs) ≡ w → CorrIn fields vs w
 unfolding correlationIn noiseBy
-corr-held kind vs w h k e = record { is = rw (← e); count = h .count 0 k; member = λ g. h .member 0 0 k (omega arith) g }
+corr-held kind size vs w h k e = record { is = rw (← e); count = h .count 0 k; member = λ g. h .member 0 0 k (omega arith) g }
 
 corr-in : (f : Form) {fields : List ℕ} {vs : List Value} {w : Written} → noiseForm f ≡ true → Said f fields vs w → CorrIn fields vs w
 unfolding forms placeOf bytes noiseForm
@@ -140,10 +110,10 @@ corr-in form.Conditional t s = absurd (true≢false (sym t))
 corr-in form.Reset t s = absurd (true≢false (sym t))
 corr-in form.Inject t s = absurd (true≢false (sym t))
 corr-in form.Flip t s = absurd (true≢false (sym t))
-corr-in form.Single {fields} {vs} {w} t s = corr-held _ vs w (s .held) (omega arith) (noise-said _ vs w (s .says))
-corr-in form.Depolarizing {fields} {vs} {w} t s = corr-held _ vs w (s .held) (omega arith) (noise-said _ vs w (s .says))
-corr-in form.Uniform {fields} {vs} {w} t s = corr-held _ vs w (s .held) (omega arith) (noise-said _ vs w (s .says))
-corr-in form.Weighted {fields} {vs} {w} t s = corr-held _ vs w (s .held) (omega arith) (noise-said _ vs w (s .says))
+corr-in form.Single {fields} {vs} {w} t s = corr-held _ _ vs w (s .held) (omega arith) (noise-said _ _ vs w (s .says))
+corr-in form.Depolarizing {fields} {vs} {w} t s = corr-held _ _ vs w (s .held) (omega arith) (noise-said _ _ vs w (s .says))
+corr-in form.Uniform {fields} {vs} {w} t s = corr-held _ _ vs w (s .held) (omega arith) (noise-said _ _ vs w (s .says))
+corr-in form.Weighted {fields} {vs} {w} t s = corr-held _ _ vs w (s .held) (omega arith) (noise-said _ _ vs w (s .says))
 corr-in form.Element t s = absurd (true≢false (sym t))
 corr-in form.WeightedElement t s = absurd (true≢false (sym t))
 
@@ -193,6 +163,6 @@ absent (some c) h = absurd (true≢false h)
 
 -- the size of noise, as the code finds it
 pub noise-size : {f : Form} {fields : List ℕ} {vs : List Value} {w : Written} {c size : ℕ} → Said f fields vs w → NoiseWith c w
-    → ((vs : List Value) (n : NoiseLine) → Said f fields vs (Written.noise n) → size ≡ kindSize (n .kind)) → size ≡ sizeIn w
+    → ((vs : List Value) (n : NoiseLine) → Said f fields vs (Written.noise n) → size ≡ n .size) → size ≡ sizeIn w
 unfolding sizeIn
 noise-size {f} {fields} {vs} {w} {c} {size} s n e = e vs (n .noise) (subst (Said f fields vs) (n .is) s) ∙ sym (ap sizeIn (n .is))

@@ -3,12 +3,11 @@ use mathlib.Core.Path.{_≡_, refl, sym, ap, _∙_, fun-ext}
 use mathlib.Core.Bool.{Bool, true, false, cond, _&&_, _||_, and-false}
 use mathlib.Core.List.{List, [], _∷_}
 use Prim.Native.Nat.{ℕ, zero, suc, _+_, _-_, _*_, _/_, _%_, _^_, _<_}
-use native.Mathlib.Nat.{mul-suc, pow-suc, zero-div}
+use native.Mathlib.Nat.{pow-suc, zero-div}
 use native.Mathlib.Numerals.{add-one}
 use native.Mathlib.Omega.{arith}
 use lib.Dec.{eqb, lit<}
 use lib.ListN.{length, getD}
-use lib.Pow.{pow-add}
 use borrow.Author.Tests.{eqb-true, eqb-false}
 use Rattle.pauli.specs.Bits.{Bits, none, members, bit}
 use Rattle.pauli.specs.Pauli.{Pauli, identity}
@@ -16,6 +15,7 @@ use Rattle.pauli.specs.Laws.Parity.{at-or-off}
 use Rattle.pauli.specs.Laws.Gates.{pauli-path}
 use Rattle.job.specs.Line.{pauliOf, Distribution, sizeOf}
 use Rattle.job.specs.Checks.{distinct}
+use Rattle.job.specs.Laws.Sizes.{four}
 use Rattle.draws.specs.Draws.{selected, depolarizingElement}
 use Rattle.draws.specs.Laws.Elements.{members-nil, members-cons, members-rising, selected-cons, bit-first, bit-later, element-x, element-z}
 
@@ -38,11 +38,6 @@ same-bits (suc n) v w a b e =
     let high : v / 2 ≡ w / 2 =
     same-bits n (v / 2) (w / 2) (omega arith) (omega arith) (λ j h. bit-later v 1 j ∙ e (1 + j) (omega arith) ∙ sym (bit-later w 1 j)) in
     omega arith
-
--- 4 ^ k by bits
-pub four : (k : ℕ) → 2 ^ (2 * k) ≡ 4 ^ k
-four zero = refl
-four (suc k) = rw (mul-suc, pow-add, four k) (sym (pow-suc 4 k))
 
 no-bit : (j : ℕ) → bit 0 j ≡ false
 unfolding bit

@@ -1,6 +1,5 @@
 -- An element that was drawn, where the words hold it. Laws. Assumes nothing.
 use Prim.Native.Nat.{ℕ, _^_, _≤_, _<_}
-use native.Mathlib.Nat.{pow-le-pow-right}
 use native.Mathlib.Omega.{arith}
 use mathlib.Core.Path.{_≡_, refl, sym, _∙_}
 use mathlib.Core.List.{List}
@@ -10,6 +9,7 @@ use lib.Ieee.{Float}
 use Rattle.job.specs.Line.{WeightedPauli, Distribution, sizeOf}
 use Rattle.job.specs.Sound.{PauliSound, ElementSound, DistributionSound}
 use Rattle.job.specs.Laws.Lists.{every-at}
+use Rattle.job.specs.Laws.Sizes.{depolarizing-small}
 use Rattle.draws.specs.Draws.{noPauli, elementAt}
 use Rattle.draws.specs.Laws.Faults.{depolarizing-size}
 use Rattle.noise.specs.declared.PauliDistribution.{PauliDistribution}
@@ -46,10 +46,7 @@ size-some n (Distribution.weighted es) s = unfold sizeOf in s .filled
 pub size-fits : (n : ℕ) (D : Distribution) → DistributionSound n D → sizeOf D < 2 ^ 62
 unfolding DistributionSound sizeOf
 size-fits n (Distribution.single P) s = lit< tt
-size-fits n (Distribution.depolarizing qs) s =
-    let most : 4 ^ length qs ≤ 4 ^ 31 = pow-le-pow-right {n = 4} (lit< tt) {i = length qs} {j = 31} (s .few) in
-    let least : 4 ^ 0 ≤ 4 ^ length qs = pow-le-pow-right {n = 4} (lit< tt) {i = 0} {j = length qs} (omega arith) in
-    omega arith
+size-fits n (Distribution.depolarizing qs) s = depolarizing-small qs (s .few)
 size-fits n (Distribution.uniform Ps) s = omega (arith, s .few)
 size-fits n (Distribution.weighted es) s = omega (arith, s .few)
 

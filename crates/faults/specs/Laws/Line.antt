@@ -59,10 +59,10 @@ with-weight b x y e = rw e
 -- ---- what a noise line says, by its form
 
 pub data NoiseView (f : Form) (vs : List Value) : NoiseLine → Type 0 where
-  single : f ≡ form.Single → NoiseView f vs (noiseBy (Kind.single (pauliAt 2 3 vs)) vs)
-  depolarizing : f ≡ form.Depolarizing → NoiseView f vs (noiseBy (Kind.depolarizing (listAt 2 vs)) vs)
-  uniform : f ≡ form.Uniform → NoiseView f vs (noiseBy (Kind.uniform (numberAt 2 vs)) vs)
-  weighted : f ≡ form.Weighted → NoiseView f vs (noiseBy (Kind.weighted (numberAt 2 vs)) vs)
+  single : f ≡ form.Single → NoiseView f vs (noiseBy (Kind.single (pauliAt 2 3 vs)) (numberAt 2 vs) vs)
+  depolarizing : f ≡ form.Depolarizing → NoiseView f vs (noiseBy (Kind.depolarizing (listAt 2 vs)) (numberAt 2 vs) vs)
+  uniform : f ≡ form.Uniform → NoiseView f vs (noiseBy (Kind.uniform (numberAt 2 vs)) (numberAt 3 vs) vs)
+  weighted : f ≡ form.Weighted → NoiseView f vs (noiseBy (Kind.weighted (numberAt 2 vs)) (numberAt 3 vs) vs)
 
 noise-same : {m n : NoiseLine} → Written.noise m ≡ Written.noise n → m ≡ n
 noise-same e = cc
@@ -85,10 +85,10 @@ noise-view form.Conditional vs n e = let z : _≡_ {A = ℕ} 0 1 = cc in absurd 
 noise-view form.Reset vs n e = let z : _≡_ {A = ℕ} 0 1 = cc in absurd (omega arith)
 noise-view form.Inject vs n e = let z : _≡_ {A = ℕ} 0 1 = cc in absurd (omega arith)
 noise-view form.Flip vs n e = let z : _≡_ {A = ℕ} 0 1 = cc in absurd (omega arith)
-noise-view form.Single vs n e = subst (NoiseView form.Single vs) (noise-same (noise-said _ vs _ e)) (NoiseView.single refl)
-noise-view form.Depolarizing vs n e = subst (NoiseView form.Depolarizing vs) (noise-same (noise-said _ vs _ e)) (NoiseView.depolarizing refl)
-noise-view form.Uniform vs n e = subst (NoiseView form.Uniform vs) (noise-same (noise-said _ vs _ e)) (NoiseView.uniform refl)
-noise-view form.Weighted vs n e = subst (NoiseView form.Weighted vs) (noise-same (noise-said _ vs _ e)) (NoiseView.weighted refl)
+noise-view form.Single vs n e = subst (NoiseView form.Single vs) (noise-same (noise-said _ _ vs _ e)) (NoiseView.single refl)
+noise-view form.Depolarizing vs n e = subst (NoiseView form.Depolarizing vs) (noise-same (noise-said _ _ vs _ e)) (NoiseView.depolarizing refl)
+noise-view form.Uniform vs n e = subst (NoiseView form.Uniform vs) (noise-same (noise-said _ _ vs _ e)) (NoiseView.uniform refl)
+noise-view form.Weighted vs n e = subst (NoiseView form.Weighted vs) (noise-same (noise-said _ _ vs _ e)) (NoiseView.weighted refl)
 noise-view form.Element vs n e = let z : _≡_ {A = ℕ} 0 1 = cc in absurd (omega arith)
 noise-view form.WeightedElement vs n e = let z : _≡_ {A = ℕ} 0 1 = cc in absurd (omega arith)
 
@@ -98,15 +98,15 @@ module _ {f : List ℕ} {vs : List Value} {n : NoiseLine} (t : Float) where
   pub kind-depolarizing : Said form.Depolarizing f vs (Written.noise n) → Depolarizing (getD f 6 0) ≡ kindBy (n .kind) t
   unfolding forms placeOf bytes kindBy noiseBy
   kind-depolarizing h =
-      ap Depolarizing (h .held .count 2 (omega arith)) ∙ ap (λ (m : NoiseLine). kindBy (m .kind) t) (noise-same (noise-said _ vs (Written.noise n) (h .says)))
+      ap Depolarizing (h .held .count 2 (omega arith)) ∙ ap (λ (m : NoiseLine). kindBy (m .kind) t) (noise-same (noise-said _ _ vs (Written.noise n) (h .says)))
 
   pub kind-uniform : Said form.Uniform f vs (Written.noise n) → Uniform (getD f 2 0) ≡ kindBy (n .kind) t
   unfolding forms placeOf bytes kindBy noiseBy
-  kind-uniform h = ap Uniform (h .held .number 2 (omega arith)) ∙ ap (λ (m : NoiseLine). kindBy (m .kind) t) (noise-same (noise-said _ vs (Written.noise n) (h .says)))
+  kind-uniform h = ap Uniform (h .held .number 2 (omega arith)) ∙ ap (λ (m : NoiseLine). kindBy (m .kind) t) (noise-same (noise-said _ _ vs (Written.noise n) (h .says)))
 
   pub kind-weighted : Said form.Weighted f vs (Written.noise n) → Weighted t ≡ kindBy (n .kind) t
   unfolding forms placeOf bytes kindBy noiseBy
-  kind-weighted h = ap (λ (m : NoiseLine). kindBy (m .kind) t) (noise-same (noise-said _ vs (Written.noise n) (h .says)))
+  kind-weighted h = ap (λ (m : NoiseLine). kindBy (m .kind) t) (noise-same (noise-said _ _ vs (Written.noise n) (h .says)))
 
   pub kind-single : {g : Form} → (g ≡ form.Depolarizing → ⊥) → (g ≡ form.Uniform → ⊥) → (g ≡ form.Weighted → ⊥) → Said g f vs (Written.noise n)
       → Single ≡ kindBy (n .kind) t
@@ -164,7 +164,8 @@ condition-held f l r size o c p =
 -- the values that all noise lines have
 record NoiseValues (f : List ℕ) (vs : List Value) (n : NoiseLine) : Type 0 where
   kind : Kind
-  is : noiseBy kind vs ≡ n
+  size : ℕ
+  is : noiseBy kind size vs ≡ n
   numbers : ℕ
   lists : ℕ
   held : Held f numbers lists vs
@@ -180,16 +181,16 @@ noise-values {g} {f} {vs} {n} s = go s (noise-view g vs n (s .says))
     go : {m : NoiseLine} → Said g f vs (Written.noise m) → NoiseView g vs m → NoiseValues f vs m
     go t (NoiseView.single e) =
         unfold forms placeOf bytes in
-        record { kind = _; is = refl; numbers = _; lists = _; held = by form.Single e t .held; two-numbers = omega arith; two-lists = omega arith }
+        record { kind = _; size = _; is = refl; numbers = _; lists = _; held = by form.Single e t .held; two-numbers = omega arith; two-lists = omega arith }
     go t (NoiseView.depolarizing e) =
         unfold forms placeOf bytes in
-        record { kind = _; is = refl; numbers = _; lists = _; held = by form.Depolarizing e t .held; two-numbers = omega arith; two-lists = omega arith }
+        record { kind = _; size = _; is = refl; numbers = _; lists = _; held = by form.Depolarizing e t .held; two-numbers = omega arith; two-lists = omega arith }
     go t (NoiseView.uniform e) =
         unfold forms placeOf bytes in
-        record { kind = _; is = refl; numbers = _; lists = _; held = by form.Uniform e t .held; two-numbers = omega arith; two-lists = omega arith }
+        record { kind = _; size = _; is = refl; numbers = _; lists = _; held = by form.Uniform e t .held; two-numbers = omega arith; two-lists = omega arith }
     go t (NoiseView.weighted e) =
         unfold forms placeOf bytes in
-        record { kind = _; is = refl; numbers = _; lists = _; held = by form.Weighted e t .held; two-numbers = omega arith; two-lists = omega arith }
+        record { kind = _; size = _; is = refl; numbers = _; lists = _; held = by form.Weighted e t .held; two-numbers = omega arith; two-lists = omega arith }
 
 pub probability-held : {g : Form} {f : List ℕ} {vs : List Value} {n : NoiseLine} → Said g f vs (Written.noise n) → getD f 0 0 ≡ n .probability
 unfolding noiseBy

@@ -31,19 +31,20 @@ some-same e = cc
 pub header-held : {words : List ℕ} {vs : List Value} → Held words 3 0 vs → headerBy (heldNumber words) ≡ headerBy (λ (i : ℕ). numberAt i vs)
 header-held h = rw (h .number 0 (omega arith), h .number 1 (omega arith), h .number 2 (omega arith))
 
--- a noise line of a kind
-unfoldable pub noiseBy : Kind → List Value → NoiseLine
-noiseBy kind vs =
+-- a noise line of a kind and a size
+unfoldable pub noiseBy : Kind → ℕ → List Value → NoiseLine
+noiseBy kind size vs =
     record {
       probability = numberAt 0 vs;
       correlation = optional (listAt 0 vs);
       condition = record { outcomes = listAt 1 vs; parity = isOne (numberAt 1 vs) };
       kind = kind;
+      size = size;
     }
 
-pub noise-said : (kind : Kind) (vs : List Value) (w : Written) → noiseLine kind vs ≡ some w → Written.noise (noiseBy kind vs) ≡ w
+pub noise-said : (kind : Kind) (size : ℕ) (vs : List Value) (w : Written) → noiseLine kind size vs ≡ some w → Written.noise (noiseBy kind size vs) ≡ w
 unfolding noiseLine noiseBy
-noise-said kind vs w e = go (eqb (length (listAt 1 vs)) 0 && isOne (numberAt 1 vs)) (Written.noise (noiseBy kind vs)) e
+noise-said kind size vs w e = go (eqb (length (listAt 1 vs)) 0 && isOne (numberAt 1 vs)) (Written.noise (noiseBy kind size vs)) e
   where
     go : (b : Bool) (v : Written) → cond b none (some v) ≡ some w → v ≡ w
     go true v k = let z : _≡_ {A = ℕ} 0 1 = cc in absurd (omega arith)
@@ -83,10 +84,10 @@ meaning form.Conditional vs w e = subst (Meaning form.Conditional) (some-same e)
 meaning form.Reset vs w e = subst (Meaning form.Reset) (some-same e) (Meaning.plain _ refl refl)
 meaning form.Inject vs w e = subst (Meaning form.Inject) (some-same e) (Meaning.plain _ refl refl)
 meaning form.Flip vs w e = subst (Meaning form.Flip) (some-same e) (Meaning.plain _ refl refl)
-meaning form.Single vs w e = subst (Meaning form.Single) (noise-said _ vs w e) (Meaning.alone _ refl refl refl)
-meaning form.Depolarizing vs w e = subst (Meaning form.Depolarizing) (noise-said _ vs w e) (Meaning.alone _ refl refl refl)
-meaning form.Uniform vs w e = subst (Meaning form.Uniform) (noise-said _ vs w e) (Meaning.uniform _ refl refl)
-meaning form.Weighted vs w e = subst (Meaning form.Weighted) (noise-said _ vs w e) (Meaning.weighted _ refl refl)
+meaning form.Single vs w e = subst (Meaning form.Single) (noise-said _ _ vs w e) (Meaning.alone _ refl refl refl)
+meaning form.Depolarizing vs w e = subst (Meaning form.Depolarizing) (noise-said _ _ vs w e) (Meaning.alone _ refl refl refl)
+meaning form.Uniform vs w e = subst (Meaning form.Uniform) (noise-said _ _ vs w e) (Meaning.uniform _ refl refl)
+meaning form.Weighted vs w e = subst (Meaning form.Weighted) (noise-said _ _ vs w e) (Meaning.weighted _ refl refl)
 meaning form.Element vs w e = subst (Meaning form.Element) (some-same e) (Meaning.element _ refl)
 meaning form.WeightedElement vs w e = subst (Meaning form.WeightedElement) (some-same e) (Meaning.weighted-element _ _ refl)
 
@@ -156,11 +157,11 @@ noise-same e = cc
 module _ {fields : List ℕ} {vs : List Value} {n : NoiseLine} where
   pub lines-uniform : Said form.Uniform fields vs (Written.noise n) → heldNumber fields 2 ≡ elementLines (n .kind)
   unfolding forms placeOf bytes elementLines noiseBy
-  lines-uniform h = h .held .number 2 (omega arith) ∙ ap (λ (m : NoiseLine). elementLines (m .kind)) (noise-same (noise-said _ vs (Written.noise n) (h .says)))
+  lines-uniform h = h .held .number 2 (omega arith) ∙ ap (λ (m : NoiseLine). elementLines (m .kind)) (noise-same (noise-said _ _ vs (Written.noise n) (h .says)))
 
   pub lines-weighted : Said form.Weighted fields vs (Written.noise n) → heldNumber fields 2 ≡ elementLines (n .kind)
   unfolding forms placeOf bytes elementLines noiseBy
-  lines-weighted h = h .held .number 2 (omega arith) ∙ ap (λ (m : NoiseLine). elementLines (m .kind)) (noise-same (noise-said _ vs (Written.noise n) (h .says)))
+  lines-weighted h = h .held .number 2 (omega arith) ∙ ap (λ (m : NoiseLine). elementLines (m .kind)) (noise-same (noise-said _ _ vs (Written.noise n) (h .says)))
 
   pub lines-alone : {f : Form} → (f ≡ form.Uniform → ⊥) → (f ≡ form.Weighted → ⊥) → Said f fields vs (Written.noise n) → 0 ≡ elementLines (n .kind)
   lines-alone {f} a b h = go (meaning f vs (Written.noise n) (h .says))
@@ -175,7 +176,7 @@ module _ (f : Form) (vs : List Value) (n : NoiseLine) (says : formOf f .says vs 
   pub with-weights : f ≡ form.Weighted → hasWeights (n .kind) ≡ true
   unfolding forms placeOf bytes noiseBy firstTotal hasTotal
   with-weights w =
-      sym (ap (λ (m : NoiseLine). hasWeights (m .kind)) (noise-same (noise-said _ vs (Written.noise n) (subst (λ (g : Form). formOf g .says vs ≡ some (Written.noise n)) w says))))
+      sym (ap (λ (m : NoiseLine). hasWeights (m .kind)) (noise-same (noise-said _ _ vs (Written.noise n) (subst (λ (g : Form). formOf g .says vs ≡ some (Written.noise n)) w says))))
 
   pub without-weights : (f ≡ form.Weighted → ⊥) → hasWeights (n .kind) ≡ false
   unfolding hasTotal

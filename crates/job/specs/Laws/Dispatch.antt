@@ -8,7 +8,7 @@ use borrow.Author.Tests.{ltb-true, eqb-true, eqb-false, not-true}
 use lib.Dec.{eqb, ltb}
 use lib.ListN.{getD}
 use Rattle.text.specs.Bytes.{bytes, behind}
-use Rattle.text.specs.Template.{Value, valuesOf, listAt}
+use Rattle.text.specs.Template.{Value, valuesOf, numberAt, listAt}
 use Rattle.text.specs.Laws.Values.{both}
 use Rattle.text.specs.Laws.Places.{literals, same-place}
 use Rattle.job.specs.Grammar.{Kind, Written, noiseLine, Form, forms, said, orLater, readBy, readLine}
@@ -105,6 +105,6 @@ read-by-mark l = read-marked forms l forms-marked
 
 -- an example: at a known mark the form computes
 depolarizing-read : (l : List ℕ) → markOf l ≡ 50
-    → readLine l ≡ said (λ v. noiseLine (Kind.depolarizing (listAt 2 v)) v) (valuesOf (bytes "op=n p=H corr=C cond=L parity=B d=2 q=Q") l)
+    → readLine l ≡ said (λ v. noiseLine (Kind.depolarizing (listAt 2 v)) (numberAt 2 v) v) (valuesOf (bytes "op=n p=H corr=C cond=L parity=B d=2 q=Q size=N") l)
 unfolding formFrom markOf behind forms bytes
 depolarizing-read l e = read-by-mark l ∙ rw e

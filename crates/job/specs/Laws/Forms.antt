@@ -82,9 +82,10 @@ unfolding SaidFits
 unless-fits true w h = tt
 unless-fits false w h = h refl
 
-noise-fits : (kind : Kind) (v : List Value) → numberAt 0 v < 2 ^ 64 → FitC (listAt 0 v) → FitL (listAt 1 v) → KindFits kind → SaidFits (noiseLine kind v)
+noise-fits : (kind : Kind) (size : ℕ) (v : List Value) → numberAt 0 v < 2 ^ 64 → FitC (listAt 0 v) → FitL (listAt 1 v) → KindFits kind
+    → SaidFits (noiseLine kind size v)
 unfolding noiseLine WrittenFits
-noise-fits kind v p corr condition k =
+noise-fits kind size v p corr condition k =
     unless-fits (eqb (length (listAt 1 v)) 0 && isOne (numberAt 1 v)) _ (λ e. record {
       probability = p;
       correlation = optional-fits (listAt 0 v) corr;
@@ -119,10 +120,10 @@ forms-fit =
     (also (λ v h. (one-fits (numberAt 0 v) (h .number 0), refl))
     (also (λ v h. (h .number 0, pauli-fits 0 1 v (h .list 0) (h .list 1)))
     (also (λ v h. (h .number 0, h .number 1))
-    (also (λ v h. noise-fits _ v (h .number 0) (h .list 0) (h .list 1) (pauli-fits 2 3 v (h .list 2) (h .list 3)))
-    (also (λ v h. noise-fits _ v (h .number 0) (h .list 0) (h .list 1) (h .list 2))
-    (also (λ v h. noise-fits _ v (h .number 0) (h .list 0) (h .list 1) (h .number 2))
-    (also (λ v h. noise-fits _ v (h .number 0) (h .list 0) (h .list 1) (h .number 2))
+    (also (λ v h. noise-fits _ _ v (h .number 0) (h .list 0) (h .list 1) (pauli-fits 2 3 v (h .list 2) (h .list 3)))
+    (also (λ v h. noise-fits _ _ v (h .number 0) (h .list 0) (h .list 1) (h .list 2))
+    (also (λ v h. noise-fits _ _ v (h .number 0) (h .list 0) (h .list 1) (h .number 2))
+    (also (λ v h. noise-fits _ _ v (h .number 0) (h .list 0) (h .list 1) (h .number 2))
     (also (λ v h. (tt, pauli-fits 0 1 v (h .list 0) (h .list 1)))
     (also (λ v h. (h .number 0, pauli-fits 0 1 v (h .list 0) (h .list 1))) tt))))))))))))))))))
 

@@ -12,13 +12,14 @@ use lib.Dec.{eqb, ltb, leb}
 use lib.Ieee.{Float, binary64, add}
 use lib.ListN.{length, length-map}
 use Rattle.text.specs.Laws.Values.{both}
+use Rattle.job.specs.declared.Header.{Header}
 use Rattle.job.specs.Line.{SparsePauli, WeightedPauli, sizeOf, Instruction, Placed}
 use Rattle.job.specs.Float.{float, totalFrom, isWeight, isTotal}
 use Rattle.job.specs.Grammar.{Kind, NoiseLine, Written, readLine}
 use Rattle.job.specs.Checks.{Context, elementLines, kindSize, firstTotal, nextTotal, records, next, noiseTests, kindQubits, kindDistinct, elementsFit, eachBelow, eachShort, sameWeight, expected, headerFits, weightFits, totalFits, ownTests}
 use Rattle.job.specs.Job.{distributionOf, noiseOf, weightOf, Gathered, placedAt, gather, gathered, recordedBy}
 use Rattle.job.specs.Contexts.{Accepted}
-use Rattle.job.specs.Sound.{Every, PauliSound, SmallOption, WeightSound, ElementSound, weightsOf, DistributionSound, NoiseSound, InstructionSound, InstructionsSound, SaidBy}
+use Rattle.job.specs.Sound.{Every, PauliSound, SmallOption, WeightSound, ElementSound, weightsOf, DistributionSound, NoiseSound, InstructionSound, SizeSaid, InstructionsSound, SaidBy}
 use Rattle.job.specs.Laws.Tests.{AllPass}
 use Rattle.job.specs.Laws.Forms.{KindFits, NoiseFits, WrittenFits}
 use Rattle.job.specs.Laws.Lines.{pauli-sound, operands-sound, first-short, line-sound}
@@ -96,6 +97,7 @@ noise-sound c n g f t p =
       outcomes = record { rising = f .outcomes .rising; below = not-false _ (t .1 .1 .0); few = rest .0 };
       parity = f .parity;
       distribution = kind-sound c (n .kind) (g .elements) (f .kind) (not-false _ (t .0)) (lists .0) (rest .1) (not-false _ (t .1 .1 .1 .1 .0)) (p .count) (p .paulis) (p .weights);
+      size = eqb-true _ _ (not-false _ (t .1 .1 .1 .1 .1 .0)) ∙ sym (kind-size (n .kind) (g .elements) (p .count));
     }
 
 -- ---- an element line
@@ -163,6 +165,16 @@ gathered-sound k c [] a =
 gathered-sound k c (l ∷ ls) a =
     let f = accepted-first a in
     rw (f .reads) (gather-sound k c l ls (f .says) (gathered (suc k) ls) (a .begun) (f .fits) (f .passing) (gathered-sound (suc k) (next c (f .says)) ls (f .rest)))
+
+-- Sound instructions say their sizes.
+pub sizes-said : (h : Header) (r : ℕ) (is : List Placed) → InstructionsSound h r is → Every (λ (p : Placed). SizeSaid (p .instruction)) is
+unfolding InstructionsSound
+sizes-said h r [] s = tt
+sizes-said h r (p ∷ is) s = (go (p .instruction) (s .0), sizes-said h (r + recordedBy (p .instruction)) is (s .1))
+  where
+    go : (i : Instruction) → InstructionSound h r i → SizeSaid i
+    go (Instruction.line l) s = unfold SizeSaid in tt
+    go (Instruction.noise n) s = unfold SizeSaid InstructionSound in s .size
 
 -- the bytes of each instruction's line say it
 abbrev pub AllSaid : List Placed → Type 0

@@ -1,13 +1,12 @@
 -- The numbers of a job's tests are none of the calls' own: laws. Assumes nothing.
 use Prim.Native.Nat.{ℕ, suc}
-use mathlib.Core.Path.{_≡_, refl, sym, _∙_}
-use mathlib.Core.Bool.{Bool, true, false, cond, not, _&&_, true≢false}
+use mathlib.Core.Path.{_≡_, refl, sym}
+use mathlib.Core.Bool.{Bool, true, false, cond, not, _&&_}
 use mathlib.Core.List.{List, [], _∷_}
 use mathlib.Core.Option.{Option, none, some}
 use lib.Dec.{eqb}
 use Rattle.text.specs.Bytes.{lines}
 use Rattle.text.specs.Laws.Values.{both}
-use Rattle.job.specs.declared.Answer.{Answer}
 use Rattle.job.specs.Line.{Line}
 use Rattle.job.specs.Grammar.{Written, readLine}
 use Rattle.job.specs.Checks.{Context, Test, lineTests, noiseTests, ownTests, tests, lowest, refusalOf}

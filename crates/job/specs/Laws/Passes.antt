@@ -18,6 +18,7 @@ use Rattle.job.specs.Sound.{PauliSound, NextOutcome, LineSound, Distribu
 use Rattle.job.specs.Laws.Permutation.{permutation-parts}
 use Rattle.job.specs.Laws.Tests.{AllPass}
 use Rattle.job.specs.Laws.Accepted.{checks-good, Passing, passing-good, accepted-more}
+use Rattle.job.specs.Laws.Gather.{kind-size}
 use Rattle.job.specs.Laws.Instructions.{next-between}
 
 -- a test that passes, and those after it
@@ -123,7 +124,7 @@ noise-passes h r n es count s =
     let k = kind-passes (h .qubits) (n .kind) es count (s .distribution) in
     passed (k .below)
     (passed (and-both (k .apart) (short-also (n .condition .outcomes) (kindQubits (n .kind)) (s .outcomes .few) (k .short)))
-    (passed (s .outcomes .below) (passed (s .probability) (passed (k .fits) tt))))
+    (passed (s .outcomes .below) (passed (s .probability) (passed (k .fits) (passed (eq-eqb _ _ (s .size ∙ kind-size (n .kind) es count)) tt)))))
 
 -- ---- in front of accepted lines
 

@@ -56,11 +56,12 @@ small-below n (q ∷ l) h b (suc i) = small-below n l h (below-first n q l b .1)
 abbrev pub injectValues : ℕ → SparsePauli → List Value
 injectValues shot P = Value.number shot ∷ Value.list (P .x) ∷ Value.list (P .z) ∷ []
 
-abbrev pub noiseValues : ℕ → List ℕ → List Value
-noiseValues p qs = Value.number p ∷ Value.list [] ∷ Value.list [] ∷ Value.number 0 ∷ Value.list qs ∷ []
+abbrev pub noiseValues : ℕ → List ℕ → ℕ → List Value
+noiseValues p qs size = Value.number p ∷ Value.list [] ∷ Value.list [] ∷ Value.number 0 ∷ Value.list qs ∷ Value.number size ∷ []
 
-abbrev pub depolarizingLine : ℕ → List ℕ → NoiseLine
-depolarizingLine p qs = record { probability = p; correlation = none; condition = record { outcomes = []; parity = false }; kind = Kind.depolarizing qs }
+abbrev pub depolarizingLine : ℕ → List ℕ → ℕ → NoiseLine
+depolarizingLine p qs size =
+    record { probability = p; correlation = none; condition = record { outcomes = []; parity = false }; kind = Kind.depolarizing qs; size = size }
 
 -- opens what the marks compute with
 marks : Unit {0}
@@ -81,12 +82,12 @@ unfolding marks numbersIn listsIn
 inject-says shot P h f =
     form-written (formByMark 105) record { mark = refl; back = refl; one = refl } (injectValues shot P) (Suits.N h, (Suits.L (f .x), (Suits.L (f .z), tt)))
 
-pub depolarizing-says : (p : ℕ) (qs : List ℕ) → p < 2 ^ 64 → FitQ qs
-    → readLine (lineText depolarizingTemplate (noiseValues p qs)) ≡ some (Written.noise (depolarizingLine p qs))
+pub depolarizing-says : (p : ℕ) (qs : List ℕ) (size : ℕ) → p < 2 ^ 64 → FitQ qs → size < 2 ^ 64
+    → readLine (lineText depolarizingTemplate (noiseValues p qs size)) ≡ some (Written.noise (depolarizingLine p qs size))
 unfolding marks numbersIn listsIn noiseLine optional isRising
-depolarizing-says p qs h f =
-    form-written (formByMark 50) record { mark = refl; back = refl; one = refl } (noiseValues p qs)
-    (Suits.H h, (Suits.C no-correlation, (Suits.L no-condition, (Suits.B (omega arith), (Suits.Q f, tt)))))
+depolarizing-says p qs size h f s =
+    form-written (formByMark 50) record { mark = refl; back = refl; one = refl } (noiseValues p qs size)
+    (Suits.H h, (Suits.C no-correlation, (Suits.L no-condition, (Suits.B (omega arith), (Suits.Q f, (Suits.N s, tt))))))
   where
     no-correlation : FitC []
     no-correlation = record { single = omega arith; small = λ i. omega arith }

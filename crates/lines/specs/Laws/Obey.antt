@@ -49,8 +49,8 @@ obeyed-as {fields = fields} {w = w} {n = n} {m = m} e o = record { acts = λ lin
 -- ---- lines that do nothing
 
 -- a noise line is no plain line
-no-noise : (kind : Kind) (vs : List Value) {l : Line} → noiseLine kind vs ≡ some (Written.line l) → ⊥
-no-noise kind vs {l} e = let k = noise-said kind vs (Written.line l) e in let z : _≡_ {A = ℕ} 0 1 = cc in omega arith
+no-noise : (kind : Kind) (size : ℕ) (vs : List Value) {l : Line} → noiseLine kind size vs ≡ some (Written.line l) → ⊥
+no-noise kind size vs {l} e = let k = noise-said kind size vs (Written.line l) e in let z : _≡_ {A = ℕ} 0 1 = cc in omega arith
 
 -- such a line is a Pauli or allocates an outcome
 module _ {fields : List ℕ} {w n m : ℕ} (x z d : List ℕ) where
@@ -70,10 +70,10 @@ module _ {fields : List ℕ} {w n m : ℕ} (x z d : List ℕ) where
   idle-acts form.Reset h line p = absurd (h .reset refl)
   idle-acts form.Inject h line p = absurd (h .inject refl)
   idle-acts form.Flip h line p = absurd (h .flip refl)
-  idle-acts form.Single h line p = absurd (no-noise _ (p .values) (p .said .says))
-  idle-acts form.Depolarizing h line p = absurd (no-noise _ (p .values) (p .said .says))
-  idle-acts form.Uniform h line p = absurd (no-noise _ (p .values) (p .said .says))
-  idle-acts form.Weighted h line p = absurd (no-noise _ (p .values) (p .said .says))
+  idle-acts form.Single h line p = absurd (no-noise _ _ (p .values) (p .said .says))
+  idle-acts form.Depolarizing h line p = absurd (no-noise _ _ (p .values) (p .said .says))
+  idle-acts form.Uniform h line p = absurd (no-noise _ _ (p .values) (p .said .says))
+  idle-acts form.Weighted h line p = absurd (no-noise _ _ (p .values) (p .said .says))
   idle-acts form.Element h line p = let e = p .said .says in let z : _≡_ {A = ℕ} 0 1 = cc in absurd (omega arith)
   idle-acts form.WeightedElement h line p = let e = p .said .says in let z : _≡_ {A = ℕ} 0 1 = cc in absurd (omega arith)
 

@@ -130,11 +130,11 @@ module _ (c : Known) {f : List ℕ} {vs : List Value} {w : Written} where
   -- the element lines that are due after the line
   pub due-uniform : Said form.Uniform f vs w → heldNumber f 2 ≡ next (contextOf c) w .due
   unfolding forms placeOf bytes next elementLines noiseBy
-  due-uniform h = h .held .number 2 (omega arith) ∙ ap (λ (x : Written). next (contextOf c) x .due) (noise-said _ vs w (h .says))
+  due-uniform h = h .held .number 2 (omega arith) ∙ ap (λ (x : Written). next (contextOf c) x .due) (noise-said _ _ vs w (h .says))
 
   pub due-weighted : Said form.Weighted f vs w → heldNumber f 2 ≡ next (contextOf c) w .due
   unfolding forms placeOf bytes next elementLines noiseBy
-  due-weighted h = h .held .number 2 (omega arith) ∙ ap (λ (x : Written). next (contextOf c) x .due) (noise-said _ vs w (h .says))
+  due-weighted h = h .held .number 2 (omega arith) ∙ ap (λ (x : Written). next (contextOf c) x .due) (noise-said _ _ vs w (h .says))
 
   pub due-element : Said form.Element f vs w → c .due - 1 ≡ next (contextOf c) w .due
   unfolding forms placeOf bytes next contextOf
@@ -148,7 +148,7 @@ module _ (c : Known) {f : List ℕ} {vs : List Value} {w : Written} where
 module _ (c : Context) (vs : List Value) (w : Written) where
   pub total-first : formOf form.Weighted .says vs ≡ some w → next c w .total ≡ some zeroFloat
   unfolding forms placeOf bytes next firstTotal noiseBy
-  total-first e = sym (ap (λ (x : Written). next c x .total) (noise-said _ vs w e))
+  total-first e = sym (ap (λ (x : Written). next c x .total) (noise-said _ _ vs w e))
 
   pub total-more : formOf form.WeightedElement .says vs ≡ some w → expected c w ≡ true
       → (t : Float) × (c .total ≡ some t) × (next c w .total ≡ some (add binary64 t (float (numberAt 0 vs))))

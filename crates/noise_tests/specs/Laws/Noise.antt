@@ -1,5 +1,5 @@
 -- The tests of a noise line and of an element line, by their values. Laws. Assumes nothing.
-use Prim.Native.Nat.{ℕ}
+use Prim.Native.Nat.{ℕ, _-_, _^_}
 use mathlib.Core.Path.{_≡_, refl, sym, ap, _∙_}
 use mathlib.Core.Bool.{Bool, true, false, not, _&&_, _||_}
 use mathlib.Core.List.{List, [], _∷_}
@@ -7,11 +7,12 @@ use mathlib.Core.Option.{none, some}
 use borrow.Author.Tests.{eq-eqb}
 use lib.Dec.{eqb}
 use lib.Ieee.{binary64, add}
+use lib.ListN.{length}
 use Rattle.text.specs.Bytes.{bytes}
 use Rattle.text.specs.Template.{Value, numberAt, listAt}
 use Rattle.job.specs.Float.{float, isProbability, isWeight, isTotal}
 use Rattle.job.specs.Grammar.{Written, forms}
-use Rattle.job.specs.Checks.{test, eachBelow, eachShort, distinct, outcomeTest, kindQubits, kindDistinct, elementsFit, noiseTests, ownTests, weightFits, totalFits, nextTotal, lowest}
+use Rattle.job.specs.Checks.{test, eachBelow, eachShort, distinct, outcomeTest, kindQubits, kindDistinct, elementsFit, kindSize, noiseTests, ownTests, weightFits, totalFits, nextTotal, lowest}
 use Rattle.reader.specs.declared.Form.the-variants as form
 use Rattle.reader.specs.Parsed.{placeOf, Said}
 use Rattle.value_tests.specs.declared.context.Context.{Context as Known}
@@ -31,33 +32,35 @@ no-total false = refl
 
 module _ (c : Known) {f : List ℕ} {vs : List Value} {w : Written} where
   pub tests-single : Said form.Single f vs w
-      → Tested c f 2 4 vs w
+      → Tested c f 3 4 vs w
       (test 4 (eachBelow (c .header .qubits) (listsFrom 2 2 vs))
       ∷ test 5 (eachShort (listsFrom 1 3 vs))
       ∷ outcomeTest (contextOf c) (listAt 1 vs)
       ∷ test 11 (isProbability (float (numberAt 0 vs)))
+      ∷ test 21 (eqb (numberAt 2 vs) 1)
       ∷ [])
-  unfolding lowest forms placeOf bytes ownTests noiseTests noiseBy kindQubits kindDistinct elementsFit contextOf listsFrom
-  tests-single h = record { held = h .held; own = ap (λ (x : Written). lowest (ownTests (contextOf c) x)) (noise-said _ vs w (h .says)) }
+  unfolding lowest forms placeOf bytes ownTests noiseTests noiseBy kindQubits kindDistinct elementsFit kindSize contextOf listsFrom
+  tests-single h = record { held = h .held; own = ap (λ (x : Written). lowest (ownTests (contextOf c) x)) (noise-said _ _ vs w (h .says)) }
 
   pub tests-depolarizing : Said form.Depolarizing f vs w
-      → Tested c f 2 3 vs w
+      → Tested c f 3 3 vs w
       (test 4 (eachBelow (c .header .qubits) (listsFrom 2 1 vs))
       ∷ test 5 (distinct (listAt 2 vs) && eachShort (listsFrom 1 2 vs))
       ∷ outcomeTest (contextOf c) (listAt 1 vs)
       ∷ test 11 (isProbability (float (numberAt 0 vs)))
+      ∷ test 21 (eqb (numberAt 2 vs) (4 ^ length (listAt 2 vs) - 1))
       ∷ [])
-  unfolding lowest forms placeOf bytes ownTests noiseTests noiseBy kindQubits kindDistinct elementsFit contextOf listsFrom
-  tests-depolarizing h = record { held = h .held; own = ap (λ (x : Written). lowest (ownTests (contextOf c) x)) (noise-said _ vs w (h .says)) }
+  unfolding lowest forms placeOf bytes ownTests noiseTests noiseBy kindQubits kindDistinct elementsFit kindSize contextOf listsFrom
+  tests-depolarizing h = record { held = h .held; own = ap (λ (x : Written). lowest (ownTests (contextOf c) x)) (noise-said _ _ vs w (h .says)) }
 
   -- d=3 and d=4
-  pub tests-uniform : Said form.Uniform f vs w → Tested c f 3 2 vs w (listedTests (contextOf c) vs)
-  unfolding lowest forms placeOf bytes ownTests noiseTests noiseBy kindQubits kindDistinct elementsFit contextOf listsFrom listedTests eachBelow
-  tests-uniform h = record { held = h .held; own = ap (λ (x : Written). lowest (ownTests (contextOf c) x)) (noise-said _ vs w (h .says)) }
+  pub tests-uniform : Said form.Uniform f vs w → Tested c f 4 2 vs w (listedTests (contextOf c) vs)
+  unfolding lowest forms placeOf bytes ownTests noiseTests noiseBy kindQubits kindDistinct elementsFit kindSize contextOf listsFrom listedTests eachBelow
+  tests-uniform h = record { held = h .held; own = ap (λ (x : Written). lowest (ownTests (contextOf c) x)) (noise-said _ _ vs w (h .says)) }
 
-  pub tests-weighted : Said form.Weighted f vs w → Tested c f 3 2 vs w (listedTests (contextOf c) vs)
-  unfolding lowest forms placeOf bytes ownTests noiseTests noiseBy kindQubits kindDistinct elementsFit contextOf listsFrom listedTests eachBelow
-  tests-weighted h = record { held = h .held; own = ap (λ (x : Written). lowest (ownTests (contextOf c) x)) (noise-said _ vs w (h .says)) }
+  pub tests-weighted : Said form.Weighted f vs w → Tested c f 4 2 vs w (listedTests (contextOf c) vs)
+  unfolding lowest forms placeOf bytes ownTests noiseTests noiseBy kindQubits kindDistinct elementsFit kindSize contextOf listsFrom listedTests eachBelow
+  tests-weighted h = record { held = h .held; own = ap (λ (x : Written). lowest (ownTests (contextOf c) x)) (noise-said _ _ vs w (h .says)) }
 
   pub tests-weighted-element : Said form.WeightedElement f vs w → c .weighted ≡ true
       → Tested c f 1 2 vs w

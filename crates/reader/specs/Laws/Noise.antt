@@ -28,28 +28,29 @@ use Rattle.reader.specs.Laws.Tried.{not-parsed, read-tried, none-left}
 
 -- ---- the four forms
 
--- what a noise line's form has of its own: its digit of d, the rest of its template, and its kind
+-- what a noise line's form has of its own: its digit of d, the rest of its template, its kind, and which of its numbers is the size
 pub record KindForm : Type 0 where
   pub digit : ℕ
   pub plain : isLetter digit ≡ false
   pub rest : List ℕ
   pub kind : List Value → Kind
+  pub size : ℕ
 
 -- as a form of the table
 unfoldable pub tableForm : KindForm → TableForm
-tableForm k = record { template = noiseBegin ++ (k .digit ∷ k .rest); says = λ v. noiseLine (k .kind v) v }
+tableForm k = record { template = noiseBegin ++ (k .digit ∷ k .rest); says = λ v. noiseLine (k .kind v) (numberAt (k .size) v) v }
 
 abbrev pub single : KindForm
-single = record { digit = 49; plain = refl; rest = bytes " x=L z=L"; kind = λ v. Kind.single (pauliAt 2 3 v) }
+single = record { digit = 49; plain = refl; rest = bytes " x=L z=L size=N"; kind = λ v. Kind.single (pauliAt 2 3 v); size = 2 }
 
 abbrev pub depolarizing : KindForm
-depolarizing = record { digit = 50; plain = refl; rest = bytes " q=Q"; kind = λ v. Kind.depolarizing (listAt 2 v) }
+depolarizing = record { digit = 50; plain = refl; rest = bytes " q=Q size=N"; kind = λ v. Kind.depolarizing (listAt 2 v); size = 2 }
 
 abbrev pub uniform : KindForm
-uniform = record { digit = 51; plain = refl; rest = bytes " n=N"; kind = λ v. Kind.uniform (numberAt 2 v) }
+uniform = record { digit = 51; plain = refl; rest = bytes " n=N size=N"; kind = λ v. Kind.uniform (numberAt 2 v); size = 3 }
 
 abbrev pub weighted : KindForm
-weighted = record { digit = 52; plain = refl; rest = bytes " n=N"; kind = λ v. Kind.weighted (numberAt 2 v) }
+weighted = record { digit = 52; plain = refl; rest = bytes " n=N size=N"; kind = λ v. Kind.weighted (numberAt 2 v); size = 3 }
 
 abbrev pub kinds : List KindForm
 kinds = single ∷ depolarizing ∷ uniform ∷ weighted ∷ []
@@ -77,12 +78,12 @@ not-begun h = no-kind (λ k. no-values (tableForm k) _ (h (k .digit ∷ k .rest)
 given : (b : Bool) (w : Written) → b ≡ false → (u : Written) × (cond b none (some w) ≡ some u)
 given b w e = (w, rw e)
 
-module _ (kind : Kind) (v : List Value) where
-  noise-none : parityAlone v ≡ true → noiseLine kind v ≡ none
+module _ (kind : Kind) (size : ℕ) (v : List Value) where
+  noise-none : parityAlone v ≡ true → noiseLine kind size v ≡ none
   unfolding noiseLine
   noise-none e = rw e
 
-  noise-some : parityAlone v ≡ false → (w : Written) × (noiseLine kind v ≡ some w)
+  noise-some : parityAlone v ≡ false → (w : Written) × (noiseLine kind size v ≡ some w)
   unfolding noiseLine
   noise-some e = given _ _ e
 
@@ -134,7 +135,7 @@ module _ {line : List ℕ} {p : Progress} {before fields : List ℕ} (b : Begins
     where
       go : (k : KindForm) (o : Option (List Value)) → valuesOf (tableForm k .template) line ≡ o → said (tableForm k .says) o ≡ none
       go k none h = refl
-      go k (some ws) h = noise-none (k .kind ws) ws (same-parity k ws h ∙ e)
+      go k (some ws) h = noise-none (k .kind ws) (numberAt (k .size) ws) ws (same-parity k ws h ∙ e)
 
   -- another digit than the line's, which is 0 past its end
   other-digit : (k : KindForm) → eqb (getD line (p .at) 0) (k .digit) ≡ false → readAs (tableForm k) line ≡ none
@@ -170,4 +171,4 @@ unfolding tableForm
 kind-tried {line} {p} {r} {fields} {after} f k same known n b =
     let template : formOf f .template ≡ noiseBegin ++ (k .digit ∷ k .rest) = ap (λ (t : TableForm). t .template) same in
     read-tried f known (b .on .ok && eqb (b .on .at) (length line)) (b .result) (rw template (parts-read (n .begins) (b .reads)))
-    (λ vs h. rw same (noise-some (k .kind vs) vs (same-parity (n .begins) k vs (rw same at h) ∙ n .parity)))
+    (λ vs h. rw same (noise-some (k .kind vs) (numberAt (k .size) vs) vs (same-parity (n .begins) k vs (rw same at h) ∙ n .parity)))

@@ -1,5 +1,5 @@
 -- How long a line is that is put by its template, and the lines that are written anew. Laws. Assumes nothing.
-use mathlib.Core.Path.{_≡_, refl, sym, ap, _∙_}
+use mathlib.Core.Path.{_≡_, refl, ap}
 use mathlib.Core.Bool.{Bool, true, false, cond}
 use mathlib.Core.List.{List, [], _∷_, _++_, append-assoc}
 use Prim.Native.Nat.{ℕ, zero, suc, _+_, _*_, _≤_, _<_}
@@ -11,9 +11,10 @@ use Rattle.text.specs.Bytes.{LF, bytes}
 use Rattle.text.specs.Number.{decimalDigits, decimal, hexadecimal}
 use Rattle.text.specs.List.{listText}
 use Rattle.text.specs.Template.{Value, isLetter, valueText, firstText, lineText}
-use Rattle.job.specs.Grammar.{injectTemplate, depolarizingTemplate}
+use Rattle.job.specs.Line.{Distribution, sizeOf}
+use Rattle.job.specs.Grammar.{injectTemplate}
 use Rattle.writer.specs.Placed.{Puts}
-use Rattle.writer.specs.Line.{isList, valuesIn, numbersFor, listsFor, Lent, PauliLent, depolarizingStart}
+use Rattle.writer.specs.Line.{isList, valuesIn, numbersFor, listsFor, Lent, PauliLent, depolarizingStart, depolarizingText}
 use Rattle.writer.specs.Laws.Lists.{decimal-length, hex-length, list-length}
 
 -- ---- how long a line is
@@ -116,10 +117,10 @@ start-length p =
     let long = simp length-append at (ap length (start-line p)) in
     omega (arith, long, hex-length p)
 
-module _ (qubits : List ℕ) where
-  pub qubits-lent : length qubits ≤ 31 → Lent (bytes " q=Q") [] (length qubits ∷ []) qubits
+module _ (qubits : List ℕ) (size : ℕ) where
+  pub end-lent : length qubits ≤ 31 → Lent (bytes " q=Q size=N") (size ∷ []) (length qubits ∷ []) qubits
   unfolding isList bytes
-  qubits-lent few =
+  end-lent few =
       record {
         for-numbers = omega arith;
         for-lists = omega arith;
@@ -131,28 +132,28 @@ module _ (qubits : List ℕ) where
       one P a zero l = a
       one P a (suc i) l = absurd (omega arith)
 
-  pub qubits-values : valuesIn (bytes " q=Q") [] (length qubits ∷ []) qubits ≡ Value.list qubits ∷ []
+  pub end-values : valuesIn (bytes " q=Q size=N") (size ∷ []) (length qubits ∷ []) qubits ≡ Value.list qubits ∷ Value.number size ∷ []
   unfolding isList bytes valuesIn
-  qubits-values = rw take-length
+  end-values = rw take-length
 
-  pub qubits-length : length (lineText (bytes " q=Q") (valuesIn (bytes " q=Q") [] (length qubits ∷ []) qubits)) ≤ 21 * length qubits + 4
+  pub end-length : length (lineText (bytes " q=Q size=N") (valuesIn (bytes " q=Q size=N") (size ∷ []) (length qubits ∷ []) qubits)) ≤ 21 * length qubits + 30
   unfolding bytes
-  qubits-length = rw qubits-values (omega (arith, line-length (bytes " q=Q") (Value.list qubits ∷ [])))
+  end-length = rw end-values (omega (arith, line-length (bytes " q=Q size=N") (Value.list qubits ∷ Value.number size ∷ [])))
 
--- the line is its start and its qubits
-pub depolarizing-line : (p : ℕ) (qubits : List ℕ)
-    → (depolarizingStart p ++ lineText (bytes " q=Q") (Value.list qubits ∷ [])) ++ LF ∷ []
-    ≡ lineText depolarizingTemplate (Value.number p ∷ Value.list [] ∷ Value.list [] ∷ Value.number 0 ∷ Value.list qubits ∷ []) ++ LF ∷ []
+-- how it ends: its qubits and its size
+abbrev pub depolarizingEnd : List ℕ → List ℕ
+depolarizingEnd qubits = lineText (bytes " q=Q size=N") (Value.list qubits ∷ Value.number (sizeOf (Distribution.depolarizing qubits)) ∷ [])
+
+-- the line is its start and its end
+pub depolarizing-line : (p : ℕ) (qubits : List ℕ) → (depolarizingStart p ++ depolarizingEnd qubits) ++ LF ∷ [] ≡ depolarizingText p qubits ++ LF ∷ []
 unfolding bytes lineText firstText valueText decimalDigits listText depolarizingStart
-depolarizing-line p qubits = ap (λ (r : List ℕ). (bytes "op=n p=" ++ r) ++ LF ∷ []) (append-assoc (hexadecimal p) (bytes " corr=- cond=- parity=0 d=2") (bytes " q=" ++ (listText qubits ++ [])))
+depolarizing-line p qubits = ap (λ (r : List ℕ). (bytes "op=n p=" ++ r) ++ LF ∷ []) (append-assoc (hexadecimal p) (bytes " corr=- cond=- parity=0 d=2") (depolarizingEnd qubits))
 
 -- how far it goes when it was put
-pub depolarizing-next : (p : ℕ) (qs : List ℕ) {at : ℕ} {out after : List ℕ} {next : ℕ}
-    → Puts at (lineText depolarizingTemplate (Value.number p ∷ Value.list [] ∷ Value.list [] ∷ Value.number 0 ∷ Value.list qs ∷ []) ++ LF ∷ []) out after next
-    → next ≤ at + (21 * length qs + 60)
+pub depolarizing-next : (p : ℕ) (qs : List ℕ) {at : ℕ} {out after : List ℕ} {next : ℕ} → Puts at (depolarizingText p qs ++ LF ∷ []) out after next
+    → next ≤ at + (21 * length qs + 81)
 unfolding bytes
 depolarizing-next p qs {at} q =
-    let end : List ℕ = lineText (bytes " q=Q") (Value.list qs ∷ []) in
     let long = simp length-append at (ap length (depolarizing-line p qs)) in
     let place = simp length-append at (q .place) in
-    omega (arith, place, long, start-length p, line-length (bytes " q=Q") (Value.list qs ∷ []))
+    omega (arith, place, long, start-length p, line-length (bytes " q=Q size=N") (Value.list qs ∷ Value.number (sizeOf (Distribution.depolarizing qs)) ∷ []))

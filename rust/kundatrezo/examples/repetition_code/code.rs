@@ -78,8 +78,9 @@ impl Code {
         for step in self.steps() {
             match (step, basis) {
                 (Step::Noise(qubits), _) => {
-                    let (bits, qubits) = (p.to_bits(), qubits.iter().map(usize::to_string).collect::<Vec<_>>());
-                    writeln!(job, "op=n p={bits:016x} corr=- cond=- parity=0 d=2 q={}", qubits.join(","))
+                    let (bits, size) = (p.to_bits(), (1 << (2 * qubits.len())) - 1);
+                    let qubits = qubits.iter().map(usize::to_string).collect::<Vec<_>>().join(",");
+                    writeln!(job, "op=n p={bits:016x} corr=- cond=- parity=0 d=2 q={qubits} size={size}")
                 }
                 (Step::Copy { data, ancilla }, Basis::Bit) => writeln!(job, "op=u g=11 q={data},{ancilla}"),
                 (Step::Copy { data, ancilla }, Basis::Phase) => writeln!(job, "op=u g=11 q={ancilla},{data}"),
@@ -107,8 +108,8 @@ mod tests {
     #[test]
     fn the_job_of_distance_2() {
         let code = Code { distance: 2, rounds: 1 };
-        let noise = |qubits: &str| format!("op=n p=3fe0000000000000 corr=- cond=- parity=0 d=2 q={qubits}\n");
-        let [n0, n1, n2, n02, n12] = ["0", "1", "2", "0,2", "1,2"].map(noise);
+        let noise = |list: &str| format!("op=n p=3fe0000000000000 corr=- cond=- parity=0 d=2 q={list}\n");
+        let [n0, n1, n2, n02, n12] = ["0 size=3", "1 size=3", "2 size=3", "0,2 size=15", "1,2 size=15"].map(noise);
         let job = format!(
             "op=job qubits=3 outcomes=3 shots=7\n{n0}{n1}op=u g=11 q=0,2\n{n02}op=u g=11 q=1,2\n{n12}{n2}op=o x=- z=2 id=0\nop=z q=2\n\
              {n0}op=o x=- z=0 id=1\n{n1}op=o x=- z=1 id=2\n"

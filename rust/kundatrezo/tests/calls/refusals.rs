@@ -35,8 +35,10 @@ fn numbers_of_the_checks() {
         (job("op=o x=- z=0 id=1"), (8, 2)),
         (job("op=t shot=0 id=0"), (9, 2)),
         (job("op=i shot=1 x=- z=-"), (10, 2)),
-        (job(&noise("7ff8000000000000", "d=1 x=- z=-")), (11, 2)),
-        (job(&noise(ONE, "d=4 n=1\nw=0000000000000000 x=- z=-")), (12, 3)),
+        (job(&noise("7ff8000000000000", "d=1 x=- z=- size=1")), (11, 2)),
+        (job(&noise(ONE, "d=4 n=1 size=1\nw=0000000000000000 x=- z=-")), (12, 3)),
+        (job("op=k x=0 z=- u=- v=0"), (20, 2)),
+        (job(&noise(ONE, "d=2 q=0,1 size=16")), (21, 2)),
     ];
     for (job, expected) in &cases {
         // every call makes these tests, and makes them first
@@ -52,14 +54,14 @@ fn numbers_of_the_checks() {
         assert_eq!(refused(correlation(job)), *expected);
     }
     let seen: Vec<u64> = cases.iter().map(|(_, (number, _))| *number).collect();
-    assert!((1..=12).all(|number| seen.contains(&number)));
+    assert!((1..=12).chain([20, 21]).all(|number| seen.contains(&number)));
 }
 
 #[test]
 fn numbers_of_the_calls() {
     let fault = |corr: &str, kind: &str| format!("op=n p={ONE} corr={corr} cond=- parity=0 {kind}");
     let none = Draws::default();
-    let noisy = job(&format!("op=z q=0\n{}", fault("-", "d=1 x=0 z=-")));
+    let noisy = job(&format!("op=z q=0\n{}", fault("-", "d=1 x=0 z=- size=1")));
     assert_eq!(refused(Frames::of_run(&noisy, &[], none)), (13, 0));
     assert_eq!(refused(Frames::of_run(&noisy, &[0], none)), (14, 3));
     assert_eq!(refused(settled(&noisy, &[], none)), (13, 0));
@@ -74,14 +76,14 @@ fn numbers_of_the_calls() {
     let many = (0..31).map(|qubit| qubit.to_string()).collect::<Vec<_>>().join(",");
     let wide = format!("op=job qubits=32 outcomes=0 shots=1\nop=p x=31 z={many}\n");
     assert_eq!(refused(annotated(wide.as_bytes(), 0.5)), (18, 2));
-    let sizes = format!("{}\n{}", fault("3", "d=1 x=- z=-"), fault("3", "d=2 q=0"));
+    let sizes = format!("{}\n{}", fault("3", "d=1 x=- z=- size=1"), fault("3", "d=2 q=0 size=3"));
     assert_eq!(refused(correlation(&job(&sizes))), (19, 3));
     assert_eq!(correlation(&noisy), Ok(()));
 }
 
 #[test]
 fn refusals_leave_lent_memory() {
-    let noisy = job(&format!("op=i shot=0 x=0 z=1\nop=n p={ONE} corr=- cond=- parity=0 d=1 x=0 z=-"));
+    let noisy = job(&format!("op=i shot=0 x=0 z=1\nop=n p={ONE} corr=- cond=- parity=0 d=1 x=0 z=- size=1"));
     let lend = |x: usize, noiseless: &[u64], main: &[u64]| {
         let (mut xs, mut z, mut deltas) = (vec![7; x], [7; 3], [7; 2]);
         let rows = Rows::new(&mut xs, &mut z, &mut deltas);
@@ -109,8 +111,8 @@ fn parameters_arrive() {
         "op=job qubits=2 outcomes=3 shots=2
 op=r id=0 angle=0
 op=r id=1 angle=0
-op=n p={ONE} corr=- cond=1 parity=1 d=2 q=0
-op=n p={ONE} corr=1 cond=- parity=0 d=2 q=1
+op=n p={ONE} corr=- cond=1 parity=1 d=2 q=0 size=3
+op=n p={ONE} corr=1 cond=- parity=0 d=2 q=1 size=3
 op=o x=0 z=- id=2
 "
     );

@@ -9,7 +9,7 @@ const P: f64 = 0.001;
 
 /// The faults of one noise line over streams of words, a run for each: those in shot 0, and those in all shots.
 fn faults(streams: impl Iterator<Item = Xorshift>) -> (u64, u64) {
-    let noise = format!("op=n p={:016x} corr=- cond=- parity=0 d=1 x=0 z=-", P.to_bits());
+    let noise = format!("op=n p={:016x} corr=- cond=- parity=0 d=1 x=0 z=- size=1", P.to_bits());
     let job = format!("op=job qubits=1 outcomes=0 shots={SHOTS}\n{noise}\n");
     let mut frames = Frames::new();
     let mut words = vec![0; SHOTS];

@@ -35,7 +35,7 @@ fn stars_3_to_5_tables_of_one_qubit() {
 
 #[test]
 fn stars_6_to_9_depolarizing_one_qubit() {
-    let job = "op=job qubits=1 outcomes=0 shots=1\nop=n p=3ff0000000000000 corr=- cond=- parity=0 d=2 q=0\n";
+    let job = "op=job qubits=1 outcomes=0 shots=1\nop=n p=3ff0000000000000 corr=- cond=- parity=0 d=2 q=0 size=3\n";
     assert_eq!(frame(job, &[0, 0]), Ok((1, 0)));
     assert_eq!(frame(job, &[0, 1]), Ok((0, 1)));
     assert_eq!(frame(job, &[0, 2]), Ok((1, 1)));
@@ -58,7 +58,8 @@ op=o x=- z=0 id=1
 
 #[test]
 fn p_just_above_one() {
-    let job = |p: &str| format!("op=job qubits=1 outcomes=0 shots=1\nop=n p={p} corr=- cond=- parity=0 d=1 x=0 z=-\n");
+    let job =
+        |p: &str| format!("op=job qubits=1 outcomes=0 shots=1\nop=n p={p} corr=- cond=- parity=0 d=1 x=0 z=- size=1\n");
     assert_eq!(check(job("3ff0000000000000").as_bytes()), Ok(()));
     let refusal = check(job("3ff0000000000001").as_bytes()).expect_err("p is above 1");
     assert_eq!((refusal.number, refusal.line), (Number::PROBABILITY, 2));
@@ -67,7 +68,7 @@ fn p_just_above_one() {
 #[test]
 fn shots_around_a_word_and_the_most() {
     for (shots, last) in [(63, u64::MAX >> 1), (64, u64::MAX), (65, 1), (4096, u64::MAX)] {
-        let noise = "op=n p=3ff0000000000000 corr=- cond=- parity=0 d=1 x=0 z=-";
+        let noise = "op=n p=3ff0000000000000 corr=- cond=- parity=0 d=1 x=0 z=- size=1";
         let job = format!("op=job qubits=1 outcomes=0 shots={shots}\n{noise}\n");
         let words = vec![u64::MAX; shots];
         let mut frames = Frames::new();

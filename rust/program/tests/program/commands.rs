@@ -11,8 +11,8 @@ const SESSION: &str = include_str!("../../../../examples/bell.job");
 /// Noise that reads the main list in its first line and the second one, from base + 3 on, in the other; the first by the bits of outcome 0.
 const NOISY: &str = "op=job qubits=2 outcomes=2 shots=70
 op=r id=0 angle=0
-op=n p=3fe0000000000000 corr=- cond=0 parity=1 d=2 q=0
-op=n p=3fe0000000000000 corr=3 cond=- parity=0 d=1 x=1 z=-
+op=n p=3fe0000000000000 corr=- cond=0 parity=1 d=2 q=0 size=3
+op=n p=3fe0000000000000 corr=3 cond=- parity=0 d=1 x=1 z=- size=1
 op=o x=- z=1 id=1
 ";
 
@@ -48,7 +48,7 @@ fn each_command_does_its_work() {
     assert_eq!(on_session("walk", "--set=- --shot=2"), Done::printed("ok=1 count=0\n"));
     assert_eq!(on_session("locations", ""), Done::printed("ok=1 locations=10\n"));
     assert_eq!(on_session("correlation", ""), Done::printed("ok=1\n"));
-    let noise = "op=n p=3fe0000000000000 corr=- cond=- parity=0 d=2 q=0";
+    let noise = "op=n p=3fe0000000000000 corr=- cond=- parity=0 d=2 q=0 size=3";
     let measured = "op=job qubits=1 outcomes=1 shots=1\nop=o x=- z=0 id=0\n";
     let annotated = measured.replace("op=o", &format!("{noise}\nop=o"));
     assert_eq!(call("annotate - --p 0.5", measured), Done::printed(annotated.clone()));
@@ -130,7 +130,7 @@ fn seeds_make_the_words_of_the_stated_rule() {
         assert!(others.iter().all(|other| settled(other) != settled(&made)));
     }
     // each shot faults and reads two words
-    let line = "op=n p=3ff0000000000000 corr=- cond=- parity=0 d=2 q=0\n";
+    let line = "op=n p=3ff0000000000000 corr=- cond=- parity=0 d=2 q=0 size=3\n";
     let job = format!("op=job qubits=1 outcomes=0 shots=64\n{}", line.repeat(1000));
     let printed = "ok=1 qubits=1 outcomes=0 shots=64\nwords=128000 skip=128000\n";
     assert_eq!(call("run - --seed 5", &job), Done::printed(printed));
@@ -147,7 +147,7 @@ fn seeds_make_the_words_of_the_stated_rule() {
 fn a_series_goes_on_where_the_last_run_stopped() {
     let header = "op=job qubits=2 outcomes=2 shots=100\n";
     let part = |qubit: usize, id: usize| {
-        format!("op=n p=3fd0000000000000 corr=- cond=- parity=0 d=2 q={qubit}\nop=o x=- z={qubit} id={id}\n")
+        format!("op=n p=3fd0000000000000 corr=- cond=- parity=0 d=2 q={qubit} size=3\nop=o x=- z={qubit} id={id}\n")
     };
     let whole = call("run - --seed 7", format!("{header}{}{}", part(0, 0), part(1, 1)));
     let first = call("run - --seed 7", format!("{header}{}", part(0, 0)));
@@ -174,7 +174,8 @@ fn a_series_goes_on_where_the_last_run_stopped() {
 
 #[test]
 fn an_endless_file_is_read_as_far_as_needed() {
-    let noise = "op=job qubits=1 outcomes=0 shots=64\nop=n p=3fe0000000000000 corr=- cond=- parity=0 d=1 x=0 z=-\n";
+    let noise =
+        "op=job qubits=1 outcomes=0 shots=64\nop=n p=3fe0000000000000 corr=- cond=- parity=0 d=1 x=0 z=- size=1\n";
     let done = call("run - --main /dev/urandom", noise);
     assert_eq!((done.status, session(&done).as_str()), (0, "ok=1 qubits=1 outcomes=0 shots=64"));
     assert!(done.stdout.ends_with(b"words=64 skip=64\n"), "{done:?}");
@@ -225,7 +226,7 @@ fn refusals_are_said_in_words() {
     let words = "refused: 13 (lent words too few)";
     let hint = refused("run - --noiseless /dev/null", header, words);
     assert!(hint.starts_with("--noiseless has 0 words, and needs 1: "), "{hint}");
-    let noisy = format!("{header}op=n p=3ff0000000000000 corr=- cond=- parity=0 d=1 x=0 z=-\n");
+    let noisy = format!("{header}op=n p=3ff0000000000000 corr=- cond=- parity=0 d=1 x=0 z=- size=1\n");
     let room = "refused: 15 (the text is longer than the lent bytes or 1,048,576)";
     let done = call("settle - --room 10 --seed 9", &noisy);
     assert!(done.stderr.starts_with(&format!("{room}; the text needs ")), "{done:?}");
@@ -247,7 +248,7 @@ fn refusals_are_said_in_words() {
 fn jobs_up_to_the_limits() {
     let largest = "op=job qubits=256 outcomes=1024 shots=4096\n";
     let recorded: String = (0..1024).map(|id| format!("op=o x=- z={} id={id}\n", id % 256)).collect();
-    let noise = "op=n p=3ff0000000000000 corr=- cond=- parity=0 d=1 x=255 z=-\n";
+    let noise = "op=n p=3ff0000000000000 corr=- cond=- parity=0 d=1 x=255 z=- size=1\n";
     let done = call("run - --seed 1", format!("{largest}{noise}{recorded}"));
     let printed = String::from_utf8(done.stdout).expect("text");
     let rows: Vec<&str> = printed.lines().filter(|line| line.starts_with("id=")).collect();
@@ -308,7 +309,8 @@ fn arguments_at_fault() {
         assert_eq!((done.status, done.stdout.as_slice()), (2, b"".as_slice()), "{arguments}");
         assert!(done.stderr.starts_with(&format!("kundatrezo: {text}")), "{arguments}: {}", done.stderr);
     }
-    let noisy = "op=job qubits=1 outcomes=0 shots=9\nop=n p=3fe0000000000000 corr=- cond=- parity=0 d=1 x=0 z=-\n";
+    let noisy =
+        "op=job qubits=1 outcomes=0 shots=9\nop=n p=3fe0000000000000 corr=- cond=- parity=0 d=1 x=0 z=- size=1\n";
     let done = call(&format!("run - --main {odd}"), noisy);
     assert!(done.stderr.ends_with("odd: its bytes are no whole number of 64-bit words\n"), "{done:?}");
 }
@@ -368,6 +370,9 @@ fn help_names_every_command_and_option() {
         ("annotate", vec!["p", "p-bits", "output", "room"]),
         ("locations", vec![]),
         ("correlation", vec![]),
+        ("split", vec!["parts", "prefix"]),
+        ("add", vec!["output"]),
+        ("sizes", vec!["output"]),
         ("bits", vec![]),
         ("decimal", vec![]),
         ("completions", vec![]),

@@ -123,7 +123,7 @@ fn probabilities() {
 fn elements_of_two_qubits() {
     let folder = folder("elements");
     let header = "op=job qubits=8 outcomes=0 shots=1\n";
-    let noise = "op=n p=3ff0000000000000 corr=- cond=- parity=0 d=2 q=6,3\n";
+    let noise = "op=n p=3ff0000000000000 corr=- cond=- parity=0 d=2 q=6,3 size=15\n";
     let rows = rows(&section("Which words are read"));
     let mut seen = 0;
     for element in rows[1..].iter().flat_map(|row| row.chunks(3)) {

@@ -6,3 +6,4 @@ mod documents;
 mod jobs;
 mod shells;
 mod shots;
+mod sizes;

@@ -49,6 +49,8 @@ fn bash_completes() {
         ("kundatrezo run job --main /dev/nul", "/dev/null\n"),
         ("kundatrezo check /dev/nul", "/dev/null\n"),
         ("kundatrezo add /dev/nul", "/dev/null\n"),
+        ("kundatrezo siz", "sizes\n"),
+        ("kundatrezo sizes job --o", "--output\n"),
         ("kundatrezo completions z", "zsh\n"),
     ];
     for (words, expected) in cases {

@@ -59,7 +59,8 @@ fn parts_of_a_job_add_up() {
 #[test]
 fn what_is_not_split_or_added() {
     let folder = folder("not_split");
-    let noisy = "op=job qubits=1 outcomes=0 shots=2\nop=n p=0000000000000000 corr=- cond=- parity=0 d=1 x=0 z=-\n";
+    let noisy =
+        "op=job qubits=1 outcomes=0 shots=2\nop=n p=0000000000000000 corr=- cond=- parity=0 d=1 x=0 z=- size=1\n";
     for (name, bytes) in [("noisy", noisy.as_bytes()), ("one", &[1; 8]), ("two", &[1; 16]), ("odd", &[1; 9])] {
         fs::write(folder.join(name), bytes).expect("it can be written");
     }

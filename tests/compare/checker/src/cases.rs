@@ -20,6 +20,7 @@ pub fn cases() -> Vec<Case> {
     cases.largest_headers();
     cases.lines_by_number();
     cases.noise_lines();
+    cases.sizes();
     cases.element_lines();
     cases.weights();
     cases.other_bytes();
@@ -100,7 +101,7 @@ impl Cases {
         self.line("op=job qubits=0 outcomes=0 shots=1", 3);
         self.line("op=job qubits=1 outcomes=0 shots=", 2);
         // A noise line alone lacks its header and its element line: the lower number counts.
-        self.job("op=n p=0000000000000000 corr=- cond=- parity=0 d=3 n=1\n", 2, 1);
+        self.job("op=n p=0000000000000000 corr=- cond=- parity=0 d=3 n=1 size=1\n", 2, 1);
     }
 
     /// What the largest header lets pass: qubit 255, shot 4095 and outcome 1023.
@@ -228,36 +229,114 @@ impl Cases {
     fn noise_lines(&mut self) {
         let long = numbers(0..32);
         let table = [
-            ("p=3ff0000000000000 corr=- cond=- parity=0 d=1 x=- z=-", 0),
-            ("p=3ff0000000000001 corr=- cond=- parity=0 d=1 x=- z=-", 11),
-            ("p=7ff0000000000000 corr=- cond=- parity=0 d=1 x=- z=-", 11),
-            ("p=7ff0000000000001 corr=- cond=- parity=0 d=1 x=- z=-", 11),
-            ("p=7ff8000000000000 corr=- cond=- parity=0 d=1 x=- z=-", 11),
-            ("p=fff8000000000000 corr=- cond=- parity=0 d=1 x=- z=-", 11),
-            ("p=ffffffffffffffff corr=- cond=- parity=0 d=1 x=- z=-", 11),
-            ("p=fff0000000000000 corr=- cond=- parity=0 d=1 x=- z=-", 0),
-            ("p=8000000000000000 corr=- cond=- parity=0 d=1 x=- z=-", 0),
-            ("p=0000000000000001 corr=- cond=- parity=0 d=1 x=- z=-", 0),
-            ("p=3FF0000000000000 corr=- cond=- parity=0 d=1 x=- z=-", 2),
-            ("p=8000000000000000 corr=18446744073709551615 cond=- parity=0 d=2 q=0", 0),
-            ("p=8000000000000000 corr=18446744073709551616 cond=- parity=0 d=2 q=0", 2),
-            ("p=8000000000000000 corr=00 cond=- parity=0 d=2 q=0", 2),
-            ("p=3ff0000000000001 corr=- cond=- parity=1 d=1 x=40 z=-", 2),
-            ("p=3ff0000000000001 corr=- cond=2 parity=1 d=1 x=40 z=-", 4),
-            ("p=3ff0000000000001 corr=- cond=2 parity=1 d=2 q=3,3", 5),
-            ("p=3ff0000000000001 corr=- cond=2 parity=1 d=2 q=3,4", 9),
-            ("p=3ff0000000000001 corr=- cond=1 parity=1 d=2 q=3,4", 11),
-            ("p=3ff0000000000000 corr=- cond=1 parity=1 d=5 q=3,4", 2),
-            ("p=3ff0000000000000 corr=- cond=1 parity=1 d=01 x=- z=-", 2),
-            ("p=3ff0000000000000 corr=- cond=1 parity=1 d=2 x=- z=-", 2),
+            ("p=3ff0000000000000 corr=- cond=- parity=0 d=1 x=- z=- size=1", 0),
+            ("p=3ff0000000000001 corr=- cond=- parity=0 d=1 x=- z=- size=1", 11),
+            ("p=7ff0000000000000 corr=- cond=- parity=0 d=1 x=- z=- size=1", 11),
+            ("p=7ff0000000000001 corr=- cond=- parity=0 d=1 x=- z=- size=1", 11),
+            ("p=7ff8000000000000 corr=- cond=- parity=0 d=1 x=- z=- size=1", 11),
+            ("p=fff8000000000000 corr=- cond=- parity=0 d=1 x=- z=- size=1", 11),
+            ("p=ffffffffffffffff corr=- cond=- parity=0 d=1 x=- z=- size=1", 11),
+            ("p=fff0000000000000 corr=- cond=- parity=0 d=1 x=- z=- size=1", 0),
+            ("p=8000000000000000 corr=- cond=- parity=0 d=1 x=- z=- size=1", 0),
+            ("p=0000000000000001 corr=- cond=- parity=0 d=1 x=- z=- size=1", 0),
+            ("p=3FF0000000000000 corr=- cond=- parity=0 d=1 x=- z=- size=1", 2),
+            ("p=8000000000000000 corr=18446744073709551615 cond=- parity=0 d=2 q=0 size=3", 0),
+            ("p=8000000000000000 corr=18446744073709551616 cond=- parity=0 d=2 q=0 size=3", 2),
+            ("p=8000000000000000 corr=00 cond=- parity=0 d=2 q=0 size=3", 2),
+            ("p=3ff0000000000001 corr=- cond=- parity=1 d=1 x=40 z=- size=1", 2),
+            ("p=3ff0000000000001 corr=- cond=2 parity=1 d=1 x=40 z=- size=1", 4),
+            ("p=3ff0000000000001 corr=- cond=2 parity=1 d=2 q=3,3 size=15", 5),
+            ("p=3ff0000000000001 corr=- cond=2 parity=1 d=2 q=3,4 size=15", 9),
+            ("p=3ff0000000000001 corr=- cond=1 parity=1 d=2 q=3,4 size=15", 11),
+            ("p=3ff0000000000000 corr=- cond=1 parity=1 d=5 q=3,4 size=15", 2),
+            ("p=3ff0000000000000 corr=- cond=1 parity=1 d=01 x=- z=- size=1", 2),
+            ("p=3ff0000000000000 corr=- cond=1 parity=1 d=2 x=- z=- size=1", 2),
         ];
         for (fields, number) in table {
             self.line(&format!("op=n {fields}"), number);
         }
-        self.line(&format!("op=n p=3ff0000000000001 corr=- cond={long} parity=0 d=2 q=3"), 5);
-        let depolarizing = |q: &str| format!("op=n p=3ff0000000000000 corr=- cond=- parity=0 d=2 q={q}");
-        self.line(&depolarizing(&numbers(0..31)), 0);
-        self.line(&depolarizing(&long), 5);
+        self.line(&format!("op=n p=3ff0000000000001 corr=- cond={long} parity=0 d=2 q=3 size=3"), 5);
+    }
+
+    /// The size at the end of a noise line: 2 without it, and 21 after every other test of the line.
+    fn sizes(&mut self) {
+        let full = &numbers(0..31);
+        let long = &numbers(0..32);
+        let table: [(String, u64); 39] = [
+            ("d=1 x=0 z=1".into(), 2),
+            ("d=1 x=0 z=1 size=".into(), 2),
+            ("d=1 x=0 z=1 size=-".into(), 2),
+            ("d=1 x=0 z=1 size=1".into(), 0),
+            ("d=1 x=0 z=1 size=01".into(), 2),
+            ("d=1 x=0 z=1 size=1 ".into(), 2),
+            ("d=1 x=0 z=1 size=1 size=1".into(), 2),
+            ("d=1 size=1 x=0 z=1".into(), 2),
+            ("d=1 x=0 z=1 size=0".into(), 21),
+            ("d=1 x=0 z=1 size=2".into(), 21),
+            ("d=1 x=0 z=1 size=18446744073709551615".into(), 21),
+            ("d=1 x=0 z=1 size=18446744073709551616".into(), 2),
+            ("d=1 x=0 z=1 size=18446744073709551617".into(), 2),
+            ("d=1 x=40 z=- size=2".into(), 4),
+            (format!("d=1 x={long} z=- size=2"), 5),
+            ("d=2 q=0".into(), 2),
+            ("d=2 q=0 size=3".into(), 0),
+            ("d=2 q=0 size=03".into(), 2),
+            ("d=2 q=0 size=1".into(), 21),
+            ("d=2 q=0 size=2".into(), 21),
+            ("d=2 q=0 size=4".into(), 21),
+            ("d=2 q=0,1 size=15".into(), 0),
+            ("d=2 q=0,1 size=3".into(), 21),
+            ("d=2 q=0,1 size=16".into(), 21),
+            // 4^31 - 1, beside 4^31, 4^31 - 2 and 2^64 - 1.
+            (format!("d=2 q={full} size=4611686018427387903"), 0),
+            (format!("d=2 q={full} size=4611686018427387904"), 21),
+            (format!("d=2 q={full} size=4611686018427387902"), 21),
+            (format!("d=2 q={full} size=18446744073709551615"), 21),
+            // From 32 qubits on 4^k is not below 2^64, and 4 or 5 comes first.
+            (format!("d=2 q={long} size=0"), 5),
+            (format!("d=2 q={long} size=18446744073709551615"), 5),
+            (format!("d=2 q={} size=0", numbers(0..33)), 5),
+            (format!("d=2 q={long},40 size=0"), 4),
+            (format!("d=2 q={} size=0", numbers(0..64)), 4),
+            ("d=2 q=0,0 size=15".into(), 5),
+            ("d=2 q=40 size=4".into(), 4),
+            ("d=3 n=0 size=0".into(), 12),
+            ("d=3 n=0 size=1".into(), 12),
+            ("d=4 n=0 size=0".into(), 12),
+            ("d=3 size=0 n=0".into(), 2),
+        ];
+        for (distribution, number) in table {
+            self.line(&format!("op=n p=3ff0000000000000 corr=- cond=- parity=0 {distribution}"), number);
+        }
+        // 9 and 11 before 21, and 21 of an earlier line before what comes later.
+        self.line("op=n p=3ff0000000000000 corr=- cond=2 parity=0 d=1 x=- z=- size=2", 9);
+        self.line("op=n p=3ff0000000000001 corr=- cond=1 parity=0 d=1 x=- z=- size=2", 11);
+        self.lines("op=n p=3ff0000000000000 corr=- cond=- parity=0 d=1 x=- z=- size=2\nop=z q=40", 21, 4);
+        self.lines("op=z q=40\nop=n p=3ff0000000000000 corr=- cond=- parity=0 d=1 x=- z=- size=2", 4, 4);
+        self.lines("op=k x=0 z=- u=- v=0\nop=n p=3ff0000000000000 corr=- cond=- parity=0 d=1 x=- z=- size=2", 20, 4);
+        self.sizes_with_elements();
+    }
+
+    /// The size beside element lines: the noise line's own 21 before any fault of theirs, but for one that is missing.
+    fn sizes_with_elements(&mut self) {
+        for size in [0, 1, 3, 4, 15] {
+            self.lines(&(sized(3, 2, size) + &elements(2)), 21, 4);
+            self.lines(&(sized(4, 2, size) + &weighted(&[ONE; 2])), 21, 4);
+        }
+        self.lines(&(sized(3, 2, 3) + "x=40 z=-\nx=- z=-"), 21, 4);
+        self.lines(&(sized(3, 2, 3) + "x=-\nx=- z=-"), 21, 4);
+        self.lines(&(sized(4, 1, 2) + "w=7ff0000000000000 x=- z=-"), 21, 4);
+        self.lines(&(sized(3, 2, 3) + "x=- z=-"), 21, 4);
+        // A missing element line is 2 where the noise line is the job's last.
+        self.lines(sized(3, 2, 3).trim_end(), 2, 4);
+        self.lines(sized(4, 1, 1).trim_end(), 2, 4);
+        // An n that may not be is 12, whatever the size.
+        self.lines(&(sized(3, 65, 65) + &elements(65)), 12, 4);
+        self.lines(&(sized(4, 65, 64) + &weighted(&[ONE; 65])), 12, 4);
+        // Element lines have no size.
+        self.lines(&(sized(3, 1, 1) + "x=- z=- size=1"), 2, 5);
+        self.lines(&(sized(4, 1, 1) + "w=3ff0000000000000 x=- z=- size=1"), 2, 5);
+        self.line("op=i shot=0 x=- z=- size=1", 2);
     }
 
     fn element_lines(&mut self) {
@@ -273,7 +352,7 @@ impl Cases {
         self.lines(noise(3, 65).trim_end(), 2, 4);
         self.lines(noise(3, 1).trim_end(), 2, 4);
         self.lines(&(noise(3, 2) + &elements(1)), 2, 5);
-        let largest = |n: &str| format!("op=n p=3ff0000000000000 corr=- cond=- parity=0 d=3 n={n}\nx=- z=-");
+        let largest = |n: &str| format!("op=n p=3ff0000000000000 corr=- cond=- parity=0 d=3 n={n} size={n}\nx=- z=-");
         self.lines(&largest("18446744073709551615"), 12, 4);
         self.lines(&largest("18446744073709551616"), 2, 4);
         // A missing element line covers the last line's own faults, an earlier bad line comes first.
@@ -327,7 +406,12 @@ const ONE: &str = "3ff0000000000000";
 
 /// A noise line whose n element lines follow.
 fn noise(d: u8, n: usize) -> String {
-    format!("op=n p=3ff0000000000000 corr=- cond=- parity=0 d={d} n={n}\n")
+    sized(d, n, n)
+}
+
+/// A noise line that n element lines follow, with a size.
+fn sized(d: u8, n: usize, size: usize) -> String {
+    format!("op=n p=3ff0000000000000 corr=- cond=- parity=0 d={d} n={n} size={size}\n")
 }
 
 /// Element lines without weights; the last without its LF.

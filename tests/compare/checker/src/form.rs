@@ -93,7 +93,8 @@ impl Fields<'_> {
             b'4' => (Distribution::Weighted(Vec::new()), Some(self.number(b" n=")?)),
             _ => return None,
         };
-        let noise = Noise { p, correlation, condition, parity, distribution };
+        let size = self.number(b" size=")?;
+        let noise = Noise { p, correlation, condition, parity, distribution, size };
         self.end((Box::new(noise), elements))
     }
 

@@ -27,7 +27,7 @@ pub const MAX_ONE_QUBIT_GATE: u64 = 10;
 pub type List = SmallVec<[u64; 2]>;
 
 /// The numbers of the tests of a job, which every call makes.
-pub const TESTS: [u64; 13] = [1, 2, 3, 4, 5, 6, 7, 8, 9, 10, 11, 12, 20];
+pub const TESTS: [u64; 14] = [1, 2, 3, 4, 5, 6, 7, 8, 9, 10, 11, 12, 20, 21];
 /// The numbers that are calls' own.
 pub const OF_CALLS: [u64; 7] = [13, 14, 15, 16, 17, 18, 19];
 
@@ -152,9 +152,18 @@ pub struct Noise {
     pub parity: bool,
     /// What falls on a fault.
     pub distribution: Distribution,
+    /// The distribution's size as written.
+    pub size: u64,
 }
 
 impl Noise {
+    /// Noise of a probability's bits without correlation or condition.
+    #[must_use]
+    pub fn unconditional(p: u64, distribution: Distribution) -> Self {
+        let size = distribution.size();
+        Self { p, correlation: None, condition: List::new(), parity: false, distribution, size }
+    }
+
     /// The probability.
     #[must_use]
     pub fn probability(&self) -> f64 {
@@ -171,6 +180,19 @@ pub enum Distribution {
     Uniform(Vec<Pauli>),
     /// Each weight by its binary64 bits.
     Weighted(Vec<(u64, Pauli)>),
+}
+
+impl Distribution {
+    /// How many elements it has: 1, 4^k - 1 for k qubits (at most 31), or n.
+    #[must_use]
+    pub fn size(&self) -> u64 {
+        match self {
+            Distribution::Single(_) => 1,
+            Distribution::Depolarizing(qubits) => (1 << (2 * qubits.len())) - 1,
+            Distribution::Uniform(paulis) => paulis.len() as u64,
+            Distribution::Weighted(elements) => elements.len() as u64,
+        }
+    }
 }
 
 /// A Clifford table's row as bits: X parts of the places from bit 0 on, then Z parts.

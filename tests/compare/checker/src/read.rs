@@ -1,4 +1,4 @@
-//! Reading a job: its form, and its tests, 1 to 12 and 20.
+//! Reading a job: its form, and its tests, 1 to 12, 20 and 21.
 //!
 //! The first bad line counts, and its lowest number. A line is first read by its form (2, in [`crate::form`]); what it says is then put to the
 //! tests in the order of their numbers, each a yes or no on the whole line.
@@ -214,6 +214,7 @@ impl<'a> Reader<'a> {
             .or_else(|| self.test_outcomes(&noise.condition))
             .or_else(|| (!is_probability(noise.p)).then_some(11))
             .or_else(|| elements.is_some_and(|n| !(1..=MAX_ELEMENTS).contains(&n)).then_some(12))
+            .or_else(|| (noise.size != elements.unwrap_or_else(|| noise.distribution.size())).then_some(21))
     }
 
     /// 8: the id is the next one, and below outcomes.

@@ -43,31 +43,29 @@ pub fn inject(shot: u64, pauli: &Pauli) -> String {
 /// The noise line that annotation puts, with its LF.
 #[must_use]
 pub fn annotation(p: u64, qubits: &[u64]) -> String {
-    format!("op=n p={p:016x} corr=- cond=- parity=0 d=2 q={}\n", list(qubits))
+    noise(&Noise::unconditional(p, Distribution::Depolarizing(qubits.iter().copied().collect())))
 }
 
 fn noise(noise: &Noise) -> String {
     let correlation = noise.correlation.map_or("-".to_owned(), |corr| corr.to_string());
     let condition = list(&noise.condition);
     let parity = u8::from(noise.parity);
-    let mut text = format!("op=n p={:016x} corr={correlation} cond={condition} parity={parity} ", noise.p);
-    match &noise.distribution {
-        Distribution::Single(pauli) => _ = writeln!(text, "d=1 {}", parts(pauli)),
-        Distribution::Depolarizing(qubits) => _ = writeln!(text, "d=2 q={}", list(qubits)),
+    let (distribution, elements) = match &noise.distribution {
+        Distribution::Single(pauli) => (format!("d=1 {}", parts(pauli)), String::new()),
+        Distribution::Depolarizing(qubits) => (format!("d=2 q={}", list(qubits)), String::new()),
         Distribution::Uniform(paulis) => {
-            _ = writeln!(text, "d=3 n={}", paulis.len());
-            for pauli in paulis {
-                _ = writeln!(text, "{}", parts(pauli));
-            }
+            let elements = paulis.iter().map(|pauli| format!("{}\n", parts(pauli)));
+            (format!("d=3 n={}", paulis.len()), elements.collect())
         }
-        Distribution::Weighted(elements) => {
-            _ = writeln!(text, "d=4 n={}", elements.len());
-            for (weight, pauli) in elements {
-                _ = writeln!(text, "w={weight:016x} {}", parts(pauli));
-            }
+        Distribution::Weighted(weighted) => {
+            let elements = weighted.iter().map(|(weight, pauli)| format!("w={weight:016x} {}\n", parts(pauli)));
+            (format!("d=4 n={}", weighted.len()), elements.collect())
         }
-    }
-    text
+    };
+    let Noise { p, size, .. } = noise;
+    format!(
+        "op=n p={p:016x} corr={correlation} cond={condition} parity={parity} {distribution} size={size}\n{elements}"
+    )
 }
 
 fn parts(pauli: &Pauli) -> String {

@@ -50,7 +50,7 @@ fn stars_3_to_5_tables_of_one_qubit() {
 
 #[test]
 fn stars_6_to_9_depolarizing_one_qubit() {
-    let job = "op=job qubits=1 outcomes=0 shots=1\nop=n p=3ff0000000000000 corr=- cond=- parity=0 d=2 q=0\n";
+    let job = "op=job qubits=1 outcomes=0 shots=1\nop=n p=3ff0000000000000 corr=- cond=- parity=0 d=2 q=0 size=3\n";
     let drawn = |words: &[u64]| {
         let (answer, x, z, _) = run(job, words);
         (answer.number, x, z)

@@ -79,10 +79,10 @@ pub fn chosen(call: Call, case: impl Fn(&Input, &Output) -> Vec<u8>) -> Vec<Vec<
 fn limits(call: Call) -> Vec<Input> {
     const HEADER: &str = "op=job qubits=11 outcomes=0 shots=8\n";
     const GATE: &str = "op=u g=4 q=0\n";
-    const NOISE: &str = "op=n p=3ff0000000000000 corr=- cond=- parity=0 d=1 x=0 z=-\n";
+    const NOISE: &str = "op=n p=3ff0000000000000 corr=- cond=- parity=0 d=1 x=0 z=- size=1\n";
     let p = 0.25_f64.to_bits();
     let (line, text) = match call {
-        Call::Annotate => (GATE, format!("{GATE}op=n p={p:016x} corr=- cond=- parity=0 d=2 q=0\n")),
+        Call::Annotate => (GATE, format!("{GATE}op=n p={p:016x} corr=- cond=- parity=0 d=2 q=0 size=3\n")),
         Call::Settle => (NOISE, (0..8).map(|shot| format!("op=i shot={shot} x=0 z=-\n")).collect()),
         _ => ("", String::new()),
     };

@@ -10,11 +10,12 @@ pub fn damaged(random: &mut Random, job: &[u8]) -> Vec<u8> {
     let mut copy = job.to_vec();
     let times = if random.one_in(4) { 2 } else { 1 };
     for _ in 0..times {
-        copy = match random.below(25) {
+        copy = match random.below(26) {
             0 | 1 => byte_damaged(random, copy),
             2 | 3 => line_damaged(random, &copy),
             4 => whole_damaged(random, copy),
             5 | 6 => controls_damaged(random, &copy, &header),
+            7 => field_damaged(random, &copy),
             _ => value_damaged(random, &copy, &header),
         };
     }
@@ -52,6 +53,22 @@ fn line_damaged(random: &mut Random, job: &[u8]) -> Vec<u8> {
         _ => lines.insert(place, lines[0]),
     }
     lines.concat()
+}
+
+/// The last field of a line dropped, put behind another line, or written twice.
+fn field_damaged(random: &mut Random, job: &[u8]) -> Vec<u8> {
+    let mut lines: Vec<Vec<u8>> = job.split(|&byte| byte == b'\n').map(<[u8]>::to_vec).collect();
+    let (place, other) = (random.index(lines.len()), random.index(lines.len()));
+    let Some(space) = lines[place].iter().rposition(|&byte| byte == b' ') else {
+        return job.to_vec();
+    };
+    let field = lines[place][space..].to_vec();
+    match random.below(4) {
+        0 | 1 => lines[place].truncate(space),
+        2 => lines[other].extend(field),
+        _ => lines[place].extend(field),
+    }
+    lines.join(&b'\n')
 }
 
 /// A controlled Pauli put in whose control and target anticommute, at one qubit or at three.
@@ -120,7 +137,7 @@ fn value_damaged(random: &mut Random, job: &[u8], header: &Header) -> Vec<u8> {
 fn weight(key: &str) -> usize {
     match key {
         "op" | "angle" | "parity" | "d" | "corr" => 1,
-        "s" | "n" | "w" => 6,
+        "s" | "n" | "w" | "size" => 6,
         "p" | "t" | "id" | "shot" => 4,
         _ => 2,
     }
@@ -164,6 +181,7 @@ fn changed(random: &mut Random, field: &Field<'_>, header: &Header) -> String {
         ("g", _) => near(random, &[10, 11, 14, 15]),
         ("shot", _) => near(random, &[header.shots, 64]),
         ("n", _) => near(random, &[0, 1, 64, old]),
+        ("size", _) => near(random, &[1, 3, 15, old, old]),
         ("corr", _) => near(random, &[0, 1]),
         ("d", _) => near(random, &[0, 1, 2, 3, 4]),
         ("angle" | "parity", _) => random.pick(&["0", "1", "2", "-", "00"]).to_owned(),

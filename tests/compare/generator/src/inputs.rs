@@ -6,8 +6,8 @@ use crate::random::Random;
 use checker::calls::{Calls, Draws};
 use checker::gaps::fault_shot;
 use checker::job::{
-    Distribution, Header, Instruction, Job, List, MAX_BYTES, MAX_LIST, MAX_OUTCOMES, MAX_PRINTED_BYTES, MAX_SHOTS,
-    Noise, Pauli, usize_of,
+    Distribution, Header, Instruction, Job, MAX_BYTES, MAX_LIST, MAX_OUTCOMES, MAX_PRINTED_BYTES, MAX_SHOTS, Noise,
+    Pauli, usize_of,
 };
 use checker::plain::{Plain, settled};
 use checker::read::read;
@@ -68,13 +68,8 @@ fn large(random: &mut Random, call: Call) -> Made {
 
 /// A Pauli in every shot.
 fn always(pauli: Pauli) -> Instruction {
-    Instruction::Noise(Box::new(Noise {
-        p: 1.0_f64.to_bits(),
-        correlation: Some(0),
-        condition: List::new(),
-        parity: false,
-        distribution: Distribution::Single(pauli),
-    }))
+    let noise = Noise::unconditional(1.0_f64.to_bits(), Distribution::Single(pauli));
+    Instruction::Noise(Box::new(Noise { correlation: Some(0), ..noise }))
 }
 
 /// A job as long as the call takes, or a byte less or more: lines of two lengths without a common divisor.

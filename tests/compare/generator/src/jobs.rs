@@ -280,13 +280,11 @@ impl Maker<'_> {
         let correlation = self.random.one_in(3).then(|| self.correlation());
         let size = correlation.and_then(|id| self.size(id));
         let condition = if self.random.one_in(2) { List::new() } else { self.ids() };
-        Noise {
-            p: probability(self.random, self.shape.draws),
-            correlation,
-            parity: !condition.is_empty() && self.random.one_in(2),
-            condition,
-            distribution: self.distribution(size),
-        }
+        let p = probability(self.random, self.shape.draws);
+        let parity = !condition.is_empty() && self.random.one_in(2);
+        let distribution = self.distribution(size);
+        let size = distribution.size();
+        Noise { p, correlation, condition, parity, distribution, size }
     }
 
     fn correlation(&mut self) -> u64 {

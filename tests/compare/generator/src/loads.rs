@@ -89,11 +89,5 @@ fn gate(random: &mut Random, qubits: u64) -> Instruction {
 }
 
 fn depolarizing(qubits: List, p: f64) -> Instruction {
-    Instruction::Noise(Box::new(Noise {
-        p: p.to_bits(),
-        correlation: None,
-        condition: List::new(),
-        parity: false,
-        distribution: Distribution::Depolarizing(qubits),
-    }))
+    Instruction::Noise(Box::new(Noise::unconditional(p.to_bits(), Distribution::Depolarizing(qubits))))
 }

@@ -321,6 +321,7 @@ fn weighted(elements: &[(u64, Pauli)]) -> PauliDistribution {
     distribution
 }
 
+/// The published fault, which says nothing of its distribution's size.
 fn fault(noise: &Noise) -> PauliFault {
     let distribution = match &noise.distribution {
         Distribution::Single(pauli) => PauliDistribution::single(of(pauli)),

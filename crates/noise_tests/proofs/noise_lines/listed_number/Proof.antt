@@ -5,7 +5,7 @@ use borrow.Author.Tests.{not-true, not-false, lt-leb, le-leb}
 use lib.Dec.{leb}
 use Rattle.text.specs.Template.{numberAt}
 use Rattle.noise_tests.specs.Listed.{listedTests}
-use Rattle.value_tests.specs.Laws.Lowest.{none-bad, fails, passes, two-fail, two-pass, left-false, right-false, both-true}
+use Rattle.value_tests.specs.Laws.Lowest.{fails, passes, two-fail, two-pass, left-false, right-false, both-true}
 use borrow.Author.Needs.{needs}
 use Rattle.noise_tests.proofs.noise_lines.listed_number.Statement.{statement}
 use Rattle.noise_tests.proofs.noise_lines.listed_number.Tie as tie
@@ -45,14 +45,17 @@ returns-4 c = λ vs h.
     ∙ two-pass _ _ _ (c .before .before .before .before .noise-number .ensures _ _ vs h (omega arith) (omega arith)) (omega arith) (omega arith) (c .before .before .before .if2 .left)
     ∙ passes 5 _ _ (sym (c .before .before .before .before .before .before .short .ensures .0 _ _ vs h (omega arith)) ∙ not-false _ (c .before .before .before .before .before .if1 .left))
 
+size-number-requires : tie.Need-size-number-requires
+size-number-requires c κs = search needs
+
 returns-5 : tie.Need-returns-5
 unfolding listedTests
 returns-5 c = λ vs h.
-    let n = c .before .before .number .ensures ∙ h .number 2 (omega arith) in
-    none-bad
+    let n = c .before .before .before .number .ensures ∙ h .number 2 (omega arith) in
+    rw n at (c .size-number .ensures _ _ vs h (omega arith))
     ∙ passes 12 _ _ (both-true (le-leb 1 (numberAt 2 vs) (omega arith)) (le-leb (numberAt 2 vs) 64 (omega arith)))
-    ∙ two-pass _ _ _ (c .before .before .before .before .noise-number .ensures _ _ vs h (omega arith) (omega arith)) (omega arith) (omega arith) (c .before .before .before .if2 .left)
-    ∙ passes 5 _ _ (sym (c .before .before .before .before .before .before .short .ensures .0 _ _ vs h (omega arith)) ∙ not-false _ (c .before .before .before .before .before .if1 .left))
+    ∙ two-pass _ _ _ (c .before .before .before .before .before .noise-number .ensures _ _ vs h (omega arith) (omega arith)) (omega arith) (omega arith) (c .before .before .before .before .if2 .left)
+    ∙ passes 5 _ _ (sym (c .before .before .before .before .before .before .before .short .ensures .0 _ _ vs h (omega arith)) ∙ not-false _ (c .before .before .before .before .before .before .if1 .left))
 
 pub listed-number-spec : {M : Type 1} → statement M
 listed-number-spec =
@@ -65,4 +68,5 @@ listed-number-spec =
     number-requires
     returns-3
     returns-4
+    size-number-requires
     returns-5)

@@ -1,6 +1,6 @@
 //! Annotation, locations and the correlation check.
 
-use crate::job::{Distribution, Instruction, Job, MAX_LIST, Refusal};
+use crate::job::{Instruction, Job, MAX_LIST, Refusal};
 use crate::write;
 
 /// The qubits on which faults are located: the operands, or the support rising (control's, then target's).
@@ -55,17 +55,7 @@ pub(super) fn locations(job: &Job<'_>) -> u64 {
     job.lines.iter().map(|line| 2 * located_qubits(&line.instruction).len() as u64).sum()
 }
 
-/// 1, 4^k - 1 or n.
-fn size(distribution: &Distribution) -> u64 {
-    match distribution {
-        Distribution::Single(_) => 1,
-        Distribution::Depolarizing(qubits) => (1 << (2 * qubits.len())) - 1,
-        Distribution::Uniform(paulis) => paulis.len() as u64,
-        Distribution::Weighted(elements) => elements.len() as u64,
-    }
-}
-
-/// 19 at the first line whose size differs from that of the first line with its correlation.
+/// 19 at the first line whose size, as written, differs from that of the first line with its correlation.
 pub(super) fn correlation(job: &Job<'_>) -> Result<(), Refusal> {
     let mut sizes: Vec<(u64, u64)> = Vec::new();
     for line in &job.lines {
@@ -73,11 +63,10 @@ pub(super) fn correlation(job: &Job<'_>) -> Result<(), Refusal> {
             continue;
         };
         let Some(correlation) = noise.correlation else { continue };
-        let size = size(&noise.distribution);
         match sizes.iter().find(|(earlier, _)| *earlier == correlation) {
-            Some((_, first)) if *first != size => return Err(Refusal::at(19, line.number)),
+            Some((_, first)) if *first != noise.size => return Err(Refusal::at(19, line.number)),
             Some(_) => {}
-            None => sizes.push((correlation, size)),
+            None => sizes.push((correlation, noise.size)),
         }
     }
     Ok(())

@@ -1,7 +1,7 @@
 //! Draws: which shots a noise line's faults fall in, and what falls.
 
 use crate::calls::Draws;
-use crate::job::{Distribution, Header, List, Noise, Pauli};
+use crate::job::{Distribution, Header, List, Noise, Pauli, usize_of};
 use crate::plain::bit;
 
 /// A list of words, read on from a place.
@@ -70,14 +70,8 @@ fn faults_from(words: &mut Words<'_>, noise: &Noise, header: &Header, noiseless:
 fn choose(distribution: &Distribution, words: &mut Words<'_>) -> Option<Pauli> {
     Some(match distribution {
         Distribution::Single(pauli) => pauli.clone(),
-        Distribution::Depolarizing(qubits) => {
-            let count = (1 << (2 * qubits.len())) - 1;
-            depolarizing(qubits, below(count, words)? + 1)
-        }
-        Distribution::Uniform(paulis) => {
-            let place = below(paulis.len() as u64, words)?;
-            paulis[usize::try_from(place).ok()?].clone()
-        }
+        Distribution::Depolarizing(qubits) => depolarizing(qubits, below(distribution.size(), words)? + 1),
+        Distribution::Uniform(paulis) => paulis[usize_of(below(distribution.size(), words)?)].clone(),
         Distribution::Weighted(elements) => elements[weighted_place(elements, unit(words.next()?))].1.clone(),
     })
 }
