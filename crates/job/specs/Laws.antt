@@ -5,6 +5,8 @@ pub mod Lists
 pub mod Rising
 -- Permutations of the places (test 6).
 pub mod Permutation
+-- The table of a Clifford by its words.
+pub mod Table
 -- The tests of a line that passes.
 pub mod Tests
 -- What a line says, by the letters of its form.
