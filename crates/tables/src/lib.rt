@@ -5,7 +5,7 @@ ghost use Prim.Native.Nat.{_*_, _^_, _≤_, _<_};
 ghost use lib.Dec.{eqb, ltb, leb};
 ghost use lib.ListN.{length};
 ghost use Rattle.job.specs.Clifford.{maxCliffordQubits, tableWords, tableOf};
-ghost use Rattle.tables.specs.Rows.{rowWord, TableFor};
+ghost use Rattle.tables.specs.Rows.{TableFor, rowWord, RowsOf};
 
 const MAX_CLIFFORD_QUBITS: u64 = 8;
 
@@ -49,6 +49,18 @@ pub fn row(words: &[u64], k: usize, r: usize) -> u64
         return low & mask;
     }
     (low | (words[i + 1] << (64 - from))) & mask
+}
+
+// All rows.
+pub fn rows(words: &[u64], k: usize, out: &mut [u64])
+    requires { ⌜ TableFor k (now words) × (2 * k ≤ length (now out)) ⌝ }
+    ensures { λ _. ⌜ RowsOf k (tableOf (now (words .entry))) (now (out .exit)) ⌝ }
+{
+    let mut r = 0;
+    while r < 2 * k {
+        out[r] = row(words, k, r);
+        r += 1;
+    }
 }
 
 // Whether bits from 4k² up are 0. They stand in the last word, where 4k² bits do not fill it.

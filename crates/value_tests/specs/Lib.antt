@@ -1,6 +1,6 @@
 -- What the tests take the values of a line and the lines before it to be. Definitions, and laws that proofs cite.
 pub mod Slots
 pub mod Floats
-pub mod Rows
+pub mod Pairs
 pub mod Contexts
 pub mod Laws
