@@ -7,7 +7,7 @@ ghost use lib.ListN.{length};
 ghost use Rattle.job.specs.Clifford.{maxCliffordQubits, tableWords, tableOf};
 ghost use Rattle.tables.specs.Rows.{TableFor, rowWord, RowsOf};
 
-const MAX_CLIFFORD_QUBITS: u64 = 8;
+pub const MAX_CLIFFORD_QUBITS: u64 = 8;
 
 // The bits of a table.
 fn table_bits(k: usize) -> usize
