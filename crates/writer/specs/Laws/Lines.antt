@@ -143,7 +143,7 @@ module _ (qubits : List ℕ) where
 pub depolarizing-line : (p : ℕ) (qubits : List ℕ)
     → (depolarizingStart p ++ lineText (bytes " q=Q") (Value.list qubits ∷ [])) ++ LF ∷ []
     ≡ lineText depolarizingTemplate (Value.number p ∷ Value.list [] ∷ Value.list [] ∷ Value.number 0 ∷ Value.list qubits ∷ []) ++ LF ∷ []
-unfolding bytes lineText firstText valueText decimalDigits listText depolarizingStart
+unfolding bytes lineText firstText valueText decimalDigits listTextBy depolarizingStart
 depolarizing-line p qubits = ap (λ (r : List ℕ). (bytes "op=n p=" ++ r) ++ LF ∷ []) (append-assoc (hexadecimal p) (bytes " corr=- cond=- parity=0 d=2") (bytes " q=" ++ (listText qubits ++ [])))
 
 -- how far it goes when it was put
