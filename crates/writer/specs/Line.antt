@@ -9,7 +9,7 @@ use lib.ListN.{length, getD, take, drop}
 use Rattle.text.specs.Bytes.{bytes}
 use Rattle.text.specs.Template.{Value, isLetter, lineText}
 
--- whether a letter stands for a list: L, Q, C
+-- whether a letter stands for a list of numbers: L, Q, C. No line with a T is written.
 unfoldable pub isList : ℕ → Bool
 isList t = eqb t 76 || (eqb t 81 || eqb t 67)
 

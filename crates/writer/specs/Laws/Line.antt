@@ -1,10 +1,12 @@
 -- A line put by its template, value by value. Laws. Assumes nothing.
 use mathlib.Core.Path.{_≡_, refl, sym, ap, _∙_}
-use mathlib.Core.Bool.{true, false, cond}
+use mathlib.Core.Bool.{true, false, cond, true≢false}
 use mathlib.Core.List.{List, [], _∷_, _++_}
 use Prim.Native.Nat.{ℕ, _+_, _-_, _*_, _≤_, _<_}
 use native.Mathlib.Nat.{add-zero, add-sub-cancel-left}
 use native.Mathlib.Omega.{arith}
+use borrow.Author.Tests.{ne-eqb}
+use lib.Dec.{eqb}
 use lib.ListN.{length, getD, take, drop, length-append, drop-of-length-le}
 use lib.Seq.{getD-drop, drop-drop}
 use Rattle.text.specs.List.{listText}
@@ -28,7 +30,12 @@ module _ (t : ℕ) (ts numbers counts members : List ℕ) where
   list-first : isLetter t ≡ true → isList t ≡ true
       → whole ≡ listText (take (getD counts 0 0) members) ++ lineText ts (valuesIn ts numbers (drop 1 counts) (drop 31 members))
   unfolding lineText valuesIn firstText valueText
-  list-first e f = rw (e, f)
+  list-first e f = rw (e, f, no-words f)
+    where
+      -- a list of numbers is no T
+      no-words : isList t ≡ true → eqb t 84 ≡ false
+      unfolding isList
+      no-words g = ne-eqb t 84 (λ q. true≢false (sym g ∙ ap isList q))
 
   number-first : isLetter t ≡ true → isList t ≡ false
       → whole ≡ valueText t (Value.number (getD numbers 0 0)) ++ lineText ts (valuesIn ts (drop 1 numbers) counts members)

@@ -37,7 +37,11 @@ allLonger (d ∷ ds) = longer d + allLonger ds
 
 value-length : (t : ℕ) (d : Value) → length (valueText t d) ≤ 1 + longer d
 value-length t (Value.number n) = number-length t n
-value-length t (Value.list l) = unfold valueText in omega (arith, list-length l)
+value-length t (Value.list l) = unfold valueText in omega (arith, list-length (cond (eqb t 84) hexadecimal decimal) (one-length (eqb t 84)) l)
+  where
+    one-length : (b : Bool) (n : ℕ) → length (cond b hexadecimal decimal n) ≤ 20
+    one-length true n = omega (arith, hex-length n)
+    one-length false n = decimal-length n
 
 pub line-length : (ts : List ℕ) (ds : List Value) → length (lineText ts ds) ≤ length ts + allLonger ds
 unfolding lineText firstText
