@@ -18,6 +18,11 @@ use Rattle.writer.specs.Laws.Placing.{Rest, rest-all, rest-more, rest-no
 
 -- ---- the first byte of a template
 
+-- a list of numbers is no T
+no-words : (t : ℕ) → isList t ≡ true → eqb t 84 ≡ false
+unfolding isList
+no-words t f = ne-eqb t 84 (λ q. true≢false (sym f ∙ ap isList q))
+
 module _ (t : ℕ) (ts numbers counts members : List ℕ) where
   -- the text of the values that the words hold
   abbrev whole : List ℕ
@@ -30,12 +35,7 @@ module _ (t : ℕ) (ts numbers counts members : List ℕ) where
   list-first : isLetter t ≡ true → isList t ≡ true
       → whole ≡ listText (take (getD counts 0 0) members) ++ lineText ts (valuesIn ts numbers (drop 1 counts) (drop 31 members))
   unfolding lineText valuesIn firstText valueText
-  list-first e f = rw (e, f, no-words f)
-    where
-      -- a list of numbers is no T
-      no-words : isList t ≡ true → eqb t 84 ≡ false
-      unfolding isList
-      no-words g = ne-eqb t 84 (λ q. true≢false (sym g ∙ ap isList q))
+  list-first e f = rw (e, f, no-words t f)
 
   number-first : isLetter t ≡ true → isList t ≡ false
       → whole ≡ valueText t (Value.number (getD numbers 0 0)) ++ lineText ts (valuesIn ts (drop 1 numbers) counts members)

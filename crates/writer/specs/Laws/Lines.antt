@@ -9,7 +9,7 @@ use lib.ListN.{length, getD, take, drop, length-append, length-take}
 use lib.Seq.{getD-drop, take-length}
 use Rattle.text.specs.Bytes.{LF, bytes}
 use Rattle.text.specs.Number.{decimalDigits, decimal, hexadecimal}
-use Rattle.text.specs.List.{listText}
+use Rattle.text.specs.List.{listTextBy, listText}
 use Rattle.text.specs.Template.{Value, isLetter, valueText, firstText, lineText}
 use Rattle.job.specs.Grammar.{injectTemplate, depolarizingTemplate}
 use Rattle.writer.specs.Placed.{Puts}

@@ -37,15 +37,17 @@ hexes-length (suc f) n = omega (arith, length-append (hexDigits f (n / 16)) (hex
 pub hex-length : (n : ℕ) → length (hexadecimal n) ≡ 16
 hex-length n = hexes-length 16 n
 
-commas-length : (l : List ℕ) → length (commas l) ≤ 21 * length l
-unfolding commasBy
-commas-length [] = omega arith
-commas-length (n ∷ l) = omega (arith, length-append (decimal n) (commas l), decimal-length n, commas-length l)
+-- a list whose members take at most 20 bytes each
+module _ (one : ℕ → List ℕ) (short : (n : ℕ) → length (one n) ≤ 20) where
+  commas-length : (l : List ℕ) → length (commasBy one l) ≤ 21 * length l
+  unfolding commasBy
+  commas-length [] = omega arith
+  commas-length (n ∷ l) = omega (arith, length-append (one n) (commasBy one l), short n, commas-length l)
 
-pub list-length : (l : List ℕ) → length (listText l) ≤ 21 * length l + 1
-unfolding listTextBy
-list-length [] = omega arith
-list-length (n ∷ l) = omega (arith, length-append (decimal n) (commas l), decimal-length n, commas-length l)
+  pub list-length : (l : List ℕ) → length (listTextBy one l) ≤ 21 * length l + 1
+  unfolding listTextBy
+  list-length [] = omega arith
+  list-length (n ∷ l) = omega (arith, length-append (one n) (commasBy one l), short n, commas-length l)
 
 -- ---- member by member
 
