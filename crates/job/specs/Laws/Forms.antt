@@ -14,7 +14,7 @@ use Rattle.text.specs.Template.{Value, valuesOf, numberAt, listAt}
 use Rattle.text.specs.Written.{FitL, FitQ, FitC}
 use Rattle.text.specs.Laws.Values.{NumberFits, ListFits, numberLettersIn, listLettersIn, Fits, values-fit}
 use Rattle.job.specs.Line.{SparsePauli, Line}
-use Rattle.job.specs.Clifford.{tableWords}
+use Rattle.job.specs.Clifford.{maxCliffordQubits, tableWords}
 use Rattle.job.specs.Sound.{SmallOption, Every}
 use Rattle.job.specs.Grammar.{Kind, NoiseLine, Written, pauliAt, isOne, unitaryLine, cliffordLine, optional, noiseLine, Form, forms, said, orLater, readBy, readLine}
 
@@ -85,7 +85,7 @@ unless-fits false w h = h refl
 
 clifford-fits : (qs ws : List ℕ) → FitQ qs → SaidFits (cliffordLine qs ws)
 unfolding cliffordLine WrittenFits LineFits
-clifford-fits qs ws h = unless-fits (leb (length qs) 8 && not (eqb (length ws) (tableWords (length qs)))) _ (λ e. h)
+clifford-fits qs ws h = unless-fits (leb (length qs) maxCliffordQubits && not (eqb (length ws) (tableWords (length qs)))) _ (λ e. h)
 
 noise-fits : (kind : Kind) (v : List Value) → numberAt 0 v < 2 ^ 64 → FitC (listAt 0 v) → FitL (listAt 1 v) → KindFits kind → SaidFits (noiseLine kind v)
 unfolding noiseLine WrittenFits

@@ -13,6 +13,7 @@ use Rattle.job.specs.Line.{SparsePauli, Line}
 use Rattle.job.specs.Checks.{Context, allBelow, eachBelow, eachShort, distinct, lineTests, inRange, listsOf}
 use Rattle.job.specs.Sound.{Operands, PauliSound, NextOutcome, LineSound, HeaderSound}
 use Rattle.pauli.specs.Gate.{operandsOf}
+use Rattle.job.specs.Clifford.{maxCliffordQubits}
 use Rattle.job.specs.Laws.Table.{clifford-small}
 use Rattle.job.specs.Laws.Lists.{below-first}
 use Rattle.job.specs.Laws.Tests.{AllPass}
@@ -69,7 +70,7 @@ line-sound c (Line.unitary g qs) f t =
     record { operands = operands-sound _ qs f (not-false _ (t .0)) (own .1) (lists .1); count = eqb-true _ _ (own .0) }
 line-sound c (Line.clifford qs m) f t =
     let lists = both _ (eachShort (qs ∷ [])) (not-false _ (t .1 .0)) in
-    let own = both (leb (length qs) 8) (distinct qs) (lists .0) in
+    let own = both (leb (length qs) maxCliffordQubits) (distinct qs) (lists .0) in
     let table = not-false _ (t .1 .1 .0) in
     record {
       operands = operands-sound _ qs f (not-false _ (t .0)) (own .1) (lists .1);

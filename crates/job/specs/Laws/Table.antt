@@ -21,26 +21,27 @@ use Rattle.job.specs.Grammar.{plain, cliffordLine}
 
 -- ---- from words to the table
 
-module _ (w t : ℕ) (h : w < 2 ^ 64) where
-  low-word : (w + 2 ^ 64 * t) % 2 ^ 64 ≡ w
+-- the first word is the lowest
+module _ (w : ℕ) (ws : List ℕ) (h : w < 2 ^ 64) where
+  low-word : tableOf (w ∷ ws) % 2 ^ 64 ≡ w
+  unfolding tableOf
   low-word = omega arith
 
-  high-words : (w + 2 ^ 64 * t) / 2 ^ 64 ≡ t
+  high-words : tableOf (w ∷ ws) / 2 ^ 64 ≡ tableOf ws
+  unfolding tableOf
   high-words = omega arith
 
 -- the words from one on
 pub table-drop : (ws : List ℕ) → AllSmall ws → (m : ℕ) → tableOf ws / 2 ^ (64 * m) ≡ tableOf (drop m ws)
-unfolding tableOf
 table-drop ws h zero = omega arith
-table-drop [] h (suc m) = zero-div _
+table-drop [] h (suc m) = unfold tableOf in zero-div _
 table-drop (w ∷ ws) h (suc m) =
     let e : 64 * suc m ≡ 64 + 64 * m = omega arith in
-    rw (e, ← shr-shr, high-words w (tableOf ws) (h 0)) (table-drop ws (λ i. h (suc i)) m)
+    rw (e, ← shr-shr, high-words w ws (h 0)) (table-drop ws (λ i. h (suc i)) m)
 
 first-bits : (ws : List ℕ) → getD ws 0 0 < 2 ^ 64 → (j : ℕ) → j < 64 → bit (tableOf ws) j ≡ bit (getD ws 0 0) j
-unfolding tableOf
-first-bits [] h j k = refl
-first-bits (w ∷ ws) h j k = sym (bit-mod (w + 2 ^ 64 * tableOf ws) 64 j k) ∙ ap (λ (x : ℕ). bit x j) (low-word w (tableOf ws) h)
+first-bits [] h j k = unfold tableOf in refl
+first-bits (w ∷ ws) h j k = sym (bit-mod (tableOf (w ∷ ws)) 64 j k) ∙ ap (λ (x : ℕ). bit x j) (low-word w ws h)
 
 -- a bit of the table is a bit of its word
 pub table-bit : (ws : List ℕ) → AllSmall ws → (i : ℕ) → bit (tableOf ws) i ≡ bit (getD ws (i / 64) 0) (i % 64)
