@@ -132,7 +132,11 @@ fn rows_anticommute(x: u64, z: u64, table: &[u64], k: usize, from: usize) -> u64
     let mut w: u64 = 0;
     let mut i = 0;
     while i < k {
-        w = with_bit(w, i, row_anticommutes(x, z, tables::row(table, k, from + i), k));
+        w = with_bit(
+            w,
+            i,
+            row_anticommutes(x, z, tables::row(table, k, from + i), k),
+        );
         i += 1;
     }
     w
