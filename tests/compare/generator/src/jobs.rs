@@ -1,7 +1,9 @@
 //! Jobs that the checks accept.
 
 use crate::random::Random;
-use checker::job::{Distribution, Header, Instruction, List, MAX_LIST, Noise, Pauli, usize_of};
+use checker::job::{
+    Distribution, Header, Instruction, List, MAX_CLIFFORD_QUBITS, MAX_LIST, Noise, Pauli, table_of_rows, usize_of,
+};
 use checker::write;
 
 /// Which jobs to make.
@@ -43,7 +45,7 @@ pub const SMALL: Shape = Shape {
 
 /// Jobs with little room and many lines, so that what a line does is noticed by others.
 pub const DENSE: Shape = Shape {
-    limits: Header { qubits: 5, outcomes: 40, shots: 70 },
+    limits: Header { qubits: 9, outcomes: 40, shots: 70 },
     lines: 150,
     usual_lines: 80,
     all_outcomes: true,
@@ -106,7 +108,7 @@ fn busy(random: &mut Random, end: u64) -> Vec<u64> {
 
 fn header(random: &mut Random, shape: &Shape) -> Header {
     let limits = &shape.limits;
-    let qubits = [1, 2, 3, 4, 5, 8, 31, 32, 33, 64, 65, 255, 256];
+    let qubits = [1, 2, 3, 4, 5, 8, 9, 31, 32, 33, 64, 65, 255, 256];
     let outcomes = [0, 1, 2, 3, 8, 40, 64, 256, 1023, 1024];
     let shots = [1, 2, 3, 5, 63, 64, 65, 127, 128, 129, 1000, 4095, 4096];
     Header {
@@ -248,10 +250,23 @@ impl Maker<'_> {
     }
 
     fn clifford(&mut self) -> Instruction {
-        let count = 1 + self.random.index(4);
-        let qubits = self.qubits(count);
+        let count = 1 + self.random.index(MAX_CLIFFORD_QUBITS);
+        let qubits = self.block(count);
         let table = clifford_table(self.random, qubits.len());
         Instruction::Clifford { qubits, table }
+    }
+
+    /// So many different qubits in any order, the busy ones among them, so that a wide line acts on what others have left.
+    fn block(&mut self, count: usize) -> List {
+        if count <= self.busy_qubits.len() {
+            return self.qubits(count);
+        }
+        let mut qubits = self.busy_qubits.clone();
+        let others = self.random.distinct(self.header.qubits, count);
+        qubits.extend(others.into_iter().filter(|qubit| !self.busy_qubits.contains(qubit)));
+        qubits.truncate(count);
+        let order = self.random.distinct(qubits.len() as u64, qubits.len());
+        order.into_iter().map(|place| qubits[usize_of(place)]).collect()
     }
 
     /// Control and target that commute; they often meet at several qubits.
@@ -392,7 +407,7 @@ fn weights(random: &mut Random, count: usize) -> Vec<u64> {
 }
 
 /// A random Clifford's table: the identity's, changed by random gates on its columns, each of which keeps commutation.
-fn clifford_table(random: &mut Random, qubits: usize) -> u64 {
+pub(crate) fn clifford_table(random: &mut Random, qubits: usize) -> List {
     let mut rows: Vec<u64> = (0..2 * qubits).map(|row| 1 << row).collect();
     for _ in 0..random.index(12 * qubits) {
         let (one, other) = (random.index(qubits), random.index(qubits));
@@ -407,7 +422,7 @@ fn clifford_table(random: &mut Random, qubits: usize) -> u64 {
             };
         }
     }
-    rows.iter().rev().fold(0, |table, row| table << (2 * qubits) | row)
+    table_of_rows(&rows)
 }
 
 #[cfg(test)]
