@@ -235,12 +235,11 @@ impl Cases {
             self.line(&clifford(&q, &zeros(words)), 7);
             self.line(&clifford(&q, &zeros(words - 1)), 2);
             self.line(&clifford(&q, &zeros(words + 1)), 2);
-            self.line(&clifford(&q, &zeros(32)), 2);
         }
-        for qubits in [9, 16, 31, 32] {
-            for words in [1, 4, 5, 6, 31, 32, 62] {
-                self.line(&clifford(&numbers(0..qubits), &zeros(words)), 5);
-            }
+        self.line(&clifford(&numbers(0..8), &zeros(32)), 2);
+        for (qubits, words) in [(9, 1), (9, 4), (9, 5), (9, 6), (9, 31), (9, 32), (31, 1), (31, 61), (32, 1), (32, 64)]
+        {
+            self.line(&clifford(&numbers(0..qubits), &zeros(words)), 5);
         }
         // k counts repeats and qubits out of range; 2 comes before 4, and 4 before 5.
         let table: [(&str, &str, u64); 14] = [

@@ -1,8 +1,6 @@
 //! The form of a line: test 2, for a line by itself.
 
-use crate::job::{
-    Distribution, Header, Instruction, List, MAX_CLIFFORD_QUBITS, MAX_GATE, Noise, Pauli, table_words,
-};
+use crate::job::{Distribution, Header, Instruction, List, MAX_CLIFFORD_QUBITS, MAX_GATE, Noise, Pauli, table_words};
 
 /// What a line says that is no element line. A noise line of d=3 or d=4 has its n, and an empty list for the elements that follow.
 pub(crate) enum Written {

@@ -120,12 +120,12 @@ impl Pauli {
     }
 }
 
-/// A line other than the header; a noise line with its element lines. What is large is boxed, so that the rest moves quickly.
+/// A line other than the header; a noise line with its element lines. A Clifford's table is its words, the least significant first. What is large is boxed,
+/// so that the rest moves quickly.
 #[derive(Debug, Clone, PartialEq)]
 #[allow(missing_docs)]
 pub enum Instruction {
     Unitary { gate: u64, qubits: List },
-    /// The table's words, the least significant first.
     Clifford { qubits: List, table: List },
     Pauli(Pauli),
     Exponential(Pauli),

@@ -19,6 +19,8 @@ pub struct Shape {
     pub all_outcomes: bool,
     /// How often noise lines come, in eighteenths of how often all other lines do.
     pub noise: u64,
+    /// How often Cliffords of five to eight qubits come beside those of any width, in eighteenths too.
+    pub tables: u64,
     /// Whether noise lines need draws.
     pub draws: bool,
 }
@@ -30,16 +32,18 @@ pub const ANY: Shape = Shape {
     usual_lines: 25,
     all_outcomes: false,
     noise: 2,
+    tables: 0,
     draws: true,
 };
 
 /// Jobs small enough to go through every set and shot.
 pub const SMALL: Shape = Shape {
-    limits: Header { qubits: 4, outcomes: 5, shots: 5 },
+    limits: Header { qubits: 8, outcomes: 5, shots: 5 },
     lines: 40,
     usual_lines: 25,
     all_outcomes: false,
     noise: 2,
+    tables: 0,
     draws: true,
 };
 
@@ -50,6 +54,7 @@ pub const DENSE: Shape = Shape {
     usual_lines: 80,
     all_outcomes: true,
     noise: 2,
+    tables: 0,
     draws: true,
 };
 
@@ -159,9 +164,9 @@ impl Maker<'_> {
 
     /// A line of a random kind, unless this header or place has none of it.
     fn instruction_if_possible(&mut self) -> Option<Instruction> {
-        Some(match self.random.below(18 + self.shape.noise) {
+        Some(match self.random.below(18 + self.shape.noise + self.shape.tables) {
             0..3 | 16 | 17 => self.unitary()?,
-            3..5 => self.clifford(),
+            3..5 => self.clifford(1),
             5 => Instruction::Pauli(self.pauli()),
             6 => Instruction::Exponential(self.pauli()),
             7 => self.controlled(),
@@ -172,6 +177,7 @@ impl Maker<'_> {
             13 => Instruction::Reset { qubit: self.qubits(1)[0] },
             14 => Instruction::Inject { shot: self.shot(), pauli: self.pauli() },
             15 if self.recorded > 0 => Instruction::Flip { shot: self.shot(), id: self.random.below(self.recorded) },
+            kind if kind >= 18 + self.shape.noise => self.clifford(5),
             18.. => Instruction::Noise(Box::new(self.noise())),
             _ => return None,
         })
@@ -249,8 +255,9 @@ impl Maker<'_> {
         (qubits.len() == count).then_some(Instruction::Unitary { gate, qubits })
     }
 
-    fn clifford(&mut self) -> Instruction {
-        let count = 1 + self.random.index(MAX_CLIFFORD_QUBITS);
+    /// A Clifford on so many qubits at least.
+    fn clifford(&mut self, least: usize) -> Instruction {
+        let count = least + self.random.index(MAX_CLIFFORD_QUBITS + 1 - least);
         let qubits = self.block(count);
         let table = clifford_table(self.random, qubits.len());
         Instruction::Clifford { qubits, table }
