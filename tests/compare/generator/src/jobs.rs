@@ -259,7 +259,8 @@ impl Maker<'_> {
     fn clifford(&mut self, least: usize) -> Instruction {
         let count = least + self.random.index(MAX_CLIFFORD_QUBITS + 1 - least);
         let qubits = self.block(count);
-        let table = clifford_table(self.random, qubits.len());
+        let gates = self.random.index(12 * qubits.len());
+        let table = clifford_table(self.random, qubits.len(), gates);
         Instruction::Clifford { qubits, table }
     }
 
@@ -413,10 +414,10 @@ fn weights(random: &mut Random, count: usize) -> Vec<u64> {
     weights.into_iter().map(f64::to_bits).collect()
 }
 
-/// A random Clifford's table: the identity's, changed by random gates on its columns, each of which keeps commutation.
-pub(crate) fn clifford_table(random: &mut Random, qubits: usize) -> List {
+/// A random Clifford's table: the identity's, changed by so many random gates on its columns, each of which keeps commutation.
+pub(crate) fn clifford_table(random: &mut Random, qubits: usize, gates: usize) -> List {
     let mut rows: Vec<u64> = (0..2 * qubits).map(|row| 1 << row).collect();
-    for _ in 0..random.index(12 * qubits) {
+    for _ in 0..gates {
         let (one, other) = (random.index(qubits), random.index(qubits));
         let kind = random.below(3);
         for row in &mut rows {

@@ -18,13 +18,13 @@ pub fn gates(header: Header, lines: usize) -> Made {
     Made { header, instructions }
 }
 
-/// Lines of Cliffords on so many qubits each.
+/// Lines of Cliffords on so many qubits each, mixed by so many gates that half of the bits of a table are set.
 #[must_use]
 pub fn cliffords(header: Header, lines: usize, qubits: usize) -> Made {
     let mut random = Random::new(6);
     let mut line = || Instruction::Clifford {
         qubits: random.distinct(header.qubits, qubits).into_iter().collect(),
-        table: clifford_table(&mut random, qubits),
+        table: clifford_table(&mut random, qubits, 40 * qubits),
     };
     let instructions = (0..lines).map(|_| line()).collect();
     Made { header, instructions }
