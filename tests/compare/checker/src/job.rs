@@ -174,12 +174,6 @@ pub enum Distribution {
     Weighted(Vec<(u64, Pauli)>),
 }
 
-/// How many words hold the 4k² bits of a Clifford table on k qubits.
-#[must_use]
-pub fn table_words(qubits: usize) -> usize {
-    (4 * qubits * qubits).div_ceil(64)
-}
-
 /// A Clifford table's row as bits: X parts of the places from bit 0 on, then Z parts. A row may begin in one word and end in the next.
 #[must_use]
 pub fn table_row(table: &[u64], qubits: usize, row: usize) -> u64 {
@@ -187,6 +181,12 @@ pub fn table_row(table: &[u64], qubits: usize, row: usize) -> u64 {
     let (word, place) = (width * row / 64, width * row % 64);
     let ahead = if place + width > 64 { table[word + 1] << (64 - place) } else { 0 };
     (table[word] >> place | ahead) & ((1 << width) - 1)
+}
+
+/// How many words hold the 4k² bits of a Clifford table on k qubits.
+#[must_use]
+pub fn table_words(qubits: usize) -> usize {
+    (4 * qubits * qubits).div_ceil(64)
 }
 
 /// The words of a table with these rows.
