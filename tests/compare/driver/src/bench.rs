@@ -141,7 +141,7 @@ fn runs() {
 
 /// The check, a run and a walk of lines of tables, on four qubits and on more.
 fn tables() {
-    let lines = 1_000;
+    let lines = 200;
     for qubits in [4, 5, 6, 7, 8] {
         let size = format!("{lines} tables on {qubits} qubits");
         check(&format!("check, {size}"), &loads::cliffords(loads::header(256, 64), lines, qubits).bytes());
