@@ -46,8 +46,13 @@ extern "C" {
 #define KUNDATREZO_MAX_SHOTS 4096        /* 1 to this */
 #define KUNDATREZO_MAX_MEMBERS 31        /* of a list on a line */
 #define KUNDATREZO_MAX_GATE 14           /* the last gate code */
-#define KUNDATREZO_MAX_CLIFFORD_QUBITS 4 /* of a Clifford line */
+#define KUNDATREZO_MAX_CLIFFORD_QUBITS 8 /* of a Clifford line */
+#define KUNDATREZO_MAX_TABLE_WORDS 4     /* of the table of a Clifford line: KUNDATREZO_TABLE_WORDS(KUNDATREZO_MAX_CLIFFORD_QUBITS) */
 #define KUNDATREZO_MAX_ELEMENTS 64       /* of a noise line with d=3 or d=4: 1 to this */
+
+/* The words of the table of a Clifford line of k qubits, 4 k^2 bits: 1 up to 4 qubits, 2 for 5, 3 for 6, 4 for 7 and 8. A line has them in hexadecimal, the
+ * least significant first, with commas between. */
+#define KUNDATREZO_TABLE_WORDS(k) ((4 * (k) * (k) + 63) / 64)
 
 /* ---- answers */
 

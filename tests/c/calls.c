@@ -133,6 +133,26 @@ static void padding(void)
     }
 }
 
+/* An encoder of the five-qubit code as one line. Before it X on qubit 1 flips the first stabilizer alone, and X on qubit 0, a logical X, none. */
+static void encode(void)
+{
+    static const char job[] = "op=job qubits=5 outcomes=4 shots=2\n"
+                              "op=i shot=0 x=1 z=-\n"
+                              "op=i shot=1 x=0 z=-\n"
+                              "op=c q=0,1,2,3,4 t=9f818c52929c601f,00000008ab05648c\n"
+                              "op=o x=0,3 z=1,2 id=0\n"
+                              "op=o x=1,4 z=2,3 id=1\n"
+                              "op=o x=0,2 z=3,4 id=2\n"
+                              "op=o x=1,3 z=0,4 id=3\n";
+    uint64_t x[5] = {0}, z[5] = {0}, deltas[4] = {0}, noiseless[4] = {0}, words[1] = {0};
+    struct kundatrezo_answer got = kundatrezo_run((const uint8_t *)job, sizeof job - 1, x, 5, z, 5, deltas, 4, noiseless, 4, words, 0, words, 0, 0);
+    for (uint64_t id = 0; id < 4; id++) {
+        expect_figure("run of an encoder", 0, 0, id == 0, got, deltas[id]);
+        struct kundatrezo_count_answer walked = kundatrezo_walk((const uint8_t *)job, sizeof job - 1, 0, &id, 1);
+        expect_figure("walk through an encoder", 0, 0, id == 0, walked.answer, walked.count);
+    }
+}
+
 static void settle(void)
 {
     static const char settled[] = "op=job qubits=1 outcomes=1 shots=65\n"
@@ -245,6 +265,7 @@ int main(void)
     examine();
     run();
     padding();
+    encode();
     settle();
     walk();
     annotate();

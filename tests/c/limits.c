@@ -43,6 +43,43 @@ static void listed(const char *before, unsigned n, const char *after, uint64_t n
     expect(before, job, at, number);
 }
 
+/* A Clifford line on n qubits, 1 to 16: the identity's table in this many words, or one with a bit set that is not the table's. */
+static void table(unsigned n, unsigned words, int bit_past, uint64_t number)
+{
+    char after[400];
+    uint64_t bits[16] = {0};
+    for (unsigned row = 0; row < 2 * n; row++) {
+        unsigned bit = 2 * n * row + row;
+        bits[bit / 64] |= (uint64_t)1 << bit % 64;
+    }
+    if (bit_past)
+        bits[4 * n * n / 64] |= (uint64_t)1 << 4 * n * n % 64;
+    size_t at = (size_t)sprintf(after, " t=");
+    for (unsigned word = 0; word < words; word++)
+        at += (size_t)sprintf(after + at, "%s%016llx", word ? "," : "", (unsigned long long)bits[word]);
+    listed("op=c q=", n, after, number);
+}
+
+/* As many words as the table needs, one less and one more; a bit past the table where its last word has one; one qubit more than there may be. */
+static void tables(void)
+{
+    unsigned n = 1;
+    for (; n <= KUNDATREZO_MAX_CLIFFORD_QUBITS; n++) {
+        unsigned words = KUNDATREZO_TABLE_WORDS(n);
+        table(n, words, 0, 0);
+        table(n, words - 1, 0, KUNDATREZO_FORM);
+        table(n, words + 1, 0, KUNDATREZO_FORM);
+        if (4 * n * n % 64 != 0)
+            table(n, words, 1, KUNDATREZO_CLIFFORD);
+    }
+    for (unsigned words = 1; words <= 16; words++)
+        table(n, words, 0, KUNDATREZO_OPERANDS);
+    if (KUNDATREZO_TABLE_WORDS(KUNDATREZO_MAX_CLIFFORD_QUBITS) != KUNDATREZO_MAX_TABLE_WORDS) {
+        printf("words of the widest table: %d\n", KUNDATREZO_MAX_TABLE_WORDS);
+        failed = 1;
+    }
+}
+
 static void gate(unsigned code, uint64_t number)
 {
     char job[100];
@@ -105,8 +142,7 @@ int main(int count, char **arguments)
     header(1, 0, KUNDATREZO_MAX_SHOTS + 1, KUNDATREZO_HEADER);
     listed("op=p x=- z=", KUNDATREZO_MAX_MEMBERS, "", 0);
     listed("op=p x=- z=", KUNDATREZO_MAX_MEMBERS + 1, "", KUNDATREZO_OPERANDS);
-    listed("op=c q=", KUNDATREZO_MAX_CLIFFORD_QUBITS, " t=8040201008040201", 0);
-    listed("op=c q=", KUNDATREZO_MAX_CLIFFORD_QUBITS + 1, " t=8040201008040201", KUNDATREZO_OPERANDS);
+    tables();
     listed(NOISE, KUNDATREZO_MAX_MEMBERS, " size=4611686018427387903", 0);
     listed(NOISE, KUNDATREZO_MAX_MEMBERS, " size=4611686018427387904", KUNDATREZO_SIZE);
     listed(NOISE, KUNDATREZO_MAX_MEMBERS + 1, " size=0", KUNDATREZO_OPERANDS);

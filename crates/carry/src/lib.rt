@@ -4,7 +4,7 @@
 // is the same (specs/Laws/Same.antt). A Pauli of a line is given by two lists: the qubits with an X part, and the qubits with a Z part.
 ghost use mathlib.Core.Path.{_≡_};
 ghost use mathlib.Core.Bool.{true};
-ghost use Prim.Native.Nat.{_+_, _*_, _^_, _<_, _≤_};
+ghost use Prim.Native.Nat.{_+_, _^_, _<_, _≤_};
 ghost use lib.ListN.{length, getD};
 ghost use Rattle.pauli.specs.Bits.{Bits, _△_, given, members, bit};
 ghost use Rattle.pauli.specs.Pauli.{_∗_ as _times_, when, anticommutes as Pauli·anticommutes};
@@ -13,7 +13,8 @@ ghost use Rattle.pauli.specs.Code.{byGate};
 ghost use Rattle.pauli.specs.Fixed.{inSet, asPauli};
 ghost use Rattle.job.specs.Line.{pauliOf};
 ghost use Rattle.job.specs.Checks.{allBelow, distinct, isPermutation};
-ghost use Rattle.job.specs.Clifford.{rowOver};
+ghost use Rattle.job.specs.Clifford.{tableOf, rowOver};
+ghost use Rattle.tables.specs.Rows.{TableFor, inWord};
 ghost use Rattle.frames.specs.Forward.{exponentiate, controlledPauli, placed, imagesOf};
 ghost use Rattle.backward.specs.Walk.{cliffordBack, permuteBack};
 ghost use Rattle.carry.specs.Packed.{Packed, inWords};
@@ -114,42 +115,45 @@ fn add_parts(b: Pauli, qubits: &[u64], x: u64, z: u64) -> Pauli
     r
 }
 
-// Whether row r of a table on k operands anticommutes with a Pauli whose X and Z parts at the operands are the bits of x and z.
-fn row_anticommutes(x: u64, z: u64, t: u64, k: usize, r: usize) -> bool
-    requires { ⌜ (k ≤ 4) × (r < 2 * k) × (x < 2 ^ k) × (z < 2 ^ k) ⌝ }
-    ensures { λ b. ⌜ b ≡ Pauli·anticommutes k (inWords x z) (rowOver k t r) ⌝ }
+// Whether a row of a table on k operands anticommutes with a Pauli whose X and Z parts at the operands are the bits of x and z.
+fn row_anticommutes(x: u64, z: u64, row: u64, k: usize) -> bool
+    requires { ⌜ (k ≤ 8) × (x < 2 ^ k) × (z < 2 ^ k) ⌝ }
+    ensures { λ b. ⌜ b ≡ Pauli·anticommutes k (inWords x z) (inWord k row) ⌝ }
 {
-    let row = t >> (2 * k * r);
     let clashes = (x & (row >> k)) ^ (z & row);
     u64::count_ones(clashes) % 2 == 1
 }
 
 // The same for k rows of the table, from one on.
-fn rows_anticommute(x: u64, z: u64, t: u64, k: usize, from: usize) -> u64
-    requires { ⌜ (k ≤ 4) × (from ≤ k) × (x < 2 ^ k) × (z < 2 ^ k) ⌝ }
-    ensures { λ w. ⌜ Packed k (λ i. Pauli·anticommutes k (inWords x z) (rowOver k t (from + i))) w ⌝ }
+fn rows_anticommute(x: u64, z: u64, table: &[u64], k: usize, from: usize) -> u64
+    requires { ⌜ TableFor k (now table) × (from ≤ k) × (x < 2 ^ k) × (z < 2 ^ k) ⌝ }
+    ensures { λ w. ⌜ Packed k (λ i. Pauli·anticommutes k (inWords x z) (rowOver k (tableOf (now (table .entry))) (from + i))) w ⌝ }
 {
     let mut w: u64 = 0;
     let mut i = 0;
     while i < k {
-        w = with_bit(w, i, row_anticommutes(x, z, t, k, from + i));
+        w = with_bit(
+            w,
+            i,
+            row_anticommutes(x, z, tables::row(table, k, from + i), k),
+        );
         i += 1;
     }
     w
 }
 
 // The new X part at place i says whether the observable anticommutes with Z's image, row k + i, the new Z part with X's, row i.
-pub fn clifford_back(b: Pauli, qubits: &[u64], t: u64) -> Pauli
-    requires { ⌜ (length (now qubits) ≤ 4) × (allBelow 256 (now qubits) ≡ true) × (distinct (now qubits) ≡ true) ⌝ }
-    ensures { λ r. ⌜ asPauli r ≡ cliffordBack 256 (now (qubits .entry)) (imagesOf (now (qubits .entry)) t) (asPauli b) ⌝ }
+pub fn clifford_back(b: Pauli, qubits: &[u64], table: &[u64]) -> Pauli
+    requires { ⌜ TableFor (length (now qubits)) (now table) × (allBelow 256 (now qubits) ≡ true) × (distinct (now qubits) ≡ true) ⌝ }
+    ensures { λ r. ⌜ asPauli r ≡ cliffordBack 256 (now (qubits .entry)) (imagesOf (now (qubits .entry)) (tableOf (now (table .entry)))) (asPauli b) ⌝ }
 {
     let k = qubits.len();
     let bx = b.x;
     let bz = b.z;
     let x = parts_at(bx, qubits);
     let z = parts_at(bz, qubits);
-    let new_x = rows_anticommute(x, z, t, k, k);
-    let new_z = rows_anticommute(x, z, t, k, 0);
+    let new_x = rows_anticommute(x, z, table, k, k);
+    let new_z = rows_anticommute(x, z, table, k, 0);
     add_parts(b, qubits, x ^ new_x, z ^ new_z)
 }
 

@@ -8,7 +8,7 @@ use mathlib.Core.Option.{none, some}
 use Prim.Native.Nat.{ℕ, _+_, _^_, _<_, _≤_}
 use lib.ListN.{length}
 use Rattle.text.specs.Bytes.{bytes, until, extend, pieces, lines, unlines}
-use Rattle.text.specs.List.{withFirst, piecesOf, listQ, risesFrom, isRising, onlyRising, listL, oneMember, listC, commas, listText}
+use Rattle.text.specs.List.{withFirst, piecesOf, listQ, risesFrom, isRising, onlyRising, listL, oneMember, listC, commasBy, listTextBy}
 use Rattle.text.specs.Number.{allDecimal, decimalFrom, numberOf, allHex, hexFrom, hexOf, bitOf, decimalDigits, hexDigits}
 use Rattle.text.specs.Template.{aNumber, aList, valueOf, andThen, sameByte, atEnd, valuesOf, numbersIn, listsIn, valueText, firstText, lineText}
 use Rattle.pauli.specs.Bits.{outside, members}
@@ -102,7 +102,7 @@ correlation-as-before job e = measured-same [] (jobOf job .instructions) (size-s
 
 -- opens what lines are read and written with
 reading : Unit {0}
-unfolding bytes until extend pieces unlines withFirst piecesOf listQ risesFrom isRising onlyRising listL oneMember listC commas listText allDecimal decimalFrom numberOf allHex hexFrom hexOf bitOf decimalDigits hexDigits aNumber aList valueOf andThen sameByte atEnd valuesOf numbersIn listsIn valueText firstText lineText gates gateFrom gateOf unitaryLine optional noiseLine forms said orLater readBy readLine including rising
+unfolding bytes until extend pieces unlines withFirst piecesOf listQ risesFrom isRising onlyRising listL oneMember listC commasBy listTextBy allDecimal decimalFrom numberOf allHex hexFrom hexOf bitOf decimalDigits hexDigits aNumber aList valueOf andThen sameByte atEnd valuesOf numbersIn listsIn valueText firstText lineText gates gateFrom gateOf unitaryLine optional noiseLine forms said orLater readBy readLine including rising
 reading = tt
 
 -- opens which qubits a line's noise has

@@ -13,7 +13,7 @@ use lib.Ieee.{Float, ofBits, ofInt, add, div, lt, le}
 use lib.Ieee.Exact.{HasValue}
 use Rattle.text.specs.Bytes.{bytes}
 use Rattle.text.specs.Number.{decimalDigits}
-use Rattle.text.specs.List.{isRising, commas, listText}
+use Rattle.text.specs.List.{isRising, commasBy, listTextBy}
 use Rattle.text.specs.Template.{valueText, firstText, lineText}
 use Rattle.pauli.specs.Bits.{_⊕_, members, sumOver, bit}
 use Rattle.pauli.specs.Pauli.{Pauli, identity}
@@ -417,5 +417,5 @@ stops = refl
 -- an injection's text; the identity has empty lists
 pub inject-text : (injectText 3 record { x = 1 ∷ 12 ∷ []; z = [] } ≡ bytes "op=i shot=3 x=1,12 z=-")
     × (injectText 0 noPauli ≡ bytes "op=i shot=0 x=- z=-")
-unfolding injectText noPauli lineText firstText valueText listText commas decimalDigits bytes
+unfolding injectText noPauli lineText firstText valueText listTextBy commasBy decimalDigits bytes
 inject-text = (refl, refl)

@@ -13,7 +13,7 @@ use Rattle.pauli.specs.Gate.{operandsOf}
 use Rattle.job.specs.declared.Header.{Header}
 use Rattle.job.specs.Line.{SparsePauli, pauliOf, Line}
 use Rattle.job.specs.Float.{float, zeroFloat, isProbability, isWeight, isTotal}
-use Rattle.job.specs.Clifford.{isClifford}
+use Rattle.job.specs.Clifford.{maxCliffordQubits, isClifford}
 use Rattle.job.specs.Grammar.{Kind, NoiseLine, Written}
 
 -- ---- limits
@@ -33,9 +33,6 @@ maxElements = 64
 -- every list on a line holds at most so many
 abbrev pub maxMembers : ℕ
 maxMembers = 31
-
-abbrev pub maxCliffordQubits : ℕ
-maxCliffordQubits = 4
 
 -- ---- what the lines before say
 

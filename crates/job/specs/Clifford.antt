@@ -1,9 +1,32 @@
--- Definitions. The table of a Clifford on k qubits, for any k, by the places of its operands (test 7). Assumes nothing.
+-- Definitions. The table of a Clifford on k qubits, for any k: its words on a line, and its rows by the places of its operands (test 7). Assumes nothing.
 use mathlib.Core.Bool.{Bool, true, not, _&&_, _||_}
-use Prim.Native.Nat.{ℕ, zero, suc, _+_, _*_, _^_}
+use mathlib.Core.List.{List, [], _∷_}
+use Prim.Native.Nat.{ℕ, zero, suc, _+_, _*_, _/_, _%_, _^_}
 use lib.Dec.{eqb, ltb}
 use Rattle.pauli.specs.Bits.{_⊕_, bit}
 use Rattle.pauli.specs.Pauli.{Pauli, anticommutes}
+
+-- ---- words
+
+-- a table is written for k of 1 to 8
+abbrev pub maxCliffordQubits : ℕ
+maxCliffordQubits = 8
+
+-- as many words as 4k² bits need
+abbrev pub tableWords : ℕ → ℕ
+tableWords k = (4 * (k * k) + 63) / 64
+
+-- the table of some words, the least significant word first
+unfoldable pub tableOf : List ℕ → ℕ
+tableOf [] = 0
+tableOf (w ∷ ws) = w + 2 ^ 64 * tableOf ws
+
+-- so many words of a table
+unfoldable pub wordsOf : ℕ → ℕ → List ℕ
+wordsOf zero t = []
+wordsOf (suc n) t = t % 2 ^ 64 ∷ wordsOf n (t / 2 ^ 64)
+
+-- ---- rows
 
 -- Row r of the table t, as a Pauli on the places 0 to k-1: bit 2k × r + c of t is at column c, columns X then Z.
 unfoldable pub rowOver : ℕ → ℕ → ℕ → Pauli

@@ -1,16 +1,17 @@
 -- Definitions. The forms of the lines: the table of document 01, "The job", with a template for each kind of line. Assumes nothing.
 use Prim.Native.Nat.{ℕ}
 use Prim.Native.String.{String}
-use mathlib.Core.Bool.{Bool, cond, _&&_}
+use mathlib.Core.Bool.{Bool, cond, not, _&&_}
 use mathlib.Core.List.{List, [], _∷_}
 use mathlib.Core.Option.{Option, none, some}
-use lib.Dec.{eqb}
+use lib.Dec.{eqb, leb}
 use lib.ListN.{length}
 use Rattle.pauli.specs.Gate.{Gate, gateOf}
 use Rattle.text.specs.Bytes.{bytes}
 use Rattle.text.specs.Template.{Value, valuesOf, numberAt, listAt}
 use Rattle.job.specs.declared.Header.{Header}
 use Rattle.job.specs.Line.{SparsePauli, Line, OutcomeCondition}
+use Rattle.job.specs.Clifford.{maxCliffordQubits, tableWords, tableOf}
 
 -- the kind of a noise line's distribution; the n elements of the last two stand on lines of their own
 pub data Kind : Type 0 where
@@ -60,6 +61,11 @@ unfoldable pub unitaryLine : Option Gate → List ℕ → Option Written
 unitaryLine none qs = none
 unitaryLine (some g) qs = plain (Line.unitary g qs)
 
+-- A wrong number of words for a k of 1 to 8 is no Clifford; k counts all entries of q. Above that the line is one, whatever the number of words.
+unfoldable pub cliffordLine : List ℕ → List ℕ → Option Written
+cliffordLine qs ws =
+    cond (leb (length qs) maxCliffordQubits && not (eqb (length ws) (tableWords (length qs)))) none (plain (Line.clifford qs (tableOf ws)))
+
 -- a number, or none
 unfoldable pub optional : List ℕ → Option ℕ
 optional [] = none
@@ -103,7 +109,7 @@ unfolding bytes
 forms =
     form "op=job qubits=N outcomes=N shots=N" (λ v. some (Written.header (headerBy (λ i. numberAt i v))))
     ∷ form "op=u g=N q=Q" (λ v. unitaryLine (gateOf (numberAt 0 v)) (listAt 0 v))
-    ∷ form "op=c q=Q t=H" (λ v. plain (Line.clifford (listAt 0 v) (numberAt 0 v)))
+    ∷ form "op=c q=Q t=T" (λ v. cliffordLine (listAt 0 v) (listAt 1 v))
     ∷ form "op=p x=L z=L" (λ v. plain (Line.pauli (pauliAt 0 1 v)))
     ∷ form "op=e x=L z=L" (λ v. plain (Line.exponential (pauliAt 0 1 v)))
     ∷ form "op=k x=L z=L u=L v=L" (λ v. plain (Line.controlled (pauliAt 0 1 v) (pauliAt 2 3 v)))

@@ -7,6 +7,8 @@ pub mod Rising
 pub mod Sizes
 -- Permutations of the places (test 6).
 pub mod Permutation
+-- The table of a Clifford by its words.
+pub mod Table
 -- The tests of a line that passes.
 pub mod Tests
 -- What a line says, by the letters of its form.

@@ -1,6 +1,6 @@
 -- Definitions: what an accepted job is known for, the hypotheses that theorems and contracts use. The limits are document 01's, written out, so that
 -- they do not depend on the tests' own. `checked-sound` (Theorems) proves all of it of a job that passes the tests of a job. Assumes nothing.
-use Prim.Native.Nat.{ℕ, zero, suc, _+_, _^_, _≤_, _<_}
+use Prim.Native.Nat.{ℕ, zero, suc, _+_, _*_, _^_, _≤_, _<_}
 use mathlib.Core.Path.{_≡_}
 use mathlib.Core.Bool.{Bool, true, false}
 use mathlib.Core.List.{List, [], _∷_, _++_, map}
@@ -52,9 +52,10 @@ pub record UnitarySound (n : ℕ) (g : Gate) (qs : List ℕ) : Type 0 where
 
 pub record CliffordSound (n : ℕ) (qs : List ℕ) (t : ℕ) : Type 0 where
   pub operands : Operands n qs
-  pub few : length qs ≤ 4
+  pub few : length qs ≤ 8
   pub table : isClifford (length qs) t ≡ true
-  pub small : t < 2 ^ 64
+  -- unused bits are zero
+  pub small : t < 2 ^ (4 * (length qs * length qs))
 
 pub record ControlledSound (n : ℕ) (C T : SparsePauli) : Type 0 where
   pub control : PauliSound n C

@@ -1,14 +1,19 @@
 -- Theorems about the tests of a job. Assumes nothing.
-use Prim.Native.Nat.{ℕ, _≤_}
+use Prim.Native.Nat.{ℕ, _*_, _/_, _%_, _^_, _≤_, _<_}
 use native.Mathlib.Nat.{zero-add}
 use native.Mathlib.Omega.{arith}
 use mathlib.Core.Path.{_≡_, refl, sym, ap, subst, _∙_}
 use mathlib.Core.Bool.{Bool, true}
-use mathlib.Core.List.{List, _∷_}
+use mathlib.Core.List.{List, [], _∷_}
 use mathlib.Core.Option.{some}
-use Rattle.text.specs.Bytes.{lines}
+use lib.ListN.{length, getD}
+use Rattle.pauli.specs.Bits.{bit}
+use Rattle.text.specs.Bytes.{bytes, lines}
+use Rattle.text.specs.Template.{Value, lineText}
+use Rattle.text.specs.Written.{AllSmall, FitQ}
 use Rattle.job.specs.declared.Header.{Header}
-use Rattle.job.specs.Line.{Instruction, Placed}
+use Rattle.job.specs.Line.{Instruction, Placed, Line}
+use Rattle.job.specs.Clifford.{tableWords, tableOf, wordsOf}
 use Rattle.job.specs.Grammar.{Written, readLine}
 use Rattle.job.specs.Checks.{Context, noContext, next, Test, tests, refusalOf}
 use Rattle.job.specs.Job.{accepted, wellEnded, checkJob, gathered, Job, jobOfLines, jobOf, recordedIn}
@@ -24,6 +29,8 @@ use Rattle.job.specs.Laws.Passes.{header-accepted}
 use Rattle.job.specs.Laws.Said.{instructions-accepted}
 use Rattle.job.specs.Laws.SaidGathered.{said-gathers}
 use Rattle.job.specs.Laws.Dispatch.{read-by-mark}
+use Rattle.job.specs.Laws.Table as Table
+use Rattle.job.specs.Laws.Texts.{clifford-says}
 
 -- what stands behind the header is sound
 behind-header : {job : List ℕ} (b : Begun job) → InstructionsSound (b .header) 0 (gathered 2 (b .rest) .instructions)
@@ -99,3 +106,19 @@ header-known job e =
 -- A line has one form at most, which its mark names: it says what it says by that form.
 pub one-form : (l : List ℕ) → readLine l ≡ readAs (formByMark (markOf l)) l
 one-form = read-by-mark
+
+-- ---- the words of a Clifford's table
+
+-- A bit of the table is a bit of its word, whatever the width: bit i is bit i mod 64 of word i / 64, the least significant word first. A row may lie in
+-- two words.
+pub table-bit : (ws : List ℕ) → AllSmall ws → (i : ℕ) → bit (tableOf ws) i ≡ bit (getD ws (i / 64) 0) (i % 64)
+table-bit = Table.table-bit
+
+-- Every table of 4k² bits has its words, as many as the bits need, and they give it back.
+pub table-round : (k t : ℕ) → t < 2 ^ (4 * (k * k)) → (length (wordsOf (tableWords k) t) ≡ tableWords k) × (tableOf (wordsOf (tableWords k) t) ≡ t)
+table-round k t h = (Table.words-length (tableWords k) t, Table.table-round k t h)
+
+-- A line that is written with these words says that Clifford.
+pub clifford-written : (qs : List ℕ) (t : ℕ) → FitQ qs → t < 2 ^ (4 * (length qs * length qs))
+    → readLine (lineText (bytes "op=c q=Q t=T") (Value.list qs ∷ Value.list (wordsOf (tableWords (length qs)) t) ∷ [])) ≡ some (Written.line (Line.clifford qs t))
+clifford-written = clifford-says

@@ -14,7 +14,10 @@ ghost use Rattle.value_tests.specs.Contexts.{contextOf};
 pub mod header;
 
 use reader::Form;
+use tables::MAX_CLIFFORD_QUBITS;
+use tables::table_words;
 use template::values::count;
+use template::values::kept;
 use template::values::list;
 use template::values::number;
 use value_tests::clifford::is_clifford;
@@ -24,8 +27,6 @@ use value_tests::lists::overlap_is_odd;
 use value_tests::lists::pauli_number;
 use value_tests::lists::short;
 use value_tests::lists::slot_distinct;
-
-const MAX_CLIFFORD_QUBITS: u64 = 4;
 
 pub fn unitary_number(c: Context, f: &[u64]) -> u64
     requires { ⌜ Whole (now f) ⌝ }
@@ -57,7 +58,9 @@ pub fn clifford_number(c: Context, f: &[u64]) -> u64
     if !slot_distinct(f, 0) {
         return 5;
     }
-    if !is_clifford(number(f, 0), k) {
+    let n = table_words(k as usize);
+    let words = kept(f, 1);
+    if !is_clifford(&words[..n], k as usize) {
         return 7;
     }
     0

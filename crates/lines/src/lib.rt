@@ -28,7 +28,7 @@ fn clifford(values: &[u64], x: &mut [u64], z: &mut [u64], scratch: &mut [u64], s
     requires { ⌜ FrameReady Forms.Clifford (now values) (shape .width) (shape .qubits) (now x) (now z) × (31 * shape .width ≤ length (now scratch)) ⌝ }
     ensures { λ _. ⌜ FrameObeyed Forms.Clifford (now (values .entry)) (shape .width) (shape .qubits) (now (x .entry)) (now (z .entry)) (now (x .exit)) (now (z .exit)) ⌝ }
 {
-    unitaries::cliffords::apply_clifford(x, z, shape, list(values, 0), number(values, 0), scratch);
+    unitaries::cliffords::apply_clifford(x, z, shape, list(values, 0), list(values, 1), scratch);
 }
 
 fn exponential(values: &[u64], x: &mut [u64], z: &mut [u64], scratch: &mut [u64], shape: Shape)

@@ -30,7 +30,7 @@ fn clifford(values: &[u64], b: Pauli) -> Pauli
     requires { ⌜ HeldLine Forms.Clifford (now values) ⌝ }
     ensures { λ r. ⌜ ((shot : ℕ) (set : Bits) → Back Forms.Clifford (now (values .entry)) shot b set r set false) ⌝ }
 {
-    carry::clifford_back(b, list(values, 0), number(values, 0))
+    carry::clifford_back(b, list(values, 0), list(values, 1))
 }
 
 fn exponential(values: &[u64], b: Pauli) -> Pauli

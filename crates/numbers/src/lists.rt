@@ -1,4 +1,4 @@
-// Lists of numbers with commas. The members go into lent words, as many as there is room for; a list is read to its end, however long it is.
+// Lists of numbers or words with commas. The members go into lent words, as many as there is room for; a list is read to its end, however long it is.
 ghost use mathlib.Core.Path.{_≡_};
 ghost use mathlib.Core.Bool.{_&&_, _||_};
 ghost use mathlib.Core.List.{List, [], _∷_, _++_};

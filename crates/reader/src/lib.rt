@@ -9,6 +9,7 @@ ghost use Rattle.template.specs.Values.{Whole};
 ghost use Rattle.reader.specs.declared.Form.the-variants as Forms;
 ghost use Rattle.reader.specs.Parsed.{Parsed};
 ghost use Rattle.reader.specs.Tried.{Tried, FormBy, KindBy, NoiseBegun, only, noiseForms};
+use tables::words_fit;
 use template::Progress;
 use template::read_all;
 use template::read_on;
@@ -169,11 +170,18 @@ fn header(line: &[u8], fields: &mut [u64]) -> Form
     )
 }
 
+// A table of a wrong number of words is none.
 fn clifford(line: &[u8], fields: &mut [u64]) -> Form
     requires { ⌜ Whole (now fields) ⌝ }
     ensures { λ r. ⌜ Tried (only Forms.Clifford) (now (line .entry)) r (now (fields .exit)) ⌝ }
 {
-    form_by(line, b"op=c q=Q t=H", Form::Clifford, fields)
+    if !read_all(line, b"op=c q=Q t=T", &mut *fields) {
+        return Form::Unread;
+    }
+    if !words_fit(count(fields, 0), count(fields, 1)) {
+        return Form::Unread;
+    }
+    Form::Clifford
 }
 
 fn pauli(line: &[u8], fields: &mut [u64]) -> Form

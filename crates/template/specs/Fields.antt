@@ -6,25 +6,25 @@ use mathlib.Core.List.{List, [], _∷_, _++_}
 use mathlib.Core.Option.{Option, none, some}
 use lib.Dec.{eqb}
 use lib.ListN.{length, getD, drop}
-use Rattle.text.specs.List.{listL, listQ, listC}
+use Rattle.text.specs.List.{listL, listQ, listT, listC}
 use Rattle.text.specs.Template.{Value, valuesOf, numbersIn, listsIn, numberAt, listAt}
 use Rattle.numbers.specs.Read.{largestOf, inFront}
 use Rattle.template.specs.Values.{heldNumber, heldCount, heldLargest, heldMember}
 use Rattle.template.specs.declared.Progress.{Progress}
 use Rattle.template.specs.declared.Put.{Put}
 
--- a list by its letter: L, Q, else C
+-- a list by its letter: L, Q, T, else C
 unfoldable pub listBy : ℕ → List ℕ → Option (List ℕ)
-listBy t v = cond (eqb t 76) (listL v) (cond (eqb t 81) (listQ v) (listC v))
+listBy t v = cond (eqb t 76) (listL v) (cond (eqb t 81) (listQ v) (cond (eqb t 84) (listT v) (listC v)))
 
 -- ---- the values of a line
 
--- whether a letter stands for a number (N, H, B), and whether it stands for a list (L, Q, C), as 1 or 0
+-- whether a letter stands for a number (N, H, B), and whether it stands for a list (L, Q, T, C), as 1 or 0
 abbrev pub numberLetter : ℕ → ℕ
 numberLetter t = cond (eqb t 78 || (eqb t 72 || eqb t 66)) 1 0
 
 abbrev pub listLetter : ℕ → ℕ
-listLetter t = cond (eqb t 76 || (eqb t 81 || eqb t 67)) 1 0
+listLetter t = cond (eqb t 76 || (eqb t 81 || (eqb t 84 || eqb t 67))) 1 0
 
 -- how many numbers and how many lists a line of a template has
 abbrev pub numberLetters : List ℕ → ℕ

@@ -14,6 +14,7 @@ use numbers::Value;
 use numbers::bit;
 use numbers::hex16;
 use numbers::lists::Listed;
+use numbers::lists::list_by;
 use numbers::lists::list_c;
 use numbers::lists::list_l;
 use numbers::lists::list_q;
@@ -78,13 +79,14 @@ fn put_number(v: Value, n: usize, l: usize, fields: &mut [u64]) -> Put
     }
 }
 
-// A list by its letter: L, Q or C.
+// A list by its letter: L, Q, T or C.
 fn list(t: u8, s: &[u8], out: &mut [u64]) -> Listed
     ensures { λ r. ⌜ ListRead (listBy t (now (s .entry))) r (now (out .entry)) (now (out .exit)) ⌝ }
 {
     match t {
         76 => list_l(s, out),
         81 => list_q(s, out),
+        84 => list_by(s, true, out),
         _ => list_c(s, out),
     }
 }
@@ -122,6 +124,7 @@ fn put_value(t: u8, s: &[u8], n: usize, l: usize, fields: &mut [u64]) -> Put
         66 => put_number(bit(s), n, l, fields),
         76 => put_list(t, s, n, l, fields),
         81 => put_list(t, s, n, l, fields),
+        84 => put_list(t, s, n, l, fields),
         67 => put_list(t, s, n, l, fields),
         _ => not_put(),
     }

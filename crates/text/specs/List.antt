@@ -1,5 +1,5 @@
--- Definitions. Lists of numbers with commas. L is strictly rising, `-` when empty. Q is in any order and never empty, and so is the s of a
--- permutation. Every list is read to its end, however long it is. Assumes nothing.
+-- Definitions. Lists with commas. L is of numbers, strictly rising, `-` when empty. Q is of numbers in any order and never empty, and so is the s of a
+-- permutation. T is of H, never empty. Every list is read to its end, however long it is. Assumes nothing.
 use Prim.Native.Nat.{ℕ}
 use mathlib.Core.Bool.{Bool, true, false, cond, _&&_}
 use mathlib.Core.List.{List, [], _∷_, _++_}
@@ -29,6 +29,10 @@ pieceOf false = numberOf
 -- Q
 unfoldable pub listQ : List ℕ → Option (List ℕ)
 listQ v = piecesOf numberOf (split comma v)
+
+-- T
+unfoldable pub listT : List ℕ → Option (List ℕ)
+listT v = piecesOf hexOf (split comma v)
 
 unfoldable pub risesFrom : ℕ → List ℕ → Bool
 risesFrom a [] = true
@@ -61,12 +65,19 @@ listC v = cond (isDash v) (some []) (oneMember (numberOf v))
 
 -- ---- written
 
--- each member after a comma
-unfoldable pub commas : List ℕ → List ℕ
-commas [] = []
-commas (n ∷ l) = comma ∷ (decimal n ++ commas l)
+-- each member after a comma, by the text of one
+unfoldable pub commasBy : (ℕ → List ℕ) → List ℕ → List ℕ
+commasBy one [] = []
+commasBy one (n ∷ l) = comma ∷ (one n ++ commasBy one l)
 
--- a list, `-` when empty
-unfoldable pub listText : List ℕ → List ℕ
-listText [] = 45 ∷ []
-listText (n ∷ l) = decimal n ++ commas l
+-- a list by the text of one member, `-` when empty
+unfoldable pub listTextBy : (ℕ → List ℕ) → List ℕ → List ℕ
+listTextBy one [] = 45 ∷ []
+listTextBy one (n ∷ l) = one n ++ commasBy one l
+
+-- those of numbers in decimal
+abbrev pub commas : List ℕ → List ℕ
+commas = commasBy decimal
+
+abbrev pub listText : List ℕ → List ℕ
+listText = listTextBy decimal

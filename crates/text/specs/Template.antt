@@ -1,6 +1,6 @@
 -- Definitions. A line by its template. A template is the line as document 01 writes it, with a letter for each value:
 --
---     N a number    H 16 hexadecimal digits    B 0 or 1    L a strictly rising list    Q a list in any order    C a number, or - for none
+--     N a number    H 16 hexadecimal digits    B 0 or 1    L a strictly rising list    Q a list in any order    T a list of H    C a number, or - for none
 --
 -- Every other byte stands for itself, so `op=i shot=N x=L z=L` is the line of an injection: key=value fields in the order given, one space between.
 -- Assumes nothing.
@@ -12,7 +12,7 @@ use lib.Dec.{eqb, leb}
 use lib.ListN.{getD, take, drop}
 use Rattle.text.specs.Bytes.{space, until}
 use Rattle.text.specs.Number.{numberOf, hexOf, bitOf, decimal, hexadecimal}
-use Rattle.text.specs.List.{listL, listQ, listC, listText}
+use Rattle.text.specs.List.{listL, listQ, listT, listC, listTextBy}
 
 -- the value of a field
 pub data Value : Type 0 where
@@ -33,7 +33,7 @@ isLetter t = leb 65 t && leb t 90
 
 -- ---- read
 
--- what the bytes of a value are, by the template's letter: N, H, B, L, Q, C; nothing by any other
+-- what the bytes of a value are, by the template's letter: N, H, B, L, Q, T, C; nothing by any other
 unfoldable pub valueOf : ℕ → List ℕ → Option Value
 valueOf t v =
     cond (eqb t 78) (aNumber (numberOf v))
@@ -41,7 +41,8 @@ valueOf t v =
     (cond (eqb t 66) (aNumber (bitOf v))
     (cond (eqb t 76) (aList (listL v))
     (cond (eqb t 81) (aList (listQ v))
-    (cond (eqb t 67) (aList (listC v)) none)))))
+    (cond (eqb t 84) (aList (listT v))
+    (cond (eqb t 67) (aList (listC v)) none))))))
 
 unfoldable pub andThen : Option Value → Option (List Value) → Option (List Value)
 andThen none o = none
@@ -84,10 +85,10 @@ listAt i ds = getD (listsIn ds) i []
 
 -- ---- written
 
--- a value as the job writes it, by the template's letter
+-- a value as the job writes it, by the template's letter: H, and each member of a T, by hexadecimal digits
 unfoldable pub valueText : ℕ → Value → List ℕ
 valueText t (number n) = cond (eqb t 72) (hexadecimal n) (decimal n)
-valueText t (list l) = listText l
+valueText t (list l) = listTextBy (cond (eqb t 84) hexadecimal decimal) l
 
 unfoldable pub firstText : ℕ → List Value → (List Value → List ℕ) → List ℕ
 firstText t [] k = []

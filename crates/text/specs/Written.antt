@@ -18,7 +18,7 @@ pub record FitL (l : List ℕ) : Type 0 where
   pub rising : isRising l ≡ true
   pub small : AllSmall l
 
--- Q is never empty
+-- Q and T are never empty
 pub record FitQ (l : List ℕ) : Type 0 where
   pub filled : 0 < length l
   pub small : AllSmall l
@@ -28,14 +28,15 @@ pub record FitC (l : List ℕ) : Type 0 where
   pub single : length l ≤ 1
   pub small : AllSmall l
 
--- What may stand for each letter: for N and H a number below 2^64, for B 0 or 1, and lists of numbers below 2^64: for L a strictly rising one, for Q one
--- that is not empty, for C one of at most one member.
+-- What may stand for each letter: for N and H a number below 2^64, for B 0 or 1, and lists of numbers below 2^64: for L a strictly rising one, for Q and T
+-- one that is not empty, for C one of at most one member.
 pub data Suits : ℕ → Value → Type 0 where
   N : {n : ℕ} → n < 2 ^ 64 → Suits 78 (Value.number n)
   H : {n : ℕ} → n < 2 ^ 64 → Suits 72 (Value.number n)
   B : {n : ℕ} → n < 2 → Suits 66 (Value.number n)
   L : {l : List ℕ} → FitL l → Suits 76 (Value.list l)
   Q : {l : List ℕ} → FitQ l → Suits 81 (Value.list l)
+  T : {l : List ℕ} → FitQ l → Suits 84 (Value.list l)
   C : {l : List ℕ} → FitC l → Suits 67 (Value.list l)
 
 abbrev pub FirstSuits : ℕ → (List Value → Type 0) → List Value → Type 0

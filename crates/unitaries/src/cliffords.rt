@@ -6,9 +6,10 @@ ghost use mathlib.Core.Bool.{true};
 ghost use mathlib.Core.List.{List};
 ghost use Prim.Native.Nat.{ℕ, _+_, _*_, _<_, _≤_};
 ghost use lib.ListN.{length};
-ghost use Rattle.pauli.specs.Bits.{bit};
 ghost use Rattle.pauli.specs.Pauli.{when, _∗_ as _times_};
 ghost use Rattle.job.specs.Line.{Line};
+ghost use Rattle.job.specs.Clifford.{tableOf};
+ghost use Rattle.tables.specs.Rows.{TableFor};
 ghost use Rattle.job.specs.Checks.{allBelow, isPermutation};
 ghost use Rattle.frames.specs.Forward.{onFrame, tableRow};
 ghost use Rattle.rows.specs.Column.{column};
@@ -16,15 +17,6 @@ ghost use Rattle.propagator.specs.Acts.{Acts, lineRule};
 ghost use Rattle.unitaries.specs.Images.{RowAdded, ImagesAdded, PlacesAdded, RowsPermuted};
 
 // ---- Cliffords
-
-// Whether column c is in row r of a table on k qubits: bit 2k * r + c.
-fn table_bit(t: u64, k: usize, r: usize, c: usize) -> bool
-    requires { ⌜ (k ≤ 4) × (r < 2 * k) × (c < 2 * k) ⌝ }
-    ensures { λ b. ⌜ b ≡ bit t (2 * k * r + c) ⌝ }
-{
-    let at = 2 * k * r + c;
-    (t >> at) % 2 == 1
-}
 
 // Adds row i of src to row q, if asked to.
 fn add_row_if(dst: &mut [u64], w: usize, q: usize, src: &[u64], i: usize, on: bool)
@@ -43,33 +35,41 @@ fn add_image(
     z: &mut [u64],
     shape: Shape,
     qubits: &[u64],
-    t: u64,
+    table: &[u64],
     saved: &[u64],
     r: usize,
 )
-    requires { ⌜ (length (now x) ≡ shape .qubits * shape .width) × (length (now z) ≡ shape .qubits * shape .width) × (length (now qubits) ≤ 4) × (allBelow (shape .qubits) (now qubits) ≡ true) × (r < 2 * length (now qubits)) × (r * shape .width + shape .width ≤ length (now saved)) ⌝ }
-    ensures { λ _. ⌜ ((d : List ℕ) → Acts (shape .width) (λ s. onFrame (λ F. F times when (column (shape .width) (now (saved .entry)) s r) (tableRow (now (qubits .entry)) t r))) (now (x .entry)) (now (z .entry)) d (now (x .exit)) (now (z .exit)) d) ⌝ }
+    requires { ⌜ (length (now x) ≡ shape .qubits * shape .width) × (length (now z) ≡ shape .qubits * shape .width) × TableFor (length (now qubits)) (now table) × (allBelow (shape .qubits) (now qubits) ≡ true) × (r < 2 * length (now qubits)) × (r * shape .width + shape .width ≤ length (now saved)) ⌝ }
+    ensures { λ _. ⌜ ((d : List ℕ) → Acts (shape .width) (λ s. onFrame (λ F. F times when (column (shape .width) (now (saved .entry)) s r) (tableRow (now (qubits .entry)) (tableOf (now (table .entry))) r))) (now (x .entry)) (now (z .entry)) d (now (x .exit)) (now (z .exit)) d) ⌝ }
 {
     let k = qubits.len();
+    let row = tables::row(table, k, r);
     let mut j = 0;
     while j < k {
         let q = qubits[j] as usize;
-        add_row_if(x, shape.width, q, saved, r, table_bit(t, k, r, j));
-        add_row_if(z, shape.width, q, saved, r, table_bit(t, k, r, k + j));
+        add_row_if(x, shape.width, q, saved, r, (row >> j) % 2 == 1);
+        add_row_if(z, shape.width, q, saved, r, (row >> (k + j)) % 2 == 1);
         j += 1;
     }
 }
 
 // Adds the images of the operands' saved X parts, rows 0 to k-1 of the table, and of their Z parts, the next k. They are saved in this order.
-fn add_images(x: &mut [u64], z: &mut [u64], shape: Shape, qubits: &[u64], t: u64, saved: &[u64])
-    requires { ⌜ (length (now x) ≡ shape .qubits * shape .width) × (length (now z) ≡ shape .qubits * shape .width) × (length (now qubits) ≤ 4) × (allBelow (shape .qubits) (now qubits) ≡ true) × ((length (now qubits) + length (now qubits)) * shape .width ≤ length (now saved)) ⌝ }
-    ensures { λ _. ⌜ ImagesAdded (shape .width) (now (qubits .entry)) t (now (saved .entry)) (now (x .entry)) (now (z .entry)) (now (x .exit)) (now (z .exit)) ⌝ }
+fn add_images(
+    x: &mut [u64],
+    z: &mut [u64],
+    shape: Shape,
+    qubits: &[u64],
+    table: &[u64],
+    saved: &[u64],
+)
+    requires { ⌜ (length (now x) ≡ shape .qubits * shape .width) × (length (now z) ≡ shape .qubits * shape .width) × TableFor (length (now qubits)) (now table) × (allBelow (shape .qubits) (now qubits) ≡ true) × ((length (now qubits) + length (now qubits)) * shape .width ≤ length (now saved)) ⌝ }
+    ensures { λ _. ⌜ ImagesAdded (shape .width) (now (qubits .entry)) (tableOf (now (table .entry))) (now (saved .entry)) (now (x .entry)) (now (z .entry)) (now (x .exit)) (now (z .exit)) ⌝ }
 {
     let k = qubits.len();
     let mut i = 0;
     while i < k {
-        add_image(x, z, shape, qubits, t, saved, i);
-        add_image(x, z, shape, qubits, t, saved, k + i);
+        add_image(x, z, shape, qubits, table, saved, i);
+        add_image(x, z, shape, qubits, table, saved, k + i);
         i += 1;
     }
 }
@@ -80,17 +80,17 @@ pub fn apply_clifford(
     z: &mut [u64],
     shape: Shape,
     qubits: &[u64],
-    t: u64,
+    table: &[u64],
     scratch: &mut [u64],
 )
-    requires { ⌜ ((length (now qubits) + length (now qubits)) * shape .width ≤ length (now scratch)) × (length (now x) ≡ shape .qubits * shape .width) × (length (now z) ≡ shape .qubits * shape .width) × (length (now qubits) ≤ 4) × (allBelow (shape .qubits) (now qubits) ≡ true) ⌝ }
-    ensures { λ _. ⌜ ((m : ℕ) (d : List ℕ) → Acts (shape .width) (lineRule (shape .qubits) m (Line.clifford (now (qubits .entry)) t)) (now (x .entry)) (now (z .entry)) d (now (x .exit)) (now (z .exit)) d) ⌝ }
+    requires { ⌜ ((length (now qubits) + length (now qubits)) * shape .width ≤ length (now scratch)) × (length (now x) ≡ shape .qubits * shape .width) × (length (now z) ≡ shape .qubits * shape .width) × TableFor (length (now qubits)) (now table) × (allBelow (shape .qubits) (now qubits) ≡ true) ⌝ }
+    ensures { λ _. ⌜ ((m : ℕ) (d : List ℕ) → Acts (shape .width) (lineRule (shape .qubits) m (Line.clifford (now (qubits .entry)) (tableOf (now (table .entry))))) (now (x .entry)) (now (z .entry)) d (now (x .exit)) (now (z .exit)) d) ⌝ }
 {
     rows::save_listed(&mut *scratch, 0, x, shape.width, qubits);
     rows::save_listed(&mut *scratch, qubits.len(), z, shape.width, qubits);
     rows::clear_listed(x, shape.width, qubits);
     rows::clear_listed(z, shape.width, qubits);
-    add_images(x, z, shape, qubits, t, scratch);
+    add_images(x, z, shape, qubits, table, scratch);
 }
 
 // ---- Permutations

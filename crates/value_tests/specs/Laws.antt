@@ -3,8 +3,8 @@
 pub mod Slots
 -- Floats that passed their tests.
 pub mod Floats
--- The rows of a Clifford's table.
-pub mod Rows
+-- The pairs of a Clifford table's rows.
+pub mod Pairs
 -- The lowest number, test by test.
 pub mod Lowest
 -- How often two lists meet, modulo 2.

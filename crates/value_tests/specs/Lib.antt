@@ -2,6 +2,6 @@
 pub mod Slots
 pub mod Marks
 pub mod Floats
-pub mod Rows
+pub mod Pairs
 pub mod Contexts
 pub mod Laws

@@ -1,22 +1,17 @@
 // The table of a Clifford.
 ghost use mathlib.Core.Path.{_≡_};
-ghost use Prim.Native.Nat.{_+_, _*_, _^_, _≤_, _<_};
-ghost use lib.Dec.{ltb};
+ghost use Prim.Native.Nat.{ℕ, _*_, _≤_, _<_};
+ghost use lib.ListN.{length};
 ghost use Rattle.pauli.specs.Pauli.{anticommutes};
-ghost use Rattle.job.specs.Clifford.{every, generatorsAnticommute, isClifford};
-ghost use Rattle.value_tests.specs.Rows.{rowWord, inWord, pairFits};
-
-// Row r of a table on k qubits: the X part, then the Z part.
-fn row(t: u64, k: u64, r: u64) -> u64
-    requires { ⌜ (k ≤ 4) × (r < 2 * k) ⌝ }
-    ensures { λ w. ⌜ w ≡ rowWord k t r ⌝ }
-{
-    t >> (2 * k * r) & ((1u64 << (2 * k)) - 1)
-}
+ghost use Rattle.job.specs.Clifford.{tableOf, every, generatorsAnticommute, isClifford};
+ghost use Rattle.tables.specs.Rows.{TableFor, RowsOf, inWord};
+ghost use Rattle.value_tests.specs.Pairs.{pairFits};
+use tables::no_more_bits;
+use tables::rows;
 
 // Whether two rows of a table on k qubits anticommute.
-fn anticommute(a: u64, b: u64, k: u64) -> bool
-    requires { ⌜ (k ≤ 4) ⌝ }
+fn anticommute(a: u64, b: u64, k: usize) -> bool
+    requires { ⌜ (k ≤ 8) ⌝ }
     ensures { λ r. ⌜ r ≡ anticommutes k (inWord k a) (inWord k b) ⌝ }
 {
     let low = (1u64 << k) - 1;
@@ -25,8 +20,8 @@ fn anticommute(a: u64, b: u64, k: u64) -> bool
 }
 
 // Whether the generators of two rows anticommute.
-fn paired(k: u64, r: u64, s: u64) -> bool
-    requires { ⌜ (k ≤ 4) × (r < 2 * k) × (s < 2 * k) ⌝ }
+fn paired(k: usize, r: usize, s: usize) -> bool
+    requires { ⌜ (k ≤ 8) × (r < 2 * k) × (s < 2 * k) ⌝ }
     ensures { λ p. ⌜ p ≡ generatorsAnticommute k r s ⌝ }
 {
     if s == r + k {
@@ -35,24 +30,25 @@ fn paired(k: u64, r: u64, s: u64) -> bool
     r == s + k
 }
 
-fn pair_fits(t: u64, k: u64, r: u64, s: u64) -> bool
-    requires { ⌜ (k ≤ 4) × (r < 2 * k) × (s < 2 * k) ⌝ }
-    ensures { λ p. ⌜ p ≡ pairFits k t r s ⌝ }
+// Whether two images of a table, by its rows, commute as the generators do.
+fn pair_fits(images: &[u64], k: usize, r: usize, s: usize) -> bool
+    requires { ⌜ (k ≤ 8) × (2 * k ≤ length (now images)) × (r < 2 * k) × (s < 2 * k) ⌝ }
+    ensures { λ p. ⌜ ((t : ℕ) → RowsOf k t (now (images .entry)) → p ≡ pairFits k t r s) ⌝ }
 {
-    let a = anticommute(row(t, k, r), row(t, k, s), k);
+    let a = anticommute(images[r], images[s], k);
     if paired(k, r, s) {
         return a;
     }
     !a
 }
 
-fn row_fits(t: u64, k: u64, r: u64) -> bool
-    requires { ⌜ (k ≤ 4) × (r < 2 * k) ⌝ }
-    ensures { λ p. ⌜ p ≡ every (2 * k) (pairFits k t r) ⌝ }
+fn row_fits(images: &[u64], k: usize, r: usize) -> bool
+    requires { ⌜ (k ≤ 8) × (2 * k ≤ length (now images)) × (r < 2 * k) ⌝ }
+    ensures { λ p. ⌜ ((t : ℕ) → RowsOf k t (now (images .entry)) → p ≡ every (2 * k) (pairFits k t r)) ⌝ }
 {
-    let mut s: u64 = 0;
+    let mut s = 0;
     while s < 2 * k {
-        if !pair_fits(t, k, r, s) {
+        if !pair_fits(images, k, r, s) {
             return false;
         }
         s += 1;
@@ -60,31 +56,29 @@ fn row_fits(t: u64, k: u64, r: u64) -> bool
     true
 }
 
-// Whether bits from 4k² up are 0: at 4 qubits there are none.
-fn no_more_bits(t: u64, k: u64) -> bool
-    requires { ⌜ k ≤ 4 ⌝ }
-    ensures { λ r. ⌜ r ≡ ltb t (2 ^ (4 * (k * k))) ⌝ }
+fn rows_fit(images: &[u64], k: usize) -> bool
+    requires { ⌜ (k ≤ 8) × (2 * k ≤ length (now images)) ⌝ }
+    ensures { λ p. ⌜ ((t : ℕ) → RowsOf k t (now (images .entry)) → p ≡ every (2 * k) (λ r. every (2 * k) (pairFits k t r))) ⌝ }
 {
-    if k == 4 {
-        return true;
-    }
-    t >> (4 * (k * k)) == 0
-}
-
-// Whether the images of a table on at most 4 qubits commute as the generators do, and bits from 4k² up are 0.
-pub fn is_clifford(t: u64, k: u64) -> bool
-    requires { ⌜ k ≤ 4 ⌝ }
-    ensures { λ r. ⌜ r ≡ isClifford k t ⌝ }
-{
-    if !no_more_bits(t, k) {
-        return false;
-    }
-    let mut r: u64 = 0;
+    let mut r = 0;
     while r < 2 * k {
-        if !row_fits(t, k, r) {
+        if !row_fits(images, k, r) {
             return false;
         }
         r += 1;
     }
     true
+}
+
+// Whether the images of a table commute as the generators do, and bits from 4k² up are 0. The rows are read once.
+pub fn is_clifford(words: &[u64], k: usize) -> bool
+    requires { ⌜ TableFor k (now words) ⌝ }
+    ensures { λ r. ⌜ r ≡ isClifford k (tableOf (now (words .entry))) ⌝ }
+{
+    if !no_more_bits(words, k) {
+        return false;
+    }
+    let mut images = [0u64; 16];
+    rows(words, k, &mut images);
+    rows_fit(&images, k)
 }

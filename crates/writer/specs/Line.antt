@@ -11,7 +11,7 @@ use Rattle.text.specs.Template.{Value, isLetter, lineText}
 use Rattle.job.specs.Line.{Distribution, sizeOf}
 use Rattle.job.specs.Grammar.{depolarizingTemplate}
 
--- whether a letter stands for a list: L, Q, C
+-- whether a letter stands for a list of numbers: L, Q, C. No line with a T is written.
 unfoldable pub isList : ℕ → Bool
 isList t = eqb t 76 || (eqb t 81 || eqb t 67)
 

@@ -13,7 +13,7 @@ use crate::put_number;
 use template::is_letter;
 use template::values::KEPT;
 
-// Whether a letter stands for a list: L, Q, C.
+// Whether a letter stands for a list of numbers: L, Q, C.
 fn is_list(t: u8) -> bool
     ensures { λ r. ⌜ r ≡ isList t ⌝ }
 {

@@ -14,7 +14,8 @@
 //! | [`correlation`] | whether correlated noise lines agree in size |
 //! | [`by_shot`] | deltas as a row for each shot, and [`by_outcome`] the way back; [`Shots`] has memory of its own |
 //!
-//! Beside the calls, [`split`] shares the shots of a settled job among several benches, and `^=` on [`Frames`] adds what they leave.
+//! Beside the calls, [`split`] shares the shots of a settled job among several benches, and `^=` on [`Frames`] adds what they leave; [`clifford_line`] writes
+//! a Clifford of up to eight qubits, such as a code's encoder, as a line.
 //!
 //! # Rows
 //!
@@ -75,6 +76,7 @@
 //! Linux, keeps no state and takes no memory but the stack, so calls may be made from several threads at the same time.
 
 mod by_shot;
+mod clifford;
 mod draws;
 mod examination;
 mod float_state;
@@ -86,6 +88,7 @@ mod used;
 mod xorshift;
 
 pub use by_shot::{Shots, by_outcome, by_shot};
+pub use clifford::{MAX_CLIFFORD_QUBITS, clifford_line};
 pub use draws::Draws;
 pub use examination::{Examination, examine};
 pub use frames::{Frames, bit};

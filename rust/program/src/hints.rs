@@ -2,7 +2,7 @@
 //! sentence that helps.
 
 use crate::numbers::{binary64, bits_of};
-use kundatrezo::{MAX_BYTES, MAX_OUTCOMES, MAX_QUBITS, MAX_SHOTS, Number, Refusal};
+use kundatrezo::{MAX_BYTES, MAX_CLIFFORD_QUBITS, MAX_OUTCOMES, MAX_QUBITS, MAX_SHOTS, Number, Refusal};
 
 /// Most members of a list on a line, and most elements of a distribution.
 const MOST_MEMBERS: usize = 31;
@@ -27,12 +27,12 @@ const GATES: [&[&str]; 15] = [
     &["PrepareBell", "Bell"],
 ];
 
-/// The forms of lines, each field with the kind of its value: a number, a gate code, 16 hexadecimal digits, a bit, a rising list, a list of operands, a
-/// correlation.
+/// The forms of lines, each field with the kind of its value: a number, a gate code, 16 hexadecimal digits, a table of words of so many, a bit, a rising
+/// list, a list of operands, a correlation.
 const FORMS: [(&str, &str); 14] = [
     ("job", "qubits=N outcomes=N shots=N"),
     ("u", "g=G q=Q"),
-    ("c", "q=Q t=H"),
+    ("c", "q=Q t=T"),
     ("p", "x=L z=L"),
     ("e", "x=L z=L"),
     ("k", "x=L z=L u=L v=L"),
@@ -93,9 +93,7 @@ impl Job<'_> {
             Number::PERMUTATION => {
                 Some("s= holds each of 0 to k - 1 once, for k qubits in q=: it names places in q=, not qubits".into())
             }
-            Number::CLIFFORD => {
-                Some("the images of X and Z do not commute as X and Z do, or t= has a bit past the table".into())
-            }
+            Number::CLIFFORD => Some(self.clifford()),
             Number::NEXT_ID => Some(self.next_id()),
             Number::NOT_RECORDED => Some(match self.recorded() {
                 0 => "no outcome is recorded before this line".into(),
@@ -158,6 +156,7 @@ impl Job<'_> {
 
     fn operands(&self) -> Option<String> {
         let lists = self.line.split(' ').filter_map(|field| field.split_once('='));
+        let lists = lists.filter(|(key, _)| *key != "t");
         let lists: Vec<(&str, Vec<&str>)> = lists.map(|(key, value)| (key, value.split(',').collect())).collect();
         if let Some((key, members)) = lists.iter().find(|(_, members)| members.len() > MOST_MEMBERS) {
             return Some(format!("{key}= has {} members, and a list has at most {MOST_MEMBERS}", members.len()));
@@ -168,11 +167,27 @@ impl Job<'_> {
             return Some(format!("q= names qubit {qubit} twice"));
         }
         if self.line.starts_with("op=c ") {
-            return Some("op=c takes one to four qubits".into());
+            return Some(format!("op=c takes one to {MAX_CLIFFORD_QUBITS} qubits, and q= has {}", operands.len()));
         }
         let code: usize = field(self.line, "g")?.parse().ok()?;
         let count = if code <= 10 { "one qubit" } else { "two qubits" };
         Some(format!("gate {code}, {}, takes {count}", GATES.get(code)?[0]))
+    }
+
+    fn clifford(&self) -> String {
+        let fault = "the images of X and Z do not commute as X and Z do, or t= has a bit past the table";
+        match members(self.line, "t") {
+            Some(2..) => format!("{fault}; the words of t= stand the least significant first"),
+            _ => fault.into(),
+        }
+    }
+
+    /// A table of another number of words than its qubits ask for.
+    fn words_of_table(&self) -> Option<String> {
+        let (qubits, words) = (members(self.line, "q")?, members(self.line, "t")?);
+        let wanted = (4 * qubits * qubits).div_ceil(64);
+        let (qubits, has) = (counted(qubits, "qubit"), counted(wanted, "word"));
+        (words != wanted).then(|| format!("the table of a Clifford on {qubits} has {has}, and t= has {words}"))
     }
 
     fn elements(&self) -> Option<String> {
@@ -219,7 +234,11 @@ impl Job<'_> {
         let Some(form) = named(&FORMS, op) else {
             return Some(no_such_op(op));
         };
-        if op == "n" { self.noise_form() } else { fields(self.line, &split(form), &format!("op={op}")) }
+        if op == "n" {
+            return self.noise_form();
+        }
+        let fault = fields(self.line, &split(form), &format!("op={op}"));
+        fault.or_else(|| if op == "c" { self.words_of_table() } else { None })
     }
 
     /// What is wrong with the form of the noise line.
@@ -272,6 +291,16 @@ fn wanted(line: &str) -> Option<(&str, u64)> {
 /// The value of a field of a line.
 fn field<'a>(line: &'a str, key: &str) -> Option<&'a str> {
     line.split(' ').find_map(|field| field.split_once('=').filter(|(own, _)| *own == key)).map(|(_, value)| value)
+}
+
+/// How many members a list of a line has.
+fn members(line: &str, key: &str) -> Option<usize> {
+    Some(field(line, key)?.split(',').count())
+}
+
+/// A number of things.
+fn counted(number: usize, thing: &str) -> String {
+    format!("{number} {thing}{}", if number == 1 { "" } else { "s" })
 }
 
 /// The keys and kinds of a form.
@@ -339,6 +368,7 @@ fn value(key: &str, kind: &str, value: &str) -> Option<String> {
             None => "g= is the code of a gate, 0 to 14".into(),
         }),
         "H" => hexadecimal(key, value),
+        "T" => value.split(',').find_map(|word| table_word(key, word)),
         "B" => (value != "0" && value != "1").then(|| format!("{key}= is 0 or 1")),
         "N" => (!number(value)).then(|| format!("{key}= is one number, in decimal and without leading zeros")),
         "C" => (value != "-" && !number(value)).then(|| format!("{key}= is a number, or - for none")),
@@ -351,13 +381,20 @@ fn value(key: &str, kind: &str, value: &str) -> Option<String> {
     }
 }
 
+fn is_word(value: &str) -> bool {
+    value.len() == 16 && value.bytes().all(|byte| matches!(byte, b'0'..=b'9' | b'a'..=b'f'))
+}
+
+fn table_word(key: &str, word: &str) -> Option<String> {
+    let wanted = || format!("{key}= is a table by words of 16 hexadecimal digits, in lower case, with commas between");
+    (!is_word(word)).then(wanted)
+}
+
 fn hexadecimal(key: &str, value: &str) -> Option<String> {
-    let is_right = value.len() == 16 && value.bytes().all(|byte| matches!(byte, b'0'..=b'9' | b'a'..=b'f'));
-    let what = if key == "t" { "a table" } else { "a binary64" };
-    let wanted = format!("{key}= is {what} by its 16 hexadecimal digits, in lower case");
+    let wanted = format!("{key}= is a binary64 by its 16 hexadecimal digits, in lower case");
     match value.parse::<f64>() {
-        _ if is_right => None,
-        Ok(number) if key != "t" => Some(format!("{wanted}: {value} is {} (see 'kundatrezo bits')", bits_of(number))),
+        _ if is_word(value) => None,
+        Ok(number) => Some(format!("{wanted}: {value} is {} (see 'kundatrezo bits')", bits_of(number))),
         _ => Some(wanted),
     }
 }
@@ -400,7 +437,13 @@ mod tests {
                 "op=n p=3FE0000000000000 corr=- cond=- parity=0 d=2 q=0 size=3",
                 "p= is a binary64 by its 16 hexadecimal digits, in lower case",
             ),
-            ("op=c q=0 t=9", "t= is a table by its 16 hexadecimal digits"),
+            ("op=c q=0 t=9", "t= is a table by words of 16 hexadecimal digits"),
+            ("op=c q=0 t=0000000000000009,9", "t= is a table by words of 16 hexadecimal digits"),
+            (
+                "op=c q=0 t=0000000000000009,0000000000000000",
+                "the table of a Clifford on 1 qubit has 1 word, and t= has 2",
+            ),
+            ("op=c q=0,1,2,3,4 t=0000000000000000", "the table of a Clifford on 5 qubits has 2 words, and t= has 1"),
             ("op=n p=3fe0000000000000 corr=-1 cond=- parity=0 d=2 q=0 size=3", "corr= is a number, or - for none"),
             (&format!("{noise} parity=1 d=2 q=0 size=3"), "without a condition (cond=-) parity is 0"),
             (&format!("{noise} parity=0 d=5 q=0 size=3"), "a noise line is op=n"),
@@ -441,6 +484,7 @@ mod tests {
             ("op=u g=11 q=1,1", "q= names qubit 1 twice"),
             ("op=m s=1,2 q=0,1", "s= holds each of 0 to k - 1 once"),
             ("op=c q=0 t=0000000000000001", "the images of X and Z do not commute"),
+            ("op=c q=0,1,0,1,0,1,0,1,0 t=0000000000000001", "q= names qubit 0 twice"),
             ("op=o x=- z=0 id=1", "the next id is 0"),
             ("op=r id=0 angle=0\nop=r id=1 angle=0", "the header has outcomes=1, and as many are recorded"),
             ("op=t shot=0 id=0", "no outcome is recorded before this line"),
@@ -461,6 +505,13 @@ mod tests {
         let many: Vec<String> = (0..32).map(|qubit| qubit.to_string()).collect();
         let said = hint_of(&format!("op=job qubits=99 outcomes=0 shots=1\nop=p x={} z=-\n", many.join(",")));
         assert_eq!(said, "x= has 32 members, and a list has at most 31");
+        let nine = vec!["0000000000000000"; 40].join(",");
+        let said = hint_of(&format!("op=job qubits=99 outcomes=0 shots=1\nop=c q={} t={nine}\n", many[..9].join(",")));
+        assert_eq!(said, "op=c takes one to 8 qubits, and q= has 9");
+        let reversed = "0000000801002004,0080100200400801";
+        let said =
+            hint_of(&format!("op=job qubits=99 outcomes=0 shots=1\nop=c q={} t={reversed}\n", many[..5].join(",")));
+        assert!(said.ends_with("the words of t= stand the least significant first"), "{said}");
     }
 
     #[test]

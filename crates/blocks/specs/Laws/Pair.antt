@@ -9,9 +9,8 @@ use lib.Dec.{eqb}
 use lib.Bits.{bitXor}
 use Rattle.pauli.specs.Bits.{_⊕_, bit}
 use Rattle.pauli.specs.Laws.F2.{⊕-false, ⊕-comm, ⊕-self-left, &&-true, &&-false}
-use Rattle.pauli.specs.Laws.Word.{bit-shr, bit-xor, bit-and}
+use Rattle.pauli.specs.Laws.Word.{bit-shr, bit-shl, bit-below, bit-mod, bit-xor, bit-and}
 use Rattle.blocks.specs.Exchange.{place, difference, partner, allBelow, isMask}
-use Rattle.blocks.specs.Laws.Shift.{bit-shl, bit-below, bit-mod}
 
 -- ---- the mask
 

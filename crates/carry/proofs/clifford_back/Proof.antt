@@ -22,7 +22,7 @@ add-parts-requires c κs = search needs
 
 returns : tie.Need-returns
 unfolding asPauli
-returns c = clifford-done _ (c .before .before .before .before .before .before .before .before .pre .2) _ _ _ _ _ _ (c .before .before .before .before .parts-at .ensures) (c .before .before .before .parts-at2 .ensures) (c .add-parts .ensures .0) (c .add-parts .ensures .1) _ (c .before .before .before .before .before .before .before .before .pre .1) (c .before .before .rows-anticommute .ensures) (c .before .rows-anticommute2 .ensures)
+returns c = clifford-done _ (c .before .before .before .before .before .before .before .before .before .pre .2) _ _ _ _ _ _ (c .before .before .before .before .parts-at .ensures) (c .before .before .before .parts-at2 .ensures) (c .add-parts .ensures .0) (c .add-parts .ensures .1) _ (c .before .before .before .before .before .before .before .before .before .pre .1) (c .before .before .rows-anticommute .ensures) (c .before .rows-anticommute2 .ensures)
 
 pub clifford-back-spec : {M : Type 1} → statement M
 clifford-back-spec =

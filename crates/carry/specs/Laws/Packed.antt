@@ -10,12 +10,14 @@ use lib.Dec.{eqb}
 use lib.Bits.{bitXor, bitAnd, xor-lt, and-le-l}
 use lib.Count.{ones}
 use lib.Pow.{pow-lt, pow-mono}
-use Rattle.pauli.specs.Bits.{Bits, _⊕_, _∩_, _△_, parity, bit}
+use Rattle.pauli.specs.Bits.{Bits, _⊕_, _∩_, _△_, bit}
 use Rattle.pauli.specs.Pauli.{anticommutes}
 use Rattle.pauli.specs.Laws.F2.{f2}
 use Rattle.pauli.specs.Laws.Word.{bit-shr, bit-xor, bit-and, bit-high, bit-pow}
-use Rattle.pauli.specs.Laws.Parts.{parity-sum, parity-word}
+use Rattle.pauli.specs.Laws.Parts.{parity-sum, parity-same, parity-word}
 use Rattle.job.specs.Clifford.{rowOver}
+use Rattle.tables.specs.Rows.{rowWord, inWord}
+use Rattle.tables.specs.Laws.Rows.{row-bit}
 use Rattle.carry.specs.Packed.{Packed, inWords}
 
 -- ---- one place more
@@ -57,40 +59,23 @@ packed-all {k} {n} {f} {w} p a b = let e : k ≡ n = omega arith in rw e at p
 
 -- ---- two Paulis on k places, one in words, the other a row of a table
 
-same-parity : (n : ℕ) (s t : Bits) → ((j : ℕ) → j < n → s j ≡ t j) → parity n s ≡ parity n t
-unfolding parity
-same-parity zero s t e = refl
-same-parity (suc n) s t e = ap₂ _⊕_ (e n (omega arith)) (same-parity n s t (λ j h. e j (omega arith)))
-
-module _ (x z t k r : ℕ) (hx : x < 2 ^ k) (hz : z < 2 ^ k) where
+module _ (x z row k : ℕ) (hx : x < 2 ^ k) (hz : z < 2 ^ k) where
   clashes : ℕ
-  clashes = bitXor (bitAnd x (t / 2 ^ (2 * k * r) / 2 ^ k)) (bitAnd z (t / 2 ^ (2 * k * r)))
+  clashes = bitXor (bitAnd x (row / 2 ^ k)) (bitAnd z row)
 
   clashes-small : clashes < 2 ^ k
   unfolding clashes
   clashes-small = xor-lt k _ _ (lt-of-le-of-lt (and-le-l x _) hx) (lt-of-le-of-lt (and-le-l z _) hz)
 
-  clashes-at : (j : ℕ) → bit clashes j ≡ ((inWords x z .x ∩ rowOver k t r .z) △ (inWords x z .z ∩ rowOver k t r .x)) j
-  unfolding clashes rowOver _∩_ _△_
+  clashes-at : (j : ℕ) → bit clashes j ≡ ((inWords x z .x ∩ inWord k row .z) △ (inWords x z .z ∩ inWord k row .x)) j
+  unfolding clashes inWord _∩_ _△_
   clashes-at j =
-      bit-xor (bitAnd x (t / 2 ^ (2 * k * r) / 2 ^ k)) (bitAnd z (t / 2 ^ (2 * k * r))) j
-      ∙ ap₂ _⊕_
-      (bit-and x (t / 2 ^ (2 * k * r) / 2 ^ k) j ∙ ap (λ (b : Bool). bit x j && b) (bit-shr (t / 2 ^ (2 * k * r)) k j ∙ bit-shr t (2 * k * r) (k + j)))
-      (bit-and z (t / 2 ^ (2 * k * r)) j ∙ ap (λ (b : Bool). bit z j && b) (bit-shr t (2 * k * r) j))
+      bit-xor (bitAnd x (row / 2 ^ k)) (bitAnd z row) j
+      ∙ ap₂ _⊕_ (bit-and x (row / 2 ^ k) j ∙ ap (λ (b : Bool). bit x j && b) (bit-shr row k j)) (bit-and z row j)
 
-  pub clashes-odd : eqb (ones (bitXor (bitAnd x (t / 2 ^ (2 * k * r) / 2 ^ k)) (bitAnd z (t / 2 ^ (2 * k * r)))) % 2) 1
-      ≡ anticommutes k (inWords x z) (rowOver k t r)
+  pub clashes-odd : eqb (ones (bitXor (bitAnd x (row / 2 ^ k)) (bitAnd z row)) % 2) 1 ≡ anticommutes k (inWords x z) (inWord k row)
   unfolding clashes anticommutes
-  clashes-odd = sym (parity-word k clashes clashes-small) ∙ same-parity k (bit clashes) _ (λ j h. clashes-at j) ∙ parity-sum k _ _
-
--- a row begins inside the word
-pub row-inside : (k r : ℕ) → k ≤ 4 → r < 2 * k → 2 * k * r < 64
-row-inside zero r h g = omega arith
-row-inside (suc zero) r h g = omega arith
-row-inside (suc (suc zero)) r h g = omega arith
-row-inside (suc (suc (suc zero))) r h g = omega arith
-row-inside (suc (suc (suc (suc zero)))) r h g = omega arith
-row-inside (suc (suc (suc (suc (suc k))))) r h g = absurd (omega arith)
+  clashes-odd = sym (parity-word k clashes clashes-small) ∙ parity-same k (bit clashes) _ (λ j h. clashes-at j) ∙ parity-sum k _ _
 
 -- Paulis on k places that have the same bits there
 pub same-places : (k : ℕ) {f g : Bits} {x z : ℕ} → Packed k f x → Packed k g z → (Q : Rattle.pauli.specs.Pauli.Pauli)
@@ -98,5 +83,13 @@ pub same-places : (k : ℕ) {f g : Bits} {x z : ℕ} → Packed k f x → Packed
 unfolding anticommutes _∩_
 same-places k p q Q =
     ap₂ _⊕_
-    (same-parity k _ _ (λ j h. ap (λ (b : Bool). b && Q .z j) (p .at j h)))
-    (same-parity k _ _ (λ j h. ap (λ (b : Bool). b && Q .x j) (q .at j h)))
+    (parity-same k _ _ (λ j h. ap (λ (b : Bool). b && Q .z j) (p .at j h)))
+    (parity-same k _ _ (λ j h. ap (λ (b : Bool). b && Q .x j) (q .at j h)))
+
+-- a row of the table as a word
+pub row-as-word : (k t r : ℕ) (P : Rattle.pauli.specs.Pauli.Pauli) → anticommutes k P (inWord k (rowWord k t r)) ≡ anticommutes k P (rowOver k t r)
+unfolding anticommutes inWord rowOver _∩_
+row-as-word k t r P =
+    ap₂ _⊕_
+    (parity-same k _ _ (λ j h. ap (λ (b : Bool). P .x j && b) (row-bit k t r (k + j) (omega arith))))
+    (parity-same k _ _ (λ j h. ap (λ (b : Bool). P .z j && b) (row-bit k t r j (omega arith))))

@@ -16,7 +16,7 @@ use Rattle.job.specs.Grammar.{Kind, NoiseLine, Written, pauliAt, isOne, optiona
 use Rattle.reader.specs.declared.Form.{Form}
 use Rattle.reader.specs.declared.Form.the-variants as form
 use Rattle.reader.specs.Parsed.{placeOf, noForm, formOf, Said}
-use Rattle.instructions.specs.Laws.Meaning.{noiseBy, noise-said, unitary-said}
+use Rattle.instructions.specs.Laws.Meaning.{noiseBy, noise-said, unitary-said, clifford-said}
 use Rattle.rows.specs.Overwrite.{copied}
 use Rattle.noise.specs.declared.PauliDistribution.the-variants.{Single, Depolarizing, Uniform, Weighted}
 use Rattle.noise.specs.declared.Correlation.the-variants.{Uncorrelated, Shared}
@@ -74,7 +74,9 @@ noise-view form.Header vs n e = let z : _≡_ {A = ℕ} 0 1 = cc in absurd (omeg
 noise-view form.Unitary vs n e =
     let (g, p, q) = unitary-said _ (listAt 0 vs) (Written.noise n) e in
     let z : _≡_ {A = ℕ} 0 1 = cc in absurd (omega arith)
-noise-view form.Clifford vs n e = let z : _≡_ {A = ℕ} 0 1 = cc in absurd (omega arith)
+noise-view form.Clifford vs n e =
+    let (p, q) = clifford-said (listAt 0 vs) (listAt 1 vs) (Written.noise n) e in
+    let z : _≡_ {A = ℕ} 0 1 = cc in absurd (omega arith)
 noise-view form.Pauli vs n e = let z : _≡_ {A = ℕ} 0 1 = cc in absurd (omega arith)
 noise-view form.Exponential vs n e = let z : _≡_ {A = ℕ} 0 1 = cc in absurd (omega arith)
 noise-view form.Controlled vs n e = let z : _≡_ {A = ℕ} 0 1 = cc in absurd (omega arith)

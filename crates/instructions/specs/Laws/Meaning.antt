@@ -1,11 +1,12 @@
 -- What a line says, by groups of forms. Laws. Assumes nothing.
-use Prim.Native.Nat.{ℕ, zero, suc}
+use Prim.Native.Nat.{ℕ, zero, suc, _≤_}
 use native.Mathlib.Omega.{arith}
 use mathlib.Core.Path.{_≡_, refl, sym, ap, subst, _∙_}
-use mathlib.Core.Bool.{Bool, true, false, cond, _&&_, _||_}
+use mathlib.Core.Bool.{Bool, true, false, cond, not, _&&_, _||_}
 use mathlib.Core.List.{List, [], _∷_}
 use mathlib.Core.Option.{Option, none, some}
-use lib.Dec.{eqb}
+use borrow.Author.Tests.{eqb-true, leb-false}
+use lib.Dec.{eqb, leb}
 use lib.ListN.{length}
 use Rattle.pauli.specs.Gate.{Gate, gateOf}
 use Rattle.text.specs.Bytes.{bytes}
@@ -15,7 +16,8 @@ use Rattle.template.specs.Fields.{Held}
 use Rattle.job.specs.Float.{zeroFloat}
 use Rattle.job.specs.declared.Header.{Header}
 use Rattle.job.specs.Line.{SparsePauli, Line}
-use Rattle.job.specs.Grammar.{Kind, NoiseLine, Written, headerBy, isOne, optional, unitaryLine, noiseLine, forms, readLine}
+use Rattle.job.specs.Clifford.{tableWords, tableOf}
+use Rattle.job.specs.Grammar.{Kind, NoiseLine, Written, headerBy, isOne, optional, unitaryLine, cliffordLine, noiseLine, forms, readLine}
 use Rattle.job.specs.Checks.{records, elementLines, firstTotal}
 use Rattle.job.specs.Laws.Forms.{SaidFits, line-fits}
 use Rattle.reader.specs.declared.Form.{Form}
@@ -55,6 +57,18 @@ unfolding unitaryLine
 unitary-said none qs w e = let z : _≡_ {A = ℕ} 0 1 = cc in absurd (omega arith)
 unitary-said (some g) qs w e = (g, refl, some-same e)
 
+pub clifford-said : (qs ws : List ℕ) (w : Written) → cliffordLine qs ws ≡ some w
+    → (length qs ≤ 8 → length ws ≡ tableWords (length qs)) × (Written.line (Line.clifford qs (tableOf ws)) ≡ w)
+unfolding cliffordLine
+clifford-said qs ws w e = go (leb (length qs) 8) (eqb (length ws) (tableWords (length qs))) refl refl e
+  where
+    go : (few right : Bool) → leb (length qs) 8 ≡ few → eqb (length ws) (tableWords (length qs)) ≡ right
+        → cond (few && not right) none (some (Written.line (Line.clifford qs (tableOf ws)))) ≡ some w
+        → (length qs ≤ 8 → length ws ≡ tableWords (length qs)) × (Written.line (Line.clifford qs (tableOf ws)) ≡ w)
+    go true true p q k = (λ h. eqb-true _ _ q, some-same k)
+    go true false p q k = let z : _≡_ {A = ℕ} 0 1 = cc in absurd (omega arith)
+    go false right p q k = (λ h. absurd (omega (arith, leb-false (length qs) 8 p)), some-same k)
+
 -- what a line of a form says: a header, a line that records an outcome or not, noise with element lines or without, an element line
 pub data Meaning (f : Form) : Written → Type 0 where
   header : (h : Header) → f ≡ form.Header → Meaning f (Written.header h)
@@ -73,7 +87,7 @@ meaning form.Unread vs w e = let z : _≡_ {A = ℕ} 0 1 = cc in absurd (omega a
 meaning form.Header vs w e = subst (Meaning form.Header) (some-same e) (Meaning.header _ refl)
 meaning form.Unitary vs w e =
     let (g, p, q) = unitary-said (gateOf (numberAt 0 vs)) (listAt 0 vs) w e in subst (Meaning form.Unitary) q (Meaning.plain _ refl refl)
-meaning form.Clifford vs w e = subst (Meaning form.Clifford) (some-same e) (Meaning.plain _ refl refl)
+meaning form.Clifford vs w e = subst (Meaning form.Clifford) (clifford-said (listAt 0 vs) (listAt 1 vs) w e .1) (Meaning.plain _ refl refl)
 meaning form.Pauli vs w e = subst (Meaning form.Pauli) (some-same e) (Meaning.plain _ refl refl)
 meaning form.Exponential vs w e = subst (Meaning form.Exponential) (some-same e) (Meaning.plain _ refl refl)
 meaning form.Controlled vs w e = subst (Meaning form.Controlled) (some-same e) (Meaning.plain _ refl refl)

@@ -14,13 +14,16 @@ use Rattle.template.specs.Values.{Whole, AllKept, heldNumber, heldList}
 use Rattle.template.specs.Fields.{Held}
 use Rattle.template.specs.Laws.Fields.{list-held}
 use Rattle.job.specs.Line.{SparsePauli, Line}
+use Rattle.job.specs.Clifford.{tableOf}
 use Rattle.job.specs.Grammar.{Written, isOne, forms}
 use Rattle.job.specs.Sound.{LineSound}
 use Rattle.job.specs.Laws.Permutation.{permutation-parts}
+use Rattle.job.specs.Laws.Table.{few-words}
 use Rattle.reader.specs.declared.Form.{Form}
 use Rattle.reader.specs.declared.Form.the-variants as form
 use Rattle.reader.specs.Parsed.{placeOf}
-use Rattle.instructions.specs.Laws.Meaning.{unitary-said}
+use Rattle.tables.specs.Rows.{TableFor}
+use Rattle.instructions.specs.Laws.Meaning.{unitary-said, clifford-said}
 use Rattle.instructions.specs.Plain.{heldPauli, Plain}
 
 -- ---- lists and numbers by their places
@@ -112,11 +115,23 @@ module _ {f : List ℕ} {w n m : ℕ} {line : Line} where
         by-values p 1 1 (λ ls ns. Line.unitary g (getD ls 0 [])) (p .said .held) (line-of k) (λ s. at-one _ (s .operands .few)),
       )
 
-  pub clifford-read : (p : Plain form.Clifford f w n m line) → Read p 1 (Line.clifford (heldList f 0) (heldNumber f 0))
+  pub clifford-read : (p : Plain form.Clifford f w n m line) → Read p 2 (Line.clifford (heldList f 0) (tableOf (heldList f 1)))
   unfolding forms placeOf bytes LineSound
   clifford-read p =
-      by-values p 1 1 (λ ls ns. Line.clifford (getD ls 0 []) (getD ns 0 0)) (p .said .held) (written-line (p .said .says))
-      (λ s. at-one _ (s .operands .few))
+      let said = clifford-said (listAt 0 (p .values)) (listAt 1 (p .values)) (Written.line line) (p .said .says) in
+      by-values p 0 2 (λ ls ns. Line.clifford (getD ls 0 []) (tableOf (getD ls 1 []))) (p .said .held) (line-of (said .1))
+      (λ s. at-two _ (s .operands .few) (omega (arith, said .0 (s .few), few-words _ (s .few))))
+
+  -- there are as many words as its table has
+  pub clifford-table : (p : Plain form.Clifford f w n m line) → TableFor (length (heldList f 0)) (heldList f 1)
+  unfolding forms placeOf bytes LineSound
+  clifford-table p =
+      let said = clifford-said (listAt 0 (p .values)) (listAt 1 (p .values)) (Written.line line) (p .said .says) in
+      let read = clifford-read p in
+      let list : (i : ℕ) → i < 2 → heldList f i ≡ listAt i (p .values) = λ i h. list-held (p .said .held) (p .wide) i h (read .few i h) in
+      let few = read .sound .few in
+      let long = said .0 (rw (list 0 (omega arith)) at few) in
+      record { few = few; long = rw (list 0 (omega arith), list 1 (omega arith)) long }
 
   pub exponential-read : (p : Plain form.Exponential f w n m line) → Read p 2 (Line.exponential (heldPauli f 0 1))
   unfolding forms placeOf bytes LineSound

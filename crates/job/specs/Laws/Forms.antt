@@ -2,11 +2,11 @@
 use Prim.Native.Nat.{ℕ, zero, suc, _^_, _<_}
 use native.Mathlib.Omega.{arith}
 use mathlib.Core.Path.{_≡_, refl}
-use mathlib.Core.Bool.{Bool, true, false, cond, _&&_}
+use mathlib.Core.Bool.{Bool, true, false, cond, not, _&&_}
 use mathlib.Core.List.{List, [], _∷_}
 use mathlib.Core.Option.{Option, none, some}
 use borrow.Author.Tests.{eq-eqb}
-use lib.Dec.{eqb}
+use lib.Dec.{eqb, leb}
 use lib.ListN.{length}
 use Rattle.pauli.specs.Gate.{Gate, gateOf}
 use Rattle.text.specs.Bytes.{bytes}
@@ -14,8 +14,9 @@ use Rattle.text.specs.Template.{Value, valuesOf, numberAt, listAt}
 use Rattle.text.specs.Written.{FitL, FitQ, FitC}
 use Rattle.text.specs.Laws.Values.{NumberFits, ListFits, numberLettersIn, listLettersIn, Fits, values-fit}
 use Rattle.job.specs.Line.{SparsePauli, Line}
+use Rattle.job.specs.Clifford.{maxCliffordQubits, tableWords}
 use Rattle.job.specs.Sound.{SmallOption, Every}
-use Rattle.job.specs.Grammar.{Kind, NoiseLine, Written, pauliAt, isOne, unitaryLine, optional, noiseLine, Form, forms, said, orLater, readBy, readLine}
+use Rattle.job.specs.Grammar.{Kind, NoiseLine, Written, pauliAt, isOne, unitaryLine, cliffordLine, optional, noiseLine, Form, forms, said, orLater, readBy, readLine}
 
 -- ---- what a line is known for
 
@@ -25,7 +26,7 @@ pub record PauliFits (P : SparsePauli) : Type 0 where
 
 unfoldable pub LineFits : Line → Type 0
 LineFits (Line.unitary g qs) = FitQ qs
-LineFits (Line.clifford qs t) = FitQ qs × (t < 2 ^ 64)
+LineFits (Line.clifford qs t) = FitQ qs
 LineFits (Line.pauli P) = PauliFits P
 LineFits (Line.exponential P) = PauliFits P
 LineFits (Line.controlled C T) = PauliFits C × PauliFits T
@@ -82,6 +83,10 @@ unfolding SaidFits
 unless-fits true w h = tt
 unless-fits false w h = h refl
 
+clifford-fits : (qs ws : List ℕ) → FitQ qs → SaidFits (cliffordLine qs ws)
+unfolding cliffordLine WrittenFits LineFits
+clifford-fits qs ws h = unless-fits (leb (length qs) maxCliffordQubits && not (eqb (length ws) (tableWords (length qs)))) _ (λ e. h)
+
 noise-fits : (kind : Kind) (size : ℕ) (v : List Value) → numberAt 0 v < 2 ^ 64 → FitC (listAt 0 v) → FitL (listAt 1 v) → KindFits kind
     → SaidFits (noiseLine kind size v)
 unfolding noiseLine WrittenFits
@@ -109,7 +114,7 @@ unfolding FormFits forms bytes numberLettersIn listLettersIn NumberFits ListFits
 forms-fit =
     also (λ v h. tt)
     (also (λ v h. gate-fits (gateOf (numberAt 0 v)) (listAt 0 v) (h .list 0))
-    (also (λ v h. (h .list 0, h .number 0))
+    (also (λ v h. clifford-fits (listAt 0 v) (listAt 1 v) (h .list 0))
     (also (λ v h. pauli-fits 0 1 v (h .list 0) (h .list 1))
     (also (λ v h. pauli-fits 0 1 v (h .list 0) (h .list 1))
     (also (λ v h. (pauli-fits 0 1 v (h .list 0) (h .list 1), pauli-fits 2 3 v (h .list 2) (h .list 3)))

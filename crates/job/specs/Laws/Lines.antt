@@ -13,6 +13,8 @@ use Rattle.job.specs.Line.{SparsePauli, Line}
 use Rattle.job.specs.Checks.{Context, allBelow, eachBelow, eachShort, distinct, lineTests, inRange, listsOf}
 use Rattle.job.specs.Sound.{Operands, PauliSound, NextOutcome, LineSound, HeaderSound}
 use Rattle.pauli.specs.Gate.{operandsOf}
+use Rattle.job.specs.Clifford.{maxCliffordQubits}
+use Rattle.job.specs.Laws.Table.{clifford-small}
 use Rattle.job.specs.Laws.Lists.{below-first}
 use Rattle.job.specs.Laws.Tests.{AllPass}
 use Rattle.job.specs.Laws.Forms.{PauliFits, LineFits}
@@ -68,12 +70,13 @@ line-sound c (Line.unitary g qs) f t =
     record { operands = operands-sound _ qs f (not-false _ (t .0)) (own .1) (lists .1); count = eqb-true _ _ (own .0) }
 line-sound c (Line.clifford qs m) f t =
     let lists = both _ (eachShort (qs ∷ [])) (not-false _ (t .1 .0)) in
-    let own = both (leb (length qs) 4) (distinct qs) (lists .0) in
+    let own = both (leb (length qs) maxCliffordQubits) (distinct qs) (lists .0) in
+    let table = not-false _ (t .1 .1 .0) in
     record {
-      operands = operands-sound _ qs (f .0) (not-false _ (t .0)) (own .1) (lists .1);
+      operands = operands-sound _ qs f (not-false _ (t .0)) (own .1) (lists .1);
       few = leb-true _ _ (own .0);
-      table = not-false _ (t .1 .1 .0);
-      small = f .1;
+      table = table;
+      small = clifford-small _ m table;
     }
 line-sound c (Line.pauli P) f t = pauli-sound _ P f (not-false _ (t .0)) (not-false _ (t .1 .0))
 line-sound c (Line.exponential P) f t = pauli-sound _ P f (not-false _ (t .0)) (not-false _ (t .1 .0))

@@ -1,5 +1,5 @@
 -- Lines that are written by a form's template, and texts of lines as jobs. Laws. Assumes nothing.
-use Prim.Native.Nat.{ℕ, zero, suc, _+_, _-_, _^_, _≤_, _<_}
+use Prim.Native.Nat.{ℕ, zero, suc, _+_, _-_, _*_, _^_, _≤_, _<_}
 use native.Mathlib.Omega.{arith}
 use mathlib.Core.Path.{_≡_, refl, ap, _∙_}
 use mathlib.Core.Bool.{true, false}
@@ -22,7 +22,9 @@ use Rattle.job.specs.Job.{accepted, wellEnded, checkJob, gather, gathere
 use Rattle.job.specs.Marks.{markOf, formFrom, formByMark}
 use Rattle.job.specs.Contexts.{between, Accepted}
 use Rattle.job.specs.Sound.{Every, HeaderSound}
+use Rattle.job.specs.Clifford.{tableWords, wordsOf}
 use Rattle.job.specs.Laws.Lists.{below-first}
+use Rattle.job.specs.Laws.Table.{words-length, table-round, words-fit, right-words}
 use Rattle.job.specs.Laws.Forms.{PauliFits}
 use Rattle.job.specs.Laws.Passes.{header-accepted}
 use Rattle.job.specs.Laws.Dispatch.{hasMark, mark-same, read-by-mark}
@@ -94,6 +96,17 @@ depolarizing-says p qs size h f s =
 
     no-condition : FitL []
     no-condition = record { rising = refl; small = λ i. omega arith }
+
+-- a Clifford by the words of its table
+pub clifford-says : (qs : List ℕ) (t : ℕ) → FitQ qs → t < 2 ^ (4 * (length qs * length qs))
+    → readLine (lineText (bytes "op=c q=Q t=T") (Value.list qs ∷ Value.list (wordsOf (tableWords (length qs)) t) ∷ [])) ≡ some (Written.line (Line.clifford qs t))
+unfolding marks numbersIn listsIn
+clifford-says qs t f h =
+    let k = length qs in
+    let words = wordsOf (tableWords k) t in
+    form-written (formByMark 99) record { mark = refl; back = refl; one = refl } (Value.list qs ∷ Value.list words ∷ []) (Suits.Q f, (Suits.T (words-fit k t (f .filled)), tt))
+    ∙ right-words qs words (words-length (tableWords k) t)
+    ∙ ap (λ (m : ℕ). some (Written.line (Line.clifford qs m))) (table-round k t h)
 
 -- ---- texts of lines
 

@@ -1,12 +1,15 @@
 -- `line_tests::clifford_number` meets its contract. Assumes nothing.
+use Prim.Native.Nat.{ℕ}
 use native.Mathlib.Omega.{arith}
-use mathlib.Core.Path.{sym, _∙_}
+use mathlib.Core.Path.{sym, ap, _∙_}
+use mathlib.Core.List.{List}
 use borrow.Author.Tests.{not-true, not-false, lt-leb, le-leb}
 use lib.Dec.{leb}
 use lib.ListN.{length}
 use Rattle.text.specs.Template.{listAt}
+use Rattle.job.specs.Clifford.{tableOf, isClifford}
 use Rattle.value_tests.specs.Laws.Lowest.{none-bad, fails, passes, left-false, right-false, both-true, one-short}
-use Rattle.line_tests.specs.Laws.Lines.{tests-clifford}
+use Rattle.line_tests.specs.Laws.Lines.{words-for, tests-clifford, words-kept}
 use borrow.Author.Needs.{needs}
 use Rattle.line_tests.proofs.clifford_number.Statement.{statement}
 use Rattle.line_tests.proofs.clifford_number.Tie as tie
@@ -33,47 +36,55 @@ returns-2 c =
     ∙ t .own
 
 slot-distinct-requires : tie.Need-slot-distinct-requires
-slot-distinct-requires c κs = (omega arith, omega arith, omega arith)
+slot-distinct-requires c κs = search needs
 
 returns-3 : tie.Need-returns-3
 returns-3 c =
     λ vs w h.
     let t = tests-clifford (c .before .before .before .before .before .before .before .args .c) h in
     let once = c .before .slot-distinct .ensures _ _ vs (t .held) (omega arith) in
-    fails 5 _ _ (left-false _ _ (right-false (leb (length (listAt 0 vs)) 4) _ (sym once ∙ not-true _ (c .if3 .taken))))
+    fails 5 _ _ (left-false _ _ (right-false (leb (length (listAt 0 vs)) 8) _ (sym once ∙ not-true _ (c .if3 .taken))))
     ∙ passes 4 _ _ (sym (c .before .before .before .before .before .below .ensures _ _ vs (t .held) (omega arith)) ∙ not-false _ (c .before .before .before .before .if1 .left))
     ∙ t .own
 
-number-requires : tie.Need-number-requires
-number-requires c κs = search needs
+table-words-requires : tie.Need-table-words-requires
+table-words-requires c κs = search needs
+
+kept-requires : tie.Need-kept-requires
+kept-requires c κs = search needs
+
+slice-aggregate-is-clifford : tie.Need-slice-aggregate-is-clifford
+slice-aggregate-is-clifford c = rw (c .before .kept .ensures, c .before .before .table-words .ensures) (sym (words-for _ (c .before .before .before .before .before .before .before .before .before .before .args .f .now) (c .before .before .before .before .before .before .before .before .before .before .pre) (c .before .before .before .before .before .if2 .left) .long))
 
 is-clifford-requires : tie.Need-is-clifford-requires
-is-clifford-requires c κs = search needs
+is-clifford-requires c κs = rw (c .before .kept .ensures, c .before .before .table-words .ensures) (words-for _ (c .before .before .before .before .before .before .before .before .before .before .args .f .now) (c .before .before .before .before .before .before .before .before .before .before .pre) (c .before .before .before .before .before .if2 .left))
 
 returns-4 : tie.Need-returns-4
 returns-4 c =
     λ vs w h.
-    let t = tests-clifford (c .before .before .before .before .before .before .before .before .before .before .args .c) h in
-    let size = c .before .before .before .before .before .before .count .ensures ∙ t .held .count 0 (omega arith) in
-    let table = c .before .before .number .ensures ∙ t .held .number 0 (omega arith) in
-    let once = c .before .before .before .before .slot-distinct .ensures _ _ vs (t .held) (omega arith) in
-    let right = rw (size, table) at (c .before .is-clifford .ensures) in
+    let t = tests-clifford (c .before .before .before .before .before .before .before .before .before .before .before .before .args .c) h in
+    let size = c .before .before .before .before .before .before .before .before .count .ensures ∙ t .held .count 0 (omega arith) in
+    let few = rw size at (c .before .before .before .before .before .before .before .if2 .left) in
+    let words = ap (λ (ws : List ℕ). isClifford (length (listAt 0 vs)) (tableOf ws)) (words-kept (c .before .before .before .before .before .before .before .before .before .before .before .before .args .c) h (c .before .before .before .before .before .before .before .before .before .before .before .before .pre) few) in
+    let right = rw (c .before .before .before .kept .ensures, c .before .before .before .before .table-words .ensures, size) at (c .before .is-clifford .ensures) ∙ words in
+    let once = c .before .before .before .before .before .before .slot-distinct .ensures _ _ vs (t .held) (omega arith) in
     fails 7 _ _ (sym right ∙ not-true _ (c .if4 .taken))
-    ∙ passes 5 _ _ (both-true (both-true (le-leb _ _ (rw size at (c .before .before .before .before .before .if2 .left))) (sym once ∙ not-false _ (c .before .before .before .if3 .left))) (one-short vs 0 (omega (arith, c .before .before .before .before .before .if2 .left))))
-    ∙ passes 4 _ _ (sym (c .before .before .before .before .before .before .before .before .below .ensures _ _ vs (t .held) (omega arith)) ∙ not-false _ (c .before .before .before .before .before .before .before .if1 .left))
+    ∙ passes 5 _ _ (both-true (both-true (le-leb _ _ few) (sym once ∙ not-false _ (c .before .before .before .before .before .if3 .left))) (one-short vs 0 (omega (arith, few))))
+    ∙ passes 4 _ _ (sym (c .before .before .before .before .before .before .before .before .before .before .below .ensures _ _ vs (t .held) (omega arith)) ∙ not-false _ (c .before .before .before .before .before .before .before .before .before .if1 .left))
     ∙ t .own
 
 returns-5 : tie.Need-returns-5
 returns-5 c =
     λ vs w h.
-    let t = tests-clifford (c .before .before .before .before .before .before .before .before .before .before .args .c) h in
-    let size = c .before .before .before .before .before .before .count .ensures ∙ t .held .count 0 (omega arith) in
-    let table = c .before .before .number .ensures ∙ t .held .number 0 (omega arith) in
-    let once = c .before .before .before .before .slot-distinct .ensures _ _ vs (t .held) (omega arith) in
-    let right = rw (size, table) at (c .before .is-clifford .ensures) in
+    let t = tests-clifford (c .before .before .before .before .before .before .before .before .before .before .before .before .args .c) h in
+    let size = c .before .before .before .before .before .before .before .before .count .ensures ∙ t .held .count 0 (omega arith) in
+    let few = rw size at (c .before .before .before .before .before .before .before .if2 .left) in
+    let words = ap (λ (ws : List ℕ). isClifford (length (listAt 0 vs)) (tableOf ws)) (words-kept (c .before .before .before .before .before .before .before .before .before .before .before .before .args .c) h (c .before .before .before .before .before .before .before .before .before .before .before .before .pre) few) in
+    let right = rw (c .before .before .before .kept .ensures, c .before .before .before .before .table-words .ensures, size) at (c .before .is-clifford .ensures) ∙ words in
+    let once = c .before .before .before .before .before .before .slot-distinct .ensures _ _ vs (t .held) (omega arith) in
     none-bad ∙ passes 7 _ _ (sym right ∙ not-false _ (c .if4 .left))
-    ∙ passes 5 _ _ (both-true (both-true (le-leb _ _ (rw size at (c .before .before .before .before .before .if2 .left))) (sym once ∙ not-false _ (c .before .before .before .if3 .left))) (one-short vs 0 (omega (arith, c .before .before .before .before .before .if2 .left))))
-    ∙ passes 4 _ _ (sym (c .before .before .before .before .before .before .before .before .below .ensures _ _ vs (t .held) (omega arith)) ∙ not-false _ (c .before .before .before .before .before .before .before .if1 .left))
+    ∙ passes 5 _ _ (both-true (both-true (le-leb _ _ few) (sym once ∙ not-false _ (c .before .before .before .before .before .if3 .left))) (one-short vs 0 (omega (arith, few))))
+    ∙ passes 4 _ _ (sym (c .before .before .before .before .before .before .before .before .before .before .below .ensures _ _ vs (t .held) (omega arith)) ∙ not-false _ (c .before .before .before .before .before .before .before .before .before .if1 .left))
     ∙ t .own
 
 pub clifford-number-spec : {M : Type 1} → statement M
@@ -86,7 +97,9 @@ clifford-number-spec =
     returns-2
     slot-distinct-requires
     returns-3
-    number-requires
+    table-words-requires
+    kept-requires
+    slice-aggregate-is-clifford
     is-clifford-requires
     returns-4
     returns-5)

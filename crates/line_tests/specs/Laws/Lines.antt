@@ -7,27 +7,30 @@ use mathlib.Core.List.{List, [], _∷_}
 use mathlib.Core.Option.{Option, none, some}
 use borrow.Author.Tests.{eq-eqb, ne-eqb}
 use lib.Dec.{eqb, ltb, leb}
-use lib.ListN.{length}
+use lib.ListN.{length, take, drop, length-drop}
+use lib.Seq.{take-take, length-take-le}
 use Rattle.pauli.specs.Bits.{_⊕_, outside, members, sumOver}
 use Rattle.pauli.specs.Pauli.{anticommutes}
 use Rattle.pauli.specs.Gate.{Gate, I, X, Y, Z, Hadamard, SqrtZ, SqrtZInv, SqrtX, SqrtXInv, SqrtY, SqrtYInv, ControlledX, ControlledZ, Swap, PrepareBell, gateOf, operandsOf}
 use Rattle.pauli.specs.Code.{operandCount}
 use Rattle.text.specs.Bytes.{bytes}
 use Rattle.text.specs.Template.{Value, numberAt, listAt}
-use Rattle.job.specs.Clifford.{isClifford}
+use Rattle.job.specs.Clifford.{tableWords, tableOf, isClifford}
 use Rattle.job.specs.Line.{pauliOf}
 use Rattle.job.specs.Grammar.{Written, pauliAt, forms}
 use Rattle.job.specs.Laws.Forms.{PauliFits, LineFits, WrittenFits}
+use Rattle.job.specs.Laws.Table.{few-words}
 use Rattle.text.specs.List.{isRising}
 use Rattle.text.specs.Laws.Values.{both}
-use Rattle.template.specs.Values.{Whole, AllKept, heldList}
+use Rattle.template.specs.Values.{Whole, AllKept, heldCount, heldList, membersOn, keptMembers}
 use Rattle.template.specs.Fields.{Held}
 use Rattle.template.specs.Laws.Fields.{list-held}
 use Rattle.job.specs.Checks.{test, allBelow, eachBelow, eachShort, distinct, isPermutation, idTest, lineTests, ownTests, lowest}
 use Rattle.reader.specs.declared.Form.the-variants as form
 use Rattle.reader.specs.Parsed.{placeOf, Said}
+use Rattle.tables.specs.Rows.{TableFor}
 use Rattle.value_tests.specs.declared.context.Context.{Context as Known}
-use Rattle.instructions.specs.Laws.Meaning.{some-same, unitary-said}
+use Rattle.instructions.specs.Laws.Meaning.{some-same, unitary-said, clifford-said}
 use Rattle.value_tests.specs.Slots.{listsFrom}
 use Rattle.value_tests.specs.Contexts.{contextOf}
 use Rattle.value_tests.specs.Laws.Lowest.{Tested}
@@ -41,6 +44,13 @@ third-first true false true = refl
 third-first true false false = refl
 third-first false b true = refl
 third-first false b false = refl
+
+-- as many of the kept words as a table has
+pub words-for : (k : ℕ) (f : List ℕ) → Whole f → k ≤ 8 → TableFor k (take (tableWords k) (keptMembers f 1))
+words-for k f wide few =
+    let n : tableWords k ≤ 4 = few-words k few in
+    let kept : length (keptMembers f 1) ≡ 31 = length-take-le 31 (membersOn f 1) (omega (arith, length-drop 43 f)) in
+    record { few = few; long = length-take-le (tableWords k) (keptMembers f 1) (omega arith) }
 
 -- the tests of a permutation, from the first to the last
 module _ (k : ℕ) (s : List ℕ) where
@@ -129,13 +139,26 @@ module _ (c : Known) {f : List ℕ} {vs : List Value} {w : Written} where
       (g, e, record { held = h .held; own = ap (λ (x : Written). lowest (ownTests (contextOf c) x)) k })
 
   pub tests-clifford : Said form.Clifford f vs w
-      → Tested c f 1 1 vs w
+      → Tested c f 0 2 vs w
       (test 4 (eachBelow (c .header .qubits) (listsFrom 0 1 vs))
-      ∷ test 5 ((leb (length (listAt 0 vs)) 4 && distinct (listAt 0 vs)) && eachShort (listsFrom 0 1 vs))
-      ∷ test 7 (isClifford (length (listAt 0 vs)) (numberAt 0 vs))
+      ∷ test 5 ((leb (length (listAt 0 vs)) 8 && distinct (listAt 0 vs)) && eachShort (listsFrom 0 1 vs))
+      ∷ test 7 (isClifford (length (listAt 0 vs)) (tableOf (listAt 1 vs)))
       ∷ [])
   unfolding forms placeOf bytes ownTests lineTests contextOf listsFrom
-  tests-clifford h = record { held = h .held; own = ap (λ (x : Written). lowest (ownTests (contextOf c) x)) (some-same (h .says)) }
+  tests-clifford h =
+      let said = clifford-said (listAt 0 vs) (listAt 1 vs) w (h .says) in
+      record { held = h .held; own = ap (λ (x : Written). lowest (ownTests (contextOf c) x)) (said .1) }
+
+  -- the words of its table are kept
+  pub words-kept : Said form.Clifford f vs w → Whole f → length (listAt 0 vs) ≤ 8 → take (tableWords (length (listAt 0 vs))) (keptMembers f 1) ≡ listAt 1 vs
+  unfolding forms placeOf bytes
+  words-kept h wide few =
+      let said = clifford-said (listAt 0 vs) (listAt 1 vs) w (h .says) .0 few in
+      let count : heldCount f 1 ≡ tableWords (length (listAt 0 vs)) = h .held .count 1 (omega arith) ∙ said in
+      let short = few-words (length (listAt 0 vs)) few in
+      take-take (tableWords (length (listAt 0 vs))) 31 (membersOn f 1) (omega arith)
+      ∙ ap (λ (n : ℕ). take n (membersOn f 1)) (sym count)
+      ∙ list-held (h .held) wide 1 (omega arith) (omega arith)
 
   pub tests-permute : Said form.Permute f vs w
       → Tested c f 0 2 vs w

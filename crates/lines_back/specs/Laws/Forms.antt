@@ -17,7 +17,7 @@ use Rattle.reader.specs.declared.Form.{Form}
 use Rattle.reader.specs.declared.Form.the-variants as form
 use Rattle.reader.specs.Parsed.{placeOf, noForm, formOf, Said}
 use Rattle.instructions.specs.Reading.{noiseForm}
-use Rattle.instructions.specs.Laws.Meaning.{some-same, unitary-said, Meaning, meaning}
+use Rattle.instructions.specs.Laws.Meaning.{some-same, unitary-said, clifford-said, Meaning, meaning}
 use Rattle.frames.specs.Forward.{Setting}
 use Rattle.backward.specs.Walk.{carry, counts, Walk, oneMore, backward}
 use Rattle.instructions.specs.Laws.Read.{Idle}
@@ -64,7 +64,7 @@ unfolding forms placeOf bytes noForm acts
 line-written form.Unread vs w a e = absurd (true≢false (sym a))
 line-written form.Header vs w a e = absurd (true≢false (sym a))
 line-written form.Unitary vs w a e = let (g, p, q) = unitary-said (gateOf (numberAt 0 vs)) (listAt 0 vs) w e in (_, sym q)
-line-written form.Clifford vs w a e = (_, sym (some-same e))
+line-written form.Clifford vs w a e = (_, sym (clifford-said (listAt 0 vs) (listAt 1 vs) w e .1))
 line-written form.Pauli vs w a e = absurd (true≢false (sym a))
 line-written form.Exponential vs w a e = (_, sym (some-same e))
 line-written form.Controlled vs w a e = (_, sym (some-same e))

@@ -14,6 +14,7 @@ use Rattle.pauli.specs.Fixed.{asPauli}
 use Rattle.template.specs.Values.{heldNumber, heldList}
 use Rattle.job.specs.Line.{SparsePauli, pauliOf, Line}
 use Rattle.job.specs.Checks.{allBelow}
+use Rattle.job.specs.Clifford.{tableOf}
 use Rattle.job.specs.Sound.{PauliSound}
 use Rattle.job.specs.Laws.Lists.{below-more}
 use Rattle.reader.specs.declared.Form.{Form}
@@ -51,7 +52,7 @@ module _ {f : List ℕ} {b r : PauliWords} (shot : ℕ) (set : Bits) where
   unitary-goes e =
       by-line (λ p. Line.unitary (unitary-read (p .plain) .0) (heldList f 0)) (λ p. unitary-read (p .plain) .2 .is) (λ p. to r set (e ∙ rw (unitary-read (p .plain) .1))) (λ p. refl)
 
-  pub clifford-goes : asPauli r ≡ cliffordBack 256 (heldList f 0) (imagesOf (heldList f 0) (heldNumber f 0)) (asPauli b) → Back form.Clifford f shot b set r set false
+  pub clifford-goes : asPauli r ≡ cliffordBack 256 (heldList f 0) (imagesOf (heldList f 0) (tableOf (heldList f 1))) (asPauli b) → Back form.Clifford f shot b set r set false
   unfolding carry counts
   clifford-goes e = by-line _ (λ p. clifford-read (p .plain) .is) (λ p. to r set e) (λ p. refl)
 

@@ -3,12 +3,12 @@ use mathlib.Core.Path.{_≡_, refl, sym, ap, _∙_}
 use mathlib.Core.Bool.{Bool, true, false, true≢false, _&&_, _||_}
 use Prim.Native.Nat.{ℕ, zero, suc, _+_, _-_, _*_, _/_, _%_, _^_, _<_, _≤_}
 use native.Mathlib.Omega.{arith}
-use native.Mathlib.Nat.{one-mul, mod-eq-of-lt, zero-div, div-eq-of-lt, div-self, lt-of-lt-of-le, mul-mod-left, pow-suc}
+use native.Mathlib.Nat.{one-mul, mul-assoc, mod-eq-of-lt, zero-div, div-eq-of-lt, div-self, lt-of-lt-of-le, mul-mod-left, pow-suc}
 use native.Mathlib.Numerals.{one-add, add-one}
 use native.Mathlib.Decide.{decLt}
 use borrow.Author.Tests.{eq-eqb, ne-eqb}
 use lib.Dec.{eqb}
-use lib.Pow.{pow-lt, pow-pos, pow-add, pow-mono, shr-shr, shr-lt, shl-shr}
+use lib.Pow.{pow-lt, pow-pos, pow-add, pow-mono, shr-shr, shr-lt, shl-shr, field, mod-mod-pow}
 use lib.Bits.{bitXor, bitAnd, bitOr, xor-shr, xor-mod, and-shr, and-mod, or-shr, or-mod}
 use Rattle.pauli.specs.Bits.{_⊕_, bit}
 
@@ -29,6 +29,29 @@ bit-zero k = rw zero-div
 pub bit-shr : (w j k : ℕ) → bit (w / 2 ^ j) k ≡ bit w (j + k)
 unfolding bit
 bit-shr w j k = rw shr-shr
+
+-- the bits of a word shifted up: below the shift there is none
+pub bit-shl : (x h j : ℕ) → bit (x * 2 ^ h) (h + j) ≡ bit x j
+bit-shl x h j = sym (bit-shr (x * 2 ^ h) h j) ∙ ap (λ y. bit y j) (shl-shr x h)
+
+pub bit-below : (x h j : ℕ) → j < h → bit (x * 2 ^ h) j ≡ false
+bit-below x h j k = ap (λ n. bit (x * 2 ^ n) j) e ∙ shifted (h - suc j)
+  where
+    e : h ≡ suc (h - suc j) + j
+    e = omega arith
+
+    shifted : (i : ℕ) → bit (x * 2 ^ (suc i + j)) j ≡ false
+    shifted i = bit-is _ j ∙ rw (pow-add 2 (suc i) j, ← mul-assoc, shl-shr, pow-suc 2 i, ← mul-assoc, mul-mod-left)
+
+-- the lower bits of a word
+pub bit-mod : (x n j : ℕ) → j < n → bit (x % 2 ^ n) j ≡ bit x j
+bit-mod x n j k = ap (λ m. bit (x % 2 ^ m) j) e ∙ cut (n - suc j)
+  where
+    e : n ≡ (n - suc j + 1) + j
+    e = omega arith
+
+    cut : (i : ℕ) → bit (x % 2 ^ (i + 1 + j)) j ≡ bit x j
+    cut i = bit-is _ j ∙ rw (field x (i + 1) j, mod-mod-pow _ i 1) (sym (bit-is x j))
 
 -- ---- an operation on words that works bit by bit
 

@@ -2,20 +2,21 @@
 use Prim.Native.Nat.{ℕ, zero, suc, _≤_, _<_}
 use native.Mathlib.Omega.{arith}
 use mathlib.Core.Path.{_≡_, refl, sym, ap, _∙_}
-use mathlib.Core.Bool.{Bool, true, false, _&&_, true≢false}
+use mathlib.Core.Bool.{Bool, true, false, not, _&&_, true≢false}
 use mathlib.Core.List.{List, [], _∷_}
 use mathlib.Core.Option.{none, some}
-use borrow.Author.Tests.{leb-true}
-use lib.Dec.{leb}
+use borrow.Author.Tests.{leb-true, not-true, not-false}
+use lib.Dec.{eqb, leb}
 use lib.ListN.{length, getD}
 use Rattle.pauli.specs.Gate.{Gate, gates, gateFrom, gateOf}
 use Rattle.pauli.specs.Laws.Code.{gate-none}
 use Rattle.text.specs.Bytes.{bytes}
 use Rattle.text.specs.Template.{Value, valuesOf, numberAt, listAt}
-use Rattle.template.specs.Values.{heldNumber}
+use Rattle.template.specs.Values.{heldNumber, heldCount}
 use Rattle.template.specs.Fields.{numberLetters, listLetters, Room, HasForm, ReadAs}
 use Rattle.text.specs.Laws.Values.{both}
-use Rattle.job.specs.Grammar.{Written, Form as TableForm, unitaryLine, forms, said, readBy, readLine}
+use Rattle.job.specs.Clifford.{tableWords, tableOf}
+use Rattle.job.specs.Grammar.{Written, Form as TableForm, unitaryLine, cliffordLine, forms, said, readBy, readLine}
 use Rattle.job.specs.Line.{Line}
 use Rattle.job.specs.Marks.{readAs}
 use Rattle.reader.specs.declared.Form.{Form}
@@ -144,3 +145,26 @@ module _ {line fields : List ℕ} (h : HasForm line (formOf form.Unitary .templa
   gate-good low =
       let found = gate-some (numberAt 0 (h .values)) (omega (arith, code-held)) in
       says form.Unitary refl h (Written.line (Line.unitary (found .0) (listAt 0 (h .values)))) (rw (found .1))
+
+-- ---- a table's words
+
+module _ {line fields : List ℕ} (h : HasForm line (formOf form.Clifford .template) fields) where
+  -- whether there are too few or too many words for a table on so many operands
+  abbrev wrong : ℕ → ℕ → Bool
+  wrong k words = leb k 8 && not (eqb words (tableWords k))
+
+  words-held : wrong (heldCount fields 0) (heldCount fields 1) ≡ wrong (length (listAt 0 (h .values))) (length (listAt 1 (h .values)))
+  unfolding placeOf forms bytes
+  words-held = rw (h .held .count 0 (omega arith), h .held .count 1 (omega arith))
+
+  pub words-wrong : not (wrong (heldCount fields 0) (heldCount fields 1)) ≡ false → Tried (only form.Clifford) line form.Unread fields
+  unfolding placeOf forms bytes said cliffordLine
+  words-wrong e =
+      let bad : wrong (length (listAt 0 (h .values))) (length (listAt 1 (h .values))) ≡ true = sym words-held ∙ not-false _ e in
+      says-nothing form.Clifford (rw (h .reads, bad))
+
+  pub words-right : not (wrong (heldCount fields 0) (heldCount fields 1)) ≡ true → Tried (only form.Clifford) line form.Clifford fields
+  unfolding placeOf forms bytes cliffordLine
+  words-right e =
+      let good : wrong (length (listAt 0 (h .values))) (length (listAt 1 (h .values))) ≡ false = sym words-held ∙ not-true _ e in
+      says form.Clifford refl h (Written.line (Line.clifford (listAt 0 (h .values)) (tableOf (listAt 1 (h .values))))) (rw good)

@@ -34,6 +34,9 @@ put-list-requires-2 c κs = search needs
 put-list-requires-3 : tie.Need-put-list-requires-3
 put-list-requires-3 c κs = search needs
 
+put-list-requires-4 : tie.Need-put-list-requires-4
+put-list-requires-4 c κs = search needs
+
 not-put-requires : tie.Need-not-put-requires
 not-put-requires c κs = search needs
 
@@ -88,11 +91,21 @@ returns-6 c =
     let key = c .before .before .before .before .match .keys6 in
     list-value (a .t) (a .s .now) (simp key) (simp key) (simp key) (c .before .before .put-list3 .ensures)
 
+same-length-7 : tie.Need-same-length-7
+same-length-7 c = search needs
+
 returns-7 : tie.Need-returns-7
-unfolding valueOf
+unfolding valueOf listBy
 returns-7 c =
+    let a = c .before .before .before .before .before .before .before .args in
+    let key = c .before .before .before .before .match .keys7 in
+    list-value (a .t) (a .s .now) (simp key) (simp key) (simp key) (c .before .before .put-list4 .ensures)
+
+returns-8 : tie.Need-returns-8
+unfolding valueOf
+returns-8 c =
     let r = c .before .match .rest in
-    no-value _ _ _ _ _ _ _ _ (c .not-put .ensures) (simp (ne-eqb _ _ (r .1), ne-eqb _ _ (r .0 .1), ne-eqb _ _ (r .0 .0 .1), ne-eqb _ _ (r .0 .0 .0 .1), ne-eqb _ _ (r .0 .0 .0 .0 .1), ne-eqb _ _ (r .0 .0 .0 .0 .0 .1)))
+    no-value _ _ _ _ _ _ _ _ (c .not-put .ensures) (simp (ne-eqb _ _ (r .1), ne-eqb _ _ (r .0 .1), ne-eqb _ _ (r .0 .0 .1), ne-eqb _ _ (r .0 .0 .0 .1), ne-eqb _ _ (r .0 .0 .0 .0 .1), ne-eqb _ _ (r .0 .0 .0 .0 .0 .1), ne-eqb _ _ (r .0 .0 .0 .0 .0 .0 .1)))
 
 pub put-value-spec : {M : Type 1} → statement M
 put-value-spec =
@@ -107,6 +120,7 @@ put-value-spec =
     put-list-requires
     put-list-requires-2
     put-list-requires-3
+    put-list-requires-4
     not-put-requires
     same-length
     returns
@@ -120,4 +134,6 @@ put-value-spec =
     returns-5
     same-length-6
     returns-6
-    returns-7)
+    same-length-7
+    returns-7
+    returns-8)

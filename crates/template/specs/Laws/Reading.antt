@@ -142,7 +142,7 @@ module _ (t : ℕ) (plain : isLetter t ≡ false) where
   plain-number = simp (other-letter 78 refl, other-letter 72 refl, other-letter 66 refl)
 
   plain-list : listLetter t ≡ 0
-  plain-list = simp (other-letter 76 refl, other-letter 81 refl, other-letter 67 refl)
+  plain-list = simp (other-letter 76 refl, other-letter 81 refl, other-letter 84 refl, other-letter 67 refl)
 
 -- A line was read from `from` to `at` by the first i bytes of a template: what is left to do from here gives the values that are left.
 pub record Reading (line template : List ℕ) (from numbers lists : ℕ) (before : List ℕ) (i at n l : ℕ) (fields : List ℕ) : Type 0 where

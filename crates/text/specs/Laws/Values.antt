@@ -11,7 +11,7 @@ use lib.Dec.{eqb, ltb}
 use lib.ListN.{length, getD, take, drop}
 use Rattle.text.specs.Bytes.{comma, space, until, extend, pieces, split}
 use Rattle.text.specs.Number.{whenever, proper, allDecimal, decimalFrom, numberOf, hexDigit, allHex, hexFrom, hexOf, bitOf}
-use Rattle.text.specs.List.{withFirst, piecesOf, listQ, isRising, onlyRising, isDash, listL, oneMember, listC}
+use Rattle.text.specs.List.{withFirst, piecesOf, listQ, listT, isRising, onlyRising, isDash, listL, oneMember, listC}
 use Rattle.text.specs.Template.{Value, number, list, aNumber, aList, isLetter, valueOf, andThen, sameByte, atEnd, valuesOf, numbersIn, listsIn, numberAt, listAt}
 use Rattle.text.specs.Written.{AllSmall, FitL, FitQ, FitC}
 
@@ -79,28 +79,30 @@ small-more : (n : ℕ) (l : List ℕ) → n < 2 ^ 64 → AllSmall l → AllSmall
 small-more n l h s zero = h
 small-more n l h s (suc i) = s i
 
-numbers-small : (ps : List (List ℕ)) (l : List ℕ) → piecesOf numberOf ps ≡ some l → AllSmall l
-unfolding piecesOf withFirst
-numbers-small [] [] e = λ i. omega arith
-numbers-small [] (n ∷ l) e = let z : _≡_ {A = ℕ} 0 1 = cc in absurd (omega arith)
-numbers-small (p ∷ ps) l e = go (numberOf p) (piecesOf numberOf ps) refl (numbers-small ps) e
-  where
-    go : (a : Option ℕ) (b : Option (List ℕ)) → numberOf p ≡ a → ((k : List ℕ) → b ≡ some k → AllSmall k) → withFirst a b ≡ some l → AllSmall l
-    go none b h ih e = absurd (none-some e)
-    go (some n) none h ih e = absurd (none-some e)
-    go (some n) (some k) h ih e = let same : n ∷ k ≡ l = cc in subst AllSmall same (small-more n k (number-small p n h) (ih k refl))
+-- the pieces of a list, by a reader of one
+module _ (one : List ℕ → Option ℕ) where
+  pieces-small : ((p : List ℕ) (n : ℕ) → one p ≡ some n → n < 2 ^ 64) → (ps : List (List ℕ)) (l : List ℕ) → piecesOf one ps ≡ some l → AllSmall l
+  unfolding piecesOf withFirst
+  pieces-small small [] [] e = λ i. omega arith
+  pieces-small small [] (n ∷ l) e = let z : _≡_ {A = ℕ} 0 1 = cc in absurd (omega arith)
+  pieces-small small (p ∷ ps) l e = go (one p) (piecesOf one ps) refl (pieces-small small ps) e
+    where
+      go : (a : Option ℕ) (b : Option (List ℕ)) → one p ≡ a → ((k : List ℕ) → b ≡ some k → AllSmall k) → withFirst a b ≡ some l → AllSmall l
+      go none b h ih e = absurd (none-some e)
+      go (some n) none h ih e = absurd (none-some e)
+      go (some n) (some k) h ih e = let same : n ∷ k ≡ l = cc in subst AllSmall same (small-more n k (small p n h) (ih k refl))
 
--- as many numbers as pieces
-numbers-length : (ps : List (List ℕ)) (l : List ℕ) → piecesOf numberOf ps ≡ some l → length l ≡ length ps
-unfolding piecesOf withFirst
-numbers-length [] [] e = refl
-numbers-length [] (n ∷ l) e = let z : _≡_ {A = ℕ} 0 1 = cc in absurd (omega arith)
-numbers-length (p ∷ ps) l e = go (numberOf p) (piecesOf numberOf ps) (numbers-length ps) e
-  where
-    go : (a : Option ℕ) (b : Option (List ℕ)) → ((k : List ℕ) → b ≡ some k → length k ≡ length ps) → withFirst a b ≡ some l → length l ≡ suc (length ps)
-    go none b ih e = absurd (none-some e)
-    go (some n) none ih e = absurd (none-some e)
-    go (some n) (some k) ih e = let same : n ∷ k ≡ l = cc in subst (λ (m : List ℕ). length m ≡ suc (length ps)) same (omega (arith, ih k refl))
+  -- as many members as pieces
+  pieces-length : (ps : List (List ℕ)) (l : List ℕ) → piecesOf one ps ≡ some l → length l ≡ length ps
+  unfolding piecesOf withFirst
+  pieces-length [] [] e = refl
+  pieces-length [] (n ∷ l) e = let z : _≡_ {A = ℕ} 0 1 = cc in absurd (omega arith)
+  pieces-length (p ∷ ps) l e = go (one p) (piecesOf one ps) (pieces-length ps) e
+    where
+      go : (a : Option ℕ) (b : Option (List ℕ)) → ((k : List ℕ) → b ≡ some k → length k ≡ length ps) → withFirst a b ≡ some l → length l ≡ suc (length ps)
+      go none b ih e = absurd (none-some e)
+      go (some n) none ih e = absurd (none-some e)
+      go (some n) (some k) ih e = let same : n ∷ k ≡ l = cc in subst (λ (m : List ℕ). length m ≡ suc (length ps)) same (omega (arith, ih k refl))
 
 split-some : (sep : ℕ) (v : List ℕ) → 0 < length (split sep v)
 unfolding pieces extend
@@ -112,10 +114,18 @@ split-some sep (b ∷ v) = go (eqb b sep) (split sep v) (split-some sep v)
     go false [] h = omega arith
     go false (p ∷ ps) h = omega arith
 
+-- a list of pieces is never empty
+pieces-fit : (one : List ℕ → Option ℕ) → ((p : List ℕ) (n : ℕ) → one p ≡ some n → n < 2 ^ 64) → (v l : List ℕ) → piecesOf one (split comma v) ≡ some l → FitQ l
+pieces-fit one small v l e =
+    record { filled = omega (arith, pieces-length one (split comma v) l e, split-some comma v); small = pieces-small one small (split comma v) l e }
+
 pub listQ-fits : (v l : List ℕ) → listQ v ≡ some l → FitQ l
 unfolding listQ
-listQ-fits v l e =
-    record { filled = omega (arith, numbers-length (split comma v) l e, split-some comma v); small = numbers-small (split comma v) l e }
+listQ-fits = pieces-fit numberOf number-small
+
+pub listT-fits : (v l : List ℕ) → listT v ≡ some l → FitQ l
+unfolding listT
+listT-fits = pieces-fit hexOf hex-small
 
 rising-fits : (o : Option (List ℕ)) (l : List ℕ) → ((k : List ℕ) → o ≡ some k → AllSmall k) → onlyRising o ≡ some l → FitL l
 unfolding onlyRising
@@ -151,9 +161,9 @@ listC-fits v l e = go (isDash v) (numberOf v) refl e
 unfoldable pub NumberFits : ℕ → ℕ → Type 0
 NumberFits t n = cond (eqb t 66) (n < 2) (n < 2 ^ 64)
 
--- what a list is known for by its letter: L, Q, C; nothing by any other
+-- what a list is known for by its letter: L, Q, T, C; nothing by any other
 unfoldable pub ListFits : ℕ → List ℕ → Type 0
-ListFits t l = cond (eqb t 76) (FitL l) (cond (eqb t 81) (FitQ l) (cond (eqb t 67) (FitC l) (Unit {0})))
+ListFits t l = cond (eqb t 76) (FitL l) (cond (eqb t 81) (FitQ l) (cond (eqb t 84) (FitQ l) (cond (eqb t 67) (FitC l) (Unit {0}))))
 
 -- the letters for numbers, and the letters for lists
 abbrev pub isNumberLetter : ℕ → Bool
@@ -199,7 +209,8 @@ value-fits t v d =
     (or-fits t 66 _ _ d (number-fits 66 (bitOf v) d refl (bit-small v))
     (or-fits t 76 _ _ d (list-fits 76 (listL v) d refl (listL-fits v))
     (or-fits t 81 _ _ d (list-fits 81 (listQ v) d refl (listQ-fits v))
-    (or-fits t 67 _ _ d (list-fits 67 (listC v) d refl (listC-fits v)) (λ e. absurd (none-some e)))))))
+    (or-fits t 84 _ _ d (list-fits 84 (listT v) d refl (listT-fits v))
+    (or-fits t 67 _ _ d (list-fits 67 (listC v) d refl (listC-fits v)) (λ e. absurd (none-some e))))))))
 
 -- ---- by the template
 

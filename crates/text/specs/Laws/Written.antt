@@ -5,14 +5,14 @@ use native.Mathlib.Omega.{arith}
 use mathlib.Core.Path.{_≡_, refl, sym, ap, _∙_}
 use mathlib.Core.Bool.{Bool, true, false, cond, not, _&&_, _||_, and-true, and-false, and-assoc, or-true}
 use mathlib.Core.List.{List, [], _∷_, _++_, append-nil}
-use mathlib.Core.Option.{some}
+use mathlib.Core.Option.{Option, some}
 use borrow.Author.Tests.{ltb-true, ltb-false, lt-ltb, le-ltb, le-leb, eqb-true, eqb-false, eq-eqb, ne-eqb, not-true}
 use lib.Dec.{eqb, ltb}
 use lib.ListN.{length, getD, take, drop, length-append, List·getD-append}
 use lib.Seq.{take-append-seam, drop-append-seam, drop-append-add}
 use Rattle.text.specs.Bytes.{LF, space, comma, until, extend, pieces, split, lines, unlines}
 use Rattle.text.specs.Number.{isDecimal, allDecimal, decimalFrom, proper, numberOf, hexDigit, allHex, hexFrom, hexOf, bitOf, decimalDigits, decimal, hexByte, hexDigits, hexadecimal}
-use Rattle.text.specs.List.{withFirst, piecesOf, listQ, onlyRising, isDash, listL, oneMember, listC, commas, listText}
+use Rattle.text.specs.List.{withFirst, piecesOf, listQ, listT, onlyRising, isDash, listL, oneMember, listC, commasBy, listTextBy, commas}
 use Rattle.text.specs.Template.{Value, aNumber, aList, isLetter, valueOf, andThen, sameByte, atEnd, valuesOf, valueText, firstText, lineText}
 use Rattle.text.specs.Written.{AllSmall, Suits, FirstSuits, AllSuit, atSpace, ofOneLine, Free, AllFree}
 use Rattle.text.specs.Laws.Values.{both}
@@ -44,29 +44,42 @@ decimal-least a h (suc f) n = go (ltb n 10) (decimal-least a h f (n / 10))
     go true ih = (omega arith, tt)
     go false ih = least-append a (decimalDigits f (n / 10)) ((48 + n % 10) ∷ []) ih (omega arith, tt)
 
-hex-least : (f n : ℕ) → AtLeast 44 (hexDigits f n)
+hex-least : (a : ℕ) → a ≤ 48 → (f n : ℕ) → AtLeast a (hexDigits f n)
 unfolding hexDigits
-hex-least zero n = tt
-hex-least (suc f) n = least-append 44 (hexDigits f (n / 16)) (hexByte (n % 16) ∷ []) (hex-least f (n / 16)) (go (ltb (n % 16) 10), tt)
+hex-least a h zero n = tt
+hex-least a h (suc f) n = least-append a (hexDigits f (n / 16)) (hexByte (n % 16) ∷ []) (hex-least a h f (n / 16)) (go (ltb (n % 16) 10), tt)
   where
-    go : (t : Bool) → 44 ≤ cond t (48 + n % 16) (87 + n % 16)
+    go : (t : Bool) → a ≤ cond t (48 + n % 16) (87 + n % 16)
     go true = omega arith
     go false = omega arith
 
-commas-least : (l : List ℕ) → AtLeast 44 (commas l)
-unfolding commas
-commas-least [] = tt
-commas-least (n ∷ l) = (omega arith, least-append 44 (decimal n) (commas l) (decimal-least 44 (omega arith) 20 n) (commas-least l))
+-- the text of a number, by either digits
+module _ (b : Bool) where
+  one-least : (a : ℕ) → a ≤ 48 → (n : ℕ) → AtLeast a (cond b hexadecimal decimal n)
+  one-least a h n = go b
+    where
+      go : (c : Bool) → AtLeast a (cond c hexadecimal decimal n)
+      go true = hex-least a h 16 n
+      go false = decimal-least a h 20 n
+
+  commas-least : (l : List ℕ) → AtLeast 44 (commasBy (cond b hexadecimal decimal) l)
+  unfolding commasBy
+  commas-least [] = tt
+  commas-least (n ∷ l) = (omega arith, least-append 44 (cond b hexadecimal decimal n) (commasBy (cond b hexadecimal decimal) l) (one-least 44 (omega arith) n) (commas-least l))
+
+  list-least : (l : List ℕ) → AtLeast 44 (listTextBy (cond b hexadecimal decimal) l)
+  unfolding listTextBy
+  list-least [] = (omega arith, tt)
+  list-least (n ∷ l) = least-append 44 (cond b hexadecimal decimal n) (commasBy (cond b hexadecimal decimal) l) (one-least 44 (omega arith) n) (commas-least l)
 
 value-least : (t : ℕ) (d : Value) → AtLeast 44 (valueText t d)
-unfolding valueText listText
+unfolding valueText
 value-least t (Value.number n) = go (eqb t 72)
   where
     go : (b : Bool) → AtLeast 44 (cond b (hexadecimal n) (decimal n))
-    go true = hex-least 16 n
+    go true = hex-least 44 (omega arith) 16 n
     go false = decimal-least 44 (omega arith) 20 n
-value-least t (Value.list []) = (omega arith, tt)
-value-least t (Value.list (n ∷ l)) = least-append 44 (decimal n) (commas l) (decimal-least 44 (omega arith) 20 n) (commas-least l)
+value-least t (Value.list l) = list-least (eqb t 84) l
 
 -- ---- numbers
 
@@ -212,11 +225,22 @@ piece-append last sep p l e =
 decimal-free : (n : ℕ) → Free comma (decimal n)
 decimal-free n = least-free 48 44 (decimal n) (omega arith) (decimal-least 48 (omega arith) 20 n)
 
+hex-free : (n : ℕ) → Free comma (hexadecimal n)
+hex-free n = least-free 48 44 (hexadecimal n) (omega arith) (hex-least 48 (omega arith) 16 n)
+
+-- a list, by the text and the reader of one member
+module _ (text : ℕ → List ℕ) (one : List ℕ → Option ℕ) (free : (n : ℕ) → Free comma (text n)) (read : (n : ℕ) → n < 2 ^ 64 → one (text n) ≡ some n) where
+  pieces-read : (n : ℕ) (l : List ℕ) → AllSmall (n ∷ l) → piecesOf one (split comma (text n ++ commasBy text l)) ≡ some (n ∷ l)
+  unfolding commasBy piecesOf withFirst
+  pieces-read n [] s = rw (append-nil (text n), only-piece 44 (text n) (free n), read n (s 0))
+  pieces-read n (m ∷ l) s =
+      rw (piece-append ([] ∷ []) 44 (text n) (text m ++ commasBy text l) (free n), read n (s 0), pieces-read m l (λ i. s (suc i)))
+
 list-read : (n : ℕ) (l : List ℕ) → AllSmall (n ∷ l) → piecesOf numberOf (split comma (decimal n ++ commas l)) ≡ some (n ∷ l)
-unfolding commas piecesOf withFirst
-list-read n [] s = rw (append-nil (decimal n), only-piece 44 (decimal n) (decimal-free n), number-read n (s 0))
-list-read n (m ∷ l) s =
-    rw (piece-append ([] ∷ []) 44 (decimal n) (decimal m ++ commas l) (decimal-free n), number-read n (s 0), list-read m l (λ i. s (suc i)))
+list-read = pieces-read decimal numberOf decimal-free number-read
+
+words-read : (n : ℕ) (l : List ℕ) → AllSmall (n ∷ l) → piecesOf hexOf (split comma (hexadecimal n ++ commasBy hexadecimal l)) ≡ some (n ∷ l)
+words-read = pieces-read hexadecimal hexOf hex-free hex-read
 
 -- a list that is not empty begins with a digit
 not-dash : (n : ℕ) (l : List ℕ) → n < 2 ^ 64 → isDash (decimal n ++ l) ≡ false
@@ -233,7 +257,7 @@ not-dash n l h =
 -- ---- values
 
 value-read : (t : ℕ) (d : Value) → Suits t d → valueOf t (valueText t d) ≡ some d
-unfolding valueOf valueText aNumber aList listText listL listQ listC onlyRising oneMember
+unfolding valueOf valueText aNumber aList listTextBy listL listQ listT listC onlyRising oneMember
 value-read t d (Suits.N h) = rw (number-read _ h)
 value-read t d (Suits.H h) = rw (hex-read _ h)
 value-read t d (Suits.B h) = rw (bit-read _ h)
@@ -241,8 +265,10 @@ value-read t d (Suits.L {l = []} f) = refl
 value-read t d (Suits.L {l = n ∷ l} f) = rw (not-dash n (commas l) (f .small 0), list-read n l (f .small), f .rising)
 value-read t d (Suits.Q {l = []} f) = absurd (omega (arith, f .filled))
 value-read t d (Suits.Q {l = n ∷ l} f) = rw (list-read n l (f .small))
+value-read t d (Suits.T {l = []} f) = absurd (omega (arith, f .filled))
+value-read t d (Suits.T {l = n ∷ l} f) = rw (words-read n l (f .small))
 value-read t d (Suits.C {l = []} f) = refl
-value-read t d (Suits.C {l = n ∷ []} f) = unfold commas in rw (not-dash n [] (f .small 0), append-nil (decimal n), number-read n (f .small 0))
+value-read t d (Suits.C {l = n ∷ []} f) = unfold commasBy in rw (not-dash n [] (f .small 0), append-nil (decimal n), number-read n (f .small 0))
 value-read t d (Suits.C {l = n ∷ m ∷ l} f) = absurd (omega (arith, f .single))
 
 -- ---- lines by a template

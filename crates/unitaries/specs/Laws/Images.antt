@@ -2,20 +2,24 @@
 use mathlib.Core.Path.{_≡_, refl, sym, ap, _∙_, fun-ext}
 use mathlib.Core.Bool.{Bool, true, false, _&&_}
 use mathlib.Core.List.{List, [], _∷_}
-use Prim.Native.Nat.{ℕ, suc, _+_, _*_, _/_, _<_, _≤_}
+use Prim.Native.Nat.{ℕ, suc, _+_, _*_, _/_, _%_, _^_, _<_, _≤_}
 use native.Mathlib.Omega.{arith}
-use native.Mathlib.Nat.{zero-add, add-zero, mul-le-mul, mul-le-mul-left, mul-le-mul-right}
+use native.Mathlib.Nat.{zero-add, add-zero, mul-le-mul-right}
 use native.Mathlib.Numerals.{add-one}
+use lib.Dec.{eqb}
 use lib.ListN.{length, getD, drop, drop-of-length-le}
 use lib.Seq.{drop-cons}
 use Rattle.pauli.specs.Bits.{Bits, none, only, given, outside, _∩_, _△_, bit}
 use Rattle.pauli.specs.Pauli.{Pauli, identity, X-at, Z-at, _∗_, when, cleared}
+use Rattle.pauli.specs.Laws.Word.{bit-is}
 use Rattle.pauli.specs.Laws.Parity.{bitwise, added-is}
 use Rattle.pauli.specs.Laws.Gates.{pauli-path}
 use Rattle.pauli.specs.Laws.Group.{∗-assoc, ∗-identity}
 use Rattle.job.specs.Line.{Line}
 use Rattle.job.specs.Checks.{allBelow, isPermutation}
 use Rattle.job.specs.Clifford.{rowOver}
+use Rattle.tables.specs.Rows.{rowWord}
+use Rattle.tables.specs.Laws.Rows.{row-bit}
 use Rattle.frames.specs.Forward.{placed, tableRow, imagesFrom, imagesOf, placesOf, imageSum, transformed, onFrame, forward}
 use Rattle.frames.specs.Laws.Permutation.{test-permutes}
 use Rattle.rows.specs.Overwrite.{xored, cleared as clearedWords}
@@ -29,13 +33,6 @@ use Rattle.propagator.specs.Laws.Lists.{rows-in}
 use Rattle.propagator.specs.Laws.Acts.{acts-frame}
 
 -- ---- room
-
--- bit 2k × r + c lies among the 4k² of the table
-pub table-place : (k r c : ℕ) → r < 2 * k → c < 2 * k → 2 * k * r + c < 4 * (k * k)
-table-place k r c h l = omega (arith, mul-le-mul-left {m = suc r} {n = 2 * k} (2 * k) h)
-
-pub table-small : (k r c : ℕ) → k ≤ 4 → r < 2 * k → c < 2 * k → 2 * k * r + c < 64
-table-small k r c few h l = omega (arith, table-place k r c h l, mul-le-mul few few)
 
 -- the rows of a buffer
 pub row-below : (w k i : ℕ) {l : ℕ} → k * w ≤ l → i < k → i * w + w ≤ l
@@ -54,6 +51,10 @@ pub row-left : (w : ℕ) (on : Bool) (q i : ℕ) (src l : List ℕ) → on ≡ f
 row-left w on q i src l unset = record { shots = λ s h. rw unset (sym (added-is (column w l s) q false ∙ fun-ext (λ r. simp bitwise))) }
 
 -- ---- a row of the table
+
+-- a bit of the row's word is a bit of the table
+pub row-part : (k t r j : ℕ) {row : ℕ} → row ≡ rowWord k t r → j < 2 * k → eqb (row / 2 ^ j % 2) 1 ≡ bit t (2 * k * r + j)
+row-part k t r j {row} e h = sym (bit-is row j) ∙ ap (λ (w : ℕ). bit w j) e ∙ row-bit k t r j h
 
 -- What is left to add, from operand j on, comes to the whole: b is the shot's bit of the row under which it is added.
 pub record RowLeft (w : ℕ) (row : Bits) (qs : List ℕ) (i : ℕ) (src l₀ : List ℕ) (j : ℕ) (l : List ℕ) : Type 0 where

@@ -1,10 +1,12 @@
 -- A line put by its template, value by value. Laws. Assumes nothing.
 use mathlib.Core.Path.{_≡_, refl, sym, ap, _∙_}
-use mathlib.Core.Bool.{true, false, cond}
+use mathlib.Core.Bool.{true, false, cond, true≢false}
 use mathlib.Core.List.{List, [], _∷_, _++_}
 use Prim.Native.Nat.{ℕ, _+_, _-_, _*_, _≤_, _<_}
 use native.Mathlib.Nat.{add-zero, add-sub-cancel-left}
 use native.Mathlib.Omega.{arith}
+use borrow.Author.Tests.{ne-eqb}
+use lib.Dec.{eqb}
 use lib.ListN.{length, getD, take, drop, length-append, drop-of-length-le}
 use lib.Seq.{getD-drop, drop-drop}
 use Rattle.text.specs.List.{listText}
@@ -15,6 +17,11 @@ use Rattle.writer.specs.Line.{isList, valuesIn, numbersFor, listsFor, Le
 use Rattle.writer.specs.Laws.Placing.{Rest, rest-all, rest-more, rest-none}
 
 -- ---- the first byte of a template
+
+-- a list of numbers is no T
+no-words : (t : ℕ) → isList t ≡ true → eqb t 84 ≡ false
+unfolding isList
+no-words t f = ne-eqb t 84 (λ q. true≢false (sym f ∙ ap isList q))
 
 module _ (t : ℕ) (ts numbers counts members : List ℕ) where
   -- the text of the values that the words hold
@@ -28,7 +35,7 @@ module _ (t : ℕ) (ts numbers counts members : List ℕ) where
   list-first : isLetter t ≡ true → isList t ≡ true
       → whole ≡ listText (take (getD counts 0 0) members) ++ lineText ts (valuesIn ts numbers (drop 1 counts) (drop 31 members))
   unfolding lineText valuesIn firstText valueText
-  list-first e f = rw (e, f)
+  list-first e f = rw (e, f, no-words t f)
 
   number-first : isLetter t ≡ true → isList t ≡ false
       → whole ≡ valueText t (Value.number (getD numbers 0 0)) ++ lineText ts (valuesIn ts (drop 1 numbers) counts members)

@@ -9,7 +9,7 @@ use lib.ListN.{length, getD, take, drop, length-append, length-take}
 use lib.Seq.{getD-drop, take-length}
 use Rattle.text.specs.Bytes.{LF, bytes}
 use Rattle.text.specs.Number.{decimalDigits, decimal, hexadecimal}
-use Rattle.text.specs.List.{listText}
+use Rattle.text.specs.List.{listTextBy, listText}
 use Rattle.text.specs.Template.{Value, isLetter, valueText, firstText, lineText}
 use Rattle.job.specs.Line.{Distribution, sizeOf}
 use Rattle.job.specs.Grammar.{injectTemplate}
@@ -38,7 +38,11 @@ allLonger (d ∷ ds) = longer d + allLonger ds
 
 value-length : (t : ℕ) (d : Value) → length (valueText t d) ≤ 1 + longer d
 value-length t (Value.number n) = number-length t n
-value-length t (Value.list l) = unfold valueText in omega (arith, list-length l)
+value-length t (Value.list l) = unfold valueText in omega (arith, list-length (cond (eqb t 84) hexadecimal decimal) (one-length (eqb t 84)) l)
+  where
+    one-length : (b : Bool) (n : ℕ) → length (cond b hexadecimal decimal n) ≤ 20
+    one-length true n = omega (arith, hex-length n)
+    one-length false n = decimal-length n
 
 pub line-length : (ts : List ℕ) (ds : List Value) → length (lineText ts ds) ≤ length ts + allLonger ds
 unfolding lineText firstText
@@ -146,7 +150,7 @@ depolarizingEnd qubits = lineText (bytes " q=Q size=N") (Value.list qubits ∷ V
 
 -- the line is its start and its end
 pub depolarizing-line : (p : ℕ) (qubits : List ℕ) → (depolarizingStart p ++ depolarizingEnd qubits) ++ LF ∷ [] ≡ depolarizingText p qubits ++ LF ∷ []
-unfolding bytes lineText firstText valueText decimalDigits listText depolarizingStart
+unfolding bytes lineText firstText valueText decimalDigits listTextBy depolarizingStart
 depolarizing-line p qubits = ap (λ (r : List ℕ). (bytes "op=n p=" ++ r) ++ LF ∷ []) (append-assoc (hexadecimal p) (bytes " corr=- cond=- parity=0 d=2") (depolarizingEnd qubits))
 
 -- how far it goes when it was put

@@ -10,7 +10,7 @@ use lib.ListN.{length, getD, take, drop, length-append, length-drop, drop-of-len
 use lib.Seq.{take-suc, take-all, length-take-le}
 use Rattle.text.specs.Bytes.{comma}
 use Rattle.text.specs.Number.{decimalDigits, decimal, hexByte, hexDigits, hexadecimal}
-use Rattle.text.specs.List.{commas, listText}
+use Rattle.text.specs.List.{commasBy, listTextBy, commas, listText}
 use Rattle.writer.specs.Placed.{Puts}
 use Rattle.text.specs.Laws.Pieces.{step}
 use Rattle.writer.specs.Laws.Placing.{Rest, rest-all, rest-more, rest-none}
@@ -37,21 +37,23 @@ hexes-length (suc f) n = omega (arith, length-append (hexDigits f (n / 16)) (hex
 pub hex-length : (n : ℕ) → length (hexadecimal n) ≡ 16
 hex-length n = hexes-length 16 n
 
-commas-length : (l : List ℕ) → length (commas l) ≤ 21 * length l
-unfolding commas
-commas-length [] = omega arith
-commas-length (n ∷ l) = omega (arith, length-append (decimal n) (commas l), decimal-length n, commas-length l)
+-- a list whose members take at most 20 bytes each
+module _ (one : ℕ → List ℕ) (short : (n : ℕ) → length (one n) ≤ 20) where
+  commas-length : (l : List ℕ) → length (commasBy one l) ≤ 21 * length l
+  unfolding commasBy
+  commas-length [] = omega arith
+  commas-length (n ∷ l) = omega (arith, length-append (one n) (commasBy one l), short n, commas-length l)
 
-pub list-length : (l : List ℕ) → length (listText l) ≤ 21 * length l + 1
-unfolding listText
-list-length [] = omega arith
-list-length (n ∷ l) = omega (arith, length-append (decimal n) (commas l), decimal-length n, commas-length l)
+  pub list-length : (l : List ℕ) → length (listTextBy one l) ≤ 21 * length l + 1
+  unfolding listTextBy
+  list-length [] = omega arith
+  list-length (n ∷ l) = omega (arith, length-append (one n) (commasBy one l), short n, commas-length l)
 
 -- ---- member by member
 
 -- of the members, each after a comma, those from i on are left
 commas-left : (l : List ℕ) (i : ℕ) → i < length l → commas (drop i l) ≡ (comma ∷ []) ++ (decimal (getD l i 0) ++ commas (drop (i + 1) l))
-unfolding commas
+unfolding commasBy
 commas-left l i h = rw (step l i h) refl
 
 -- the first i members are put
@@ -74,12 +76,12 @@ module _ {at : ℕ} {l out : List ℕ} {i : ℕ} {after : List ℕ} {next : ℕ}
   listed-more h p q = record { within = omega arith; rest = rest-more (rest-more (rw (commas-left l i h) at (s .rest)) p) q }
 
   pub listed-all : length l ≤ i → Puts at (commas l) out after next
-  unfolding commas
+  unfolding commasBy
   listed-all h = rest-none (rw (drop-of-length-le l h) at (s .rest))
 
 -- the first member, and the others after commas
 pub list-first : (l : List ℕ) → (length l ≡ 0 → ⊥) → decimal (getD l 0 0) ++ commas (take (length l - 1) (drop 1 l)) ≡ listText l
-unfolding listText
+unfolding listTextBy
 list-first [] h = absurd (h refl)
 list-first (n ∷ l) h = rw (take-all (suc (length l) - 1) l (omega arith))
 
@@ -88,6 +90,6 @@ pub first-length : (l : List ℕ) → (length l ≡ 0 → ⊥)
 first-length l h = sym (length-append (decimal (getD l 0 0)) (commas (take (length l - 1) (drop 1 l)))) ∙ ap length (list-first l h)
 
 pub list-empty : (l : List ℕ) → length l ≡ 0 → listText l ≡ 45 ∷ []
-unfolding listText
+unfolding listTextBy
 list-empty [] h = refl
 list-empty (n ∷ l) h = absurd (omega arith)

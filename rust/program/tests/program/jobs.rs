@@ -55,7 +55,7 @@ fn examples_pass_the_checks() {
         let whole = if example.starts_with("op=job") { example.clone() } else { format!("{BEGINNING}{example}") };
         assert_eq!(kundatrezo(["check", "-"], whole.as_bytes()).status, 0, "{example}");
     }
-    for file in ["examples/bell.job", "examples/syndrome.job"] {
+    for file in ["examples/bell.job", "examples/syndrome.job", "examples/five_qubit_code.job"] {
         assert!(examples.contains(&document(file)), "{file}");
     }
 }

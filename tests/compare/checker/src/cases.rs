@@ -19,6 +19,8 @@ pub fn cases() -> Vec<Case> {
     cases.first_and_later_headers();
     cases.largest_headers();
     cases.lines_by_number();
+    cases.words_of_tables();
+    cases.wide_tables();
     cases.noise_lines();
     cases.sizes();
     cases.element_lines();
@@ -181,9 +183,9 @@ impl Cases {
             ("op=c q=0,1,2,3 t=8040201008040201".into(), 0),
             // Of all pairs of images the last alone does not commute as its generators do.
             ("op=c q=0,1,2,3 t=8440201008040201".into(), 7),
-            ("op=c q=0,1,2,3,4 t=0000000000000000".into(), 5),
+            ("op=c q=0,1,2,3,4 t=0000000000000000".into(), 2),
             ("op=c q=0,0 t=0000000000000000".into(), 5),
-            ("op=c q=0,1,2,3,40 t=0000000000000000".into(), 4),
+            ("op=c q=0,1,2,40 t=0000000000000000".into(), 4),
             ("op=m s=1,2,0 q=7,9,8".into(), 0),
             ("op=m s=1,2 q=7,9,8".into(), 6),
             ("op=m s=1,1,0 q=7,9,8".into(), 6),
@@ -224,6 +226,84 @@ impl Cases {
         // The first bad line counts, whatever its number.
         self.lines("op=k x=0 z=- u=- v=0\nop=z q=40", 20, 4);
         self.lines("op=z q=40\nop=k x=0 z=- u=- v=0", 4, 4);
+    }
+
+    /// As many words as 4k² bits need, for k from 1 to 8, or else 2; k above 8 is 5, whatever their number.
+    fn words_of_tables(&mut self) {
+        for (qubits, words) in [(1, 1), (2, 1), (3, 1), (4, 1), (5, 2), (6, 3), (7, 4), (8, 4)] {
+            let q = numbers(0..qubits);
+            // A table of zeros is no Clifford.
+            self.line(&clifford(&q, &zeros(words)), 7);
+            self.line(&clifford(&q, &zeros(words - 1)), 2);
+            self.line(&clifford(&q, &zeros(words + 1)), 2);
+        }
+        self.line(&clifford(&numbers(0..8), &zeros(32)), 2);
+        for (qubits, words) in [(9, 1), (9, 4), (9, 5), (9, 6), (9, 31), (9, 32), (31, 1), (31, 61), (32, 1), (32, 64)]
+        {
+            self.line(&clifford(&numbers(0..qubits), &zeros(words)), 5);
+        }
+        // k counts repeats and qubits out of range; 2 comes before 4, and 4 before 5.
+        let table: [(&str, &str, u64); 14] = [
+            ("0,1,2,3,0", &zeros(1), 2),
+            ("0,1,2,3,0", &zeros(2), 5),
+            ("0,1,2,3,40", &zeros(1), 2),
+            ("0,1,2,3,40", &zeros(2), 4),
+            ("40,40,40,40,40", &zeros(1), 2),
+            ("40,40,40,40,40", &zeros(2), 4),
+            ("0,1,2,3,4,5,6,7,7", &zeros(4), 5),
+            ("0,1,2,3,4,5,6,7,40", &zeros(4), 4),
+            ("0,1,2,3,4,5,6,40", &zeros(5), 2),
+            // Each word has its form, also where there are too many qubits.
+            ("0,1,2,3,4,5,6,7,8", "0000000000000000,000000000000000A", 2),
+            ("0,1,2,3,4,5,6,7,8", "0000000000000000,0", 2),
+            ("0,1,2,3,4,5,6,7,40", "", 2),
+            ("0,1,2,3,4,5,6,7,40", "-", 2),
+            ("0,1,2,3,4,5,6,7,8", "0000000000000000,", 2),
+        ];
+        for (qubits, words, number) in table {
+            self.line(&clifford(qubits, words), number);
+        }
+        for words in ["", "-", "0000000000000000,", ",0000000000000000", "0000000000000000,,0000000000000000"] {
+            self.line(&clifford("0,1,2,3,4", words), 2);
+        }
+        for between in [", ", " ", ";"] {
+            self.line(&clifford("0,1,2,3,4", &["0080100200400801", "0000000801002004"].join(between)), 2);
+        }
+    }
+
+    /// Tables of five qubits and more: the identity's, one of whose pairs of images the last alone does not commute as its generators do, one with a
+    /// bit past the table, and one with a row that begins in one word and ends in the next.
+    fn wide_tables(&mut self) {
+        let table: [(u64, &str, u64); 19] = [
+            (5, "0080100200400801,0000000801002004", 0),
+            (5, "0080100200400801,0000000821002004", 7),
+            (5, "0080100200400801,0000001801002004", 7),
+            (5, "0080100200400801,8000000801002004", 7),
+            // SqrtX on the second qubit: the image of Z has its X part in the first word, its Z part in the second.
+            (5, "2080100200400801,0000000801002004", 0),
+            (5, "2080100200400801,0000000801002000", 7),
+            (5, "0000000801002004,0080100200400801", 7),
+            (6, "0010008004002001,0020010008004002,0000000000008004", 0),
+            (6, "0010008004002001,0020010008004002,0000000000008104", 7),
+            (6, "0010008004002001,0020010008004002,0000000000018004", 7),
+            // ControlledX from the sixth qubit to the first: the image of X has one part in each word.
+            (6, "1010008004002001,0020010008084002,0000000000008004", 0),
+            (6, "1010008004002001,0020010008004002,0000000000008004", 7),
+            (7, "1000200040008001,0100020004000800,0010002000400080,0000000000000008", 0),
+            (7, "1000200040008001,0100020004000800,0810002000400080,0000000000000008", 7),
+            (7, "1000200040008001,0100020004000800,0010002000400080,0000000000000018", 7),
+            // ControlledX from the fifth qubit to the first, as before.
+            (7, "1100200040008001,0100220004000800,0010002000400080,0000000000000008", 0),
+            (7, "0100200040008001,0100220004000800,0010002000400080,0000000000000008", 7),
+            (8, "0008000400020001,0080004000200010,0800040002000100,8000400020001000", 0),
+            (8, "0008000400020001,0080004000200010,0800040002000100,8040400020001000", 7),
+        ];
+        for (qubits, words, number) in table {
+            self.line(&clifford(&numbers(0..qubits), words), number);
+        }
+        // Of five qubits and eight, the least significant word alone is wrong.
+        self.line(&clifford(&numbers(7..15), "0008000400020000,0080004000200010,0800040002000100,8000400020001000"), 7);
+        self.line(&clifford(&numbers(0..5), "0080100200400800,0000000801002004"), 7);
     }
 
     fn noise_lines(&mut self) {
@@ -403,6 +483,16 @@ impl Cases {
 }
 
 const ONE: &str = "3ff0000000000000";
+
+/// A Clifford line.
+fn clifford(qubits: &str, words: &str) -> String {
+    format!("op=c q={qubits} t={words}")
+}
+
+/// So many words of zeros.
+fn zeros(words: usize) -> String {
+    vec!["0000000000000000"; words].join(",")
+}
 
 /// A noise line whose n element lines follow.
 fn noise(d: u8, n: usize) -> String {

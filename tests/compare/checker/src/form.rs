@@ -1,6 +1,6 @@
 //! The form of a line: test 2, for a line by itself.
 
-use crate::job::{Distribution, Header, Instruction, List, MAX_GATE, Noise, Pauli};
+use crate::job::{Distribution, Header, Instruction, List, MAX_CLIFFORD_QUBITS, MAX_GATE, Noise, Pauli, table_words};
 
 /// What a line says that is no element line. A noise line of d=3 or d=4 has its n, and an empty list for the elements that follow.
 pub(crate) enum Written {
@@ -54,7 +54,7 @@ impl Fields<'_> {
                 gate: self.number(b" g=").filter(|&gate| gate <= MAX_GATE)?,
                 qubits: self.list(b" q=")?,
             },
-            b"op=c" => Instruction::Clifford { qubits: self.list(b" q=")?, table: self.word(b" t=")? },
+            b"op=c" => self.clifford()?,
             b"op=p" => Instruction::Pauli(self.pauli(b" x=", b" z=")?),
             b"op=e" => Instruction::Exponential(self.pauli(b" x=", b" z=")?),
             b"op=k" => Instruction::Controlled {
@@ -75,6 +75,14 @@ impl Fields<'_> {
             _ => return None,
         };
         self.end(instruction)
+    }
+
+    /// A Clifford: as many words as its table needs. Where it has too many qubits, which is 5, their number is free.
+    fn clifford(&mut self) -> Option<Instruction> {
+        let qubits = self.list(b" q=")?;
+        let table = self.words(b" t=")?;
+        let fits = qubits.len() > MAX_CLIFFORD_QUBITS || table.len() == table_words(qubits.len());
+        fits.then_some(Instruction::Clifford { qubits, table })
     }
 
     fn noise(mut self) -> Option<(Box<Noise>, Option<u64>)> {
@@ -131,9 +139,13 @@ impl Fields<'_> {
         if self.skip(b'-') { Some(None) } else { self.digits().map(Some) }
     }
 
-    /// 16 lower-case hexadecimal digits.
     fn word(&mut self, key: &[u8]) -> Option<u64> {
         self.literal(key)?;
+        self.hexadecimal()
+    }
+
+    /// 16 lower-case hexadecimal digits.
+    fn hexadecimal(&mut self) -> Option<u64> {
         let (digits, rest) = self.0.split_at_checked(16)?;
         self.0 = rest;
         digits.iter().try_fold(0, |word, &digit| {
@@ -157,11 +169,21 @@ impl Fields<'_> {
 
     /// Q, and s: numbers in any order, never empty.
     fn list(&mut self, key: &[u8]) -> Option<List> {
+        self.pieces(key, Self::digits)
+    }
+
+    /// A table's words, never none.
+    fn words(&mut self, key: &[u8]) -> Option<List> {
+        self.pieces(key, Self::hexadecimal)
+    }
+
+    /// A value that `read` reads, and more of them behind commas.
+    fn pieces(&mut self, key: &[u8], read: fn(&mut Self) -> Option<u64>) -> Option<List> {
         self.literal(key)?;
         let mut list = List::new();
-        list.push(self.digits()?);
+        list.push(read(self)?);
         while self.skip(b',') {
-            list.push(self.digits()?);
+            list.push(read(self)?);
         }
         Some(list)
     }

@@ -15,7 +15,7 @@ pub const MAX_SHOTS: u64 = 4_096;
 /// Most entries of a list on a line.
 pub const MAX_LIST: usize = 31;
 /// Most qubits of a Clifford line.
-pub const MAX_CLIFFORD_QUBITS: usize = 4;
+pub const MAX_CLIFFORD_QUBITS: usize = 8;
 /// Most element lines of a noise line.
 pub const MAX_ELEMENTS: u64 = 64;
 /// The highest gate code, PrepareBell.
@@ -120,12 +120,13 @@ impl Pauli {
     }
 }
 
-/// A line other than the header; a noise line with its element lines. What is large is boxed, so that the rest moves quickly.
+/// A line other than the header; a noise line with its element lines. A Clifford's table is its words, the least significant first. What is large is boxed,
+/// so that the rest moves quickly.
 #[derive(Debug, Clone, PartialEq)]
 #[allow(missing_docs)]
 pub enum Instruction {
     Unitary { gate: u64, qubits: List },
-    Clifford { qubits: List, table: u64 },
+    Clifford { qubits: List, table: List },
     Pauli(Pauli),
     Exponential(Pauli),
     Controlled { control: Pauli, target: Box<Pauli> },
@@ -195,11 +196,30 @@ impl Distribution {
     }
 }
 
-/// A Clifford table's row as bits: X parts of the places from bit 0 on, then Z parts.
+/// A Clifford table's row as bits: X parts of the places from bit 0 on, then Z parts. A row may begin in one word and end in the next.
 #[must_use]
-pub fn table_row(table: u64, qubits: usize, row: usize) -> u64 {
+pub fn table_row(table: &[u64], qubits: usize, row: usize) -> u64 {
     let width = 2 * qubits;
-    table >> (width * row) & ((1 << width) - 1)
+    let (word, place) = (width * row / 64, width * row % 64);
+    let ahead = if place + width > 64 { table[word + 1] << (64 - place) } else { 0 };
+    (table[word] >> place | ahead) & ((1 << width) - 1)
+}
+
+/// How many words hold the 4k² bits of a Clifford table on k qubits.
+#[must_use]
+pub fn table_words(qubits: usize) -> usize {
+    (4 * qubits * qubits).div_ceil(64)
+}
+
+/// The words of a table with these rows.
+#[must_use]
+pub fn table_of_rows(rows: &[u64]) -> List {
+    let width = rows.len();
+    let mut words = vec![0; table_words(width / 2)];
+    for bit in (0..width * width).filter(|bit| rows[bit / width] >> (bit % width) & 1 == 1) {
+        words[bit / 64] |= 1 << (bit % 64);
+    }
+    words.into_iter().collect()
 }
 
 /// An instruction and where it stands.

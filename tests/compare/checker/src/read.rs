@@ -186,7 +186,7 @@ impl<'a> Reader<'a> {
             }
             Instruction::Clifford { qubits, table } => self
                 .test_operands(qubits, qubits.len() <= MAX_CLIFFORD_QUBITS)
-                .or_else(|| (!is_clifford(*table, qubits.len())).then_some(7)),
+                .or_else(|| (!is_clifford(table, qubits.len())).then_some(7)),
             Instruction::Pauli(pauli) | Instruction::Exponential(pauli) => self.test_pauli(pauli),
             Instruction::Controlled { control, target } => self
                 .test_lists(&[&control.x, &control.z, &target.x, &target.z])
@@ -267,9 +267,9 @@ fn is_permutation(places: &[u64], count: usize) -> bool {
 }
 
 /// 7: no bit beyond the table, and images that commute as the generators do.
-fn is_clifford(table: u64, qubits: usize) -> bool {
-    let size = 4 * qubits * qubits;
-    if size < 64 && table >> size != 0 {
+fn is_clifford(table: &[u64], qubits: usize) -> bool {
+    let used = 4 * qubits * qubits % 64;
+    if used > 0 && table[table.len() - 1] >> used != 0 {
         return false;
     }
     let generators = 2 * qubits;

@@ -15,7 +15,7 @@ pub fn header(header: &Header) -> String {
 pub fn instruction(instruction: &Instruction) -> String {
     match instruction {
         Instruction::Unitary { gate, qubits } => format!("op=u g={gate} q={}\n", list(qubits)),
-        Instruction::Clifford { qubits, table } => format!("op=c q={} t={table:016x}\n", list(qubits)),
+        Instruction::Clifford { qubits, table } => format!("op=c q={} t={}\n", list(qubits), words(table)),
         Instruction::Pauli(pauli) => format!("op=p {}\n", parts(pauli)),
         Instruction::Exponential(pauli) => format!("op=e {}\n", parts(pauli)),
         Instruction::Controlled { control, target } => {
@@ -82,4 +82,9 @@ fn list(entries: &[u64]) -> String {
         _ = write!(text, "{comma}{entry}");
     }
     text
+}
+
+/// A table's words, the least significant first.
+fn words(table: &[u64]) -> String {
+    table.iter().map(|word| format!("{word:016x}")).collect::<Vec<_>>().join(",")
 }

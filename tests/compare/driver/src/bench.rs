@@ -32,7 +32,8 @@ const LEAST_ROUNDS: usize = 7;
 
 /// Measure the loads of a part, or of all; whether there is such a part.
 pub fn run(part: &str) -> bool {
-    let parts: [(&str, fn()); 4] = [("checks", checks), ("runs", runs), ("around", around), ("turns", turns)];
+    let parts: [(&str, fn()); 5] =
+        [("checks", checks), ("runs", runs), ("tables", tables), ("around", around), ("turns", turns)];
     let chosen: Vec<_> = parts.iter().filter(|(name, _)| part == "all" || part == *name).collect();
     let columns = ["published", "with reading", "engine", "/published", "/reading", "ns a byte"]
         .map(|name| format!("{name:>12}"));
@@ -134,6 +135,23 @@ fn runs() {
     let long = loads::measured(loads::cut(loads::gates(header, 80_000), 1_000_000 - 256 * 22));
     check("check, 1,000,000 bytes of gate lines", &long.bytes());
     measure_walk("walk, 1,000,000 bytes of gate lines", &long);
+}
+
+// ---- Clifford tables
+
+/// The check, a run and a walk of lines of tables, on four qubits and on more.
+fn tables() {
+    let lines = 200;
+    for qubits in [4, 5, 6, 7, 8] {
+        let size = format!("{lines} tables on {qubits} qubits");
+        check(&format!("check, {size}"), &loads::cliffords(loads::header(256, 64), lines, qubits).bytes());
+        for shots in [64, 4096] {
+            let made = loads::cliffords(loads::header(256, shots), lines, qubits);
+            measure_run(&format!("run, {size}, {shots} shots"), &made);
+        }
+        let made = loads::cliffords(loads::header(256, 64), lines, qubits);
+        measure_walk(&format!("walk, {size}"), &loads::measured(made));
+    }
 }
 
 /// A job with draws that suffice, and noiseless bits.

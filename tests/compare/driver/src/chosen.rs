@@ -1,6 +1,6 @@
 //! Which inputs the stored cases of a call have: random ones, each of which shows something that few before it show.
 
-use checker::job::{Distribution, Header, Instruction, Job, MAX_BYTES, Noise, TESTS, usize_of};
+use checker::job::{Distribution, Header, Instruction, Job, MAX_BYTES, MAX_CLIFFORD_QUBITS, Noise, TESTS, usize_of};
 use checker::plain::settled;
 use checker::read::read;
 use generator::damage::damaged;
@@ -162,6 +162,7 @@ fn wanted(call: Call) -> Vec<String> {
         [0].iter().chain(&TESTS).chain(own_numbers).map(|number| format!("number {number}")).collect();
     all.extend((0..=14).map(|gate| format!("gate {gate}")));
     all.extend(KINDS.map(String::from));
+    all.extend((1..=MAX_CLIFFORD_QUBITS).map(|qubits| format!("clifford on {qubits}")));
     if call != Call::Walk {
         all.extend(DISTRIBUTIONS.map(|kind| format!("{kind}")));
         all.extend(["correlated", "even condition", "odd condition"].map(String::from));
@@ -187,19 +188,8 @@ fn wanted(call: Call) -> Vec<String> {
     all
 }
 
-const KINDS: [&str; 11] = [
-    "clifford",
-    "pauli",
-    "exponential",
-    "controlled",
-    "permute",
-    "measure",
-    "allocate",
-    "conditional",
-    "reset",
-    "inject",
-    "flip",
-];
+const KINDS: [&str; 10] =
+    ["pauli", "exponential", "controlled", "permute", "measure", "allocate", "conditional", "reset", "inject", "flip"];
 
 const DISTRIBUTIONS: [&str; 4] = ["single", "depolarizing", "uniform", "weighted"];
 
@@ -258,7 +248,7 @@ fn noise(instruction: &Instruction) -> Option<&Noise> {
 fn kind(instruction: &Instruction) -> String {
     let kind = match instruction {
         Instruction::Unitary { gate, .. } => return format!("gate {gate}"),
-        Instruction::Clifford { .. } => "clifford",
+        Instruction::Clifford { qubits, .. } => return format!("clifford on {}", qubits.len()),
         Instruction::Pauli(_) => "pauli",
         Instruction::Exponential(_) => "exponential",
         Instruction::Controlled { .. } => "controlled",

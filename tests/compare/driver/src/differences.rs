@@ -60,7 +60,8 @@ fn number(output: &Output) -> u64 {
     refusal.unwrap_or(output.answer.number)
 }
 
-fn report(under_test: &dyn Calls, call: Call, seed: u64, input: &Input) {
+/// Print a difference at its smallest.
+pub fn report(under_test: &dyn Calls, call: Call, seed: u64, input: &Input) {
     // Only inputs that both sides answer by the same two numbers count, so that one difference isn't reduced to another.
     let outputs = |input: &Input| {
         let expected = input.make(call, &Reference).expect("the reference makes every call");

@@ -186,6 +186,7 @@ fn changed(random: &mut Random, field: &Field<'_>, header: &Header) -> String {
         ("d", _) => near(random, &[0, 1, 2, 3, 4]),
         ("angle" | "parity", _) => random.pick(&["0", "1", "2", "-", "00"]).to_owned(),
         ("t", _) => table_changed(random, value),
+        ("q", "op=c") if random.one_in(4) => consecutive(0, random.pick(&[4, 5, 6, 7, 8, 9, 10])),
         ("p" | "w", _) => float_changed(random, value),
         ("id", "op=o" | "op=r" | "op=t") => near(random, &[old, header.outcomes]),
         ("id" | "cond", _) => list_changed(random, value, header.outcomes),
@@ -207,16 +208,30 @@ fn near(random: &mut Random, numbers: &[u64]) -> String {
     }
 }
 
-/// A bit or two of a table changed, or its form.
+/// A bit or two of a table changed, the form of a word, or how many words there are and in which order.
 fn table_changed(random: &mut Random, value: &str) -> String {
-    let Ok(mut table) = u64::from_str_radix(value, 16) else {
+    let words: Option<Vec<u64>> = value.split(',').map(|word| u64::from_str_radix(word, 16).ok()).collect();
+    let Some(mut words) = words else {
         return value.to_owned();
     };
-    for _ in 0..random.between(1, 2) {
-        let width = random.pick(&[4, 16, 64]);
-        table ^= 1 << random.below(width);
+    match random.below(12) {
+        0 => words.push(random.pick(&[0, 1])),
+        1 if words.len() > 1 => _ = words.pop(),
+        2 => words.resize(random.pick(&[3, 4, 5, 31, 32, 40]), 0),
+        3 if words.len() > 1 => words.reverse(),
+        _ => {
+            for _ in 0..random.between(1, 2) {
+                let place = random.index(words.len());
+                let width = random.pick(&[4, 16, 64]);
+                words[place] ^= 1 << random.below(width);
+            }
+        }
     }
-    form_changed(random, table)
+    let reformed = random.index(words.len());
+    let written = |(place, word): (usize, u64)| {
+        if place == reformed { form_changed(random, word) } else { format!("{word:016x}") }
+    };
+    words.into_iter().enumerate().map(written).collect::<Vec<_>>().join(",")
 }
 
 /// A binary64 near the limits of probabilities and weights, or its form changed.
@@ -255,6 +270,11 @@ fn form_changed(random: &mut Random, word: u64) -> String {
     }
 }
 
+/// So many numbers from a first one on.
+fn consecutive(first: u64, count: u64) -> String {
+    (first..first + count).map(|entry| entry.to_string()).collect::<Vec<_>>().join(",")
+}
+
 /// An entry changed, dropped, repeated or put in, mostly so that the list still rises; the list as long as may be, or longer.
 fn list_changed(random: &mut Random, value: &str, end: u64) -> String {
     let mut entries: Vec<String> = value.split(',').filter(|entry| *entry != "-").map(str::to_owned).collect();
@@ -275,7 +295,7 @@ fn list_changed(random: &mut Random, value: &str, end: u64) -> String {
         _ => {
             let length = random.pick(&[30, 31, 32, 33, 40]);
             let first = random.pick(&[0, 0, 1]);
-            entries = (first..first + length).map(|entry: u64| entry.to_string()).collect();
+            return consecutive(first, length);
         }
     }
     if entries.is_empty() { "-".to_owned() } else { entries.join(",") }

@@ -1,7 +1,9 @@
 //! Jobs that the checks accept.
 
 use crate::random::Random;
-use checker::job::{Distribution, Header, Instruction, List, MAX_LIST, Noise, Pauli, usize_of};
+use checker::job::{
+    Distribution, Header, Instruction, List, MAX_CLIFFORD_QUBITS, MAX_LIST, Noise, Pauli, table_of_rows, usize_of,
+};
 use checker::write;
 
 /// Which jobs to make.
@@ -17,6 +19,8 @@ pub struct Shape {
     pub all_outcomes: bool,
     /// How often noise lines come, in eighteenths of how often all other lines do.
     pub noise: u64,
+    /// How often Cliffords of five to eight qubits come beside those of any width, in eighteenths too.
+    pub tables: u64,
     /// Whether noise lines need draws.
     pub draws: bool,
 }
@@ -28,26 +32,29 @@ pub const ANY: Shape = Shape {
     usual_lines: 25,
     all_outcomes: false,
     noise: 2,
+    tables: 0,
     draws: true,
 };
 
 /// Jobs small enough to go through every set and shot.
 pub const SMALL: Shape = Shape {
-    limits: Header { qubits: 4, outcomes: 5, shots: 5 },
+    limits: Header { qubits: 8, outcomes: 5, shots: 5 },
     lines: 40,
     usual_lines: 25,
     all_outcomes: false,
     noise: 2,
+    tables: 0,
     draws: true,
 };
 
 /// Jobs with little room and many lines, so that what a line does is noticed by others.
 pub const DENSE: Shape = Shape {
-    limits: Header { qubits: 5, outcomes: 40, shots: 70 },
+    limits: Header { qubits: 9, outcomes: 40, shots: 70 },
     lines: 150,
     usual_lines: 80,
     all_outcomes: true,
     noise: 2,
+    tables: 0,
     draws: true,
 };
 
@@ -106,7 +113,7 @@ fn busy(random: &mut Random, end: u64) -> Vec<u64> {
 
 fn header(random: &mut Random, shape: &Shape) -> Header {
     let limits = &shape.limits;
-    let qubits = [1, 2, 3, 4, 5, 8, 31, 32, 33, 64, 65, 255, 256];
+    let qubits = [1, 2, 3, 4, 5, 8, 9, 31, 32, 33, 64, 65, 255, 256];
     let outcomes = [0, 1, 2, 3, 8, 40, 64, 256, 1023, 1024];
     let shots = [1, 2, 3, 5, 63, 64, 65, 127, 128, 129, 1000, 4095, 4096];
     Header {
@@ -157,9 +164,9 @@ impl Maker<'_> {
 
     /// A line of a random kind, unless this header or place has none of it.
     fn instruction_if_possible(&mut self) -> Option<Instruction> {
-        Some(match self.random.below(18 + self.shape.noise) {
+        Some(match self.random.below(18 + self.shape.noise + self.shape.tables) {
             0..3 | 16 | 17 => self.unitary()?,
-            3..5 => self.clifford(),
+            3..5 => self.clifford(1),
             5 => Instruction::Pauli(self.pauli()),
             6 => Instruction::Exponential(self.pauli()),
             7 => self.controlled(),
@@ -170,6 +177,7 @@ impl Maker<'_> {
             13 => Instruction::Reset { qubit: self.qubits(1)[0] },
             14 => Instruction::Inject { shot: self.shot(), pauli: self.pauli() },
             15 if self.recorded > 0 => Instruction::Flip { shot: self.shot(), id: self.random.below(self.recorded) },
+            kind if kind >= 18 + self.shape.noise => self.clifford(5),
             18.. => Instruction::Noise(Box::new(self.noise())),
             _ => return None,
         })
@@ -247,11 +255,26 @@ impl Maker<'_> {
         (qubits.len() == count).then_some(Instruction::Unitary { gate, qubits })
     }
 
-    fn clifford(&mut self) -> Instruction {
-        let count = 1 + self.random.index(4);
-        let qubits = self.qubits(count);
-        let table = clifford_table(self.random, qubits.len());
+    /// A Clifford on so many qubits at least.
+    fn clifford(&mut self, least: usize) -> Instruction {
+        let count = least + self.random.index(MAX_CLIFFORD_QUBITS + 1 - least);
+        let qubits = self.block(count);
+        let gates = self.random.index(12 * qubits.len());
+        let table = clifford_table(self.random, qubits.len(), gates);
         Instruction::Clifford { qubits, table }
+    }
+
+    /// So many different qubits in any order, the busy ones among them, so that a wide line acts on what others have left.
+    fn block(&mut self, count: usize) -> List {
+        if count <= self.busy_qubits.len() {
+            return self.qubits(count);
+        }
+        let mut qubits = self.busy_qubits.clone();
+        let others = self.random.distinct(self.header.qubits, count);
+        qubits.extend(others.into_iter().filter(|qubit| !self.busy_qubits.contains(qubit)));
+        qubits.truncate(count);
+        let order = self.random.distinct(qubits.len() as u64, qubits.len());
+        order.into_iter().map(|place| qubits[usize_of(place)]).collect()
     }
 
     /// Control and target that commute; they often meet at several qubits.
@@ -389,10 +412,10 @@ fn weights(random: &mut Random, count: usize) -> Vec<u64> {
     weights.into_iter().map(f64::to_bits).collect()
 }
 
-/// A random Clifford's table: the identity's, changed by random gates on its columns, each of which keeps commutation.
-fn clifford_table(random: &mut Random, qubits: usize) -> u64 {
+/// A random Clifford's table: the identity's, changed by so many random gates on its columns, each of which keeps commutation.
+pub(crate) fn clifford_table(random: &mut Random, qubits: usize, gates: usize) -> List {
     let mut rows: Vec<u64> = (0..2 * qubits).map(|row| 1 << row).collect();
-    for _ in 0..random.index(12 * qubits) {
+    for _ in 0..gates {
         let (one, other) = (random.index(qubits), random.index(qubits));
         let kind = random.below(3);
         for row in &mut rows {
@@ -405,7 +428,7 @@ fn clifford_table(random: &mut Random, qubits: usize) -> u64 {
             };
         }
     }
-    rows.iter().rev().fold(0, |table, row| table << (2 * qubits) | row)
+    table_of_rows(&rows)
 }
 
 #[cfg(test)]

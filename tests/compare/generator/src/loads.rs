@@ -1,6 +1,6 @@
 //! Jobs for measuring: large, and alike in every run.
 
-use crate::jobs::{ANY, Made, Shape, job_of};
+use crate::jobs::{ANY, Made, Shape, clifford_table, job_of};
 use crate::random::Random;
 use checker::job::{Distribution, Header, Instruction, List, Noise};
 
@@ -15,6 +15,18 @@ pub fn header(qubits: u64, shots: u64) -> Header {
 pub fn gates(header: Header, lines: usize) -> Made {
     let mut random = Random::new(1);
     let instructions = (0..lines).map(|_| gate(&mut random, header.qubits)).collect();
+    Made { header, instructions }
+}
+
+/// Lines of Cliffords on so many qubits each, mixed by so many gates that half of the bits of a table are set.
+#[must_use]
+pub fn cliffords(header: Header, lines: usize, qubits: usize) -> Made {
+    let mut random = Random::new(6);
+    let mut line = || Instruction::Clifford {
+        qubits: random.distinct(header.qubits, qubits).into_iter().collect(),
+        table: clifford_table(&mut random, qubits, 40 * qubits),
+    };
+    let instructions = (0..lines).map(|_| line()).collect();
     Made { header, instructions }
 }
 

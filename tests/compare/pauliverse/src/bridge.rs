@@ -280,7 +280,7 @@ fn step(instruction: &Instruction) -> Step {
     Step::Instruction(match instruction {
         Instruction::Unitary { gate, qubits } => Published::Unitary { opcode: opcode(*gate), qubits: indices(qubits) },
         Instruction::Clifford { qubits, table } => {
-            Published::Clifford { clifford: clifford(*table, qubits.len()), qubits: indices(qubits) }
+            Published::Clifford { clifford: clifford(table, qubits.len()), qubits: indices(qubits) }
         }
         Instruction::Pauli(pauli) => Published::Pauli { pauli: of(pauli) },
         Instruction::Exponential(pauli) => Published::PauliExp { pauli: of(pauli) },
@@ -363,8 +363,8 @@ fn opcode(gate: u64) -> UnitaryOp {
     BY_CODE[usize_of(gate)]
 }
 
-fn clifford(table: u64, qubits: usize) -> CliffordUnitary {
-    let row = |row| u32::try_from(table_row(table, qubits, row)).expect("rows of a small table");
+fn clifford(table: &[u64], qubits: usize) -> CliffordUnitary {
+    let row = |row| u32::try_from(table_row(table, qubits, row)).expect("a row has 16 bits at most");
     CliffordUnitary::from_rows(qubits, (0..2 * qubits).map(row))
 }
 

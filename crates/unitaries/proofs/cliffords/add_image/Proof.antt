@@ -3,18 +3,22 @@ use Rattle.pauli.specs.Bits.{bit}
 use Prim.Native.Nat.{_+_, _*_, _-_}
 use Rattle.propagator.specs.Laws.Lists.{row-in}
 use mathlib.Core.Path.{_≡_, refl, _∙_}
-use Rattle.unitaries.specs.Laws.Images.{RowLeft, row-starts, row-turn, image-acts}
+use Rattle.unitaries.specs.Laws.Images.{row-part, RowLeft, row-starts, row-turn, image-acts}
 use lib.ListN.{length}
 use native.Mathlib.Omega.{arith}
+use Rattle.job.specs.Clifford.{tableOf}
 use Rattle.job.specs.Laws.Lists.{below-at}
 use Rattle.unitaries.proofs.cliffords.add_image.Statement.{statement}
 use Rattle.unitaries.proofs.cliffords.add_image.Tie as tie
 
 abbrev Inv-loop : tie.InvT-loop
-Inv-loop x₀ z₀ shape qubits t saved r k j₀ x z j = RowLeft (shape .width) (λ c. bit t (2 * length qubits * r + c)) qubits r saved x₀ j x × RowLeft (shape .width) (λ c. bit t (2 * length qubits * r + (length qubits + c))) qubits r saved z₀ j z × (length x ≡ length x₀) × (length z ≡ length z₀)
+Inv-loop x₀ z₀ shape qubits table saved r k row j₀ x z j = RowLeft (shape .width) (λ c. bit (tableOf table) (2 * length qubits * r + c)) qubits r saved x₀ j x × RowLeft (shape .width) (λ c. bit (tableOf table) (2 * length qubits * r + (length qubits + c))) qubits r saved z₀ j z × (length x ≡ length x₀) × (length z ≡ length z₀)
 
 abbrev μ-loop : tie.MeasureT-loop
-μ-loop x₀ z₀ shape qubits t saved r k j₀ x z j = length qubits - j
+μ-loop x₀ z₀ shape qubits table saved r k row j₀ x z j = length qubits - j
+
+row-requires : tie.Need-row-requires Inv-loop μ-loop
+row-requires c κs = (c .before .before .before .before .before .pre .2, c .before .before .before .before .before .pre .4)
 
 loop-holds : tie.Need-loop-holds Inv-loop μ-loop
 loop-holds c = (row-starts _ _ _ _ _ _, row-starts _ _ _ _ _ _, refl, refl)
@@ -25,20 +29,20 @@ mul-q c = omega arith
 shared-slice-read-q : tie.Need-shared-slice-read-q Inv-loop μ-loop
 shared-slice-read-q c = omega arith
 
-table-bit-requires : tie.Need-table-bit-requires Inv-loop μ-loop
-table-bit-requires c κs = omega arith
+shr-add-row-if : tie.Need-shr-add-row-if Inv-loop μ-loop
+shr-add-row-if c = omega (arith, c .before .before .before .before .before .before .before .before .before .before .pre .2 .few)
 
 add-row-if-requires : tie.Need-add-row-if-requires Inv-loop μ-loop
-add-row-if-requires c κs = (row-in _ _ _ _ (c .before .before .before .before .loop .inv .2 ∙ c .before .before .before .before .before .before .before .before .before .pre .0) (below-at _ _ (c .before .before .before .before .before .before .before .before .before .pre .3) _ (c .before .before .before .loop-test .taken)), c .before .before .before .before .before .before .before .before .before .pre .5)
+add-row-if-requires c κs = (row-in _ _ _ _ (c .before .before .before .loop .inv .2 ∙ c .before .before .before .before .before .before .before .before .before .before .pre .0) (below-at _ _ (c .before .before .before .before .before .before .before .before .before .before .pre .3) _ (c .before .before .loop-test .taken)), c .before .before .before .before .before .before .before .before .before .before .pre .5)
 
-add-table-bit : tie.Need-add-table-bit Inv-loop μ-loop
-add-table-bit c = omega arith
+add-add-row-if : tie.Need-add-add-row-if Inv-loop μ-loop
+add-add-row-if c = omega (arith, c .before .before .before .before .before .before .before .before .before .before .before .before .before .before .pre .2 .few)
 
-table-bit-requires-2 : tie.Need-table-bit-requires-2 Inv-loop μ-loop
-table-bit-requires-2 c κs = omega arith
+shr-add-row-if-2 : tie.Need-shr-add-row-if-2 Inv-loop μ-loop
+shr-add-row-if-2 c = omega (arith, c .before .before .before .before .before .before .before .before .before .before .before .before .before .before .pre .2 .few)
 
 add-row-if-requires-2 : tie.Need-add-row-if-requires-2 Inv-loop μ-loop
-add-row-if-requires-2 c κs = (row-in _ _ _ _ (c .before .before .before .before .before .before .before .before .before .loop .inv .3 ∙ c .before .before .before .before .before .before .before .before .before .before .before .before .before .before .pre .1) (below-at _ _ (c .before .before .before .before .before .before .before .before .before .before .before .before .before .before .pre .3) _ (c .before .before .before .before .before .before .before .before .loop-test .taken)), c .before .before .before .before .before .before .before .before .before .before .before .before .before .before .pre .5)
+add-row-if-requires-2 c κs = (row-in _ _ _ _ (c .before .before .before .before .before .before .before .loop .inv .3 ∙ c .before .before .before .before .before .before .before .before .before .before .before .before .before .before .pre .1) (below-at _ _ (c .before .before .before .before .before .before .before .before .before .before .before .before .before .before .pre .3) _ (c .before .before .before .before .before .before .loop-test .taken)), c .before .before .before .before .before .before .before .before .before .before .before .before .before .before .pre .5)
 
 add-j : tie.Need-add-j Inv-loop μ-loop
 add-j c = omega arith
@@ -47,7 +51,14 @@ loop-less : tie.Need-loop-less Inv-loop μ-loop
 loop-less c = omega arith
 
 loop-again : tie.Need-loop-again Inv-loop μ-loop
-loop-again c = (row-turn _ _ _ _ _ _ _ _ _ _ (c .before .before .before .before .before .before .before .before .before .before .before .loop-test .taken) (c .before .before .before .before .before .before .before .before .table-bit .ensures) (c .before .before .before .before .before .before .before .add-row-if .ensures) (c .before .before .before .before .before .before .before .before .before .before .before .before .loop .inv .0), row-turn _ _ _ _ _ _ _ _ _ _ (c .before .before .before .before .before .before .before .before .before .before .before .loop-test .taken) (c .before .before .before .table-bit2 .ensures) (c .before .before .add-row-if2 .ensures) (c .before .before .before .before .before .before .before .before .before .before .before .before .loop .inv .1), c .before .before .before .before .before .before .before .add-row-if .kept .0 ∙ c .before .before .before .before .before .before .before .before .before .before .before .before .loop .inv .2, c .before .before .add-row-if2 .kept .0 ∙ c .before .before .before .before .before .before .before .before .before .before .before .before .loop .inv .3)
+loop-again c =
+    let j = c .before .before .before .before .before .before .before .before .before .loop-test .taken in
+    let row = c .before .before .before .before .before .before .before .before .before .before .before .row .ensures in (
+      row-turn _ _ _ _ _ _ _ _ _ _ j (row-part _ _ _ _ row (omega arith)) (c .before .before .before .before .before .before .add-row-if .ensures) (c .before .before .before .before .before .before .before .before .before .before .loop .inv .0),
+      row-turn _ _ _ _ _ _ _ _ _ _ j (row-part _ _ _ _ row (omega arith)) (c .before .before .add-row-if2 .ensures) (c .before .before .before .before .before .before .before .before .before .before .loop .inv .1),
+      c .before .before .before .before .before .before .add-row-if .kept .0 ∙ c .before .before .before .before .before .before .before .before .before .before .loop .inv .2,
+      c .before .before .add-row-if2 .kept .0 ∙ c .before .before .before .before .before .before .before .before .before .before .loop .inv .3,
+    )
 
 same-length : tie.Need-same-length Inv-loop μ-loop
 same-length c = c .before .loop .inv .2
@@ -64,13 +75,14 @@ add-image-spec =
     (tie.spec
     Inv-loop
     μ-loop
+    row-requires
     loop-holds
     mul-q
     shared-slice-read-q
-    table-bit-requires
+    shr-add-row-if
     add-row-if-requires
-    add-table-bit
-    table-bit-requires-2
+    add-add-row-if
+    shr-add-row-if-2
     add-row-if-requires-2
     add-j
     loop-less

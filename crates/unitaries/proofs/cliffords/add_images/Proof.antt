@@ -4,26 +4,27 @@ use mathlib.Core.Path.{_≡_, refl, _∙_}
 use lib.ListN.{length}
 use native.Mathlib.Omega.{arith}
 use Prim.Native.Nat.{_-_}
+use Rattle.job.specs.Clifford.{tableOf}
 use Rattle.unitaries.proofs.cliffords.add_images.Statement.{statement}
 use Rattle.unitaries.proofs.cliffords.add_images.Tie as tie
 
 abbrev Inv-loop : tie.InvT-loop
-Inv-loop x₀ z₀ shape qubits t saved k i₀ x z i = ImagesLeft (shape .width) qubits t saved x₀ z₀ i x z × (length x ≡ length x₀) × (length z ≡ length z₀)
+Inv-loop x₀ z₀ shape qubits table saved k i₀ x z i = ImagesLeft (shape .width) qubits (tableOf table) saved x₀ z₀ i x z × (length x ≡ length x₀) × (length z ≡ length z₀)
 
 abbrev μ-loop : tie.MeasureT-loop
-μ-loop x₀ z₀ shape qubits t saved k i₀ x z i = length qubits - i
+μ-loop x₀ z₀ shape qubits table saved k i₀ x z i = length qubits - i
 
 loop-holds : tie.Need-loop-holds Inv-loop μ-loop
 loop-holds c = (images-start _ _ _ _ _ _, refl, refl)
 
 add-image-requires : tie.Need-add-image-requires Inv-loop μ-loop
-add-image-requires c κs = (c .before .before .before .loop .inv .1 ∙ c .before .before .before .before .before .before .before .before .pre .0, c .before .before .before .loop .inv .2 ∙ c .before .before .before .before .before .before .before .before .pre .1, c .before .before .before .before .before .before .before .before .pre .2, c .before .before .before .before .before .before .before .before .pre .3, omega arith, row-below _ _ _ (c .before .before .before .before .before .before .before .before .pre .4) (omega (arith, c .before .before .loop-test .taken)))
+add-image-requires c κs = (c .before .before .before .loop .inv .1 ∙ c .before .before .before .before .before .before .before .before .before .pre .0, c .before .before .before .loop .inv .2 ∙ c .before .before .before .before .before .before .before .before .before .pre .1, c .before .before .before .before .before .before .before .before .before .pre .2, c .before .before .before .before .before .before .before .before .before .pre .3, omega arith, row-below _ _ _ (c .before .before .before .before .before .before .before .before .before .pre .4) (omega (arith, c .before .before .loop-test .taken)))
 
 add-add-image : tie.Need-add-add-image Inv-loop μ-loop
 add-add-image c = omega arith
 
 add-image-requires-2 : tie.Need-add-image-requires-2 Inv-loop μ-loop
-add-image-requires-2 c κs = (c .before .before .before .before .before .before .add-image .kept .0 ∙ c .before .before .before .before .before .before .before .before .before .before .loop .inv .1 ∙ c .before .before .before .before .before .before .before .before .before .before .before .before .before .before .before .pre .0, c .before .before .before .before .before .before .add-image .kept .1 .0 ∙ c .before .before .before .before .before .before .before .before .before .before .loop .inv .2 ∙ c .before .before .before .before .before .before .before .before .before .before .before .before .before .before .before .pre .1, c .before .before .before .before .before .before .before .before .before .before .before .before .before .before .before .pre .2, c .before .before .before .before .before .before .before .before .before .before .before .before .before .before .before .pre .3, omega arith, row-below _ _ _ (c .before .before .before .before .before .before .before .before .before .before .before .before .before .before .before .pre .4) (omega (arith, c .before .before .before .before .before .before .before .before .before .loop-test .taken)))
+add-image-requires-2 c κs = (c .before .before .before .before .before .before .add-image .kept .0 ∙ c .before .before .before .before .before .before .before .before .before .before .loop .inv .1 ∙ c .before .before .before .before .before .before .before .before .before .before .before .before .before .before .before .before .pre .0, c .before .before .before .before .before .before .add-image .kept .1 .0 ∙ c .before .before .before .before .before .before .before .before .before .before .loop .inv .2 ∙ c .before .before .before .before .before .before .before .before .before .before .before .before .before .before .before .before .pre .1, c .before .before .before .before .before .before .before .before .before .before .before .before .before .before .before .before .pre .2, c .before .before .before .before .before .before .before .before .before .before .before .before .before .before .before .before .pre .3, omega arith, row-below _ _ _ (c .before .before .before .before .before .before .before .before .before .before .before .before .before .before .before .before .pre .4) (omega (arith, c .before .before .before .before .before .before .before .before .before .loop-test .taken)))
 
 add-i : tie.Need-add-i Inv-loop μ-loop
 add-i c = omega arith

@@ -2,7 +2,7 @@
 use native.Mathlib.Omega.{arith}
 use lib.Pow.{pow-pos}
 use Rattle.pauli.specs.Laws.Word.{one-shl}
-use Rattle.value_tests.specs.Laws.Rows.{overlap-odd}
+use Rattle.value_tests.specs.Laws.Pairs.{overlap-odd}
 use borrow.Author.Needs.{needs}
 use Rattle.value_tests.proofs.clifford.anticommute.Statement.{statement}
 use Rattle.value_tests.proofs.clifford.anticommute.Tie as tie

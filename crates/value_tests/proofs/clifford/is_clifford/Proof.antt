@@ -1,68 +1,40 @@
 -- `value_tests::clifford::is_clifford` meets its contract. Assumes nothing.
-use native.Mathlib.Omega.{arith}
-use mathlib.Core.Path.{_≡_, sym, _∙_}
-use mathlib.Core.Bool.{true}
-use Prim.Native.Nat.{_*_, _-_, _≤_}
+use mathlib.Core.Path.{sym, _∙_}
 use borrow.Author.Tests.{not-true, not-false}
-use Rattle.job.specs.Clifford.{every}
-use Rattle.value_tests.specs.Rows.{pairFits}
-use Rattle.value_tests.specs.Laws.Rows.{clifford-high, clifford-rows, every-none, every-more, every-fails, every-all}
+use Rattle.value_tests.specs.Laws.Pairs.{clifford-high, clifford-rows}
+use borrow.Author.Needs.{needs}
 use Rattle.value_tests.proofs.clifford.is_clifford.Statement.{statement}
 use Rattle.value_tests.proofs.clifford.is_clifford.Tie as tie
 
-abbrev Inv-loop : tie.InvT-loop
-Inv-loop t k r₀ r = (r ≤ 2 * k) × (every r (λ q. every (2 * k) (pairFits k t q)) ≡ true)
+no-more-bits-requires : tie.Need-no-more-bits-requires
+no-more-bits-requires c κs = search needs
 
-abbrev μ-loop : tie.MeasureT-loop
-μ-loop t k r₀ r = 2 * k - r
-
-no-more-bits-requires : tie.Need-no-more-bits-requires Inv-loop μ-loop
-no-more-bits-requires c κs = omega arith
-
-returns : tie.Need-returns Inv-loop μ-loop
+returns : tie.Need-returns
 returns c = clifford-high _ _ (sym (c .before .no-more-bits .ensures) ∙ not-true _ (c .if1 .taken))
 
-loop-holds : tie.Need-loop-holds Inv-loop μ-loop
-loop-holds c = (omega arith, every-none _)
+slice-aggregate-rows : tie.Need-slice-aggregate-rows
+slice-aggregate-rows c = search needs
 
-mul-loop : tie.Need-mul-loop Inv-loop μ-loop
-mul-loop c = omega arith
+rows-requires : tie.Need-rows-requires
+rows-requires c κs = search needs
 
-row-fits-requires : tie.Need-row-fits-requires Inv-loop μ-loop
-row-fits-requires c κs = (omega arith, omega arith)
+slice-aggregate-rows-fit : tie.Need-slice-aggregate-rows-fit
+slice-aggregate-rows-fit c = search needs
 
-returns-2 : tie.Need-returns-2 Inv-loop μ-loop
-returns-2 c =
-    sym (every-fails _ _ _ (c .before .before .loop-test .taken) (sym (c .before .row-fits .ensures) ∙ not-true _ (c .if2 .taken)))
-    ∙ clifford-rows _ _ (sym (c .before .before .before .before .before .no-more-bits .ensures) ∙ not-false _ (c .before .before .before .before .if1 .left))
+rows-fit-requires : tie.Need-rows-fit-requires
+rows-fit-requires c κs = search needs
 
-add-r : tie.Need-add-r Inv-loop μ-loop
-add-r c = omega arith
-
-loop-less : tie.Need-loop-less Inv-loop μ-loop
-loop-less c = omega arith
-
-loop-again : tie.Need-loop-again Inv-loop μ-loop
-loop-again c = (omega arith, every-more _ _ (c .before .before .before .loop .inv .1) (sym (c .before .row-fits .ensures) ∙ not-false _ (c .if2 .left)))
-
-returns-3 : tie.Need-returns-3 Inv-loop μ-loop
-returns-3 c =
-    every-all _ _ _ (c .before .loop .inv .0) (c .loop-test .left) (c .before .loop .inv .1)
-    ∙ clifford-rows _ _ (sym (c .before .before .before .no-more-bits .ensures) ∙ not-false _ (c .before .before .if1 .left))
+returns-2 : tie.Need-returns-2
+returns-2 c = c .rows-fit .ensures _ (c .before .before .before .rows .ensures) ∙ clifford-rows _ _ (sym (c .before .before .before .before .before .before .no-more-bits .ensures) ∙ not-false _ (c .before .before .before .before .before .if1 .left))
 
 pub is-clifford-spec : {M : Type 1} → statement M
 is-clifford-spec =
     tie.close
     (tie.spec
-    Inv-loop
-    μ-loop
     no-more-bits-requires
     returns
-    loop-holds
-    mul-loop
-    row-fits-requires
-    returns-2
-    add-r
-    loop-less
-    loop-again
-    returns-3)
+    slice-aggregate-rows
+    rows-requires
+    slice-aggregate-rows-fit
+    rows-fit-requires
+    returns-2)

@@ -43,7 +43,7 @@ impl Frame {
     pub fn forward(&mut self, instruction: &Instruction, shot: u64, deltas: &mut [bool]) {
         match instruction {
             Instruction::Unitary { gate, qubits } => self.gate(*gate, qubits, Frame::prepare_bell),
-            Instruction::Clifford { qubits, table } => self.clifford(*table, qubits),
+            Instruction::Clifford { qubits, table } => self.clifford(table, qubits),
             Instruction::Exponential(pauli) => self.exponential(pauli),
             Instruction::Controlled { control, target } => self.controlled(control, target),
             Instruction::Permute { places, qubits } => self.permute(places, qubits),
@@ -126,7 +126,7 @@ impl Frame {
     }
 
     /// The sum of the images of the frame's parts.
-    fn clifford(&mut self, table: u64, qubits: &[u64]) {
+    fn clifford(&mut self, table: &[u64], qubits: &[u64]) {
         let count = qubits.len();
         let has = |frame: &Frame, generator: usize| {
             let qubit = usize_of(qubits[generator % count]);
@@ -141,7 +141,7 @@ impl Frame {
     }
 
     /// Back through a Clifford: a new X part where the frame anticommutes with Z's image, a new Z part where with X's.
-    pub fn clifford_back(&mut self, table: u64, qubits: &[u64]) {
+    pub fn clifford_back(&mut self, table: &[u64], qubits: &[u64]) {
         let count = qubits.len();
         let with_image = |generator: usize| {
             let image = table_row(table, count, generator);

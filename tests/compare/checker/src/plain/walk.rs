@@ -46,7 +46,7 @@ impl Carried {
     fn through(&mut self, instruction: &Instruction, shot: u64) {
         match instruction {
             Instruction::Unitary { gate, qubits } => self.observable.gate(*gate, qubits, Frame::prepare_bell_back),
-            Instruction::Clifford { qubits, table } => self.observable.clifford_back(*table, qubits),
+            Instruction::Clifford { qubits, table } => self.observable.clifford_back(table, qubits),
             Instruction::Exponential(pauli) => self.observable.exponential(pauli),
             Instruction::Controlled { control, target } => self.observable.controlled(control, target),
             Instruction::Permute { places, qubits } => self.observable.permute_back(places, qubits),

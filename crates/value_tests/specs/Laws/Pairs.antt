@@ -1,4 +1,4 @@
--- The rows of a Clifford's table as words, and tests of each number below another. Laws. Assumes nothing.
+-- Test 7, pair by pair of rows, and tests of each number below another. Laws. Assumes nothing.
 use Prim.Native.Nat.{ℕ, zero, suc, _+_, _-_, _*_, _/_, _%_, _^_, _≤_, _<_}
 use native.Mathlib.Nat.{div-eq-of-lt, div-self, mod-lt, lt-of-le-of-lt}
 use native.Mathlib.Numerals.{add-one}
@@ -12,55 +12,12 @@ use lib.Count.{ones}
 use lib.Pow.{pow-pos, field, mod-mod-pow, shr-mono}
 use Rattle.pauli.specs.Bits.{_⊕_, _∩_, _△_, bit}
 use Rattle.pauli.specs.Pauli.{anticommutes}
-use Rattle.pauli.specs.Laws.Word.{one-shl, bit-is, bit-shr, bit-xor, bit-and}
+use Rattle.pauli.specs.Laws.Word.{one-shl, bit-shr, bit-mod, bit-xor, bit-and}
 use Rattle.pauli.specs.Laws.Parts.{parity-sum, parity-same, parity-word}
 use Rattle.job.specs.Clifford.{rowOver, every, generatorsAnticommute, isClifford}
-use Rattle.value_tests.specs.Rows.{rowWord, inWord, pairFits}
-
--- ---- places of bits
-
--- a row begins inside the word
-pub row-inside : (k r : ℕ) → k ≤ 4 → r < 2 * k → 2 * k * r < 64
-row-inside zero r h g = omega arith
-row-inside (suc zero) r h g = omega arith
-row-inside (suc (suc zero)) r h g = omega arith
-row-inside (suc (suc (suc zero))) r h g = omega arith
-row-inside (suc (suc (suc (suc zero)))) r h g = omega arith
-row-inside (suc (suc (suc (suc (suc k))))) r h g = absurd (omega arith)
-
--- a table on fewer than 4 qubits ends inside the word
-pub table-inside : (k : ℕ) → k < 4 → 4 * (k * k) < 64
-table-inside zero h = omega arith
-table-inside (suc zero) h = omega arith
-table-inside (suc (suc zero)) h = omega arith
-table-inside (suc (suc (suc zero))) h = omega arith
-table-inside (suc (suc (suc (suc k)))) h = absurd (omega arith)
-
--- no bit from n up
-pub no-higher : (t n : ℕ) → eqb (t / 2 ^ n) 0 ≡ ltb t (2 ^ n)
-no-higher t n = go (ltb t (2 ^ n)) refl
-  where
-    go : (b : Bool) → ltb t (2 ^ n) ≡ b → eqb (t / 2 ^ n) 0 ≡ b
-    go true e = rw (div-eq-of-lt (ltb-true t (2 ^ n) e))
-    go false e =
-        let big : 2 ^ n / 2 ^ n ≤ t / 2 ^ n = shr-mono n (ltb-false t (2 ^ n) e) in
-        let one : 1 ≤ t / 2 ^ n = rw (div-self (pow-pos n)) at big in
-        ne-eqb _ _ (λ (z : t / 2 ^ n ≡ 0). omega arith)
-
-bit-below : (w i j : ℕ) → bit (w % 2 ^ (i + 1 + j)) j ≡ bit w j
-bit-below w i j = bit-is (w % 2 ^ (i + 1 + j)) j ∙ rw (field w (i + 1) j, mod-mod-pow (w / 2 ^ j) i 1) (sym (bit-is w j))
-
--- the bits of a word below 2^k
-bit-low : (w k j : ℕ) → j < k → bit (w % 2 ^ k) j ≡ bit w j
-bit-low w k j h = let e : k ≡ k - suc j + 1 + j = omega arith in ap (λ (m : ℕ). bit (w % 2 ^ m) j) e ∙ bit-below w (k - suc j) j
-
-pub row-word : (t k r : ℕ) → k ≤ 4 → bitAnd (t / 2 ^ (2 * k * r)) (1 * 2 ^ (2 * k) % 2 ^ 64 - 1) ≡ rowWord k t r
-unfolding rowWord
-row-word t k r h = rw (one-shl (2 * k) (omega arith), and-mask)
-
-row-bit : (t k r j : ℕ) → j < 2 * k → bit (rowWord k t r) j ≡ bit t (2 * k * r + j)
-unfolding rowWord
-row-bit t k r j h = bit-low (t / 2 ^ (2 * k * r)) (2 * k) j h ∙ bit-shr t (2 * k * r) j
+use Rattle.tables.specs.Rows.{rowWord, inWord}
+use Rattle.tables.specs.Laws.Rows.{row-bit}
+use Rattle.value_tests.specs.Pairs.{pairFits}
 
 -- ---- anticommuting
 
@@ -78,8 +35,8 @@ module _ (a b k : ℕ) where
   clashes-at j h =
       bit-xor (bitAnd (a % 2 ^ k) (b / 2 ^ k)) (bitAnd (a / 2 ^ k) b % 2 ^ k) j
       ∙ ap₂ _⊕_
-      (bit-and (a % 2 ^ k) (b / 2 ^ k) j ∙ ap₂ _&&_ (bit-low a k j h) (bit-shr b k j))
-      (bit-low (bitAnd (a / 2 ^ k) b) k j h ∙ bit-and (a / 2 ^ k) b j ∙ ap (λ (t : Bool). t && bit b j) (bit-shr a k j))
+      (bit-and (a % 2 ^ k) (b / 2 ^ k) j ∙ ap₂ _&&_ (bit-mod a k j h) (bit-shr b k j))
+      (bit-mod (bitAnd (a / 2 ^ k) b) k j h ∙ bit-and (a / 2 ^ k) b j ∙ ap (λ (t : Bool). t && bit b j) (bit-shr a k j))
 
   pub overlap-odd : k < 64
       → eqb (ones (bitXor (bitAnd (bitAnd a (1 * 2 ^ k % 2 ^ 64 - 1)) (b / 2 ^ k)) (bitAnd (bitAnd (a / 2 ^ k) b) (1 * 2 ^ k % 2 ^ 64 - 1))) % 2) 1
@@ -94,8 +51,8 @@ pub rows-clash : (k t r s : ℕ) → anticommutes k (inWord k (rowWord k t r)) (
 unfolding anticommutes inWord rowOver _∩_
 rows-clash k t r s =
     ap₂ _⊕_
-    (parity-same k _ _ (λ j h. ap₂ _&&_ (row-bit t k r j (omega arith)) (row-bit t k s (k + j) (omega arith))))
-    (parity-same k _ _ (λ j h. ap₂ _&&_ (row-bit t k r (k + j) (omega arith)) (row-bit t k s j (omega arith))))
+    (parity-same k _ _ (λ j h. ap₂ _&&_ (row-bit k t r j (omega arith)) (row-bit k t s (k + j) (omega arith))))
+    (parity-same k _ _ (λ j h. ap₂ _&&_ (row-bit k t r (k + j) (omega arith)) (row-bit k t s j (omega arith))))
 
 -- two rows that were read, by whether their generators are a pair
 module _ (k t r s : ℕ) {a : Bool} {x y : ℕ} (e : a ≡ anticommutes k (inWord k x) (inWord k y)) (p : x ≡ rowWord k t r) (q : y ≡ rowWord k t s) where
