@@ -103,6 +103,7 @@ forward c (Line.reset qs) s = onFrame (cleared qs) s
 -- Injection adds a Pauli, a flip 1, in its shot.
 forward c (Line.inject shot P) s = onFrame (λ F. F ∗ when (eqb shot (c .shot)) (pauliOf P)) s
 forward c (Line.flip shot id) s = onDelta id (eqb shot (c .shot)) s
+forward c (Line.barrier qs) s = s
 
 -- the lines from first to last
 unfoldable pub run : Setting → List Line → State → State

@@ -56,6 +56,7 @@ forward-conjugates c (Line.conditional P ids par) u s = absurd (true≢false (sy
 forward-conjugates c (Line.reset qs) u s = absurd (true≢false (sym u))
 forward-conjugates c (Line.inject shot P) u s = absurd (true≢false (sym u))
 forward-conjugates c (Line.flip shot id) u s = absurd (true≢false (sym u))
+forward-conjugates c (Line.barrier qs) u s = absurd (true≢false (sym u))
 
 -- What the tests of a job leave of a job's lines (`checked-sound` of crate job) are unitary lines: a gate,
 pub sound-gate : (n : ℕ) (g : Gate) (qs : List ℕ) → UnitarySound n g qs → isUnitaryLine n (Line.unitary g qs) ≡ true
@@ -217,6 +218,7 @@ line-unitary n (Line.conditional P ids par) u = absurd (true≢false (sym u))
 line-unitary n (Line.reset qs) u = absurd (true≢false (sym u))
 line-unitary n (Line.inject shot P) u = absurd (true≢false (sym u))
 line-unitary n (Line.flip shot id) u = absurd (true≢false (sym u))
+line-unitary n (Line.barrier qs) u = absurd (true≢false (sym u))
 
 -- What a unitary line takes a Pauli on the n qubits to is determined on them: with `forward-conjugates`, it is what `forward` makes of it.
 pub conjugation-unique : (n : ℕ) (l : Line) → isUnitaryLine n l ≡ true → (Q Q₁ Q₂ : Pauli) → Within n Q → Conjugates n l Q Q₁ → Conjugates n l Q Q₂
@@ -239,6 +241,7 @@ conjugation-unique n (Line.conditional P ids par) u Q Q₁ Q₂ w a b = absurd a
 conjugation-unique n (Line.reset qs) u Q Q₁ Q₂ w a b = absurd a
 conjugation-unique n (Line.inject shot P) u Q Q₁ Q₂ w a b = absurd a
 conjugation-unique n (Line.flip shot id) u Q Q₁ Q₂ w a b = absurd a
+conjugation-unique n (Line.barrier qs) u Q Q₁ Q₂ w a b = absurd a
 
 -- A unitary line keeps the commutation of the Paulis on the n qubits.
 pub conjugation-commutes : (n : ℕ) (l : Line) → isUnitaryLine n l ≡ true → (P P′ Q Q′ : Pauli) → Within n P → Within n Q → Conjugates n l P P′ → Conjugates n l Q Q′
@@ -261,6 +264,7 @@ conjugation-commutes n (Line.conditional R ids par) u P P′ Q Q′ w w′ a b =
 conjugation-commutes n (Line.reset qs) u P P′ Q Q′ w w′ a b = absurd a
 conjugation-commutes n (Line.inject shot R) u P P′ Q Q′ w w′ a b = absurd a
 conjugation-commutes n (Line.flip shot id) u P P′ Q Q′ w w′ a b = absurd a
+conjugation-commutes n (Line.barrier qs) u P P′ Q Q′ w w′ a b = absurd a
 
 -- ---- accepted jobs
 
@@ -279,6 +283,7 @@ sound-unitary h r (Line.conditional P ids par) o u = u
 sound-unitary h r (Line.reset qs) o u = u
 sound-unitary h r (Line.inject shot P) o u = u
 sound-unitary h r (Line.flip shot id) o u = u
+sound-unitary h r (Line.barrier qs) o u = u
 
 -- What a sound line makes of a frame on the job's qubits is a frame on them,
 pub sound-within : (h : Header) (r : ℕ) (l : Line) → LineSound h r l → (shot : ℕ) (s : State) → Within (h .qubits) (s .frame)

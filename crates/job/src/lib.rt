@@ -1,8 +1,9 @@
 // The definitions of a job, of its lines, its instructions and the tests of a job (specs/), and the types that answers have. The code is in the crates reader,
 // instructions, value_tests, line_tests, noise_tests and checker.
 
-// The header's numbers.
+// The header's numbers; the edition is 1 where the header has none.
 pub struct Header {
+    pub edition: u64,
     pub qubits: u64,
     pub outcomes: u64,
     pub shots: u64,

@@ -55,6 +55,7 @@ located-below h r (Line.conditional P ids par) s = refl
 located-below h r (Line.reset qs) s = refl
 located-below h r (Line.inject shot P) s = refl
 located-below h r (Line.flip shot id) s = refl
+located-below h r (Line.barrier qs) s = refl
 
 qubits-below : (h : Header) (r : ℕ) (l : Line) → LineSound h r l → allBelow (h .qubits) (noiseQubits l) ≡ true
 unfolding noiseQubits allBelow
@@ -80,6 +81,7 @@ located-apart h r (Line.conditional P ids par) s other = refl
 located-apart h r (Line.reset qs) s other = refl
 located-apart h r (Line.inject shot P) s other = refl
 located-apart h r (Line.flip shot id) s other = refl
+located-apart h r (Line.barrier qs) s other = refl
 
 -- noise over these qubits can be written: none, or at most 31, each once
 record Fit (n : ℕ) (qs : List ℕ) : Type 0 where

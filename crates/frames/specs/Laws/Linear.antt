@@ -169,6 +169,7 @@ module _ (c : Setting) (shots : Bits) (off : shots (c .shot) ≡ false) where
   forward-linear (Line.reset qs) h s t = on-frame _ (cleared-linear qs) s t
   forward-linear (Line.inject shot P) h s t = on-frame _ (inject-linear _ (apart shots shot (c .shot) h off) (pauliOf P)) s t
   forward-linear (Line.flip shot id) h s t = state-path refl (flip-linear _ (apart shots shot (c .shot) h off) _ _ id)
+  forward-linear (Line.barrier qs) h s t = refl
 
   pub run-linear : (ls : List Line) → within shots ls ≡ true → (s t : State) → run c ls (combined s t) ≡ combined (run c ls s) (run c ls t)
   unfolding run within

@@ -153,6 +153,7 @@ line-within h r shot (Line.conditional P ids par) o s w = within-added (h .qubit
 line-within h r shot (Line.reset qs) o s w = within-cleared (h .qubits) qs (s .frame) w
 line-within h r shot (Line.inject at P) o s w = within-added (h .qubits) (s .frame) _ _ w (within-pauli (h .qubits) P (o .pauli))
 line-within h r shot (Line.flip at id) o s w = w
+line-within h r shot (Line.barrier qs) o s w = w
 
 -- sound lines, one after another
 pub lines-within : (h : Header) (r shot : ℕ) (ls : List Line) → LinesSound h r ls → (s : State) → Within (h .qubits) (s .frame)

@@ -5,7 +5,7 @@ use mathlib.Core.Bool.{Bool, false}
 use mathlib.Core.List.{[], _∷_}
 use Rattle.pauli.specs.Bits.{Bits, _⊕_, added}
 use Rattle.pauli.specs.Pauli.{Pauli, addedAt, cleared}
-use Rattle.pauli.specs.Gate.{swapXZ, addXtoZ, addZtoX, controlledX, controlledZ, exchanged, swapRows}
+use Rattle.pauli.specs.Gate.{swapXZ, addXtoZ, addZtoX, controlledX, controlledZ, controlledY, exchanged, swapRows}
 use Rattle.pauli.specs.Laws.F2.{⊕-comm}
 use Rattle.pauli.specs.Laws.Parity.{added-is, exchanged-is, bitwise}
 use Rattle.pauli.specs.Laws.Set.{added-false, replaced-added, cleared-added}
@@ -52,6 +52,10 @@ module _ (a b : ℕ) (P : Pauli) where
   pub controlled-z-added : addedAt a false (P .x b) (addedAt b false (P .x a) P) ≡ controlledZ a b P
   unfolding addedAt controlledZ
   controlled-z-added = pauli-path (at-a (P .x) a b _ ∙ sym (added-false (P .x) a)) refl
+
+  pub controlled-y-added : addedAt a false (P .x b ⊕ P .z b) (addedAt b (P .x a) (P .x a) P) ≡ controlledY a b P
+  unfolding addedAt controlledY
+  controlled-y-added = pauli-path (at-b (P .x) a b _) refl
 
   pub swap-rows-added : addedAt a (P .x a ⊕ P .x b) (P .z a ⊕ P .z b) (addedAt b (P .x a ⊕ P .x b) (P .z a ⊕ P .z b) P) ≡ swapRows a b P
   unfolding addedAt swapRows
