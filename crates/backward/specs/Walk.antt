@@ -50,7 +50,7 @@ carry n (Line.allocate id angle) w = w
 -- Conditional: if B anticommutes with its Pauli, its list is added to S (symmetric difference).
 carry n (Line.conditional P ids par) w =
     record { observable = w .observable; set = w .set △ given (anticommutes n (w .observable) (pauliOf P)) (members ids) }
--- Reset: B loses the qubit.
+-- Reset: B loses the qubits.
 carry n (Line.reset qs) w = onObservable (cleared qs) w
 carry n (Line.inject shot P) w = w
 carry n (Line.flip shot id) w = w

@@ -163,6 +163,7 @@ gateSum n Gate.ControlledZ a b = controlledSum n (Z-at a) (Z-at b)
 gateSum n Gate.Swap a b = swapSum a b
 -- PrepareBell is one half after the other: Hadamard on the first, then ControlledX.
 gateSum n Gate.PrepareBell a b = product n (controlledSum n (Z-at a) (X-at b)) (hadamardSum a)
+gateSum n Gate.ControlledY a b = controlledSum n (Z-at a) (Y-at b)
 
 -- ---- images, extended to products
 

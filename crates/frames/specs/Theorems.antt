@@ -59,9 +59,9 @@ forward-conjugates c (Line.flip shot id) u s = absurd (true≢false (sym u))
 forward-conjugates c (Line.barrier qs) u s = absurd (true≢false (sym u))
 
 -- What the tests of a job leave of a job's lines (`checked-sound` of crate job) are unitary lines: a gate,
-pub sound-gate : (n : ℕ) (g : Gate) (qs : List ℕ) → UnitarySound n g qs → isUnitaryLine n (Line.unitary g qs) ≡ true
+pub sound-gate : (h : Header) (g : Gate) (qs : List ℕ) → UnitarySound h g qs → isUnitaryLine (h .qubits) (Line.unitary g qs) ≡ true
 unfolding isUnitaryLine
-sound-gate n g qs s = ap₂ _&&_ (ap₂ _&&_ (s .operands .below) (s .operands .apart)) (eq-eqb (length qs) (operandsOf g) (s .count))
+sound-gate h g qs s = ap₂ _&&_ (ap₂ _&&_ (s .operands .below) (s .operands .apart)) (eq-eqb (length qs) (operandsOf g) (s .count))
 
 -- a Clifford,
 pub sound-clifford : (n : ℕ) (qs : List ℕ) (t : ℕ) → CliffordSound n qs t → isUnitaryLine n (Line.clifford qs t) ≡ true
@@ -271,7 +271,7 @@ conjugation-commutes n (Line.barrier qs) u P P′ Q Q′ w w′ a b = absurd a
 -- A sound line of a unitary kind is a unitary line.
 pub sound-unitary : (h : Header) (r : ℕ) (l : Line) → LineSound h r l → isUnitaryKind l ≡ true → isUnitaryLine (h .qubits) l ≡ true
 unfolding LineSound isUnitaryKind isUnitaryLine
-sound-unitary h r (Line.unitary g qs) o u = sound-gate (h .qubits) g qs o
+sound-unitary h r (Line.unitary g qs) o u = sound-gate h g qs o
 sound-unitary h r (Line.clifford qs t) o u = sound-clifford (h .qubits) qs t o
 sound-unitary h r (Line.pauli P) o u = refl
 sound-unitary h r (Line.exponential P) o u = refl

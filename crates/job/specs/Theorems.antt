@@ -79,11 +79,11 @@ first-edition h r i s one =
     }
   where
     single : (qs : List ℕ) → 1 ≤ length qs → (2 ≤ length qs → h .edition ≡ 2) → length qs ≡ 1
-    single qs some several = go (ℕ-discrete (length qs) 1)
+    single qs filled several = go (ℕ-discrete (length qs) 1)
       where
         go : Dec (length qs ≡ 1) → length qs ≡ 1
         go (yes e) = e
-        go (no e) = absurd (omega (arith, one, several (omega (arith, some, e))))
+        go (no e) = absurd (omega (arith, one, several (omega (arith, filled, e))))
 
 first-editions : (h : Header) (r : ℕ) (is : List Placed) → InstructionsSound h r is → h .edition ≡ 1 → Every (λ (p : Placed). FirstEdition (p .instruction)) is
 unfolding InstructionsSound

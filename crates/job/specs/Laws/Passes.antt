@@ -127,11 +127,11 @@ module _ (e : ℕ) where
   gate-edition Gate.ControlledY h = eq-eqb e 2 (h refl)
 
   reset-edition : (qs : List ℕ) → 1 ≤ length qs → (2 ≤ length qs → e ≡ 2) → (not (not (eqb (length qs) 1)) || eqb e 2) ≡ true
-  reset-edition qs some h = go (ℕ-discrete (length qs) 1)
+  reset-edition qs filled h = go (ℕ-discrete (length qs) 1)
     where
       go : Dec (length qs ≡ 1) → (not (not (eqb (length qs) 1)) || eqb e 2) ≡ true
       go (yes one) = rw (eq-eqb (length qs) 1 one)
-      go (no more) = in-second _ (h (omega (arith, some, more)))
+      go (no more) = in-second (not (eqb (length qs) 1)) (h (omega (arith, filled, more)))
 
 pub line-edition : (h : Header) (r : ℕ) (l : Line) → LineSound h r l → inEdition (between h r) (Written.line l) ≡ true
 unfolding LineSound inEdition isSecond between
