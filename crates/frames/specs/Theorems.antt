@@ -8,8 +8,9 @@ use Prim.Native.Nat.{ℕ, _+_, _*_, _^_, _<_}
 use lib.ListN.{length, getD}
 use borrow.Author.Tests.{not-true, eq-eqb}
 use Rattle.pauli.specs.Pauli.{Pauli, identity, X-at, Y-at, Z-at, _∗_, anticommutes}
-use Rattle.pauli.specs.Gate.{Gate, operandsOf}
+use Rattle.pauli.specs.Gate.{Gate, operandsOf, gateWith, conjugated}
 use Rattle.pauli.specs.Laws.Pairing.{anti-comm}
+use Rattle.pauli.specs.Laws.Changes.{cleared-more}
 use Rattle.job.specs.declared.Header.{Header}
 use Rattle.job.specs.Line.{pauliOf, Line, Instruction, Placed}
 use Rattle.job.specs.Clifford.{isClifford}
@@ -17,7 +18,7 @@ use Rattle.job.specs.Checks.{allBelow, distinct, isPermutation}
 use Rattle.job.specs.Job.{jobOf, recordedBy, checkJob}
 use Rattle.job.specs.Sound.{UnitarySound, CliffordSound, PermuteSound, Every, LineSound, InstructionSound, InstructionsSound}
 use Rattle.job.specs.Theorems.{checked-sound}
-use Rattle.frames.specs.Forward.{imagesOf, placesOf, transformed, State, Setting, settingOf, forward}
+use Rattle.frames.specs.Forward.{controlledPauli, imagesOf, placesOf, transformed, State, Setting, settingOf, forward, run}
 use Rattle.frames.specs.Conjugation.{Sum, product, same, phased, pauliSum, exponentialSum, controlledSum, gateSum, Takes, IsUnitary, IsRow, ExtendsTable, ExtendsPlaces, TakesTable, TakesPlaces, Within, KeepsCommutation, isUnitaryLine, Conjugates, HasUnitary, isUnitaryKind, IsConjugate, ConjugatesFrames}
 use Rattle.frames.specs.Laws.Gaussian.{twice}
 use Rattle.frames.specs.Laws.Sums.{product-assoc}
@@ -72,6 +73,26 @@ sound-clifford n qs t s = ap₂ _&&_ (ap₂ _&&_ (s .operands .below) (s .operan
 pub sound-permutation : (n : ℕ) (s qs : List ℕ) → PermuteSound n s qs → isUnitaryLine n (Line.permute s qs) ≡ true
 unfolding isUnitaryLine
 sound-permutation n s qs e = ap₂ _&&_ (ap₂ _&&_ (e .operands .below) (e .operands .apart)) (e .places)
+
+-- ---- the second edition
+
+-- ControlledY is the controlled Pauli of Z and Y,
+pub controlledY-is : (n a b : ℕ) → a < n → b < n → (F : Pauli) → conjugated Gate.ControlledY a b F ≡ controlledPauli n (Z-at a) (Y-at b) F
+unfolding gateWith
+controlledY-is n a b h k F = sym (Gates.controlled-ZY n a b h k F)
+
+-- and does to every frame what SqrtZInv on the target, ControlledX and SqrtZ on the target do, one after another.
+pub controlledY-composed : (c : Setting) (a b : ℕ) (s : State)
+    → run c (Line.unitary Gate.SqrtZInv (b ∷ []) ∷ Line.unitary Gate.ControlledX (a ∷ b ∷ []) ∷ Line.unitary Gate.SqrtZ (b ∷ []) ∷ []) s
+    ≡ forward c (Line.unitary Gate.ControlledY (a ∷ b ∷ [])) s
+unfolding run forward gateWith
+controlledY-composed c a b s = ap (λ F. record { frame = F; deltas = s .deltas }) (Gates.controlledY-composed a b (s .frame))
+
+-- A reset list is its single resets, one after another.
+pub reset-singly : (c : Setting) (q : ℕ) (qs : List ℕ) (s : State)
+    → forward c (Line.reset (q ∷ qs)) s ≡ forward c (Line.reset qs) (forward c (Line.reset (q ∷ [])) s)
+unfolding forward
+reset-singly c q qs s = ap (λ F. record { frame = F; deltas = s .deltas }) (cleared-more q (s .frame) qs)
 
 -- ---- products of Paulis
 

@@ -1,18 +1,18 @@
 -- Each gate's rule for frames is conjugation by its unitary. Hadamard's X + Z is X (1 - iY), and Swap's 1 + XX + YY + ZZ is 1 + C + T - CT for
 -- C = XX and T = YY. Assumes nothing.
-use mathlib.Core.Path.{_≡_, refl, sym, ap, ap₂, _∙_, subst}
+use mathlib.Core.Path.{_≡_, refl, sym, ap, ap₂, _∙_, subst, fun-ext}
 use mathlib.Core.Bool.{Bool, true, false, _&&_, cond, true≢false}
 use mathlib.Core.List.{[], _∷_}
 use Prim.Native.Nat.{ℕ, zero, suc, _+_, _<_, _≤_}
 use native.Mathlib.Nat.{not-suc-le-zero}
 use native.Mathlib.Decide.{ℕ-discrete}
 use native.Mathlib.Omega.{arith}
-use Rattle.pauli.specs.Bits.{Bits, _⊕_, _△_, none, only}
+use Rattle.pauli.specs.Bits.{Bits, _⊕_, _△_, none, only, added}
 use Rattle.pauli.specs.Pauli.{Pauli, identity, X-at, Y-at, Z-at, _∗_, anticommutes}
 use Rattle.pauli.specs.Gate.{Gate, operandsOf, swapXZ, addXtoZ, addZtoX, controlledX, controlledZ, controlledY, swapRows, prepareBell, gateWith, conjugated}
-use Rattle.pauli.specs.Laws.Parity.{at-or-off, only-here, only-off, △-at}
+use Rattle.pauli.specs.Laws.Parity.{at-or-off, only-here, only-off, △-at, added-is, bitwise}
 use Rattle.pauli.specs.Laws.Pairing.{pairing, anti-comm, anti-X, anti-Z}
-use Rattle.pauli.specs.Laws.Gates.{swapXZ-is, addXtoZ-is, addZtoX-is, controlledX-is, controlledZ-is, controlledY-is, swapRows-is}
+use Rattle.pauli.specs.Laws.Gates.{pauli-path, swapXZ-is, addXtoZ-is, addZtoX-is, controlledX-is, controlledZ-is, controlledY-is, swapRows-is}
 use Rattle.pauli.specs.Laws.Group.{group, X-Z, when-∗, when-⊕}
 use Rattle.frames.specs.Forward.{exponentiate, controlledPauli}
 use Rattle.frames.specs.Conjugation.{phaseOne, phase, termProduct, product, phased, pauliSum, sqrtSum, controlledSum, hadamardSum, swapSum, gateSum, Takes, IsUnitary}
@@ -109,6 +109,18 @@ hadamard-unitary n a h =
     subst (IsUnitary n) (hadamard-is n a h) (product-unitary n (pauliSum (X-at a)) (sqrtSum (Y-at a)) (pauli-unitary n (X-at a)) (sqrt-unitary n (Y-at a)))
 
 -- ---- gates of two qubits
+
+added-here : (s : Bits) (q : ℕ) (t : Bool) → added s q t q ≡ s q ⊕ t
+added-here s q t = ap (λ (u : Bits). u q) (added-is s q t) ∙ simp (bitwise, only-here)
+
+-- the Z row of ControlledX between SqrtZInv and SqrtZ on the target
+row-composed : (x z : Bits) (a b : ℕ)
+    → added (added (added z b (x b)) a (added z b (x b) b)) b (added x b (x a) b) ≡ added (added z b (x a)) a (x b ⊕ z b)
+row-composed x z a b = rw (added-here z b (x b), added-here x b (x a)) (simp added-is (fun-ext (λ i. simp bitwise)))
+
+pub controlledY-composed : (a b : ℕ) (Q : Pauli) → addXtoZ b (controlledX a b (addXtoZ b Q)) ≡ controlledY a b Q
+unfolding addXtoZ controlledX controlledY
+controlledY-composed a b Q = pauli-path refl (row-composed (Q .x) (Q .z) a b)
 
 Y-x : (b i : ℕ) → (Y-at b) .x i ≡ only b i
 unfolding Y-at

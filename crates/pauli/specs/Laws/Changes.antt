@@ -1,9 +1,10 @@
 -- What each gate adds to the parts at its operands. Laws. Assumes nothing.
 use Prim.Native.Nat.{ℕ}
 use mathlib.Core.Path.{_≡_, refl, sym, ap, _∙_, fun-ext}
-use mathlib.Core.Bool.{Bool, false}
-use mathlib.Core.List.{[], _∷_}
-use Rattle.pauli.specs.Bits.{Bits, _⊕_, added}
+use mathlib.Core.Bool.{Bool, true, false, not, _&&_}
+use mathlib.Core.List.{List, [], _∷_}
+use lib.Dec.{eqb}
+use Rattle.pauli.specs.Bits.{Bits, _⊕_, _∩_, added, outside}
 use Rattle.pauli.specs.Pauli.{Pauli, addedAt, cleared}
 use Rattle.pauli.specs.Gate.{swapXZ, addXtoZ, addZtoX, controlledX, controlledZ, controlledY, exchanged, swapRows}
 use Rattle.pauli.specs.Laws.F2.{⊕-comm}
@@ -13,10 +14,24 @@ use Rattle.pauli.specs.Laws.Gates.{pauli-path}
 
 -- ---- at one operand
 
+outside-more : (s : Bits) (q : ℕ) (qs : List ℕ) → s ∩ outside (q ∷ qs) ≡ (s ∩ outside (q ∷ [])) ∩ outside qs
+unfolding _∩_ outside
+outside-more s q qs = fun-ext (λ i. go (s i) (not (eqb i q)) (outside qs i))
+  where
+    go : (a b c : Bool) → (a && (b && c)) ≡ ((a && (b && true)) && c)
+    go true true c = refl
+    go true false c = refl
+    go false b c = refl
+
 module _ (q : ℕ) (P : Pauli) where
   pub clear-added : addedAt q (P .x q) (P .z q) P ≡ cleared (q ∷ []) P
   unfolding addedAt cleared
   clear-added = pauli-path (cleared-added (P .x) q) (cleared-added (P .z) q)
+
+  -- one qubit more
+  pub cleared-more : (qs : List ℕ) → cleared (q ∷ qs) P ≡ cleared qs (cleared (q ∷ []) P)
+  unfolding cleared
+  cleared-more qs = pauli-path (outside-more (P .x) q qs) (outside-more (P .z) q qs)
 
   pub swap-added : addedAt q (P .x q ⊕ P .z q) (P .x q ⊕ P .z q) P ≡ swapXZ q P
   unfolding addedAt swapXZ
