@@ -251,7 +251,7 @@ module _ (p : ℕ) (small : p < 2 ^ 64) (probability : isProbability (float p) �
     text-is = rw (b .split, b .reads)
 
     range : HeaderSound (b .header)
-    range = header-sound (b .header) (b .range)
+    range = header-sound (b .header) (b .range) (b .edition)
 
     free : AllFree LF (b .text ∷ annotated p (b .rest))
     free = let f : AllFree LF (b .text ∷ b .rest) = rw (b .split) at (lines-free job) in (f .0, annotated-free p (b .rest) (f .1))

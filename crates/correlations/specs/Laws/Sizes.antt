@@ -87,6 +87,8 @@ single-left form.Uniform a b d t = absurd (b refl)
 single-left form.Weighted a b d t = absurd (d refl)
 single-left form.Element a b d t = absurd (true≢false (sym t))
 single-left form.WeightedElement a b d t = absurd (true≢false (sym t))
+single-left form.EditionHeader a b d t = absurd (true≢false (sym t))
+single-left form.Barrier a b d t = absurd (true≢false (sym t))
 
 -- a noise line of another form has one element
 pub size-other : (f : Form) (vs : List Value) (n : NoiseLine) → (f ≡ form.Depolarizing → ⊥) → (f ≡ form.Uniform → ⊥) → (f ≡ form.Weighted → ⊥)
@@ -146,6 +148,8 @@ corr-in form.Uniform {fields} {vs} {w} t s = corr-held _ vs w (s .held) (omega a
 corr-in form.Weighted {fields} {vs} {w} t s = corr-held _ vs w (s .held) (omega arith) (noise-said _ vs w (s .says))
 corr-in form.Element t s = absurd (true≢false (sym t))
 corr-in form.WeightedElement t s = absurd (true≢false (sym t))
+corr-in form.EditionHeader t s = absurd (true≢false (sym t))
+corr-in form.Barrier t s = absurd (true≢false (sym t))
 
 present-optional : (l : List ℕ) → present (optional l) ≡ not (eqb (length l) 0)
 unfolding present optional

@@ -54,7 +54,7 @@ started job e passes at =
             within = omega (arith, at .inside);
             number = omega (arith, at .inside);
             ended = job-passes job passes .0;
-            header = rw (← header) (header-sound (b .header) (b .range));
+            header = rw (← header) (header-sound (b .header) (b .range) (b .edition));
             recorded = omega arith;
             accepted = rw (← header, ← parts .1) (b .passes);
           };

@@ -57,6 +57,8 @@ acts form.Uniform = false
 acts form.Weighted = false
 acts form.Element = false
 acts form.WeightedElement = false
+acts form.EditionHeader = false
+acts form.Barrier = false
 
 -- they say plain lines
 line-written : (f : Form) (vs : List Value) (w : Written) → acts f ≡ true → formOf f .says vs ≡ some w → (l : Line) × (w ≡ Written.line l)
@@ -81,6 +83,8 @@ line-written form.Uniform vs w a e = absurd (true≢false (sym a))
 line-written form.Weighted vs w a e = absurd (true≢false (sym a))
 line-written form.Element vs w a e = absurd (true≢false (sym a))
 line-written form.WeightedElement vs w a e = absurd (true≢false (sym a))
+line-written form.EditionHeader vs w a e = absurd (true≢false (sym a))
+line-written form.Barrier vs w a e = absurd (true≢false (sym a))
 
 module _ {f : Form} {words : List ℕ} (q : Readable f words) where
   abbrev ready-line : (l : Line) → q .written ≡ Written.line l → HeldLine f words
@@ -190,6 +194,8 @@ idle-written form.Uniform vs v h n e c k w before = absurd (true≢false n)
 idle-written form.Weighted vs v h n e c k w before = absurd (true≢false n)
 idle-written form.Element vs v h n e c k w before = subst (λ (u : Written). (w ≡ writtenBack c u w) × (before ≡ noiseBack k u before)) (some-same e) (refl, refl)
 idle-written form.WeightedElement vs v h n e c k w before = subst (λ (u : Written). (w ≡ writtenBack c u w) × (before ≡ noiseBack k u before)) (some-same e) (refl, refl)
+idle-written form.EditionHeader vs v h n e c k w before = subst (λ (u : Written). (w ≡ writtenBack c u w) × (before ≡ noiseBack k u before)) (some-same e) (refl, refl)
+idle-written form.Barrier vs v h n e c k w before = subst (λ (u : Written). (w ≡ writtenBack c u w) × (before ≡ noiseBack k u before)) (some-same e) (refl, refl)
 
 pub nothing-done : {f : Form} {words : List ℕ} {shot number : ℕ} {w : WalkWords} {set : List ℕ} → Idle f → noiseForm f ≡ false → length set ≡ 16
     → LineBack f words shot number w w set set

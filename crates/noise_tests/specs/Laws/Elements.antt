@@ -213,6 +213,8 @@ unread-form form.Uniform e = absurd (true≢false (sym e))
 unread-form form.Weighted e = absurd (true≢false (sym e))
 unread-form form.Element e = absurd (true≢false (sym e))
 unread-form form.WeightedElement e = absurd (true≢false (sym e))
+unread-form form.EditionHeader e = absurd (true≢false (sym e))
+unread-form form.Barrier e = absurd (true≢false (sym e))
 
 -- nothing is said of an unread line
 pub unread-said : {f : List ℕ} {vs : List Value} {w : Written} → Said form.Unread f vs w → ⊥
