@@ -178,27 +178,30 @@ isSecondGate Gate.PrepareBell = false
 isSecondGate Gate.ControlledY = true
 
 -- whether a line's form is one that the second edition adds: ControlledY, a reset list, a barrier
-unfoldable pub isSecond : Line → Bool
-isSecond (Line.unitary g qs) = isSecondGate g
-isSecond (Line.clifford qs t) = false
-isSecond (Line.pauli P) = false
-isSecond (Line.exponential P) = false
-isSecond (Line.controlled C T) = false
-isSecond (Line.permute s qs) = false
-isSecond (Line.measure P id) = false
-isSecond (Line.allocate id angle) = false
-isSecond (Line.conditional P ids par) = false
-isSecond (Line.reset qs) = not (eqb (length qs) 1)
-isSecond (Line.inject shot P) = false
-isSecond (Line.flip shot id) = false
-isSecond (Line.barrier qs) = true
+unfoldable pub isSecondLine : Line → Bool
+isSecondLine (Line.unitary g qs) = isSecondGate g
+isSecondLine (Line.clifford qs t) = false
+isSecondLine (Line.pauli P) = false
+isSecondLine (Line.exponential P) = false
+isSecondLine (Line.controlled C T) = false
+isSecondLine (Line.permute s qs) = false
+isSecondLine (Line.measure P id) = false
+isSecondLine (Line.allocate id angle) = false
+isSecondLine (Line.conditional P ids par) = false
+isSecondLine (Line.reset qs) = not (eqb (length qs) 1)
+isSecondLine (Line.inject shot P) = false
+isSecondLine (Line.flip shot id) = false
+isSecondLine (Line.barrier qs) = true
+
+unfoldable pub isSecond : Written → Bool
+isSecond (Written.header h) = false
+isSecond (Written.line l) = isSecondLine l
+isSecond (Written.noise n) = false
+isSecond (Written.element w P) = false
 
 -- 2: in a job of the first edition these are no forms. A line before any header is held to the first edition.
-unfoldable pub inEdition : Context → Written → Bool
-inEdition c (Written.header h) = true
-inEdition c (Written.line l) = not (isSecond l) || eqb (c .header .edition) 2
-inEdition c (Written.noise n) = true
-inEdition c (Written.element w P) = true
+abbrev pub inEdition : Context → Written → Bool
+inEdition c w = not (isSecond w) || eqb (c .header .edition) 2
 
 -- 2: form of a line (an element line's too), in the job's edition; the job ends before its n element lines (the job's last line)
 abbrev pub formTest : Context → Bool → Written → Test

@@ -15,7 +15,7 @@ use Rattle.text.specs.Laws.Values.{both}
 use Rattle.job.specs.declared.Header.{Header}
 use Rattle.job.specs.Line.{SparsePauli, Line, WeightedPauli, Noise, Instruction, Placed}
 use Rattle.job.specs.Grammar.{NoiseLine, Written, readLine}
-use Rattle.job.specs.Checks.{Context, elementLines, records, next, lineTests, noiseTests, sameWeight, inEdition, expected, headerFits, ownTests, lowest, refusalOf}
+use Rattle.job.specs.Checks.{Context, elementLines, records, next, lineTests, noiseTests, sameWeight, expected, headerFits, ownTests, lowest, refusalOf}
 use Rattle.job.specs.Job.{answer, isLast, nextOf, checkLines, noiseOf, weightOf, placedAt, gather, gathered, recordedBy}
 use Rattle.job.specs.Contexts.{between, Accepted}
 use Rattle.job.specs.Sound.{LineSound, NoiseSound, InstructionSound, InstructionsSound}
@@ -46,7 +46,7 @@ module _ (h : Header) (r : ℕ) (t : Option Float) (last : Bool) where
   tests-same (Line.barrier qs) = refl
 
   refusal-same : (o : Option Written) → refusalOf (summed h r t) last o ≡ refusalOf (between h r) last o
-  unfolding refusalOf next expected inEdition headerFits ownTests noiseTests lowest summed between
+  unfolding refusalOf next expected headerFits ownTests noiseTests lowest summed between
   refusal-same none = refl
   refusal-same (some (Written.header g)) = refl
   refusal-same (some (Written.line l)) = rw (tests-same l)

@@ -12,7 +12,7 @@ use Rattle.text.specs.Laws.Values.{both}
 use Rattle.job.specs.declared.Header.{Header}
 use Rattle.job.specs.Line.{SparsePauli, Line}
 use Rattle.job.specs.Grammar.{Written}
-use Rattle.job.specs.Checks.{Context, allBelow, eachBelow, eachShort, distinct, lineTests, isSecondGate, isSecond, inEdition, inRange, knownEdition, listsOf}
+use Rattle.job.specs.Checks.{Context, allBelow, eachBelow, eachShort, distinct, lineTests, isSecondGate, isSecondLine, isSecond, inEdition, inRange, knownEdition, listsOf}
 use Rattle.job.specs.Sound.{Operands, PauliSound, NextOutcome, LineSound, HeaderSound}
 use Rattle.pauli.specs.Gate.{operandsOf}
 use Rattle.job.specs.Laws.Lists.{below-first}
@@ -68,7 +68,7 @@ second-only e true h q = eqb-true e 2 h
 second-only e false h q = absurd (true≢false (sym q))
 
 pub line-sound : (c : Context) (l : Line) → LineFits l → inEdition c (Written.line l) ≡ true → AllPass (lineTests c l) → LineSound (c .header) (c .recorded) l
-unfolding LineFits lineTests LineSound inEdition isSecond
+unfolding LineFits lineTests LineSound isSecond isSecondLine
 line-sound c (Line.unitary g qs) f e t =
     let lists = both _ (eachShort (qs ∷ [])) (not-false _ (t .1 .0)) in
     let own = both (eqb (length qs) (operandsOf g)) (distinct qs) (lists .0) in

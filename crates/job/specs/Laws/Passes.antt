@@ -13,7 +13,7 @@ use Rattle.pauli.specs.Gate.{Gate}
 use Rattle.job.specs.declared.Header.{Header}
 use Rattle.job.specs.Line.{SparsePauli, Line, WeightedPauli, Instruction}
 use Rattle.job.specs.Grammar.{Kind, NoiseLine, Written, readLine}
-use Rattle.job.specs.Checks.{Context, noContext, elementLines, next, allBelow, eachBelow, eachShort, distinct, isSecondGate, isSecond, inEdition, expected, inRange, knownEdition, headerFits, listsOf, lineTests, kindQubits, kindDistinct, elementsFit, noiseTests, ownTests, refusalOf}
+use Rattle.job.specs.Checks.{Context, noContext, elementLines, next, allBelow, eachBelow, eachShort, distinct, isSecondGate, isSecondLine, isSecond, inEdition, expected, inRange, knownEdition, headerFits, listsOf, lineTests, kindQubits, kindDistinct, elementsFit, noiseTests, ownTests, refusalOf}
 use Rattle.job.specs.Job.{accepted, isLast, nextOf, checkLines, distributionOf, noiseOf, recordedBy}
 use Rattle.job.specs.Contexts.{between, Accepted}
 use Rattle.job.specs.Sound.{Operands, PauliSound, NextOutcome, LineSound, DistributionSound, NoiseSound, HeaderSound}
@@ -134,7 +134,7 @@ module _ (e : ℕ) where
       go (no more) = in-second (not (eqb (length qs) 1)) (h (omega (arith, filled, more)))
 
 pub line-edition : (h : Header) (r : ℕ) (l : Line) → LineSound h r l → inEdition (between h r) (Written.line l) ≡ true
-unfolding LineSound inEdition isSecond between
+unfolding LineSound isSecond isSecondLine between
 line-edition h r (Line.unitary g qs) s = gate-edition (h .edition) g (s .known)
 line-edition h r (Line.clifford qs t) s = refl
 line-edition h r (Line.pauli P) s = refl
@@ -194,7 +194,7 @@ line-more h r k t ts l reads s a =
 
 -- a header in range passes on the first line
 header-passes : (ts : List (List ℕ)) (h : Header) → HeaderSound h → Passing noContext ts (Written.header h)
-unfolding expected next inEdition headerFits ownTests noContext
+unfolding expected next isSecond headerFits ownTests noContext
 header-passes ts h s = record { due = refl; ends = and-false (isLast ts); edition = refl; header = range; own = passed known tt }
   where
     known : knownEdition h ≡ true
