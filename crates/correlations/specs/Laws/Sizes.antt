@@ -104,6 +104,7 @@ size-other f vs n a b d s =
 meaning-none : {f : Form} {w : Written} → noiseForm f ≡ false → Meaning f w → correlationIn w ≡ none
 unfolding correlationIn noiseForm
 meaning-none q (Meaning.header h e) = refl
+meaning-none q (Meaning.edition-header h e) = refl
 meaning-none q (Meaning.plain l e k) = refl
 meaning-none q (Meaning.measure l e) = refl
 meaning-none q (Meaning.allocate l e) = refl

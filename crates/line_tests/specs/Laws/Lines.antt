@@ -8,22 +8,22 @@ use mathlib.Core.Option.{Option, none, some}
 use borrow.Author.Tests.{eq-eqb, ne-eqb}
 use lib.Dec.{eqb, ltb, leb}
 use lib.ListN.{length}
-use Rattle.pauli.specs.Bits.{_⊕_, outside, members, sumOver}
+use Rattle.pauli.specs.Bits.{_⊕_, members, sumOver}
 use Rattle.pauli.specs.Pauli.{anticommutes}
-use Rattle.pauli.specs.Gate.{Gate, I, X, Y, Z, Hadamard, SqrtZ, SqrtZInv, SqrtX, SqrtXInv, SqrtY, SqrtYInv, ControlledX, ControlledZ, Swap, PrepareBell, gateOf, operandsOf}
+use Rattle.pauli.specs.Gate.{Gate, I, X, Y, Z, Hadamard, SqrtZ, SqrtZInv, SqrtX, SqrtXInv, SqrtY, SqrtYInv, ControlledX, ControlledZ, Swap, PrepareBell, ControlledY, gateOf, operandsOf}
 use Rattle.pauli.specs.Code.{operandCount}
 use Rattle.text.specs.Bytes.{bytes}
 use Rattle.text.specs.Template.{Value, numberAt, listAt}
 use Rattle.job.specs.Clifford.{isClifford}
 use Rattle.job.specs.Line.{pauliOf}
-use Rattle.job.specs.Grammar.{Written, pauliAt, forms}
+use Rattle.job.specs.Grammar.{Written, headerWith, pauliAt, forms}
 use Rattle.job.specs.Laws.Forms.{PauliFits, LineFits, WrittenFits}
 use Rattle.text.specs.List.{isRising}
 use Rattle.text.specs.Laws.Values.{both}
 use Rattle.template.specs.Values.{Whole, AllKept, heldList}
 use Rattle.template.specs.Fields.{Held}
 use Rattle.template.specs.Laws.Fields.{list-held}
-use Rattle.job.specs.Checks.{test, allBelow, eachBelow, eachShort, distinct, isPermutation, idTest, lineTests, ownTests, lowest}
+use Rattle.job.specs.Checks.{test, allBelow, eachBelow, eachShort, distinct, isPermutation, idTest, lineTests, ownTests, lowest, knownEdition}
 use Rattle.reader.specs.declared.Form.the-variants as form
 use Rattle.reader.specs.Parsed.{placeOf, Said}
 use Rattle.value_tests.specs.declared.context.Context.{Context as Known}
@@ -108,6 +108,7 @@ few-operands ControlledX = omega arith
 few-operands ControlledZ = omega arith
 few-operands Swap = omega arith
 few-operands PrepareBell = omega arith
+few-operands ControlledY = omega arith
 
 pub few-counted : {r : ℕ} (o : Option Gate) → r ≡ operandCount o → r ≤ 2
 unfolding operandCount
@@ -169,15 +170,16 @@ module _ (c : Known) {f : List ℕ} {vs : List Value} {w : Written} where
             ∙ ap (λ (x : Written). lowest (ownTests (contextOf c) x)) (some-same (h .says));
       }
 
-  pub tests-reset : Said form.Reset f vs w → Tested c f 1 0 vs w (test 4 (ltb (numberAt 0 vs) (c .header .qubits)) ∷ [])
-  unfolding forms placeOf bytes ownTests lineTests contextOf eachBelow allBelow eachShort distinct members outside lowest
-  tests-reset h =
-      record {
-        held = h .held;
-        own =
-            ap (λ (b : Bool). lowest (test 4 b ∷ [])) (sym (and-true (ltb (numberAt 0 vs) (c .header .qubits) && true) ∙ and-true (ltb (numberAt 0 vs) (c .header .qubits))))
-            ∙ ap (λ (x : Written). lowest (ownTests (contextOf c) x)) (some-same (h .says));
-      }
+  -- operands of no fixed number
+  pub tests-reset : Said form.Reset f vs w
+      → Tested c f 0 1 vs w (test 4 (eachBelow (c .header .qubits) (listsFrom 0 1 vs)) ∷ test 5 (distinct (listAt 0 vs) && eachShort (listsFrom 0 1 vs)) ∷ [])
+  unfolding forms placeOf bytes ownTests lineTests contextOf listsFrom
+  tests-reset h = record { held = h .held; own = ap (λ (x : Written). lowest (ownTests (contextOf c) x)) (some-same (h .says)) }
+
+  pub tests-barrier : Said form.Barrier f vs w
+      → Tested c f 0 1 vs w (test 4 (eachBelow (c .header .qubits) (listsFrom 0 1 vs)) ∷ test 5 (distinct (listAt 0 vs) && eachShort (listsFrom 0 1 vs)) ∷ [])
+  unfolding forms placeOf bytes ownTests lineTests contextOf listsFrom
+  tests-barrier h = record { held = h .held; own = ap (λ (x : Written). lowest (ownTests (contextOf c) x)) (some-same (h .says)) }
 
   pub tests-inject : Said form.Inject f vs w
       → Tested c f 1 2 vs w
@@ -228,6 +230,12 @@ module _ (c : Known) {f : List ℕ} {vs : List Value} {w : Written} where
   unfolding forms placeOf bytes ownTests lineTests contextOf
   tests-allocate h = record { held = h .held; own = ap (λ (x : Written). lowest (ownTests (contextOf c) x)) (some-same (h .says)) }
 
+  -- without the field the edition is 1
   pub tests-header : Said form.Header f vs w → 0 ≡ lowest (ownTests (contextOf c) w)
   unfolding lowest forms placeOf bytes ownTests
   tests-header h = ap (λ (x : Written). lowest (ownTests (contextOf c) x)) (some-same (h .says))
+
+  pub tests-edition : Said form.EditionHeader f vs w
+      → Tested c f 4 0 vs w (test 23 (knownEdition (headerWith (numberAt 0 vs) (numberAt 1 vs) (numberAt 2 vs) (numberAt 3 vs))) ∷ [])
+  unfolding forms placeOf bytes ownTests
+  tests-edition h = record { held = h .held; own = ap (λ (x : Written). lowest (ownTests (contextOf c) x)) (some-same (h .says)) }

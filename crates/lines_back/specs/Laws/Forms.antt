@@ -144,6 +144,7 @@ acted-as {k = k} {words = words} {shot = shot} {number = number} {w = w} {set = 
 noise-written : {f : Form} {w : Written} → Meaning f w → noiseForm f ≡ true → (n : NoiseLine) × (w ≡ Written.noise n)
 unfolding noiseForm
 noise-written (Meaning.header h e) n = absurd (true≢false (sym n ∙ rw e))
+noise-written (Meaning.edition-header h e) n = absurd (true≢false (sym n ∙ rw e))
 noise-written (Meaning.plain l r k) n = absurd (true≢false (sym n ∙ k))
 noise-written (Meaning.measure l e) n = absurd (true≢false (sym n ∙ rw e))
 noise-written (Meaning.allocate l e) n = absurd (true≢false (sym n ∙ rw e))

@@ -35,6 +35,7 @@ module _ (c : Context) (f : Form) where
   pub expected-other : (f ≡ form.Element → ⊥) → (f ≡ form.WeightedElement → ⊥) → (w : Written) → Meaning f w → eqb (c .due) 0 ≡ expected c w
   unfolding expected
   expected-other a b w (Meaning.header h e) = refl
+  expected-other a b w (Meaning.edition-header h e) = refl
   expected-other a b w (Meaning.plain l e m) = refl
   expected-other a b w (Meaning.measure l e) = refl
   expected-other a b w (Meaning.allocate l e) = refl
@@ -48,6 +49,7 @@ module _ (c : Context) (f : Form) where
       → (w : Written) → Meaning f w → 0 ≡ next c w .due
   unfolding next
   none-due a b d g w (Meaning.header h e) = refl
+  none-due a b d g w (Meaning.edition-header h e) = refl
   none-due a b d g w (Meaning.plain l e m) = refl
   none-due a b d g w (Meaning.measure l e) = refl
   none-due a b d g w (Meaning.allocate l e) = refl
@@ -61,6 +63,7 @@ module _ (c : Context) (f : Form) where
   pub no-total-after : (f ≡ form.Weighted → ⊥) → (f ≡ form.WeightedElement → ⊥) → (w : Written) → Meaning f w → expected c w ≡ true → next c w .total ≡ none
   unfolding next expected
   no-total-after a b w (Meaning.header h e) x = refl
+  no-total-after a b w (Meaning.edition-header h e) x = refl
   no-total-after a b w (Meaning.plain l e m) x = refl
   no-total-after a b w (Meaning.measure l e) x = refl
   no-total-after a b w (Meaning.allocate l e) x = refl
@@ -80,6 +83,7 @@ module _ (c : Context) (f : Form) where
   unfolding next
   total-begins b w (Meaning.weighted n e k) x t q = some-same (sym k ∙ q)
   total-begins b w (Meaning.header h e) x t q = no-sum q
+  total-begins b w (Meaning.edition-header h e) x t q = no-sum q
   total-begins b w (Meaning.plain l e m) x t q = no-sum q
   total-begins b w (Meaning.measure l e) x t q = no-sum q
   total-begins b w (Meaning.allocate l e) x t q = no-sum q
