@@ -218,8 +218,8 @@ headerFits c (Written.noise n) = c .begun
 headerFits c (Written.element w P) = c .begun
 
 -- 23: the edition is neither 1 nor 2
-abbrev pub knownEdition : Header → Bool
-knownEdition h = leb 1 (h .edition) && leb (h .edition) maxEdition
+abbrev pub knownEdition : ℕ → Bool
+knownEdition edition = leb 1 edition && leb edition maxEdition
 
 -- 4: qubit not below qubits, in any of the lists
 abbrev pub qubitTest : Context → List (List ℕ) → Test
@@ -313,7 +313,7 @@ abbrev pub elementTests : Context → Option ℕ → SparsePauli → List Test
 elementTests c w P = pauliTests c P (test 12 (weightFits w && (not (eqb (c .due) 1) || totalFits (nextTotal (c .total) w))) ∷ [])
 
 unfoldable pub ownTests : Context → Written → List Test
-ownTests c (Written.header h) = test 23 (knownEdition h) ∷ []
+ownTests c (Written.header h) = test 23 (knownEdition (h .edition)) ∷ []
 ownTests c (Written.line l) = lineTests c l
 ownTests c (Written.noise n) = noiseTests c n
 ownTests c (Written.element w P) = elementTests c w P

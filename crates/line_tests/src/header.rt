@@ -2,10 +2,10 @@
 ghost use mathlib.Core.Path.{_≡_};
 ghost use mathlib.Core.Bool.{not, _&&_};
 ghost use mathlib.Core.List.{List, [], _∷_};
-ghost use Prim.Native.Nat.{ℕ, _≤_};
+ghost use Prim.Native.Nat.{_≤_};
 ghost use Rattle.text.specs.Template.{Value};
 ghost use Rattle.template.specs.Values.{Whole, heldNumber};
-ghost use Rattle.job.specs.Grammar.{Written, headerWith, headerBy, editionBy};
+ghost use Rattle.job.specs.Grammar.{Written, headerBy, editionBy};
 ghost use Rattle.job.specs.Checks.{inRange, knownEdition, test, lowest, headerFits, next as Checks·next};
 ghost use Rattle.reader.specs.Parsed.{Said};
 ghost use Rattle.value_tests.specs.Contexts.{contextOf};
@@ -98,7 +98,7 @@ pub fn header_after(c: Context, form: Form, f: &[u64]) -> Header
 
 // 23
 pub fn edition_number(edition: u64) -> u64
-    ensures { λ r. ⌜ ((qubits outcomes shots : ℕ) → r ≡ lowest (test 23 (knownEdition (headerWith edition qubits outcomes shots)) ∷ [])) ⌝ }
+    ensures { λ r. ⌜ r ≡ lowest (test 23 (knownEdition edition) ∷ []) ⌝ }
 {
     if edition == 0 {
         return 23;

@@ -55,7 +55,7 @@ pub record Begun (job : List ℕ) : Type 0 where
   pub split : lines job ≡ text ∷ rest
   pub reads : readLine text ≡ some (Written.header header)
   pub range : inRange header ≡ true
-  pub edition : knownEdition header ≡ true
+  pub edition : knownEdition (header .edition) ≡ true
   pub passes : Accepted 2 (between header 0) rest
   pub is : jobOf job ≡ record { header = header; text = text; instructions = gathered 2 rest .instructions }
 

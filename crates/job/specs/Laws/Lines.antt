@@ -122,7 +122,7 @@ line-sound c (Line.barrier qs) f e t =
 
 -- ---- the header
 
-pub header-sound : (h : Header) → inRange h ≡ true → knownEdition h ≡ true → HeaderSound h
+pub header-sound : (h : Header) → inRange h ≡ true → knownEdition (h .edition) ≡ true → HeaderSound h
 header-sound h e k =
     let known = both (leb 1 (h .edition)) (leb (h .edition) 2) k in
     let a = both _ (leb (h .shots) 4096) e in

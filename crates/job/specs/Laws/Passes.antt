@@ -197,7 +197,7 @@ header-passes : (ts : List (List ℕ)) (h : Header) → HeaderSound h → Passin
 unfolding expected next isSecond headerFits ownTests noContext
 header-passes ts h s = record { due = refl; ends = and-false (isLast ts); edition = refl; header = range; own = passed known tt }
   where
-    known : knownEdition h ≡ true
+    known : knownEdition (h .edition) ≡ true
     known = and-both (le-leb _ _ (s .some-edition)) (le-leb _ _ (s .two-editions))
 
     range : inRange h ≡ true

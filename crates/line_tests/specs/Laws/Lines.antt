@@ -16,7 +16,7 @@ use Rattle.text.specs.Bytes.{bytes}
 use Rattle.text.specs.Template.{Value, numberAt, listAt}
 use Rattle.job.specs.Clifford.{isClifford}
 use Rattle.job.specs.Line.{pauliOf}
-use Rattle.job.specs.Grammar.{Written, headerWith, pauliAt, forms}
+use Rattle.job.specs.Grammar.{Written, pauliAt, forms}
 use Rattle.job.specs.Laws.Forms.{PauliFits, LineFits, WrittenFits}
 use Rattle.text.specs.List.{isRising}
 use Rattle.text.specs.Laws.Values.{both}
@@ -236,6 +236,6 @@ module _ (c : Known) {f : List ℕ} {vs : List Value} {w : Written} where
   tests-header h = ap (λ (x : Written). lowest (ownTests (contextOf c) x)) (some-same (h .says))
 
   pub tests-edition : Said form.EditionHeader f vs w
-      → Tested c f 4 0 vs w (test 23 (knownEdition (headerWith (numberAt 0 vs) (numberAt 1 vs) (numberAt 2 vs) (numberAt 3 vs))) ∷ [])
+      → Tested c f 4 0 vs w (test 23 (knownEdition (numberAt 0 vs)) ∷ [])
   unfolding forms placeOf bytes ownTests
   tests-edition h = record { held = h .held; own = ap (λ (x : Written). lowest (ownTests (contextOf c) x)) (some-same (h .says)) }

@@ -13,7 +13,7 @@ use Rattle.text.specs.Bytes.{bytes}
 use Rattle.text.specs.Template.{Value, numberAt}
 use Rattle.job.specs.Float.{float, zeroFloat, isWeight}
 use Rattle.job.specs.Grammar.{Written, forms}
-use Rattle.job.specs.Checks.{Context, elementLines, firstTotal, nextTotal, sameWeight, expected, next, weightFits, ownTests, tests, refusalOf}
+use Rattle.job.specs.Checks.{Context, elementLines, firstTotal, nextTotal, sameWeight, inEdition, expected, next, weightFits, ownTests, tests, refusalOf}
 use Rattle.text.specs.Laws.Values.{both}
 use Rattle.job.specs.Laws.Tests.{AllPass, refusal-passes}
 use Rattle.reader.specs.declared.Form.{Form}
@@ -193,7 +193,7 @@ module _ (c : Known) {f : List ℕ} {vs : List Value} {w : Written} (h : Said fo
 
 module _ (c : Context) (last : Bool) (w : Written) (e : refusalOf c last (some w) ≡ 0) where
   pub passed-expected : expected c w ≡ true
-  passed-expected = both (expected c w) _ (not-false _ (refusal-passes c last w e .0)) .0
+  passed-expected = both (expected c w) _ (both _ (inEdition c w) (not-false _ (refusal-passes c last w e .0)) .0) .0
 
 -- an unread line's form
 pub unread-form : (f : Form) → isUnread f ≡ true → f ≡ form.Unread

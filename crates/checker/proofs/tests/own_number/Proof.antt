@@ -132,6 +132,9 @@ enum-told-21 c = search needs
 number-requires-2 : tie.Need-number-requires-2
 number-requires-2 c κs = search needs
 
+edition-number-requires : tie.Need-edition-number-requires
+edition-number-requires c κs = search needs
+
 enum-told-22 : tie.Need-enum-told-22
 enum-told-22 c = search needs
 
@@ -229,7 +232,7 @@ returns-21 c =
     λ vs w h x.
     let t = tests-edition (c .before .before .before .before .before .args .c) (rw (c .before .before .enum-told21 .given .1) at h) in
     let edition = c .before .number2 .ensures ∙ t .held .number 0 (omega arith) in
-    (rw edition at (c .edition-number .ensures)) _ _ _ ∙ t .own
+    (rw edition at (c .edition-number .ensures)) ∙ t .own
 
 returns-22 : tie.Need-returns-22
 returns-22 c =
@@ -282,6 +285,7 @@ own-number-spec =
     weighted-element-number-requires
     enum-told-21
     number-requires-2
+    edition-number-requires
     enum-told-22
     operands-number-requires-2
     returns
