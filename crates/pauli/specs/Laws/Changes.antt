@@ -12,7 +12,19 @@ use Rattle.pauli.specs.Laws.Parity.{added-is, exchanged-is, bitwise}
 use Rattle.pauli.specs.Laws.Set.{added-false, replaced-added, cleared-added}
 use Rattle.pauli.specs.Laws.Gates.{pauli-path}
 
--- ---- at one operand
+-- ---- cleared qubits
+
+all-outside : (s : Bits) → s ∩ outside [] ≡ s
+unfolding _∩_ outside
+all-outside s = fun-ext (λ i. go (s i))
+  where
+    go : (b : Bool) → (b && true) ≡ b
+    go true = refl
+    go false = refl
+
+pub cleared-none : (P : Pauli) → cleared [] P ≡ P
+unfolding cleared
+cleared-none P = pauli-path (all-outside (P .x)) (all-outside (P .z))
 
 outside-more : (s : Bits) (q : ℕ) (qs : List ℕ) → s ∩ outside (q ∷ qs) ≡ (s ∩ outside (q ∷ [])) ∩ outside qs
 unfolding _∩_ outside
@@ -23,15 +35,17 @@ outside-more s q qs = fun-ext (λ i. go (s i) (not (eqb i q)) (outside qs i))
     go true false c = refl
     go false b c = refl
 
+-- one qubit more
+pub cleared-more : (q : ℕ) (P : Pauli) (qs : List ℕ) → cleared (q ∷ qs) P ≡ cleared qs (cleared (q ∷ []) P)
+unfolding cleared
+cleared-more q P qs = pauli-path (outside-more (P .x) q qs) (outside-more (P .z) q qs)
+
+-- ---- at one operand
+
 module _ (q : ℕ) (P : Pauli) where
   pub clear-added : addedAt q (P .x q) (P .z q) P ≡ cleared (q ∷ []) P
   unfolding addedAt cleared
   clear-added = pauli-path (cleared-added (P .x) q) (cleared-added (P .z) q)
-
-  -- one qubit more
-  pub cleared-more : (qs : List ℕ) → cleared (q ∷ qs) P ≡ cleared qs (cleared (q ∷ []) P)
-  unfolding cleared
-  cleared-more qs = pauli-path (outside-more (P .x) q qs) (outside-more (P .z) q qs)
 
   pub swap-added : addedAt q (P .x q ⊕ P .z q) (P .x q ⊕ P .z q) P ≡ swapXZ q P
   unfolding addedAt swapXZ
