@@ -98,6 +98,7 @@ module _ {f : Form} {words : List ℕ} (q : Readable f words) where
         line = l;
         plain =
             record {
+              edition = q .header .edition;
               shots = q .header .shots;
               recorded = r;
               values = q .values;
