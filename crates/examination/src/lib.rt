@@ -23,7 +23,6 @@ pub fn examine(job: &[u8]) -> Examination
     if answered.number != 0 {
         return Examination {
             answered,
-            edition: 1,
             qubits: 0,
             outcomes: 0,
             shots: 0,

@@ -26,7 +26,7 @@ shared-slice-read-t8 : tie.Need-shared-slice-read-t8 Inv-loop μ-loop
 shared-slice-read-t8 c = omega arith
 
 clear-qubit-requires : tie.Need-clear-qubit-requires Inv-loop μ-loop
-clear-qubit-requires c κs = below-at 256 _ (c .before .before .before .before .pre) (c .before .before .loop .i) (omega arith)
+clear-qubit-requires c κs = below-at 256 _ (c .before .before .before .before .pre) _ (omega arith)
 
 add-i : tie.Need-add-i Inv-loop μ-loop
 add-i c = omega arith
