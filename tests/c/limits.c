@@ -40,10 +40,10 @@ static void listed(const char *before, unsigned n, const char *after, uint64_t n
     expect(before, job, at, number);
 }
 
-static void gate(unsigned code, uint64_t number)
+static void gate(unsigned edition, unsigned code, uint64_t number)
 {
     char job[100];
-    int length = snprintf(job, sizeof job, "op=job qubits=2 outcomes=0 shots=1\nop=u g=%u q=0,1\n", code);
+    int length = snprintf(job, sizeof job, "op=job edition=%u qubits=2 outcomes=0 shots=1\nop=u g=%u q=0,1\n", edition, code);
     expect("gate", job, (size_t)length, number);
 }
 
@@ -91,8 +91,12 @@ int main(int count, char **arguments)
 {
     (void)arguments;
     if (count > 1) {
-        for (uint64_t number = KUNDATREZO_LENGTH; number <= KUNDATREZO_CONTROL; number++)
-            printf("%llu: %s\n", (unsigned long long)number, kundatrezo_refusal_text(number));
+        const char *unknown = kundatrezo_refusal_text(UINT64_MAX);
+        for (uint64_t number = KUNDATREZO_LENGTH; number <= KUNDATREZO_EDITION; number++) {
+            const char *text = kundatrezo_refusal_text(number);
+            if (strcmp(text, unknown) != 0)
+                printf("%llu: %s\n", (unsigned long long)number, text);
+        }
         return 0;
     }
     version();
@@ -104,8 +108,12 @@ int main(int count, char **arguments)
     listed("op=p x=- z=", KUNDATREZO_MAX_MEMBERS + 1, "", KUNDATREZO_OPERANDS);
     listed("op=c q=", KUNDATREZO_MAX_CLIFFORD_QUBITS, " t=8040201008040201", 0);
     listed("op=c q=", KUNDATREZO_MAX_CLIFFORD_QUBITS + 1, " t=8040201008040201", KUNDATREZO_OPERANDS);
-    gate(KUNDATREZO_MAX_GATE, 0);
-    gate(KUNDATREZO_MAX_GATE + 1, KUNDATREZO_FORM);
+    gate(1, 14, 0);
+    gate(1, 15, KUNDATREZO_FORM);
+    gate(KUNDATREZO_MAX_EDITION, KUNDATREZO_MAX_GATE, 0);
+    gate(KUNDATREZO_MAX_EDITION, KUNDATREZO_MAX_GATE + 1, KUNDATREZO_FORM);
+    gate(KUNDATREZO_MAX_EDITION + 1, KUNDATREZO_MAX_GATE, KUNDATREZO_EDITION);
+    gate(0, 0, KUNDATREZO_EDITION);
     elements(KUNDATREZO_MAX_ELEMENTS, 0);
     elements(KUNDATREZO_MAX_ELEMENTS + 1, KUNDATREZO_ELEMENTS);
     bytes(KUNDATREZO_MAX_BYTES, 0);

@@ -1,6 +1,7 @@
 //! The calls through the library.
 
 mod by_shot;
+mod editions;
 mod names;
 mod refusals;
 mod seeds;

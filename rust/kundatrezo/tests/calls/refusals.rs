@@ -37,6 +37,8 @@ fn numbers_of_the_checks() {
         (job("op=i shot=1 x=- z=-"), (10, 2)),
         (job(&noise("7ff8000000000000", "d=1 x=- z=-")), (11, 2)),
         (job(&noise(ONE, "d=4 n=1\nw=0000000000000000 x=- z=-")), (12, 3)),
+        (job("op=k x=0 z=- u=- v=0"), (20, 2)),
+        (HEADER.replace("qubits", "edition=3 qubits").into_bytes(), (23, 1)),
     ];
     for (job, expected) in &cases {
         // every call makes these tests, and makes them first
@@ -52,7 +54,7 @@ fn numbers_of_the_checks() {
         assert_eq!(refused(correlation(job)), *expected);
     }
     let seen: Vec<u64> = cases.iter().map(|(_, (number, _))| *number).collect();
-    assert!((1..=12).all(|number| seen.contains(&number)));
+    assert!((1..=12).chain([20, 23]).all(|number| seen.contains(&number)));
 }
 
 #[test]
