@@ -73,7 +73,7 @@ struct kundatrezo_count_answer {
 /* What an examination says: with a refusal all numbers are 0. */
 struct kundatrezo_examination {
     struct kundatrezo_answer answer;
-    uint64_t qubits; /* the header's numbers */
+    uint64_t qubits; /* the header's numbers, but for its edition */
     uint64_t outcomes;
     uint64_t shots;
     uint64_t recorded; /* the outcomes that the job records: those of id 0 to recorded - 1 */
