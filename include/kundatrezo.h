@@ -45,7 +45,8 @@ extern "C" {
 #define KUNDATREZO_MAX_OUTCOMES 1024     /* 0 to this */
 #define KUNDATREZO_MAX_SHOTS 4096        /* 1 to this */
 #define KUNDATREZO_MAX_MEMBERS 31        /* of a list on a line */
-#define KUNDATREZO_MAX_GATE 14           /* the last gate code */
+#define KUNDATREZO_MAX_EDITION 2         /* 1 to this; 1 for a header that names none */
+#define KUNDATREZO_MAX_GATE 15           /* the last gate code of edition 2; that of edition 1 is 14 */
 #define KUNDATREZO_MAX_CLIFFORD_QUBITS 8 /* of a Clifford line */
 #define KUNDATREZO_MAX_TABLE_WORDS 4     /* of the table of a Clifford line: KUNDATREZO_TABLE_WORDS(KUNDATREZO_MAX_CLIFFORD_QUBITS) */
 #define KUNDATREZO_MAX_ELEMENTS 64       /* of a noise line with d=3 or d=4: 1 to this */
@@ -77,7 +78,7 @@ struct kundatrezo_count_answer {
 /* What an examination says: with a refusal all numbers are 0. */
 struct kundatrezo_examination {
     struct kundatrezo_answer answer;
-    uint64_t qubits; /* the header's numbers */
+    uint64_t qubits; /* the header's numbers, but for its edition */
     uint64_t outcomes;
     uint64_t shots;
     uint64_t recorded; /* the outcomes that the job records: those of id 0 to recorded - 1 */
@@ -110,6 +111,7 @@ struct kundatrezo_examination {
 #define KUNDATREZO_SIZES 19       /* the later line */
 #define KUNDATREZO_CONTROL 20     /* the bad line; a test of the job, after 12 */
 #define KUNDATREZO_SIZE 21        /* the noise line; a test of the job, after 12 */
+#define KUNDATREZO_EDITION 23     /* line 1; a test of the job, after 3 */
 
 /* What a number means, in words. */
 static inline const char *kundatrezo_refusal_text(uint64_t number)
@@ -117,7 +119,7 @@ static inline const char *kundatrezo_refusal_text(uint64_t number)
     switch (number) {
     case 0: return "accepted";
     case KUNDATREZO_LENGTH: return "the job is empty, longer than 1,048,576 bytes, or has no LF at its end";
-    case KUNDATREZO_FORM: return "form of a line, a gate code above 14, or the job ends before its element lines";
+    case KUNDATREZO_FORM: return "form of a line in the job's edition, an unknown gate code, or the job ends before its element lines";
     case KUNDATREZO_HEADER: return "header missing, repeated or out of range";
     case KUNDATREZO_QUBIT: return "a qubit not below the header's qubits";
     case KUNDATREZO_OPERANDS: return "number of operands, a repeated operand, or a list of more than 31";
@@ -137,6 +139,7 @@ static inline const char *kundatrezo_refusal_text(uint64_t number)
     case KUNDATREZO_SIZES: return "sizes of one correlation differ";
     case KUNDATREZO_CONTROL: return "control and target of a controlled Pauli anticommute";
     case KUNDATREZO_SIZE: return "the size written differs from the distribution's";
+    case KUNDATREZO_EDITION: return "the header's edition is neither 1 nor 2";
     default: return "a number that this header does not know";
     }
 }

@@ -35,6 +35,8 @@ static void check(void)
     expect_check(session + header, length - header, KUNDATREZO_HEADER, 1);
     static const char late[] = "op=job qubits=1 outcomes=0 shots=1\nop=z q=0\nop=z q=1\n";
     expect_check(late, sizeof late - 1, KUNDATREZO_QUBIT, 3);
+    static const char unknown[] = "op=job edition=3 qubits=1 outcomes=0 shots=1\n";
+    expect_check(unknown, sizeof unknown - 1, KUNDATREZO_EDITION, 1);
 }
 
 static void expect_examination(const char *job, uint64_t number, uint64_t line, const uint64_t numbers[5])
@@ -58,6 +60,9 @@ static void examine(void)
                               "op=r id=1 angle=0\n";
     expect_examination(job, 0, 0, found);
     expect_examination("op=job qubits=3 outcomes=7 shots=65\nop=z q=3\n", KUNDATREZO_QUBIT, 2, none);
+    static const uint64_t second[] = {3, 7, 65, 0, 3};
+    expect_examination("op=job edition=2 qubits=3 outcomes=7 shots=65\nop=b q=2,0\nop=z q=1,2\n", 0, 0, second);
+    expect_examination("op=job edition=1 qubits=3 outcomes=7 shots=65\nop=b q=2,0\n", KUNDATREZO_FORM, 2, none);
     expect_examination("", KUNDATREZO_LENGTH, 0, none);
     struct kundatrezo_examination numbers = kundatrezo_examine((const uint8_t *)job, sizeof job - 1);
     if (kundatrezo_frame_words(numbers) != 6 || kundatrezo_outcome_words(numbers) != 14) {
@@ -117,6 +122,40 @@ static void run(void)
     expect_figure("run", 0, 0, 1, got, deltas[0]);
     expect_figure("run, X words", 0, 0, 1, got, x[0]);
     expect_figure("run, words beyond", 0, 0, 7, got, x[2]);
+}
+
+/* Every line that the second edition adds, with a header that has its field: X on the control of a ControlledY is Y on its target, and a fault is reset on
+ * both qubits at once. Annotation takes ControlledY for a gate of two qubits, and the barrier and the resets get no noise. */
+static void second_edition(void)
+{
+    static const char job[] = "op=job edition=2 qubits=2 outcomes=2 shots=2\n"
+                              "op=i shot=1 x=0 z=-\n"
+                              "op=b q=1,0\n"
+                              "op=u g=15 q=0,1\n"
+                              "op=o x=- z=1 id=0\n"
+                              "op=o x=1 z=- id=1\n"
+                              "op=z q=0,1\n";
+    uint64_t x[2] = {7, 7}, z[2] = {7, 7}, deltas[2] = {7, 7}, noiseless[2] = {0, 0}, words[1] = {0};
+    static const uint64_t set[] = {0, 1};
+    const uint8_t *bytes = (const uint8_t *)job;
+    size_t length = sizeof job - 1;
+    uint8_t out[2 * sizeof job + 200];
+    struct kundatrezo_answer ran = kundatrezo_run(bytes, length, x, 2, z, 2, deltas, 2, noiseless, 2, words, 0, words, 0, 0);
+    expect_figure("run, second edition", 0, 0, 2, ran, deltas[0]);
+    expect_figure("run, second edition", 0, 0, 2, ran, deltas[1]);
+    expect_figure("run, reset qubits", 0, 0, 0, ran, x[0] | x[1] | z[0] | z[1]);
+    struct kundatrezo_count_answer counted = kundatrezo_walk(bytes, length, 1, set, 1);
+    expect_figure("walk, second edition", 0, 0, 1, counted.answer, counted.count);
+    counted = kundatrezo_walk(bytes, length, 1, set, 2);
+    expect_figure("walk, second edition", 0, 0, 0, counted.answer, counted.count);
+    counted = kundatrezo_locations(bytes, length);
+    expect_figure("locations, second edition", 0, 0, 8, counted.answer, counted.count);
+    struct kundatrezo_text_answer settled = kundatrezo_settle(bytes, length, noiseless, 2, words, 0, words, 0, 0, out, sizeof out);
+    expect_figure("settle, second edition", 0, 0, length, settled.answer, settled.figure);
+    if (memcmp(out, job, length) != 0) {
+        printf("settle does not copy a job of the second edition\n");
+        failed = 1;
+    }
 }
 
 /* A condition looks at the noiseless bits of the shots alone, not at those past the last one. */
@@ -264,6 +303,7 @@ int main(void)
     check();
     examine();
     run();
+    second_edition();
     padding();
     encode();
     settle();

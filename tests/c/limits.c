@@ -80,10 +80,10 @@ static void tables(void)
     }
 }
 
-static void gate(unsigned code, uint64_t number)
+static void gate(unsigned edition, unsigned code, uint64_t number)
 {
     char job[100];
-    int length = snprintf(job, sizeof job, "op=job qubits=2 outcomes=0 shots=1\nop=u g=%u q=0,1\n", code);
+    int length = snprintf(job, sizeof job, "op=job edition=%u qubits=2 outcomes=0 shots=1\nop=u g=%u q=0,1\n", edition, code);
     expect("gate", job, (size_t)length, number);
 }
 
@@ -131,8 +131,12 @@ int main(int count, char **arguments)
 {
     (void)arguments;
     if (count > 1) {
-        for (uint64_t number = KUNDATREZO_LENGTH; number <= KUNDATREZO_SIZE; number++)
-            printf("%llu: %s\n", (unsigned long long)number, kundatrezo_refusal_text(number));
+        const char *unknown = kundatrezo_refusal_text(UINT64_MAX);
+        for (uint64_t number = KUNDATREZO_LENGTH; number <= KUNDATREZO_EDITION; number++) {
+            const char *text = kundatrezo_refusal_text(number);
+            if (strcmp(text, unknown) != 0)
+                printf("%llu: %s\n", (unsigned long long)number, text);
+        }
         return 0;
     }
     version();
@@ -146,8 +150,12 @@ int main(int count, char **arguments)
     listed(NOISE, KUNDATREZO_MAX_MEMBERS, " size=4611686018427387903", 0);
     listed(NOISE, KUNDATREZO_MAX_MEMBERS, " size=4611686018427387904", KUNDATREZO_SIZE);
     listed(NOISE, KUNDATREZO_MAX_MEMBERS + 1, " size=0", KUNDATREZO_OPERANDS);
-    gate(KUNDATREZO_MAX_GATE, 0);
-    gate(KUNDATREZO_MAX_GATE + 1, KUNDATREZO_FORM);
+    gate(1, 14, 0);
+    gate(1, 15, KUNDATREZO_FORM);
+    gate(KUNDATREZO_MAX_EDITION, KUNDATREZO_MAX_GATE, 0);
+    gate(KUNDATREZO_MAX_EDITION, KUNDATREZO_MAX_GATE + 1, KUNDATREZO_FORM);
+    gate(KUNDATREZO_MAX_EDITION + 1, KUNDATREZO_MAX_GATE, KUNDATREZO_EDITION);
+    gate(0, 0, KUNDATREZO_EDITION);
     elements(KUNDATREZO_MAX_ELEMENTS, 0);
     elements(KUNDATREZO_MAX_ELEMENTS + 1, KUNDATREZO_ELEMENTS);
     bytes(KUNDATREZO_MAX_BYTES, 0);

@@ -18,7 +18,7 @@ use Rattle.job.specs.InRange.{AllInRange}
 use Rattle.job.specs.Sound.{JobSound}
 use Rattle.job.specs.Theorems.{checked-sound}
 use Rattle.job.specs.Laws.Lists.{below-more, sumOver-members}
-use Rattle.frames.specs.Forward.{controlledPauli, imageSum, transformed, Setting, settingOf, run, start}
+use Rattle.frames.specs.Forward.{controlledPauli, imageSum, transformed, State, Setting, settingOf, forward, run, start}
 use Rattle.frames.specs.Conjugation.{same, controlledSum, Takes}
 use Rattle.frames.specs.Shots.{restricted, within}
 use Rattle.frames.specs.Theorems.{controlled-unitary, takes-unique}
@@ -28,7 +28,7 @@ use Rattle.draws.specs.Settle.{SettledLine, Settled, settle, settledList}
 use Rattle.draws.specs.Execute.{States, starts, Ended, execute}
 use Rattle.draws.specs.Theorems.{executed-spent, executed-ended}
 use Rattle.draws.specs.Laws.Settling.{ended-apart, ended-same}
-use Rattle.backward.specs.Walk.{Walk, walkBack, walk}
+use Rattle.backward.specs.Walk.{carry, counts, Walk, backward, walkBack, walk}
 use Rattle.backward.specs.Laws.Duality.{run-walk, total-start, total-end}
 use Rattle.backward.specs.Laws.Settled.{settled-in-range}
 use Rattle.backward.specs.Laws.WalkShots.{walkBack-restricted, walkBack-quiet, same-carried}
@@ -53,6 +53,11 @@ module _ (c : Setting) (ls : List Line) where
   pub quiet-walk : (shots : Bits) → shots (c .shot) ≡ false → within shots ls ≡ true → (S : Bits) → (walk c ls S) .count ≡ 0
   unfolding walk
   quiet-walk shots off h S = walkBack-quiet c shots off ls h _
+
+-- A barrier changes nothing, forwards and back.
+pub barrier-quiet : (c : Setting) (qs : List ℕ) (s : State) (w : Walk) → (forward c (Line.barrier qs) s ≡ s) × (backward c (Line.barrier qs) w ≡ w)
+unfolding forward backward carry counts
+barrier-quiet c qs s w = (refl, refl)
 
 -- Two lists that differ only in injections and flips outside a set of shots have the same walk in each shot of the set, from any observable, set and
 -- count.

@@ -50,10 +50,11 @@ carry n (Line.allocate id angle) w = w
 -- Conditional: if B anticommutes with its Pauli, its list is added to S (symmetric difference).
 carry n (Line.conditional P ids par) w =
     record { observable = w .observable; set = w .set △ given (anticommutes n (w .observable) (pauliOf P)) (members ids) }
--- Reset: B loses the qubit.
+-- Reset: B loses the qubits.
 carry n (Line.reset qs) w = onObservable (cleared qs) w
 carry n (Line.inject shot P) w = w
 carry n (Line.flip shot id) w = w
+carry n (Line.barrier qs) w = w
 
 -- whether a line is counted, by what is carried back to it
 unfoldable pub counts : Setting → Line → Carried → Bool
@@ -70,6 +71,7 @@ counts c (Line.reset qs) w = Bool.false
 -- Injection in the shot: counted if it anticommutes with B. Flip in the shot: counted if its id is in S.
 counts c (Line.inject shot P) w = eqb shot (c .shot) && anticommutes (c .qubits) (pauliOf P) (w .observable)
 counts c (Line.flip shot id) w = eqb shot (c .shot) && w .set id
+counts c (Line.barrier qs) w = Bool.false
 
 -- the observable, the set and the count
 pub record Walk : Type 0 where

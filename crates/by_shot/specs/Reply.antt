@@ -6,6 +6,7 @@ use lib.Dec.{leb}
 use lib.ListN.{length}
 use Rattle.job.specs.declared.Answer.{Answer}
 use Rattle.job.specs.Job.{answer, accepted}
+use Rattle.job.specs.Grammar.{headerWith}
 use Rattle.job.specs.Checks.{inRange}
 use Rattle.job.specs.Reply.{over}
 use Rattle.rows.specs.Words.{wordsPerRow, bitIn, pack}
@@ -16,7 +17,7 @@ transposed rows columns words = pack columns rows (λ c r. bitIn (wordsPerRow co
 
 -- 3: counts that a header may not hold
 unfoldable pub mayHold : ℕ → ℕ → Bool
-mayHold outcomes shots = inRange (record { qubits = 1; outcomes = outcomes; shots = shots })
+mayHold outcomes shots = inRange (headerWith 1 1 outcomes shots)
 
 -- 13: lent words too few, on either side
 unfoldable pub enoughWords : ℕ → ℕ → List ℕ → List ℕ → Bool

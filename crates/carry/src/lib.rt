@@ -7,7 +7,7 @@ ghost use mathlib.Core.Bool.{true};
 ghost use Prim.Native.Nat.{_+_, _^_, _<_, _≤_};
 ghost use lib.ListN.{length, getD};
 ghost use Rattle.pauli.specs.Bits.{Bits, _△_, given, members, bit};
-ghost use Rattle.pauli.specs.Pauli.{_∗_ as _times_, when, anticommutes as Pauli·anticommutes};
+ghost use Rattle.pauli.specs.Pauli.{_∗_ as _times_, when, anticommutes as Pauli·anticommutes, cleared};
 ghost use Rattle.pauli.specs.Gate.{gateOf, conjugatedBack};
 ghost use Rattle.pauli.specs.Code.{byGate};
 ghost use Rattle.pauli.specs.Fixed.{inSet, asPauli};
@@ -181,6 +181,22 @@ pub fn permute_back(b: Pauli, places: &[u64], qubits: &[u64]) -> Pauli
     let x = parts_at(bx, qubits);
     let z = parts_at(bz, qubits);
     add_parts(b, qubits, x ^ fetch(x, places), z ^ fetch(z, places))
+}
+
+// ---- Resets
+
+// Without its parts on the listed qubits.
+pub fn reset_back(b: Pauli, qubits: &[u64]) -> Pauli
+    requires { ⌜ allBelow 256 (now qubits) ≡ true ⌝ }
+    ensures { λ r. ⌜ asPauli r ≡ cleared (now (qubits .entry)) (asPauli b) ⌝ }
+{
+    let mut r = b;
+    let mut i = 0;
+    while i < qubits.len() {
+        r = r.clear_qubit(QubitId(qubits[i] as usize));
+        i += 1;
+    }
+    r
 }
 
 // ---- Measurements, conditionals and injections

@@ -44,6 +44,7 @@ fn refused(number: u64, line: u64) -> Examined
     Examined {
         answer: Answer { number, line },
         header: Header {
+            edition: 1,
             qubits: 0,
             outcomes: 0,
             shots: 0,

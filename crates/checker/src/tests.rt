@@ -1,4 +1,4 @@
-// Tests 2 to 12 of a line, and the context after one that passed.
+// Tests 2 to 12, 20 and 23 of a line, and the context after one that passed.
 ghost use mathlib.Core.Path.{_≡_};
 ghost use mathlib.Core.Bool.{Bool, true};
 ghost use mathlib.Core.List.{List};
@@ -13,7 +13,9 @@ ghost use Rattle.value_tests.specs.Contexts.{contextOf};
 use line_tests::clifford_number;
 use line_tests::conditional_number;
 use line_tests::controlled_number;
+use line_tests::editions::in_edition;
 use line_tests::flip_number;
+use line_tests::header::edition_number;
 use line_tests::header::header_after;
 use line_tests::header::header_fits;
 use line_tests::id_number;
@@ -21,7 +23,6 @@ use line_tests::inject_number;
 use line_tests::measure_number;
 use line_tests::permute_number;
 use line_tests::recorded_after;
-use line_tests::reset_number;
 use line_tests::unitary_number;
 use noise_tests::elements::due_after;
 use noise_tests::elements::expected;
@@ -35,6 +36,7 @@ use noise_tests::noise_lines::single_number;
 use reader::Form;
 use template::values::number;
 use value_tests::context::Context;
+use value_tests::lists::operands_number;
 use value_tests::lists::pauli_number;
 
 fn own_number(c: Context, form: Form, f: &[u64]) -> u64
@@ -53,7 +55,7 @@ fn own_number(c: Context, form: Form, f: &[u64]) -> u64
         Form::Measure => measure_number(c, f),
         Form::Allocate => id_number(c, number(f, 0)),
         Form::Conditional => conditional_number(c, f),
-        Form::Reset => reset_number(c, f),
+        Form::Reset => operands_number(f, c.header.qubits),
         Form::Inject => inject_number(c, f),
         Form::Flip => flip_number(c, f),
         Form::Single => single_number(c, f),
@@ -62,6 +64,8 @@ fn own_number(c: Context, form: Form, f: &[u64]) -> u64
         Form::Weighted => listed_number(c, f),
         Form::Element => pauli_number(f, 0, 2, c.header.qubits),
         Form::WeightedElement => weighted_element_number(c, f),
+        Form::EditionHeader => edition_number(number(f, 0)),
+        Form::Barrier => operands_number(f, c.header.qubits),
     }
 }
 
@@ -74,6 +78,9 @@ pub fn refusal(c: Context, last: bool, form: Form, f: &[u64]) -> u64
         return 2;
     }
     if missing(c, last, form, f) {
+        return 2;
+    }
+    if !in_edition(c, form, f) {
         return 2;
     }
     if !header_fits(c, form, f) {

@@ -33,6 +33,7 @@ locatedQubits (Line.conditional P ids par) = []
 locatedQubits (Line.reset qs) = []
 locatedQubits (Line.inject shot P) = []
 locatedQubits (Line.flip shot id) = []
+locatedQubits (Line.barrier qs) = []
 
 -- a number behind those seen, where it is not among them
 unfoldable pub addNew : List ℕ → ℕ → List ℕ
@@ -64,6 +65,7 @@ noiseBefore (Line.conditional P ids par) = false
 noiseBefore (Line.reset qs) = false
 noiseBefore (Line.inject shot P) = false
 noiseBefore (Line.flip shot id) = false
+noiseBefore (Line.barrier qs) = false
 
 -- ---- the annotated text
 

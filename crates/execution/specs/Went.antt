@@ -6,7 +6,8 @@ use lib.ListN.{length, drop}
 use Rattle.job.specs.declared.Header.{Header}
 use Rattle.job.specs.declared.Answer.{Answer}
 use Rattle.job.specs.Line.{Instruction}
-use Rattle.job.specs.Job.{answer, accepted, placedAt}
+use Rattle.job.specs.Grammar.{headerWith}
+use Rattle.job.specs.Job.{answer, accepted, placedAt, jobOf}
 use Rattle.instructions.specs.declared.Next.{Next}
 use Rattle.instructions.specs.Ahead.{instructionsAt, Ahead}
 use Rattle.draws.specs.Draws.{Lent}
@@ -21,9 +22,9 @@ use Rattle.execution.specs.declared.Moved.the-variants.{To, Spent}
 
 -- ---- what is lent
 
--- the header whose rows have this shape
-abbrev pub headerOf : Shape → Header
-headerOf shape = record { qubits = shape .qubits; outcomes = shape .outcomes; shots = shape .shots }
+-- the header of a job whose rows have this shape
+abbrev pub headerOf : List ℕ → Shape → Header
+headerOf job shape = headerWith (jobOf job .header .edition) (shape .qubits) (shape .outcomes) (shape .shots)
 
 -- what draws are taken from beside the main list
 abbrev pub lentBy : Shape → List ℕ → List ℕ → ℕ → Lent
@@ -43,12 +44,12 @@ pub record RowsFor (shape : Shape) (x z d noiseless : List ℕ) : Type 0 where
 -- Where execution of what is left comes to `all`, it goes on from another place, with fewer instructions than so many and the states that the words hold.
 pub record WentTo (job : List ℕ) (shape : Shape) (lent : Lent) (main : List ℕ) (all : Ended) (count : ℕ) (x z d : List ℕ) (next : Place) : Type 0 where
   pub recorded : ℕ
-  pub ahead : Ahead job (headerOf shape) recorded (next .line) (next .byte)
+  pub ahead : Ahead job (headerOf job shape) recorded (next .line) (next .byte)
   pub fewer : length (instructionsAt job (next .line) (next .byte)) < count
   pub within : next .position ≤ length main
   pub states : States
   pub holds : Holds (shape .width) x z d states
-  pub is : execute (headerOf shape) lent (instructionsAt job (next .line) (next .byte)) (drop (next .position) main) states ≡ all
+  pub is : execute (headerOf job shape) lent (instructionsAt job (next .line) (next .byte)) (drop (next .position) main) states ≡ all
 
 -- or the draws were spent in line k
 unfoldable pub WentBy : List ℕ → Shape → Lent → List ℕ → Ended → ℕ → ℕ → List ℕ → List ℕ → List ℕ → Moved → Type 0
@@ -61,7 +62,7 @@ pub record Went (job : List ℕ) (shape : Shape) (lent : Lent) (main : List ℕ)
 -- a noise line at a place was read; its element lines begin behind it
 pub record NoiseReady (job : List ℕ) (place : Place) (line : Next) (fields noiseless : List ℕ) (shape : Shape) : Type 0 where
   pub lines : NoiseLines job (line .end + 1) (line .form) fields noiseless (shape .width)
-  pub header : lines .header ≡ headerOf shape
+  pub header : lines .header ≡ headerOf job shape
   pub number : lines .line ≡ place .line + 1
 
 -- with room for its elements, and rows for the frames
@@ -75,16 +76,16 @@ pub record NoiseRoom (shape : Shape) (fields elements x z : List ℕ) : Type 0 w
 
 pub record NoiseDone (job : List ℕ) (place : Place) (line : Next) (fields : List ℕ) (shape : Shape) (noiseless main second : List ℕ) (base : ℕ)
     (x z x′ z′ : List ℕ) (r : Moved) : Type 0 where
-  pub by : (q : NoiseLines job (line .end + 1) (line .form) fields noiseless (shape .width)) → q .header ≡ headerOf shape → q .line ≡ place .line + 1
+  pub by : (q : NoiseLines job (line .end + 1) (line .form) fields noiseless (shape .width)) → q .header ≡ headerOf job shape → q .line ≡ place .line + 1
       → (text deltas : List ℕ) (states : States) → Holds (shape .width) x z deltas states
       → Went job shape (lentBy shape noiseless second base) main
-      (execute (headerOf shape) (lentBy shape noiseless second base) (placedAt (place .line) text (Instruction.noise (noiseIn q)) ∷ q .rest) (drop (place .position) main) states)
+      (execute (headerOf job shape) (lentBy shape noiseless second base) (placedAt (place .line) text (Instruction.noise (noiseIn q)) ∷ q .rest) (drop (place .position) main) states)
       (suc (length (q .rest))) (place .line) x′ z′ deltas r
 
 -- an instruction begins at the place
 pub record StepReady (job : List ℕ) (shape : Shape) (place : Place) (fields elements main : List ℕ) : Type 0 where
   pub recorded : ℕ
-  pub ahead : Ahead job (headerOf shape) recorded (place .line) (place .byte)
+  pub ahead : Ahead job (headerOf job shape) recorded (place .line) (place .byte)
   pub inside : place .byte < length job
   pub of-fields : 136 ≤ length fields
   pub of-elements : 4096 ≤ length elements
@@ -92,9 +93,9 @@ pub record StepReady (job : List ℕ) (shape : Shape) (place : Place) (fields el
 
 pub record Stepped (job : List ℕ) (shape : Shape) (noiseless main second : List ℕ) (base : ℕ) (place : Place) (x z d x′ z′ d′ : List ℕ) (r : Moved) : Type 0
   where
-    pub by : (recorded : ℕ) → Ahead job (headerOf shape) recorded (place .line) (place .byte) → (states : States) → Holds (shape .width) x z d states
+    pub by : (recorded : ℕ) → Ahead job (headerOf job shape) recorded (place .line) (place .byte) → (states : States) → Holds (shape .width) x z d states
         → Went job shape (lentBy shape noiseless second base) main
-        (execute (headerOf shape) (lentBy shape noiseless second base) (instructionsAt job (place .line) (place .byte)) (drop (place .position) main) states)
+        (execute (headerOf job shape) (lentBy shape noiseless second base) (instructionsAt job (place .line) (place .byte)) (drop (place .position) main) states)
         (length (instructionsAt job (place .line) (place .byte))) (place .line) x′ z′ d′ r
 
 -- ---- a job to its end
@@ -106,4 +107,4 @@ pub data Finished (all : Ended) (w : ℕ) (x z d : List ℕ) (r : Answer) : Type
 
 pub record Executes (job : List ℕ) (shape : Shape) (noiseless main second : List ℕ) (base from : ℕ) (x z d x′ z′ d′ : List ℕ) (r : Answer) : Type 0 where
   pub by : (states : States) → Holds (shape .width) x z d states
-      → Finished (execute (headerOf shape) (lentBy shape noiseless second base) (instructionsAt job 2 from) main states) (shape .width) x′ z′ d′ r
+      → Finished (execute (headerOf job shape) (lentBy shape noiseless second base) (instructionsAt job 2 from) main states) (shape .width) x′ z′ d′ r

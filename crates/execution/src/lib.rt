@@ -133,7 +133,7 @@ pub fn execute<'a>(
     second: &'a [u64],
     base: u64,
 ) -> Answer
-    requires { ⌜ ((recorded : ℕ) × Ahead (now job) (headerOf shape) recorded 2 from) × RowsFor shape (now x) (now z) (now deltas) (now noiseless) ⌝ }
+    requires { ⌜ ((recorded : ℕ) × Ahead (now job) (headerOf (now job) shape) recorded 2 from) × RowsFor shape (now x) (now z) (now deltas) (now noiseless) ⌝ }
     ensures { λ r. ⌜ Executes (now (job .entry)) shape (now (noiseless .entry)) (now (main .entry)) (now (second .entry)) base from (now (x .entry)) (now (z .entry)) (now (deltas .entry)) (now (x .exit)) (now (z .exit)) (now (deltas .exit)) r ⌝ }
 {
     let mut f = [0u64; 136];

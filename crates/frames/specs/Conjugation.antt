@@ -163,6 +163,7 @@ gateSum n Gate.ControlledZ a b = controlledSum n (Z-at a) (Z-at b)
 gateSum n Gate.Swap a b = swapSum a b
 -- PrepareBell is one half after the other: Hadamard on the first, then ControlledX.
 gateSum n Gate.PrepareBell a b = product n (controlledSum n (Z-at a) (X-at b)) (hadamardSum a)
+gateSum n Gate.ControlledY a b = controlledSum n (Z-at a) (Y-at b)
 
 -- ---- images, extended to products
 
@@ -232,6 +233,7 @@ isUnitaryLine n (Line.conditional P ids par) = false
 isUnitaryLine n (Line.reset qs) = false
 isUnitaryLine n (Line.inject shot P) = false
 isUnitaryLine n (Line.flip shot id) = false
+isUnitaryLine n (Line.barrier qs) = false
 
 -- The line's unitary takes Q to Q′. Nothing is claimed of the other lines.
 unfoldable pub Conjugates : ℕ → Line → Pauli → Pauli → Type 0
@@ -247,6 +249,7 @@ Conjugates n (Line.conditional P ids par) Q Q′ = ⊥
 Conjugates n (Line.reset qs) Q Q′ = ⊥
 Conjugates n (Line.inject shot P) Q Q′ = ⊥
 Conjugates n (Line.flip shot id) Q Q′ = ⊥
+Conjugates n (Line.barrier qs) Q Q′ = ⊥
 
 -- The line's unitary is one: its sum is a unitary up to a factor; of a Clifford and a permutation, which are given by images, every map that extends
 -- these keeps commutation. Nothing is claimed of the other lines.
@@ -263,6 +266,7 @@ HasUnitary n (Line.conditional P ids par) = ⊥
 HasUnitary n (Line.reset qs) = ⊥
 HasUnitary n (Line.inject shot P) = ⊥
 HasUnitary n (Line.flip shot id) = ⊥
+HasUnitary n (Line.barrier qs) = ⊥
 
 -- Which lines of an accepted job are unitaries: u, c, p, e, k and m.
 unfoldable pub isUnitaryKind : Line → Bool
@@ -278,6 +282,7 @@ isUnitaryKind (Line.conditional P ids par) = false
 isUnitaryKind (Line.reset qs) = false
 isUnitaryKind (Line.inject shot P) = false
 isUnitaryKind (Line.flip shot id) = false
+isUnitaryKind (Line.barrier qs) = false
 
 -- Q′ is Q conjugated by the line's unitary, phases dropped: the line has a unitary, which takes Q to Q′, and on the n qubits to no other Pauli.
 pub record IsConjugate (n : ℕ) (l : Line) (Q Q′ : Pauli) : Type 0 where

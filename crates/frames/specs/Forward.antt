@@ -98,11 +98,13 @@ forward c (Line.measure P id) s = onDelta id (anticommutes (c .qubits) (s .frame
 forward c (Line.allocate id angle) s = s
 -- A conditional adds its Pauli where the listed deltas sum to 1.
 forward c (Line.conditional P ids par) s = onFrame (λ F. F ∗ when (parity (c .outcomes) (s .deltas ∩ members ids)) (pauliOf P)) s
--- Reset clears both rows.
+-- Reset clears both rows of its qubits.
 forward c (Line.reset qs) s = onFrame (cleared qs) s
 -- Injection adds a Pauli, a flip 1, in its shot.
 forward c (Line.inject shot P) s = onFrame (λ F. F ∗ when (eqb shot (c .shot)) (pauliOf P)) s
 forward c (Line.flip shot id) s = onDelta id (eqb shot (c .shot)) s
+-- A barrier changes nothing.
+forward c (Line.barrier qs) s = s
 
 -- the lines from first to last
 unfoldable pub run : Setting → List Line → State → State

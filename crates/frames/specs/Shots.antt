@@ -25,6 +25,7 @@ concerns shots (Line.conditional P ids par) = true
 concerns shots (Line.reset qs) = true
 concerns shots (Line.inject shot P) = shots shot
 concerns shots (Line.flip shot id) = shots shot
+concerns shots (Line.barrier qs) = true
 
 -- the lines without the injections and flips of the shots outside the set
 unfoldable pub restricted : Bits → List Line → List Line
@@ -61,6 +62,7 @@ faultIn (Line.conditional P ids par) = none
 faultIn (Line.reset qs) = none
 faultIn (Line.inject shot P) = some (ShotFault.inject shot P)
 faultIn (Line.flip shot id) = some (ShotFault.flip shot id)
+faultIn (Line.barrier qs) = none
 
 -- the other lines, in order
 unfoldable pub unlessFault : Option ShotFault → Line → List Line → List Line

@@ -8,8 +8,9 @@ use Prim.Native.Nat.{ℕ, _+_, _*_, _^_, _<_}
 use lib.ListN.{length, getD}
 use borrow.Author.Tests.{not-true, eq-eqb}
 use Rattle.pauli.specs.Pauli.{Pauli, identity, X-at, Y-at, Z-at, _∗_, anticommutes}
-use Rattle.pauli.specs.Gate.{Gate, operandsOf}
+use Rattle.pauli.specs.Gate.{Gate, operandsOf, gateWith, conjugated}
 use Rattle.pauli.specs.Laws.Pairing.{anti-comm}
+use Rattle.pauli.specs.Laws.Changes.{cleared-more}
 use Rattle.job.specs.declared.Header.{Header}
 use Rattle.job.specs.Line.{pauliOf, Line, Instruction, Placed}
 use Rattle.job.specs.Clifford.{isClifford}
@@ -17,7 +18,7 @@ use Rattle.job.specs.Checks.{allBelow, distinct, isPermutation}
 use Rattle.job.specs.Job.{jobOf, recordedBy, checkJob}
 use Rattle.job.specs.Sound.{UnitarySound, CliffordSound, PermuteSound, Every, LineSound, InstructionSound, InstructionsSound}
 use Rattle.job.specs.Theorems.{checked-sound}
-use Rattle.frames.specs.Forward.{imagesOf, placesOf, transformed, State, Setting, settingOf, forward}
+use Rattle.frames.specs.Forward.{controlledPauli, imagesOf, placesOf, transformed, State, Setting, settingOf, forward, run}
 use Rattle.frames.specs.Conjugation.{Sum, product, same, phased, pauliSum, exponentialSum, controlledSum, gateSum, Takes, IsUnitary, IsRow, ExtendsTable, ExtendsPlaces, TakesTable, TakesPlaces, Within, KeepsCommutation, isUnitaryLine, Conjugates, HasUnitary, isUnitaryKind, IsConjugate, ConjugatesFrames}
 use Rattle.frames.specs.Laws.Gaussian.{twice}
 use Rattle.frames.specs.Laws.Sums.{product-assoc}
@@ -56,11 +57,12 @@ forward-conjugates c (Line.conditional P ids par) u s = absurd (true≢false (sy
 forward-conjugates c (Line.reset qs) u s = absurd (true≢false (sym u))
 forward-conjugates c (Line.inject shot P) u s = absurd (true≢false (sym u))
 forward-conjugates c (Line.flip shot id) u s = absurd (true≢false (sym u))
+forward-conjugates c (Line.barrier qs) u s = absurd (true≢false (sym u))
 
 -- What the tests of a job leave of a job's lines (`checked-sound` of crate job) are unitary lines: a gate,
-pub sound-gate : (n : ℕ) (g : Gate) (qs : List ℕ) → UnitarySound n g qs → isUnitaryLine n (Line.unitary g qs) ≡ true
+pub sound-gate : (h : Header) (g : Gate) (qs : List ℕ) → UnitarySound h g qs → isUnitaryLine (h .qubits) (Line.unitary g qs) ≡ true
 unfolding isUnitaryLine
-sound-gate n g qs s = ap₂ _&&_ (ap₂ _&&_ (s .operands .below) (s .operands .apart)) (eq-eqb (length qs) (operandsOf g) (s .count))
+sound-gate h g qs s = ap₂ _&&_ (ap₂ _&&_ (s .operands .below) (s .operands .apart)) (eq-eqb (length qs) (operandsOf g) (s .count))
 
 -- a Clifford,
 pub sound-clifford : (n : ℕ) (qs : List ℕ) (t : ℕ) → CliffordSound n qs t → isUnitaryLine n (Line.clifford qs t) ≡ true
@@ -71,6 +73,26 @@ sound-clifford n qs t s = ap₂ _&&_ (ap₂ _&&_ (s .operands .below) (s .operan
 pub sound-permutation : (n : ℕ) (s qs : List ℕ) → PermuteSound n s qs → isUnitaryLine n (Line.permute s qs) ≡ true
 unfolding isUnitaryLine
 sound-permutation n s qs e = ap₂ _&&_ (ap₂ _&&_ (e .operands .below) (e .operands .apart)) (e .places)
+
+-- ---- the second edition
+
+-- ControlledY is the controlled Pauli of Z and Y,
+pub controlledY-is : (n a b : ℕ) → a < n → b < n → (F : Pauli) → conjugated Gate.ControlledY a b F ≡ controlledPauli n (Z-at a) (Y-at b) F
+unfolding gateWith
+controlledY-is n a b h k F = sym (Gates.controlled-ZY n a b h k F)
+
+-- and does to every frame what SqrtZInv on the target, ControlledX and SqrtZ on the target do, one after another.
+pub controlledY-composed : (c : Setting) (a b : ℕ) (s : State)
+    → run c (Line.unitary Gate.SqrtZInv (b ∷ []) ∷ Line.unitary Gate.ControlledX (a ∷ b ∷ []) ∷ Line.unitary Gate.SqrtZ (b ∷ []) ∷ []) s
+    ≡ forward c (Line.unitary Gate.ControlledY (a ∷ b ∷ [])) s
+unfolding run forward gateWith
+controlledY-composed c a b s = ap (λ F. record { frame = F; deltas = s .deltas }) (Gates.controlledY-composed a b (s .frame))
+
+-- A reset list is its single resets, one after another.
+pub reset-singly : (c : Setting) (q : ℕ) (qs : List ℕ) (s : State)
+    → forward c (Line.reset (q ∷ qs)) s ≡ forward c (Line.reset qs) (forward c (Line.reset (q ∷ [])) s)
+unfolding forward
+reset-singly c q qs s = ap (λ F. record { frame = F; deltas = s .deltas }) (cleared-more q (s .frame) qs)
 
 -- ---- products of Paulis
 
@@ -217,6 +239,7 @@ line-unitary n (Line.conditional P ids par) u = absurd (true≢false (sym u))
 line-unitary n (Line.reset qs) u = absurd (true≢false (sym u))
 line-unitary n (Line.inject shot P) u = absurd (true≢false (sym u))
 line-unitary n (Line.flip shot id) u = absurd (true≢false (sym u))
+line-unitary n (Line.barrier qs) u = absurd (true≢false (sym u))
 
 -- What a unitary line takes a Pauli on the n qubits to is determined on them: with `forward-conjugates`, it is what `forward` makes of it.
 pub conjugation-unique : (n : ℕ) (l : Line) → isUnitaryLine n l ≡ true → (Q Q₁ Q₂ : Pauli) → Within n Q → Conjugates n l Q Q₁ → Conjugates n l Q Q₂
@@ -239,6 +262,7 @@ conjugation-unique n (Line.conditional P ids par) u Q Q₁ Q₂ w a b = absurd a
 conjugation-unique n (Line.reset qs) u Q Q₁ Q₂ w a b = absurd a
 conjugation-unique n (Line.inject shot P) u Q Q₁ Q₂ w a b = absurd a
 conjugation-unique n (Line.flip shot id) u Q Q₁ Q₂ w a b = absurd a
+conjugation-unique n (Line.barrier qs) u Q Q₁ Q₂ w a b = absurd a
 
 -- A unitary line keeps the commutation of the Paulis on the n qubits.
 pub conjugation-commutes : (n : ℕ) (l : Line) → isUnitaryLine n l ≡ true → (P P′ Q Q′ : Pauli) → Within n P → Within n Q → Conjugates n l P P′ → Conjugates n l Q Q′
@@ -261,13 +285,14 @@ conjugation-commutes n (Line.conditional R ids par) u P P′ Q Q′ w w′ a b =
 conjugation-commutes n (Line.reset qs) u P P′ Q Q′ w w′ a b = absurd a
 conjugation-commutes n (Line.inject shot R) u P P′ Q Q′ w w′ a b = absurd a
 conjugation-commutes n (Line.flip shot id) u P P′ Q Q′ w w′ a b = absurd a
+conjugation-commutes n (Line.barrier qs) u P P′ Q Q′ w w′ a b = absurd a
 
 -- ---- accepted jobs
 
 -- A sound line of a unitary kind is a unitary line.
 pub sound-unitary : (h : Header) (r : ℕ) (l : Line) → LineSound h r l → isUnitaryKind l ≡ true → isUnitaryLine (h .qubits) l ≡ true
 unfolding LineSound isUnitaryKind isUnitaryLine
-sound-unitary h r (Line.unitary g qs) o u = sound-gate (h .qubits) g qs o
+sound-unitary h r (Line.unitary g qs) o u = sound-gate h g qs o
 sound-unitary h r (Line.clifford qs t) o u = sound-clifford (h .qubits) qs t o
 sound-unitary h r (Line.pauli P) o u = refl
 sound-unitary h r (Line.exponential P) o u = refl
@@ -279,6 +304,7 @@ sound-unitary h r (Line.conditional P ids par) o u = u
 sound-unitary h r (Line.reset qs) o u = u
 sound-unitary h r (Line.inject shot P) o u = u
 sound-unitary h r (Line.flip shot id) o u = u
+sound-unitary h r (Line.barrier qs) o u = u
 
 -- What a sound line makes of a frame on the job's qubits is a frame on them,
 pub sound-within : (h : Header) (r : ℕ) (l : Line) → LineSound h r l → (shot : ℕ) (s : State) → Within (h .qubits) (s .frame)

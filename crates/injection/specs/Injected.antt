@@ -4,7 +4,7 @@ use mathlib.Core.List.{List}
 use Prim.Native.Nat.{ℕ, _*_, _<_, _≤_}
 use lib.ListN.{length, drop}
 use lib.Ieee.{Float}
-use Rattle.job.specs.declared.Header.{Header}
+use Rattle.job.specs.Grammar.{headerWith}
 use Rattle.job.specs.Line.{SparsePauli, Line, Distribution, sizeOf, Noise}
 use Rattle.job.specs.Sound.{PauliSound, DistributionSound}
 use Rattle.draws.specs.Draws.{elementAt, Lent}
@@ -80,12 +80,8 @@ pub record Injected (o : Executed) (words : List ℕ) (w : ℕ) (x z d : List �
   pub is : o ≡ executedAs words states r
   pub within : placeOf r ≤ length words
 
--- a header by its numbers
-abbrev pub numbers : ℕ → ℕ → ℕ → Header
-numbers qubits outcomes shots = record { qubits = qubits; outcomes = outcomes; shots = shots }
-
--- for every noise line that the values stand for, and all states, whatever the number of outcomes
+-- for every noise line that the values stand for, and all states, whatever the edition and the number of outcomes
 pub record FaultsInjected (qubits shots w : ℕ) (p : Float) (d : PauliDistribution) (sums : List Float) (elements mask words x z x′ z′ : List ℕ) (r : Drawn)
     : Type 0 where
-  pub by : (outcomes : ℕ) (n : Noise) (lent : Lent) → LineReady n lent w qubits p d sums elements mask → (deltas : List ℕ) (states : States)
-      → Holds w x z deltas states → Injected (injectShots (numbers qubits outcomes shots) lent n shots 0 words states) words w x′ z′ deltas r
+  pub by : (edition outcomes : ℕ) (n : Noise) (lent : Lent) → LineReady n lent w qubits p d sums elements mask → (deltas : List ℕ) (states : States)
+      → Holds w x z deltas states → Injected (injectShots (headerWith edition qubits outcomes shots) lent n shots 0 words states) words w x′ z′ deltas r

@@ -51,6 +51,8 @@ noiseForm form.Uniform = true
 noiseForm form.Weighted = true
 noiseForm form.Element = false
 noiseForm form.WeightedElement = false
+noiseForm form.EditionHeader = false
+noiseForm form.Barrier = false
 
 -- the form of the element lines of a distribution with weights, or without
 abbrev pub elementForm : Bool → Form

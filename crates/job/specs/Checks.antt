@@ -1,4 +1,4 @@
--- Definitions. Tests 2 to 12, 20 and 21, line by line: each is a Bool on what the whole line says and on what the lines before it said. The first that fails,
+-- Definitions. Tests 2 to 12, 20, 21 and 23, line by line: each is a Bool on what the whole line says and on what the lines before it said. The first that fails,
 -- in document 01's order, is the number that refuses the line. Assumes nothing.
 use Prim.Native.Nat.{ℕ, suc, _-_, _^_}
 use mathlib.Core.Bool.{Bool, true, false, cond, not, _&&_, _||_}
@@ -9,12 +9,12 @@ use lib.ListN.{length}
 use lib.Ieee.{Float, binary64, add}
 use Rattle.pauli.specs.Bits.{members}
 use Rattle.pauli.specs.Pauli.{anticommutes}
-use Rattle.pauli.specs.Gate.{operandsOf}
+use Rattle.pauli.specs.Gate.{Gate, operandsOf}
 use Rattle.job.specs.declared.Header.{Header}
 use Rattle.job.specs.Line.{SparsePauli, pauliOf, Line}
 use Rattle.job.specs.Float.{float, zeroFloat, isProbability, isWeight, isTotal}
 use Rattle.job.specs.Clifford.{maxCliffordQubits, isClifford}
-use Rattle.job.specs.Grammar.{Kind, NoiseLine, Written}
+use Rattle.job.specs.Grammar.{Kind, NoiseLine, Written, headerWith}
 
 -- ---- limits
 
@@ -34,6 +34,9 @@ maxElements = 64
 abbrev pub maxMembers : ℕ
 maxMembers = 31
 
+abbrev pub maxEdition : ℕ
+maxEdition = 2
+
 -- ---- what the lines before say
 
 pub record Context : Type 0 where
@@ -46,9 +49,9 @@ pub record Context : Type 0 where
   pub due : ℕ
   pub total : Option Float
 
--- the numbers of no header
+-- the numbers of no header; without the field the edition is 1
 abbrev pub noHeader : Header
-noHeader = record { qubits = 0; outcomes = 0; shots = 0 }
+noHeader = headerWith 1 0 0 0
 
 unfoldable pub noContext : Context
 noContext = record { begun = false; header = noHeader; recorded = 0; due = 0; total = none }
@@ -93,6 +96,7 @@ records (Line.conditional P ids par) = false
 records (Line.reset qs) = false
 records (Line.inject shot P) = false
 records (Line.flip shot id) = false
+records (Line.barrier qs) = false
 
 -- the context after a line
 unfoldable pub next : Context → Written → Context
@@ -151,9 +155,54 @@ expected c (Written.line l) = eqb (c .due) 0
 expected c (Written.noise n) = eqb (c .due) 0
 expected c (Written.element w P) = ltb 0 (c .due) && sameWeight w (c .total)
 
--- 2: form of a line (an element line's too); the job ends before its n element lines (the job's last line)
+-- whether a gate is one that the second edition adds
+unfoldable pub isSecondGate : Gate → Bool
+isSecondGate Gate.I = false
+isSecondGate Gate.X = false
+isSecondGate Gate.Y = false
+isSecondGate Gate.Z = false
+isSecondGate Gate.Hadamard = false
+isSecondGate Gate.SqrtZ = false
+isSecondGate Gate.SqrtZInv = false
+isSecondGate Gate.SqrtX = false
+isSecondGate Gate.SqrtXInv = false
+isSecondGate Gate.SqrtY = false
+isSecondGate Gate.SqrtYInv = false
+isSecondGate Gate.ControlledX = false
+isSecondGate Gate.ControlledZ = false
+isSecondGate Gate.Swap = false
+isSecondGate Gate.PrepareBell = false
+isSecondGate Gate.ControlledY = true
+
+-- whether a line's form is one that the second edition adds: ControlledY, a reset list, a barrier
+unfoldable pub isSecondLine : Line → Bool
+isSecondLine (Line.unitary g qs) = isSecondGate g
+isSecondLine (Line.clifford qs t) = false
+isSecondLine (Line.pauli P) = false
+isSecondLine (Line.exponential P) = false
+isSecondLine (Line.controlled C T) = false
+isSecondLine (Line.permute s qs) = false
+isSecondLine (Line.measure P id) = false
+isSecondLine (Line.allocate id angle) = false
+isSecondLine (Line.conditional P ids par) = false
+isSecondLine (Line.reset qs) = not (eqb (length qs) 1)
+isSecondLine (Line.inject shot P) = false
+isSecondLine (Line.flip shot id) = false
+isSecondLine (Line.barrier qs) = true
+
+unfoldable pub isSecond : Written → Bool
+isSecond (Written.header h) = false
+isSecond (Written.line l) = isSecondLine l
+isSecond (Written.noise n) = false
+isSecond (Written.element w P) = false
+
+-- 2: in a job of the first edition these are no forms. A line before any header is held to the first edition.
+abbrev pub inEdition : Context → Written → Bool
+inEdition c w = not (isSecond w) || eqb (c .header .edition) 2
+
+-- 2: form of a line (an element line's too), in the job's edition; the job ends before its n element lines (the job's last line)
 abbrev pub formTest : Context → Bool → Written → Test
-formTest c last w = test 2 (expected c w && not (last && ltb 0 (next c w .due)))
+formTest c last w = test 2 (expected c w && not (last && ltb 0 (next c w .due)) && inEdition c w)
 
 -- 3: header missing, repeated, out of range
 abbrev pub inRange : Header → Bool
@@ -164,6 +213,10 @@ headerFits c (Written.header h) = not (c .begun) && inRange h
 headerFits c (Written.line l) = c .begun
 headerFits c (Written.noise n) = c .begun
 headerFits c (Written.element w P) = c .begun
+
+-- 23: the edition is neither 1 nor 2
+abbrev pub knownEdition : ℕ → Bool
+knownEdition edition = leb 1 edition && leb edition maxEdition
 
 -- 4: qubit not below qubits, in any of the lists
 abbrev pub qubitTest : Context → List (List ℕ) → Test
@@ -212,6 +265,7 @@ lineTests c (Line.conditional P ids par) = qubitTest c (listsOf P) ∷ operandTe
 lineTests c (Line.reset qs) = qubitTest c (qs ∷ []) ∷ operandTest (distinct qs) (qs ∷ []) ∷ []
 lineTests c (Line.inject shot P) = pauliTests c P (shotTest c shot ∷ [])
 lineTests c (Line.flip shot id) = outcomeTest c (id ∷ []) ∷ shotTest c shot ∷ []
+lineTests c (Line.barrier qs) = qubitTest c (qs ∷ []) ∷ operandTest (distinct qs) (qs ∷ []) ∷ []
 
 -- the qubits of a kind of distribution, and whether its operands are fine
 unfoldable pub kindQubits : Kind → List (List ℕ)
@@ -258,7 +312,7 @@ abbrev pub elementTests : Context → Option ℕ → SparsePauli → List Test
 elementTests c w P = pauliTests c P (test 12 (weightFits w && (not (eqb (c .due) 1) || totalFits (nextTotal (c .total) w))) ∷ [])
 
 unfoldable pub ownTests : Context → Written → List Test
-ownTests c (Written.header h) = []
+ownTests c (Written.header h) = test 23 (knownEdition (h .edition)) ∷ []
 ownTests c (Written.line l) = lineTests c l
 ownTests c (Written.noise n) = noiseTests c n
 ownTests c (Written.element w P) = elementTests c w P

@@ -1,4 +1,5 @@
--- Definitions. The forms of the lines: the table of document 01, "The job", with a template for each kind of line. Assumes nothing.
+-- Definitions. The forms of the lines: the table of document 01, "The job", with a template for each kind of line, and behind it what document 02 adds in
+-- the second edition. A line is read by one table; which edition has its form is a test (Checks). Assumes nothing.
 use Prim.Native.Nat.{ℕ}
 use Prim.Native.String.{String}
 use mathlib.Core.Bool.{Bool, cond, not, _&&_}
@@ -39,12 +40,16 @@ pub data Written : Type 0 where
 -- ---- from the values of a line to what it says; nothing where the line has not its form after all
 
 -- a header by its numbers
-abbrev pub headerWith : ℕ → ℕ → ℕ → Header
-headerWith qubits outcomes shots = record { qubits = qubits; outcomes = outcomes; shots = shots }
+abbrev pub headerWith : ℕ → ℕ → ℕ → ℕ → Header
+headerWith edition qubits outcomes shots = record { edition = edition; qubits = qubits; outcomes = outcomes; shots = shots }
 
--- a header by the numbers of its line, from the first on
+-- a header by the numbers of its line, from the first on; without the field the edition is 1
 abbrev pub headerBy : (ℕ → ℕ) → Header
-headerBy number = headerWith (number 0) (number 1) (number 2)
+headerBy number = headerWith 1 (number 0) (number 1) (number 2)
+
+-- the same with the field, which stands first
+abbrev pub editionBy : (ℕ → ℕ) → Header
+editionBy number = headerWith (number 0) (number 1) (number 2) (number 3)
 
 -- the Pauli whose lists are the i-th and the j-th of the line
 abbrev pub pauliAt : ℕ → ℕ → List Value → SparsePauli
@@ -56,7 +61,7 @@ isOne n = eqb n 1
 abbrev pub plain : Line → Option Written
 plain l = some (Written.line l)
 
--- a gate code above 14 is no gate
+-- a gate code above 15 is no gate
 unfoldable pub unitaryLine : Option Gate → List ℕ → Option Written
 unitaryLine none qs = none
 unitaryLine (some g) qs = plain (Line.unitary g qs)
@@ -117,7 +122,7 @@ forms =
     ∷ form "op=o x=L z=L id=N" (λ v. plain (Line.measure (pauliAt 0 1 v) (numberAt 0 v)))
     ∷ form "op=r id=N angle=B" (λ v. plain (Line.allocate (numberAt 0 v) (isOne (numberAt 1 v))))
     ∷ form "op=f x=L z=L id=L parity=B" (λ v. plain (Line.conditional (pauliAt 0 1 v) (listAt 2 v) (isOne (numberAt 0 v))))
-    ∷ form "op=z q=N" (λ v. plain (Line.reset (numberAt 0 v ∷ [])))
+    ∷ form "op=z q=Q" (λ v. plain (Line.reset (listAt 0 v)))
     ∷ formBy injectTemplate (λ v. plain (Line.inject (numberAt 0 v) (pauliAt 0 1 v)))
     ∷ form "op=t shot=N id=N" (λ v. plain (Line.flip (numberAt 0 v) (numberAt 1 v)))
     ∷ form "op=n p=H corr=C cond=L parity=B d=1 x=L z=L size=N" (λ v. noiseLine (Kind.single (pauliAt 2 3 v)) (numberAt 2 v) v)
@@ -126,6 +131,9 @@ forms =
     ∷ form "op=n p=H corr=C cond=L parity=B d=4 n=N size=N" (λ v. noiseLine (Kind.weighted (numberAt 2 v)) (numberAt 3 v) v)
     ∷ form "x=L z=L" (λ v. some (Written.element none (pauliAt 0 1 v)))
     ∷ form "w=H x=L z=L" (λ v. some (Written.element (some (numberAt 0 v)) (pauliAt 0 1 v)))
+    -- of the second edition
+    ∷ form "op=job edition=N qubits=N outcomes=N shots=N" (λ v. some (Written.header (editionBy (λ i. numberAt i v))))
+    ∷ form "op=b q=Q" (λ v. plain (Line.barrier (listAt 0 v)))
     ∷ []
 
 unfoldable pub said : (List Value → Option Written) → Option (List Value) → Option Written

@@ -7,7 +7,7 @@ use Prim.Native.Nat.{ℕ, _<_}
 use Rattle.job.specs.Line.{Line}
 use Rattle.job.specs.Checks.{allBelow}
 
--- For n qubits and m outcomes. Of the parts of a Pauli, of the ids of a condition and of the qubits of a reset nothing is asked: Paulis are compared on
+-- For n qubits and m outcomes. Of the parts of a Pauli, of the ids of a condition and of the qubits of a reset or a barrier nothing is asked: Paulis are compared on
 -- the n qubits alone, and deltas are summed over the m outcomes alone.
 abbrev pub InRange : ℕ → ℕ → Line → Type 0
 InRange n m (Line.unitary g qs) = allBelow n qs ≡ true
@@ -22,6 +22,7 @@ InRange n m (Line.conditional P ids par) = Unit {0}
 InRange n m (Line.reset qs) = Unit {0}
 InRange n m (Line.inject shot P) = Unit {0}
 InRange n m (Line.flip shot id) = id < m
+InRange n m (Line.barrier qs) = Unit {0}
 
 abbrev pub AllInRange : ℕ → ℕ → List Line → Type 0
 AllInRange n m [] = Unit {0}

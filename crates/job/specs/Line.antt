@@ -16,7 +16,7 @@ pub record SparsePauli : Type 0 where
 unfoldable pub pauliOf : SparsePauli → Pauli
 pauliOf P = record { x = members (P .x); z = members (P .z) }
 
--- The lines that are no noise, in the order of document 01: u, c, p, e, k, m, o, r, f, z, i, t.
+-- The lines that are no noise, in the order of document 01: u, c, p, e, k, m, o, r, f, z, i, t; and b, of the second edition.
 pub data Line : Type 0 where
   -- the gate and its operands
   unitary : Gate → List ℕ → Line
@@ -34,12 +34,14 @@ pub data Line : Type 0 where
   allocate : ℕ → Bool → Line
   -- the Pauli, the ids and the parity, which frames ignore
   conditional : SparsePauli → List ℕ → Bool → Line
-  -- the qubits, of which an `op=z` line has one
+  -- the qubits, of which a line of the first edition has one
   reset : List ℕ → Line
   -- the shot and the Pauli
   inject : ℕ → SparsePauli → Line
   -- the shot and the id
   flip : ℕ → ℕ → Line
+  -- the qubits
+  barrier : List ℕ → Line
 
 -- an element with its weight, by its bits
 pub record WeightedPauli : Type 0 where

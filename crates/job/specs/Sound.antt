@@ -46,9 +46,11 @@ pub record PauliSound (n : ℕ) (P : SparsePauli) : Type 0 where
   pub x : RisingBelow n (P .x)
   pub z : RisingBelow n (P .z)
 
-pub record UnitarySound (n : ℕ) (g : Gate) (qs : List ℕ) : Type 0 where
-  pub operands : Operands n qs
+-- ControlledY stands in jobs of the second edition alone
+pub record UnitarySound (h : Header) (g : Gate) (qs : List ℕ) : Type 0 where
+  pub operands : Operands (h .qubits) qs
   pub count : length qs ≡ operandsOf g
+  pub known : g ≡ Gate.ControlledY → h .edition ≡ 2
 
 pub record CliffordSound (n : ℕ) (qs : List ℕ) (t : ℕ) : Type 0 where
   pub operands : Operands n qs
@@ -79,9 +81,14 @@ pub record ConditionalSound (n recorded : ℕ) (P : SparsePauli) (ids : List ℕ
   pub pauli : PauliSound n P
   pub known : RisingBelow recorded ids
 
-pub record ResetSound (n : ℕ) (qs : List ℕ) : Type 0 where
-  pub operands : Operands n qs
-  pub one : length qs ≡ 1
+-- so does a reset of several qubits, and a barrier
+pub record ResetSound (h : Header) (qs : List ℕ) : Type 0 where
+  pub operands : Operands (h .qubits) qs
+  pub several : 2 ≤ length qs → h .edition ≡ 2
+
+pub record BarrierSound (h : Header) (qs : List ℕ) : Type 0 where
+  pub operands : Operands (h .qubits) qs
+  pub second : h .edition ≡ 2
 
 pub record InjectSound (h : Header) (shot : ℕ) (P : SparsePauli) : Type 0 where
   pub within : shot < h .shots
@@ -93,7 +100,7 @@ pub record FlipSound (shots recorded shot id : ℕ) : Type 0 where
 
 -- A line of a job with this header, where so many outcomes are recorded before it.
 unfoldable pub LineSound : Header → ℕ → Line → Type 0
-LineSound h r (Line.unitary g qs) = UnitarySound (h .qubits) g qs
+LineSound h r (Line.unitary g qs) = UnitarySound h g qs
 LineSound h r (Line.clifford qs t) = CliffordSound (h .qubits) qs t
 LineSound h r (Line.pauli P) = PauliSound (h .qubits) P
 LineSound h r (Line.exponential P) = PauliSound (h .qubits) P
@@ -102,9 +109,10 @@ LineSound h r (Line.permute s qs) = PermuteSound (h .qubits) s qs
 LineSound h r (Line.measure P id) = MeasureSound h r P id
 LineSound h r (Line.allocate id angle) = NextOutcome (h .outcomes) r id
 LineSound h r (Line.conditional P ids par) = ConditionalSound (h .qubits) r P ids
-LineSound h r (Line.reset qs) = ResetSound (h .qubits) qs
+LineSound h r (Line.reset qs) = ResetSound h qs
 LineSound h r (Line.inject shot P) = InjectSound h shot P
 LineSound h r (Line.flip shot id) = FlipSound (h .shots) r shot id
+LineSound h r (Line.barrier qs) = BarrierSound h qs
 
 -- ---- noise
 
@@ -246,6 +254,7 @@ idsOf (Instruction.line (Line.conditional P ids par)) = []
 idsOf (Instruction.line (Line.reset qs)) = []
 idsOf (Instruction.line (Line.inject shot P)) = []
 idsOf (Instruction.line (Line.flip shot id)) = []
+idsOf (Instruction.line (Line.barrier qs)) = []
 idsOf (Instruction.noise n) = []
 
 unfoldable pub idsIn : List Placed → List ℕ
@@ -257,13 +266,21 @@ unfoldable pub countUp : ℕ → ℕ → List ℕ
 countUp from zero = []
 countUp from (suc n) = from ∷ countUp (suc from) n
 
--- 1 to 256 qubits, 0 to 1,024 outcomes, 1 to 4,096 shots
+-- edition 1 or 2, 1 to 256 qubits, 0 to 1,024 outcomes, 1 to 4,096 shots
 pub record HeaderSound (h : Header) : Type 0 where
+  pub some-edition : 1 ≤ h .edition
+  pub two-editions : h .edition ≤ 2
   pub some-qubits : 1 ≤ h .qubits
   pub few-qubits : h .qubits ≤ 256
   pub few-outcomes : h .outcomes ≤ 1024
   pub some-shots : 1 ≤ h .shots
   pub few-shots : h .shots ≤ 4096
+
+-- an instruction of no form that the second edition adds
+pub record FirstEdition (i : Instruction) : Type 0 where
+  pub no-controlledY : (qs : List ℕ) → i ≡ Instruction.line (Line.unitary Gate.ControlledY qs) → ⊥
+  pub one-reset : (qs : List ℕ) → i ≡ Instruction.line (Line.reset qs) → length qs ≡ 1
+  pub no-barrier : (qs : List ℕ) → i ≡ Instruction.line (Line.barrier qs) → ⊥
 
 pub record JobSound (job : List ℕ) (j : Job) : Type 0 where
   pub ended : wellEnded job ≡ true

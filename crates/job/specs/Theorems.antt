@@ -1,6 +1,7 @@
 -- Theorems about the tests of a job. Assumes nothing.
-use Prim.Native.Nat.{ℕ, _*_, _/_, _%_, _^_, _≤_, _<_}
+use Prim.Native.Nat.{ℕ, _+_, _*_, _/_, _%_, _^_, _≤_, _<_}
 use native.Mathlib.Nat.{zero-add}
+use native.Mathlib.Decide.{ℕ-discrete}
 use native.Mathlib.Omega.{arith}
 use mathlib.Core.Path.{_≡_, refl, sym, ap, subst, _∙_}
 use mathlib.Core.Bool.{Bool, true}
@@ -16,10 +17,10 @@ use Rattle.job.specs.Line.{Instruction, Placed, Line}
 use Rattle.job.specs.Clifford.{tableWords, tableOf, wordsOf}
 use Rattle.job.specs.Grammar.{Written, readLine}
 use Rattle.job.specs.Checks.{Context, noContext, next, Test, tests, refusalOf}
-use Rattle.job.specs.Job.{accepted, wellEnded, checkJob, gathered, Job, jobOfLines, jobOf, recordedIn}
+use Rattle.job.specs.Job.{accepted, wellEnded, checkJob, gathered, Job, jobOfLines, jobOf, recordedBy, recordedIn}
 use Rattle.job.specs.Marks.{markOf, readAs, formByMark}
 use Rattle.job.specs.Contexts.{contextAfter, between}
-use Rattle.job.specs.Sound.{Every, SizeSaid, InstructionsSound, instructionsOf, ListSound, SaidAs, HeaderSound, JobSound}
+use Rattle.job.specs.Sound.{Every, LineSound, InstructionSound, SizeSaid, InstructionsSound, instructionsOf, ListSound, SaidAs, HeaderSound, FirstEdition, JobSound}
 use Rattle.job.specs.Laws.Lines.{header-sound}
 use Rattle.job.specs.Laws.Begun.{ended-parts, job-passes, Begun, job-begun}
 use Rattle.job.specs.Laws.Gather.{gathered-sound, gathered-said, sizes-said}
@@ -53,7 +54,7 @@ checked-sound job e =
       split = b .split;
       reads = b .reads;
       gathers = refl;
-      header = header-sound (b .header) (b .range);
+      header = header-sound (b .header) (b .range) (b .edition);
       instructions = sound;
       texts = gathered-said 2 (between (b .header) 0) (b .rest) (b .passes);
       ids = ids-count (b .header) 0 _ sound;
@@ -76,6 +77,34 @@ module _ (job text : List ℕ) (texts : List (List ℕ)) (h : Header) (is : List
     pub said-instructions : instructionsOf (jobOf job .instructions) ≡ is
     unfolding jobOfLines
     said-instructions = rw split (said-gathers texts is said .instructions 2)
+
+-- A sound instruction of a job of the first edition has none of the forms that the second adds,
+first-edition : (h : Header) (r : ℕ) (i : Instruction) → InstructionSound h r i → h .edition ≡ 1 → FirstEdition i
+unfolding InstructionSound LineSound
+first-edition h r i s one =
+    record {
+      no-controlledY = λ qs e. let t = subst (InstructionSound h r) e s in omega (arith, one, t .known refl);
+      one-reset = λ qs e. let t = subst (InstructionSound h r) e s in single qs (t .operands .filled) (t .several);
+      no-barrier = λ qs e. let t = subst (InstructionSound h r) e s in omega (arith, one, t .second);
+    }
+  where
+    single : (qs : List ℕ) → 1 ≤ length qs → (2 ≤ length qs → h .edition ≡ 2) → length qs ≡ 1
+    single qs filled several = go (ℕ-discrete (length qs) 1)
+      where
+        go : Dec (length qs ≡ 1) → length qs ≡ 1
+        go (yes e) = e
+        go (no e) = absurd (omega (arith, one, several (omega (arith, filled, e))))
+
+first-editions : (h : Header) (r : ℕ) (is : List Placed) → InstructionsSound h r is → h .edition ≡ 1 → Every (λ (p : Placed). FirstEdition (p .instruction)) is
+unfolding InstructionsSound
+first-editions h r [] s one = tt
+first-editions h r (i ∷ is) s one =
+    (first-edition h r (i .instruction) (s .0) one, first-editions h (r + recordedBy (i .instruction)) is (s .1) one)
+
+-- so that an accepted job of the first edition has no ControlledY, no reset of several qubits and no barrier.
+pub edition-one-refuses : (job : List ℕ) → checkJob job .number ≡ 0 → jobOf job .header .edition ≡ 1
+    → Every (λ (p : Placed). FirstEdition (p .instruction)) (jobOf job .instructions)
+edition-one-refuses job e one = first-editions (jobOf job .header) 0 (jobOf job .instructions) (checked-sound job e .instructions) one
 
 -- The number that refuses a line is the lowest: no bad test of the line has a lower one.
 pub refusal-lowest : (c : Context) (last : Bool) (w : Written) → Every (λ (t : Test). t .bad ≡ true → refusalOf c last (some w) ≤ t .number) (tests c last w)

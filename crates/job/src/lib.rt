@@ -3,8 +3,9 @@
 ghost use mathlib.Core.Path.{_≡_};
 ghost use Prim.Native.Nat.{_-_, _^_, _<_};
 
-// The header's numbers.
+// The header's numbers; the edition is 1 where the header has none.
 pub struct Header {
+    pub edition: u64,
     pub qubits: u64,
     pub outcomes: u64,
     pub shots: u64,

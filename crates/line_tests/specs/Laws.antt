@@ -3,3 +3,5 @@
 pub mod Lines
 -- The header's numbers and the outcomes recorded.
 pub mod Header
+-- Which forms the second edition adds.
+pub mod Editions

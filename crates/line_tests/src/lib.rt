@@ -11,6 +11,7 @@ ghost use Rattle.reader.specs.declared.Form.the-variants as form;
 ghost use Rattle.reader.specs.Parsed.{formOf, Said};
 ghost use Rattle.value_tests.specs.Contexts.{contextOf};
 
+pub mod editions;
 pub mod header;
 
 use reader::Form;
@@ -151,16 +152,6 @@ pub fn conditional_number(c: Context, f: &[u64]) -> u64
     0
 }
 
-pub fn reset_number(c: Context, f: &[u64]) -> u64
-    requires { ⌜ Whole (now f) ⌝ }
-    ensures { λ r. ⌜ ((vs : List Value) (w : Written) → Said form.Reset (now (f .entry)) vs w → r ≡ lowest (ownTests (contextOf c) w)) ⌝ }
-{
-    if c.header.qubits <= number(f, 0) {
-        return 4;
-    }
-    0
-}
-
 pub fn inject_number(c: Context, f: &[u64]) -> u64
     requires { ⌜ Whole (now f) ⌝ }
     ensures { λ r. ⌜ ((vs : List Value) (w : Written) → Said form.Inject (now (f .entry)) vs w → r ≡ lowest (ownTests (contextOf c) w)) ⌝ }
@@ -195,6 +186,7 @@ pub fn recorded_after(c: Context, form: Form) -> u64
 {
     match form {
         Form::Header => 0,
+        Form::EditionHeader => 0,
         Form::Measure => c.recorded + 1,
         Form::Allocate => c.recorded + 1,
         _ => c.recorded,

@@ -5,7 +5,6 @@ use reader::Form;
 use rows::Shape;
 use template::values::list;
 use template::values::number;
-use template::values::numbers;
 ghost use mathlib.Core.Path.{_≡_};
 ghost use mathlib.Core.List.{List};
 ghost use Prim.Native.Nat.{ℕ, _*_, _≤_};
@@ -65,7 +64,7 @@ fn reset(values: &[u64], x: &mut [u64], z: &mut [u64], shape: Shape)
     requires { ⌜ FrameReady Forms.Reset (now values) (shape .width) (shape .qubits) (now x) (now z) ⌝ }
     ensures { λ _. ⌜ FrameObeyed Forms.Reset (now (values .entry)) (shape .width) (shape .qubits) (now (x .entry)) (now (z .entry)) (now (x .exit)) (now (z .exit)) ⌝ }
 {
-    propagator::paulis::reset_qubits(x, z, shape, numbers(values, 1));
+    propagator::paulis::reset_qubits(x, z, shape, list(values, 0));
 }
 
 fn inject(values: &[u64], x: &mut [u64], z: &mut [u64], shape: Shape)

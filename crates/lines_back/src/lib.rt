@@ -11,7 +11,6 @@ ghost use Rattle.backward.specs.Walk.{oneMore};
 ghost use Rattle.lines_back.specs.Back.{HeldLine, Back, Readable, LineBack};
 use pauli::OutcomeId;
 use pauli::Pauli;
-use pauli::QubitId;
 use pauli::Shot;
 use reader::Form;
 use template::values::list;
@@ -64,7 +63,7 @@ fn reset(values: &[u64], b: Pauli) -> Pauli
     requires { ⌜ HeldLine Forms.Reset (now values) ⌝ }
     ensures { λ r. ⌜ ((shot : ℕ) (set : Bits) → Back Forms.Reset (now (values .entry)) shot b set r set false) ⌝ }
 {
-    b.clear_qubit(QubitId(number(values, 0) as usize))
+    carry::reset_back(b, list(values, 0))
 }
 
 fn measure(values: &[u64], b: Pauli, set: &[u64]) -> Pauli

@@ -30,13 +30,13 @@ neededReply h (Ended.ended states) =
 
 -- the header was read, and the lines behind it begin at `from`; the words are rows for the job
 pub record NeededReady (job : List ℕ) (shape : Shape) (from : ℕ) (x z d noiseless : List ℕ) : Type 0 where
-  pub ahead : Ahead job (headerOf shape) 0 2 from
-  pub sound : InstructionsSound (headerOf shape) 0 (instructionsAt job 2 from)
+  pub ahead : Ahead job (headerOf job shape) 0 2 from
+  pub sound : InstructionsSound (headerOf job shape) 0 (instructionsAt job 2 from)
   pub words : shape .width ≡ wordsPerRow (shape .shots)
-  pub of-x : length x ≡ frameWords (headerOf shape)
-  pub of-z : length z ≡ frameWords (headerOf shape)
-  pub of-deltas : length d ≡ outcomeWords (headerOf shape)
-  pub of-noiseless : outcomeWords (headerOf shape) ≤ length noiseless
+  pub of-x : length x ≡ frameWords (headerOf job shape)
+  pub of-z : length z ≡ frameWords (headerOf job shape)
+  pub of-deltas : length d ≡ outcomeWords (headerOf job shape)
+  pub of-noiseless : outcomeWords (headerOf job shape) ≤ length noiseless
 
 -- the answer and the words after it are the reply
 pub record NeededRun (job : List ℕ) (h : Header) (source : Source) (from : ℕ) (x z d : List ℕ) (r : Answer) : Type 0 where

@@ -34,7 +34,7 @@ pub fn run_needed<'a>(
     base: u64,
 ) -> Answer
     requires { ⌜ NeededReady (now job) shape from (now x) (now z) (now deltas) (now noiseless) ⌝ }
-    ensures { λ r. ⌜ NeededRun (now (job .entry)) (headerOf shape) (record { noiseless = now (noiseless .entry); main = now (main .entry); second = now (second .entry); base = base }) from (now (x .exit)) (now (z .exit)) (now (deltas .exit)) r ⌝ }
+    ensures { λ r. ⌜ NeededRun (now (job .entry)) (headerOf (now (job .entry)) shape) (record { noiseless = now (noiseless .entry); main = now (main .entry); second = now (second .entry); base = base }) from (now (x .exit)) (now (z .exit)) (now (deltas .exit)) r ⌝ }
 {
     clear_all(&mut *x, &mut *z, &mut *deltas);
     let r = execute(

@@ -1,4 +1,4 @@
--- Gates by their codes, also above 14, where no code has a gate. Assumes nothing.
+-- Gates by their codes, also above 15, where no code has a gate. Assumes nothing.
 use mathlib.Core.Option.{Option, none, some}
 use Prim.Native.Nat.{ℕ}
 use Rattle.pauli.specs.Pauli.{Pauli}

@@ -2,22 +2,22 @@
 use mathlib.Core.List.{List, [], _∷_}
 use mathlib.Core.Option.{Option, none, some}
 use Prim.Native.Nat.{ℕ, zero, suc}
-use Rattle.pauli.specs.Bits.{Bits, replaced, added}
+use Rattle.pauli.specs.Bits.{Bits, _⊕_, replaced, added}
 use Rattle.pauli.specs.Pauli.{Pauli}
 
 pub data Gate : Type 0 where
-  I X Y Z Hadamard SqrtZ SqrtZInv SqrtX SqrtXInv SqrtY SqrtYInv ControlledX ControlledZ Swap PrepareBell : Gate
+  I X Y Z Hadamard SqrtZ SqrtZInv SqrtX SqrtXInv SqrtY SqrtYInv ControlledX ControlledZ Swap PrepareBell ControlledY : Gate
 
--- the gates in the order of their codes, from 0
+-- the gates in the order of their codes, from 0; the last stands in jobs of the second edition alone
 unfoldable pub gates : List Gate
-gates = I ∷ X ∷ Y ∷ Z ∷ Hadamard ∷ SqrtZ ∷ SqrtZInv ∷ SqrtX ∷ SqrtXInv ∷ SqrtY ∷ SqrtYInv ∷ ControlledX ∷ ControlledZ ∷ Swap ∷ PrepareBell ∷ []
+gates = I ∷ X ∷ Y ∷ Z ∷ Hadamard ∷ SqrtZ ∷ SqrtZInv ∷ SqrtX ∷ SqrtXInv ∷ SqrtY ∷ SqrtYInv ∷ ControlledX ∷ ControlledZ ∷ Swap ∷ PrepareBell ∷ ControlledY ∷ []
 
 unfoldable pub gateFrom : List Gate → ℕ → Option Gate
 gateFrom [] code = none
 gateFrom (g ∷ gs) zero = some g
 gateFrom (g ∷ gs) (suc code) = gateFrom gs code
 
--- the gate of a code, and none above 14
+-- the gate of a code, and none above 15
 unfoldable pub gateOf : ℕ → Option Gate
 unfolding gates
 gateOf code = gateFrom gates code
@@ -39,6 +39,7 @@ operandsOf ControlledX = 2
 operandsOf ControlledZ = 2
 operandsOf Swap = 2
 operandsOf PrepareBell = 2
+operandsOf ControlledY = 2
 
 -- ---- rows: a frame is a Pauli, and its X and Z parts at q are the rows of q
 
@@ -60,6 +61,10 @@ controlledX a b F = record { x = added (F .x) b (F .x a); z = added (F .z) a (F 
 -- ControlledZ adds each X to the other's Z.
 unfoldable pub controlledZ : ℕ → ℕ → Pauli → Pauli
 controlledZ a b F = record { x = F .x; z = added (added (F .z) b (F .x a)) a (F .x b) }
+
+-- ControlledY adds control X to target X and Z, and the target's old X and Z to control Z.
+unfoldable pub controlledY : ℕ → ℕ → Pauli → Pauli
+controlledY a b F = record { x = added (F .x) b (F .x a); z = added (added (F .z) b (F .x a)) a (F .x b ⊕ F .z b) }
 
 -- Swap exchanges two qubits' rows.
 unfoldable pub exchanged : ℕ → ℕ → Bits → Bits
@@ -95,6 +100,7 @@ gateWith bell ControlledX a b F = controlledX a b F
 gateWith bell ControlledZ a b F = controlledZ a b F
 gateWith bell Swap a b F = swapRows a b F
 gateWith bell PrepareBell a b F = bell a b F
+gateWith bell ControlledY a b F = controlledY a b F
 
 abbrev pub conjugated : Gate → ℕ → ℕ → Pauli → Pauli
 conjugated = gateWith prepareBell

@@ -12,7 +12,7 @@ ghost use mathlib.Core.List.{[], _∷_};
 ghost use Prim.Native.Nat.{_<_};
 ghost use Rattle.pauli.specs.Bits.{members};
 ghost use Rattle.pauli.specs.Pauli.{_∗_ as _times_, identity as Pauli·identity, anticommutes as Pauli·anticommutes, addedAt, cleared};
-ghost use Rattle.pauli.specs.Gate.{swapXZ, addXtoZ, addZtoX, controlledX, controlledZ, swapRows, gateOf, conjugated, conjugatedBack};
+ghost use Rattle.pauli.specs.Gate.{swapXZ, addXtoZ, addZtoX, controlledX, controlledZ, controlledY, swapRows, gateOf, conjugated, conjugatedBack};
 ghost use Rattle.pauli.specs.Code.{byGate, operandCount};
 ghost use Rattle.pauli.specs.Fixed.{asPauli, AllBelow};
 
@@ -23,14 +23,14 @@ pub struct OutcomeId(pub usize);
 
 pub struct Shot(pub usize);
 
-// How many qubits the gate of a code takes, and 0 above 14, where there is no gate.
+// How many qubits the gate of a code takes, and 0 above 15, where there is no gate.
 pub fn operands(gate: u64) -> u8
     ensures { λ r. ⌜ r ≡ operandCount (gateOf gate) ⌝ }
 {
     if gate <= 10 {
         return 1;
     }
-    if gate <= 14 {
+    if gate <= 15 {
         return 2;
     }
     0
@@ -181,6 +181,17 @@ impl Pauli {
         self.add_at(b, false, at_a).add_at(a, false, at_b)
     }
 
+    // ControlledY: the X part of the control a is added to both of the target b's, both of the target's to the control's
+    // Z part.
+    pub fn controlled_y(self, a: QubitId, b: QubitId) -> Pauli
+        requires { ⌜ (a .0 < 256) × (b .0 < 256) ⌝ }
+        ensures { λ r. ⌜ asPauli r ≡ controlledY (a .0) (b .0) (asPauli self) ⌝ }
+    {
+        let x = self.has_x(a);
+        let differ = self.has_x(b) != self.has_z(b);
+        self.add_at(b, x, x).add_at(a, false, differ)
+    }
+
     // Swap: a and b exchanged.
     pub fn swap(self, a: QubitId, b: QubitId) -> Pauli
         requires { ⌜ (a .0 < 256) × (b .0 < 256) ⌝ }
@@ -192,7 +203,7 @@ impl Pauli {
     }
 
     // Conjugated by the gate of a code on its operands a and b, of which a gate on one qubit has
-    // no b. A code above 14 has no gate and changes nothing.
+    // no b. A code above 15 has no gate and changes nothing.
     pub fn conjugate(self, gate: u64, a: QubitId, b: QubitId) -> Pauli
         requires { ⌜ (a .0 < 256) × (b .0 < 256) ⌝ }
         ensures { λ r. ⌜ asPauli r ≡ byGate conjugated (gateOf gate) (a .0) (b .0) (asPauli self) ⌝ }
@@ -207,6 +218,7 @@ impl Pauli {
             12 => self.controlled_z(a, b),
             13 => self.swap(a, b),
             14 => self.swap_parts(a).controlled_x(a, b),
+            15 => self.controlled_y(a, b),
             _ => self,
         }
     }
@@ -219,6 +231,7 @@ impl Pauli {
         match gate {
             0..=13 => self.conjugate(gate, a, b),
             14 => self.controlled_x(a, b).swap_parts(a),
+            15 => self.controlled_y(a, b),
             _ => self,
         }
     }

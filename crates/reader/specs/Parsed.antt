@@ -13,9 +13,9 @@ use Rattle.job.specs.Grammar.{Written, Form as TableForm, forms, readLine}
 use Rattle.reader.specs.declared.Form.{Form}
 use Rattle.reader.specs.declared.Form.the-variants as form
 
--- the place of a form in the table of forms, which is in document 01's order
+-- the place of a form in the table of forms, which is in document 01's order, the second edition's behind it
 unfoldable pub placeOf : Form → ℕ
-placeOf form.Unread = 19
+placeOf form.Unread = 21
 placeOf form.Header = 0
 placeOf form.Unitary = 1
 placeOf form.Clifford = 2
@@ -35,6 +35,8 @@ placeOf form.Uniform = 15
 placeOf form.Weighted = 16
 placeOf form.Element = 17
 placeOf form.WeightedElement = 18
+placeOf form.EditionHeader = 19
+placeOf form.Barrier = 20
 
 -- a form that no line has
 unfoldable pub noForm : TableForm
@@ -74,6 +76,8 @@ isUnread form.Uniform = false
 isUnread form.Weighted = false
 isUnread form.Element = false
 isUnread form.WeightedElement = false
+isUnread form.EditionHeader = false
+isUnread form.Barrier = false
 
 pub record Parsed (line : List ℕ) (f : Form) (fields : List ℕ) : Type 0 where
   pub unread : isUnread f ≡ true → readLine line ≡ none

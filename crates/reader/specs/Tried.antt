@@ -18,12 +18,15 @@ use Rattle.reader.specs.Parsed.{formOf, Parsed}
 pub record Tried (fs : List TableForm) (line : List ℕ) (r : Form) (fields : List ℕ) : Type 0 where
   pub parsed : readLine line ≡ readBy fs line → Parsed line r fields
 
--- one form alone, and the forms of noise lines
+-- one form alone, the forms of noise lines, and those of headers
 abbrev pub only : Form → List TableForm
 only f = formOf f ∷ []
 
 abbrev pub noiseForms : List TableForm
 noiseForms = formOf form.Single ∷ formOf form.Depolarizing ∷ formOf form.Uniform ∷ formOf form.Weighted ∷ []
+
+abbrev pub headerForms : List TableForm
+headerForms = formOf form.Header ∷ formOf form.EditionHeader ∷ []
 
 -- ---- by one template
 

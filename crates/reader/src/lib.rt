@@ -8,7 +8,7 @@ ghost use Rattle.job.specs.Grammar.{isOne};
 ghost use Rattle.template.specs.Values.{Whole};
 ghost use Rattle.reader.specs.declared.Form.the-variants as Forms;
 ghost use Rattle.reader.specs.Parsed.{Parsed};
-ghost use Rattle.reader.specs.Tried.{Tried, FormBy, KindBy, NoiseBegun, only, noiseForms};
+ghost use Rattle.reader.specs.Tried.{Tried, FormBy, KindBy, NoiseBegun, only, noiseForms, headerForms};
 use tables::words_fit;
 use template::Progress;
 use template::read_all;
@@ -16,7 +16,7 @@ use template::read_on;
 use template::values::count;
 use template::values::number;
 
-// The forms of lines, in the order of document 01; `Unread` where a line has none.
+// The forms of lines, in the order of document 01, then those of the second edition; `Unread` where a line has none.
 pub enum Form {
     Unread,
     Header,
@@ -38,6 +38,8 @@ pub enum Form {
     Weighted,
     Element,
     WeightedElement,
+    EditionHeader,
+    Barrier,
 }
 
 // The form of a line that has a template's form, and else none.
@@ -66,7 +68,7 @@ fn kind_by(line: &[u8], template: &[u8], p: Progress, form: Form, fields: &mut [
     form
 }
 
-// A gate code above 14 is no gate.
+// A gate code above 15 is no gate.
 fn unitary(line: &[u8], fields: &mut [u64]) -> Form
     requires { ⌜ Whole (now fields) ⌝ }
     ensures { λ r. ⌜ Tried (only Forms.Unitary) (now (line .entry)) r (now (fields .exit)) ⌝ }
@@ -74,7 +76,7 @@ fn unitary(line: &[u8], fields: &mut [u64]) -> Form
     if !read_all(line, b"op=u g=N q=Q", &mut *fields) {
         return Form::Unread;
     }
-    if 14 < number(fields, 0) {
+    if 15 < number(fields, 0) {
         return Form::Unread;
     }
     Form::Unitary
@@ -158,16 +160,27 @@ fn noise(line: &[u8], fields: &mut [u64]) -> Form
     noise_kind(line, line[at], p, fields)
 }
 
-fn header(line: &[u8], fields: &mut [u64]) -> Form
+fn edition_header(line: &[u8], fields: &mut [u64]) -> Form
     requires { ⌜ Whole (now fields) ⌝ }
-    ensures { λ r. ⌜ Tried (only Forms.Header) (now (line .entry)) r (now (fields .exit)) ⌝ }
+    ensures { λ r. ⌜ Tried (only Forms.EditionHeader) (now (line .entry)) r (now (fields .exit)) ⌝ }
 {
     form_by(
         line,
-        b"op=job qubits=N outcomes=N shots=N",
-        Form::Header,
+        b"op=job edition=N qubits=N outcomes=N shots=N",
+        Form::EditionHeader,
         fields,
     )
+}
+
+// A header, without its edition or with it.
+fn header(line: &[u8], fields: &mut [u64]) -> Form
+    requires { ⌜ Whole (now fields) ⌝ }
+    ensures { λ r. ⌜ Tried headerForms (now (line .entry)) r (now (fields .exit)) ⌝ }
+{
+    if read_all(line, b"op=job qubits=N outcomes=N shots=N", &mut *fields) {
+        return Form::Header;
+    }
+    edition_header(line, fields)
 }
 
 // A table of a wrong number of words is none.
@@ -242,7 +255,14 @@ fn reset(line: &[u8], fields: &mut [u64]) -> Form
     requires { ⌜ Whole (now fields) ⌝ }
     ensures { λ r. ⌜ Tried (only Forms.Reset) (now (line .entry)) r (now (fields .exit)) ⌝ }
 {
-    form_by(line, b"op=z q=N", Form::Reset, fields)
+    form_by(line, b"op=z q=Q", Form::Reset, fields)
+}
+
+fn barrier(line: &[u8], fields: &mut [u64]) -> Form
+    requires { ⌜ Whole (now fields) ⌝ }
+    ensures { λ r. ⌜ Tried (only Forms.Barrier) (now (line .entry)) r (now (fields .exit)) ⌝ }
+{
+    form_by(line, b"op=b q=Q", Form::Barrier, fields)
 }
 
 fn inject(line: &[u8], fields: &mut [u64]) -> Form
@@ -292,6 +312,7 @@ fn operation(line: &[u8], letter: u8, fields: &mut [u64]) -> Form
         114 => allocate(line, fields),
         116 => flip(line, fields),
         122 => reset(line, fields),
+        98 => barrier(line, fields),
         106 => header(line, fields),
         _ => Form::Unread,
     }

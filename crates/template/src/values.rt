@@ -2,7 +2,6 @@
 // the members, of which the first 31 are kept.
 ghost use mathlib.Core.Path.{_≡_};
 ghost use Prim.Native.Nat.{_≤_, _<_};
-ghost use lib.ListN.{take};
 ghost use Rattle.template.specs.Values.{Whole, AllKept, heldNumber, heldCount, heldLargest, heldMember, heldList, keptMembers};
 
 // At most so many numbers, and so many lists.
@@ -26,14 +25,6 @@ pub fn number(v: &[u64], i: usize) -> u64
     ensures { λ r. ⌜ r ≡ heldNumber (now (v .entry)) i ⌝ }
 {
     v[i]
-}
-
-// The first n numbers.
-pub fn numbers<'a>(v: &'a [u64], n: usize) -> &'a [u64]
-    requires { ⌜ (n ≤ 4) × Whole (now v) ⌝ }
-    ensures { λ r. ⌜ now r ≡ take n (now (v .entry)) ⌝ }
-{
-    &v[..n]
 }
 
 // How many members the i-th list has on the line.

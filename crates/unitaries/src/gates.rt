@@ -7,7 +7,7 @@ ghost use mathlib.Core.List.{List};
 ghost use mathlib.Core.Option.{some};
 ghost use Prim.Native.Nat.{ℕ, _*_, _<_, _≤_};
 ghost use lib.ListN.{length, getD};
-ghost use Rattle.pauli.specs.Gate.{Gate, gateOf, swapXZ, addXtoZ, addZtoX, controlledX, controlledZ, swapRows};
+ghost use Rattle.pauli.specs.Gate.{Gate, gateOf, swapXZ, addXtoZ, addZtoX, controlledX, controlledZ, controlledY, swapRows};
 ghost use Rattle.pauli.specs.Code.{operandCount};
 ghost use Rattle.job.specs.Line.{Line};
 ghost use Rattle.job.specs.Checks.{allBelow, distinct};
@@ -63,6 +63,16 @@ pub fn apply_cz(x: &[u64], z: &mut [u64], shape: Shape, first: QubitId, second: 
     rows::xor_words(z, a * shape.width, x, b * shape.width, shape.width);
 }
 
+// ControlledY adds control X to target X and Z, and the target's old X and Z to control Z: ControlledX between SqrtZInv and SqrtZ on the target.
+pub fn apply_cy(x: &mut [u64], z: &mut [u64], shape: Shape, control: QubitId, target: QubitId)
+    requires { ⌜ (length (now x) ≡ shape .qubits * shape .width) × (length (now z) ≡ shape .qubits * shape .width) × (control .0 < shape .qubits) × (target .0 < shape .qubits) × (control .0 ≡ target .0 → ⊥) ⌝ }
+    ensures { λ _. ⌜ ((d : List ℕ) → Acts (shape .width) (λ s. onFrame (controlledY (control .0) (target .0))) (now (x .entry)) (now (z .entry)) d (now (x .exit)) (now (z .exit)) d) ⌝ }
+{
+    apply_s(x, z, shape, target);
+    apply_cnot(x, z, shape, control, target);
+    apply_s(x, z, shape, target);
+}
+
 // Swap exchanges two qubits' rows.
 pub fn apply_swap(x: &mut [u64], z: &mut [u64], shape: Shape, first: QubitId, second: QubitId)
     requires { ⌜ (length (now x) ≡ shape .qubits * shape .width) × (length (now z) ≡ shape .qubits * shape .width) × (first .0 < shape .qubits) × (second .0 < shape .qubits) × (first .0 ≡ second .0 → ⊥) ⌝ }
@@ -84,7 +94,7 @@ fn operand(qubits: &[u64], i: usize) -> QubitId
 
 // The gate of a code on as many operands as it takes. The last operand is the second of two; a gate on one qubit does not look at it.
 pub fn apply_unitary_op(x: &mut [u64], z: &mut [u64], shape: Shape, gate: u64, qubits: &[u64])
-    requires { ⌜ (length (now x) ≡ shape .qubits * shape .width) × (length (now z) ≡ shape .qubits * shape .width) × (gate ≤ 14) × (length (now qubits) ≡ operandCount (gateOf gate)) × (allBelow (shape .qubits) (now qubits) ≡ true) × (distinct (now qubits) ≡ true) ⌝ }
+    requires { ⌜ (length (now x) ≡ shape .qubits * shape .width) × (length (now z) ≡ shape .qubits * shape .width) × (gate ≤ 15) × (length (now qubits) ≡ operandCount (gateOf gate)) × (allBelow (shape .qubits) (now qubits) ≡ true) × (distinct (now qubits) ≡ true) ⌝ }
     ensures { λ _. ⌜ ((g : Gate) → gateOf gate ≡ some g → (m : ℕ) (d : List ℕ) → Acts (shape .width) (lineRule (shape .qubits) m (Line.unitary g (now (qubits .entry)))) (now (x .entry)) (now (z .entry)) d (now (x .exit)) (now (z .exit)) d) ⌝ }
 {
     let a = operand(qubits, 0);
@@ -102,6 +112,7 @@ pub fn apply_unitary_op(x: &mut [u64], z: &mut [u64], shape: Shape, gate: u64, q
             apply_h(x, z, shape, a);
             apply_cnot(x, z, shape, a, b);
         }
+        15 => apply_cy(x, z, shape, a, b),
         _ => {}
     }
 }

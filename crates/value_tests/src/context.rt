@@ -21,6 +21,7 @@ pub fn no_context() -> Context
     Context {
         begun: false,
         header: Header {
+            edition: 1,
             qubits: 0,
             outcomes: 0,
             shots: 0,

@@ -45,7 +45,7 @@ fn other_shot(line: &[u8], shot: Shot, values: &mut [u64]) -> bool
     number(values, 0) as usize != shot.0
 }
 
-// Whether a line is passed over without being read to its end: a Pauli, an allocation, or an injection in another shot, of which there are many.
+// Whether a line is passed over without being read to its end: a Pauli, an allocation, a barrier, or an injection in another shot, of which there are many.
 fn passed_over(line: &[u8], shot: Shot, values: &mut [u64]) -> bool
     requires { ⌜ Whole (now values) ⌝ }
     ensures { λ r. ⌜ (r ≡ true → (v : Written) → readLine (now (line .entry)) ≡ some v → PassedOver (shot .0) v) ⌝ }
@@ -60,6 +60,7 @@ fn passed_over(line: &[u8], shot: Shot, values: &mut [u64]) -> bool
         105 => other_shot(line, shot, values),
         112 => true,
         114 => true,
+        98 => true,
         _ => false,
     }
 }

@@ -52,7 +52,7 @@ macro_rules! numbers {
 
 numbers! {
     1 LENGTH "the job is empty, longer than 1,048,576 bytes, or has no LF at its end"
-    2 FORM "form of a line, a gate code above 14, or the job ends before its element lines"
+    2 FORM "form of a line in the job's edition, an unknown gate code, or the job ends before its element lines"
     3 HEADER "header missing, repeated or out of range"
     4 QUBIT "a qubit not below the header's qubits"
     5 OPERANDS "number of operands, a repeated operand, or a list of more than 31"
@@ -72,6 +72,7 @@ numbers! {
     19 SIZES "sizes of one correlation differ"
     20 CONTROL "control and target of a controlled Pauli anticommute"
     21 SIZE "the size written differs from the distribution's"
+    23 EDITION "the header's edition is neither 1 nor 2"
 }
 
 impl Number {

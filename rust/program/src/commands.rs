@@ -45,8 +45,8 @@ pub const COMMANDS: &[Command] = &[
         operand: Operand::Job,
         summary: "whether a job passes the checks, and its numbers",
         details: &["\
-Makes the tests of a job. Prints 'ok=1', the numbers of its header, 'recorded=' with the number of
-outcomes that it records, and 'lines=' with that of its lines."],
+Makes the tests of a job. Prints 'ok=1', the qubits, outcomes and shots of its header, 'recorded=' with
+the number of outcomes that it records, and 'lines=' with that of its lines."],
         options: &[],
         obey: check,
     },
@@ -56,8 +56,8 @@ outcomes that it records, and 'lines=' with that of its lines."],
         summary: "the frames and the outcome deltas of all shots",
         details: &[
             "\
-Runs a job in all of its shots. Prints 'ok=1' and the numbers of its header, then 'id=' and 'delta=' for
-each recorded outcome, with a digit for each shot, shot 0 first.",
+Runs a job in all of its shots. Prints 'ok=1' and the qubits, outcomes and shots of its header, then 'id='
+and 'delta=' for each recorded outcome, with a digit for each shot, shot 0 first.",
             words::SERIES,
             ROWS,
             BY_SHOT,
@@ -336,7 +336,7 @@ pub fn longer(refusal: &Refusal) -> Option<String> {
     (refusal.number == Number::ROOM).then_some(remedy)
 }
 
-/// The header's numbers, as a session prints them.
+/// The header's numbers, as a session prints them: without the edition.
 fn numbers_of(job: Examination) -> String {
     format!("ok=1 qubits={} outcomes={} shots={}", job.qubits, job.outcomes, job.shots)
 }

@@ -8,8 +8,8 @@ use kundatrezo::{MAX_BYTES, MAX_CLIFFORD_QUBITS, MAX_OUTCOMES, MAX_QUBITS, MAX_S
 const MOST_MEMBERS: usize = 31;
 const MOST_ELEMENTS: u64 = 64;
 
-/// The gates by their codes: the names of pauliverse, and how else they are called.
-const GATES: [&[&str]; 15] = [
+/// The gates by their codes: the names of pauliverse, and how else they are called. The last is of the second edition.
+const GATES: [&[&str]; 16] = [
     &["I", "Id"],
     &["X"],
     &["Y"],
@@ -25,12 +25,13 @@ const GATES: [&[&str]; 15] = [
     &["ControlledZ", "CZ"],
     &["Swap"],
     &["PrepareBell", "Bell"],
+    &["ControlledY", "CY"],
 ];
 
-/// The forms of lines, each field with the kind of its value: a number, a gate code, 16 hexadecimal digits, a table of words of so many, a bit, a rising
+/// The forms of lines, in the second edition, each field with the kind of its value: a number, a gate code, 16 hexadecimal digits, a table of words of so many, a bit, a rising
 /// list, a list of operands, a correlation.
-const FORMS: [(&str, &str); 14] = [
-    ("job", "qubits=N outcomes=N shots=N"),
+const FORMS: [(&str, &str); 15] = [
+    ("job", "edition=N qubits=N outcomes=N shots=N"),
     ("u", "g=G q=Q"),
     ("c", "q=Q t=T"),
     ("p", "x=L z=L"),
@@ -40,7 +41,8 @@ const FORMS: [(&str, &str); 14] = [
     ("o", "x=L z=L id=N"),
     ("r", "id=N angle=B"),
     ("f", "x=L z=L id=L parity=B"),
-    ("z", "q=N"),
+    ("z", "q=Q"),
+    ("b", "q=Q"),
     ("i", "shot=N x=L z=L"),
     ("t", "shot=N id=N"),
     ("n", "p=H corr=C cond=L parity=B"),
@@ -87,6 +89,7 @@ impl Job<'_> {
         match number {
             Number::FORM => self.form(),
             Number::HEADER => Some(self.header()),
+            Number::EDITION => Some("edition= is 1 or 2; without this field it is 1".into()),
             Number::QUBIT => self.below("qubits"),
             Number::SHOT => self.below("shots"),
             Number::OPERANDS => self.operands(),
@@ -237,8 +240,11 @@ impl Job<'_> {
         if op == "n" {
             return self.noise_form();
         }
+        if op == "job" && field(self.line, "edition").is_none() {
+            return fields(self.line, &split(form)[1..], "op=job");
+        }
         let fault = fields(self.line, &split(form), &format!("op={op}"));
-        fault.or_else(|| if op == "c" { self.words_of_table() } else { None })
+        fault.or_else(|| if op == "c" { self.words_of_table() } else { of_second_edition(op) })
     }
 
     /// What is wrong with the form of the noise line.
@@ -327,6 +333,17 @@ fn layout(line: &str) -> Option<&'static str> {
     }
 }
 
+/// What to say of a line that the second edition has and the first does not.
+fn of_second_edition(op: &str) -> Option<String> {
+    let what = match op {
+        "b" => "op=b, a barrier,",
+        "u" => "gate 15, ControlledY,",
+        "z" => "op=z with several qubits",
+        _ => return None,
+    };
+    Some(format!("{what} is of the second edition, whose header is op=job edition=2 qubits=N outcomes=N shots=N"))
+}
+
 fn no_such_op(op: &str) -> String {
     match gate(op) {
         Some(code) => format!("there is no op={op}: the gate {} is op=u g={code}", GATES[code][0]),
@@ -362,10 +379,13 @@ fn value(key: &str, kind: &str, value: &str) -> Option<String> {
         members.is_sorted_by(|earlier, later| earlier < later)
     };
     match kind {
-        "G" if number(value) => (value.parse::<usize>().ok()? >= GATES.len()).then(|| "gate codes are 0 to 14".into()),
+        "G" if number(value) => {
+            let is_unknown = value.parse::<usize>().ok()? >= GATES.len();
+            is_unknown.then(|| "gate codes are 0 to 14, and 15 in the second edition".into())
+        }
         "G" => Some(match gate(value) {
             Some(code) => format!("g= is the code of a gate: {} is {code}", GATES[code][0]),
-            None => "g= is the code of a gate, 0 to 14".into(),
+            None => "g= is the code of a gate, 0 to 14, or 15 in the second edition".into(),
         }),
         "H" => hexadecimal(key, value),
         "T" => value.split(',').find_map(|word| table_word(key, word)),
@@ -414,12 +434,15 @@ mod tests {
         let cases = [
             ("op=u g=H q=0", "g= is the code of a gate: Hadamard is 4"),
             ("op=u g=cnot q=0,1", "g= is the code of a gate: ControlledX is 11"),
-            ("op=u g=15 q=0", "gate codes are 0 to 14"),
+            ("op=u g=15 q=0", "gate 15, ControlledY, is of the second edition, whose header is op=job edition=2 "),
+            ("op=u g=16 q=0", "gate codes are 0 to 14, and 15 in the second edition"),
             ("op=cx q=0,1", "there is no op=cx: the gate ControlledX is op=u g=11"),
             ("op=w q=0", "there is no op=w: there are job, u,"),
             ("op=u q=0 g=4", "the fields of op=u are g= q=, in this order"),
             ("op=u g=4 q=00", "q= holds numbers without leading zeros"),
-            ("op=z q=0,1", "q= is one number"),
+            ("op=z q=0,1", "op=z with several qubits is of the second edition"),
+            ("op=b q=0", "op=b, a barrier, is of the second edition"),
+            ("op=b q=-", "q= is never empty"),
             ("op=p x=1,0 z=-", "the numbers of x= rise strictly"),
             ("op=p x= z=-", "x= without members is written -"),
             ("op=u g=4 q=-", "q= is never empty"),
@@ -524,6 +547,18 @@ mod tests {
             ("op=job qubits=0 outcomes=0 shots=1\n", "qubits= is from 1 to 256"),
             ("op=job qubits=1 outcomes=1025 shots=1\n", "outcomes= is from 0 to 1024"),
             ("op=job qubits=1 outcomes=0 shots=10000\n", "shots= is from 1 to 4096"),
+            ("op=job edition=2 qubits=1 outcomes=0 shots=0\n", "shots= is from 1 to 4096"),
+            ("op=job edition=3 qubits=1 outcomes=0 shots=1\n", "edition= is 1 or 2"),
+            ("op=job edition=3.1 qubits=1 outcomes=0 shots=1\n", "edition= is one number"),
+            ("op=job qubits=1 shots=1\n", "the fields of op=job are qubits= outcomes= shots=, in this order"),
+            (
+                "op=job qubits=1 outcomes=0 shots=1 edition=2\n",
+                "the fields of op=job are edition= qubits= outcomes= shots=, in this order",
+            ),
+            ("op=job edition=2 qubits=2 outcomes=0 shots=1\nop=b q=1,1\n", "q= names qubit 1 twice"),
+            ("op=job edition=2 qubits=2 outcomes=0 shots=1\nop=z q=0,1,0\n", "q= names qubit 0 twice"),
+            ("op=job edition=2 qubits=2 outcomes=0 shots=1\nop=u g=15 q=0\n", "gate 15, ControlledY, takes two qubits"),
+            ("op=job edition=2 qubits=2 outcomes=0 shots=1\nop=z q=2\n", "the header has qubits=2"),
         ];
         for (job, expected) in cases {
             assert!(hint_of(job).starts_with(expected), "{job:?}: {}", hint_of(job));

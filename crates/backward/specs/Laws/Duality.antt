@@ -74,6 +74,7 @@ module _ (c : Setting) where
   forward-carry (Line.reset qs) h s w = on-frame _ _ (anti-cleared (c .qubits) qs) s w
   forward-carry (Line.inject shot P) h s w = inject-step _ _ _ _ _ _ _ (pauliOf P)
   forward-carry (Line.flip shot id) h s w = flip-step _ _ _ _ _ _ _ id h
+  forward-carry (Line.barrier qs) h s w = plus-false _
 
   forward-backward : (l : Line) → InRange (c .qubits) (c .outcomes) l → (s : State) (w : Walk)
       → total c (forward c l s) w ≡ total c s (backward c l w)

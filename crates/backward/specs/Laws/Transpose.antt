@@ -8,10 +8,10 @@ use lib.Dec.{ltb}
 use lib.ListN.{getD}
 use borrow.Author.Tests.{ltb-true}
 use Rattle.pauli.specs.Pauli.{Pauli, X-at, Z-at, _∗_, when, anticommutes, cleared}
-use Rattle.pauli.specs.Gate.{Gate, swapXZ, addXtoZ, addZtoX, controlledX, controlledZ, swapRows, prepareBell, prepareBellBack, gateWith, conjugated, conjugatedBack}
+use Rattle.pauli.specs.Gate.{Gate, swapXZ, addXtoZ, addZtoX, controlledX, controlledZ, controlledY, swapRows, prepareBell, prepareBellBack, gateWith, conjugated, conjugatedBack}
 use Rattle.pauli.specs.Bits.{parity, _⊕_}
 use Rattle.pauli.specs.Laws.Pairing.{pairing, anti-comm, anti-cleared, anti-∗, anti-∗-right, anti-X-right, anti-Z-right}
-use Rattle.pauli.specs.Laws.Gates.{swapXZ-is, addXtoZ-is, addZtoX-is, controlledX-is, controlledZ-is, swapRows-is}
+use Rattle.pauli.specs.Laws.Gates.{swapXZ-is, addXtoZ-is, addZtoX-is, controlledX-is, controlledZ-is, controlledY-is, swapRows-is}
 use Rattle.job.specs.Checks.{allBelow}
 use Rattle.frames.specs.Forward.{exponentiate, controlledPauli, Image, imagesFrom, imagesOf, imageSum, transformed, placesOf}
 use Rattle.backward.specs.Walk.{imagesBack, cliffordBack, fetched, permuteBack}
@@ -44,7 +44,7 @@ below-at n (q ∷ qs) (suc i) z (h, hs) = below-at n qs i z hs
 abbrev qubitOf : Image → ℕ
 qubitOf g = g .qubit
 
-ruleset gates = (pairing, swapXZ-is, addXtoZ-is, addZtoX-is, controlledX-is, controlledZ-is, swapRows-is)
+ruleset gates = (pairing, swapXZ-is, addXtoZ-is, addZtoX-is, controlledX-is, controlledZ-is, controlledY-is, swapRows-is)
 
 module _ (n : ℕ) where
   -- ---- gates
@@ -63,6 +63,9 @@ module _ (n : ℕ) where
 
   controlledZ-transpose : (a b : ℕ) → a < n → b < n → Transpose n (controlledZ a b) (controlledZ a b)
   controlledZ-transpose a b h k F B = simp gates
+
+  controlledY-transpose : (a b : ℕ) → a < n → b < n → Transpose n (controlledY a b) (controlledY a b)
+  controlledY-transpose a b h k F B = simp gates
 
   swapRows-transpose : (a b : ℕ) → a < n → b < n → Transpose n (swapRows a b) (swapRows a b)
   swapRows-transpose a b h k F B = simp gates
@@ -84,6 +87,7 @@ module _ (n : ℕ) where
   gate-transpose Gate.ControlledZ a b h k F B = controlledZ-transpose a b h k F B
   gate-transpose Gate.Swap a b h k F B = swapRows-transpose a b h k F B
   gate-transpose Gate.PrepareBell a b h k F B = controlledX-transpose a b h k (swapXZ a F) B ∙ swapXZ-transpose a h F (controlledX a b B)
+  gate-transpose Gate.ControlledY a b h k F B = controlledY-transpose a b h k F B
 
   pub exponentiate-transpose : (P : Pauli) → Transpose n (exponentiate n P) (exponentiate n P)
   unfolding exponentiate

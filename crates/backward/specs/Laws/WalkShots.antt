@@ -50,6 +50,7 @@ module _ (c : Setting) (shots : Bits) (off : shots (c .shot) ≡ false) where
   counts-quiet (Line.reset qs) h w = refl
   counts-quiet (Line.inject shot P) h w = rw (apart shots shot (c .shot) h off)
   counts-quiet (Line.flip shot id) h w = rw (apart shots shot (c .shot) h off)
+  counts-quiet (Line.barrier qs) h w = refl
 
   pub walkBack-quiet : (ls : List Line) → within shots ls ≡ true → (w : Walk) → (walkBack c ls w) .count ≡ w .count
   unfolding walkBack within backward

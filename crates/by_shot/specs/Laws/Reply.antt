@@ -1,5 +1,5 @@
 -- The replies by what is found of counts and words. Assumes nothing.
-use mathlib.Core.Path.{_≡_}
+use mathlib.Core.Path.{_≡_, refl}
 use mathlib.Core.Bool.{true, false}
 use mathlib.Core.List.{List, _++_}
 use Prim.Native.Nat.{ℕ, _*_, _^_, _<_, _≤_}
@@ -9,6 +9,7 @@ use lib.Dec.{leb}
 use lib.ListN.{length, drop}
 use borrow.Author.Tests.{le-leb, lt-leb}
 use Rattle.job.specs.Job.{answer}
+use Rattle.job.specs.Grammar.{headerWith}
 use Rattle.job.specs.Laws.Lines.{header-sound}
 use Rattle.rows.specs.Words.{wordsPerRow}
 use Rattle.rows.specs.Laws.Pack.{length-pack}
@@ -32,7 +33,7 @@ module _ (outcomes shots : ℕ) where
 
   pub held-counts : mayHold outcomes shots ≡ true → (outcomes ≤ 4096) × (shots ≤ 4096)
   unfolding mayHold
-  held-counts e = let h = header-sound (record { qubits = 1; outcomes = outcomes; shots = shots }) e in (omega (arith, h .few-outcomes), h .few-shots)
+  held-counts e = let h = header-sound (headerWith 1 1 outcomes shots) e refl in (omega (arith, h .few-outcomes), h .few-shots)
 
   module _ (words out : List ℕ) where
     pub shot-refused : mayHold outcomes shots ≡ false → byShotReply outcomes shots words out ≡ untouched (answer 3 0) out

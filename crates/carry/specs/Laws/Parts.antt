@@ -10,6 +10,8 @@ use lib.ListN.{length, getD, drop, drop-of-length-le, List·getD-eq-default}
 use lib.Bits.{bitXor}
 use Rattle.text.specs.Laws.Pieces.{step}
 use Rattle.pauli.specs.Bits.{Bits, _⊕_, _∩_, _△_, only, given, added, outside, bit}
+use Rattle.pauli.specs.Pauli.{Pauli, cleared}
+use Rattle.pauli.specs.Laws.Changes.{cleared-none, cleared-more}
 use Rattle.pauli.specs.Laws.F2.{f2}
 use Rattle.pauli.specs.Laws.Parity.{bitwise, added-is, △-none}
 use Rattle.pauli.specs.Laws.Word.{bit-xor}
@@ -117,3 +119,25 @@ module _ {set : Bits} {qs : List ℕ} {bits i : ℕ} {now : Bits} (l : PartsToAd
   pub none-left : length qs ≤ i → now ≡ set △ placed (bit bits) qs
   unfolding placed
   none-left h = sym (△-none now) ∙ sym (ap (λ (rest : List ℕ). now △ placed (λ j. bit bits (i + j)) rest) (drop-of-length-le qs h)) ∙ l .same
+
+-- ---- the code's loop over the qubits of a reset
+
+-- those from place i on are left to clear
+pub record ToClear (all : Pauli) (qs : List ℕ) (i : ℕ) (now : Pauli) : Type 0 where
+  pub within : i ≤ length qs
+  pub same : cleared (drop i qs) now ≡ all
+
+module _ {all : Pauli} {qs : List ℕ} {i : ℕ} {now : Pauli} (l : ToClear all qs i now) where
+  pub one-cleared : (then : Pauli) → i < length qs → then ≡ cleared (getD qs i 0 ∷ []) now → ToClear all qs (i + 1) then
+  one-cleared then h e =
+      record {
+        within = omega arith;
+        same =
+            ap (cleared (drop (i + 1) qs)) e
+            ∙ sym (cleared-more (getD qs i 0) now (drop (i + 1) qs))
+            ∙ ap (λ (rest : List ℕ). cleared rest now) (sym (step qs i h))
+            ∙ l .same;
+      }
+
+  pub none-to-clear : length qs ≤ i → now ≡ all
+  none-to-clear h = sym (cleared-none now) ∙ ap (λ (rest : List ℕ). cleared rest now) (sym (drop-of-length-le qs h)) ∙ l .same

@@ -69,6 +69,7 @@ module _ (h : Header) (few : h .qubits ≤ 256) (r : ℕ) where
   same-carry (Line.reset qs) s w = refl
   same-carry (Line.inject shot P) s w = refl
   same-carry (Line.flip shot id) s w = refl
+  same-carry (Line.barrier qs) s w = refl
 
   same-counts : (l : Line) → LineSound h r l → (shot : ℕ) (w : Carried) → counts (settingOf h shot) l w ≡ counts (full shot) l w
   unfolding counts LineSound
@@ -84,6 +85,7 @@ module _ (h : Header) (few : h .qubits ≤ 256) (r : ℕ) where
   same-counts (Line.reset qs) s shot w = refl
   same-counts (Line.inject t P) s shot w = ap (λ (b : Bool). eqb t shot && b) (anti-left (h .qubits) few (w .observable) P (s .pauli))
   same-counts (Line.flip t id) s shot w = refl
+  same-counts (Line.barrier qs) s shot w = refl
 
   -- so one line of the walk is the same
   pub same-backward : (l : Line) → LineSound h r l → (shot : ℕ) (w : Walk) → backward (settingOf h shot) l w ≡ backward (full shot) l w

@@ -56,6 +56,7 @@ located-below h r (Line.conditional P ids par) s = refl
 located-below h r (Line.reset qs) s = refl
 located-below h r (Line.inject shot P) s = refl
 located-below h r (Line.flip shot id) s = refl
+located-below h r (Line.barrier qs) s = refl
 
 qubits-below : (h : Header) (r : ℕ) (l : Line) → LineSound h r l → allBelow (h .qubits) (noiseQubits l) ≡ true
 unfolding noiseQubits allBelow
@@ -81,6 +82,7 @@ located-apart h r (Line.conditional P ids par) s other = refl
 located-apart h r (Line.reset qs) s other = refl
 located-apart h r (Line.inject shot P) s other = refl
 located-apart h r (Line.flip shot id) s other = refl
+located-apart h r (Line.barrier qs) s other = refl
 
 -- noise over these qubits can be written: none, or at most 31, each once
 record Fit (n : ℕ) (qs : List ℕ) : Type 0 where
@@ -256,7 +258,7 @@ module _ (p : ℕ) (small : p < 2 ^ 64) (probability : isProbability (float p) �
     text-is = rw (b .split, b .reads)
 
     range : HeaderSound (b .header)
-    range = header-sound (b .header) (b .range)
+    range = header-sound (b .header) (b .range) (b .edition)
 
     free : AllFree LF (b .text ∷ annotated p (b .rest))
     free = let f : AllFree LF (b .text ∷ b .rest) = rw (b .split) at (lines-free job) in (f .0, annotated-free p (b .rest) (f .1))

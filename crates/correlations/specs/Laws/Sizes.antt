@@ -60,6 +60,8 @@ module _ {fields : List ℕ} {vs : List Value} {n : NoiseLine} where
   other-size form.Weighted a b t s = absurd (b refl)
   other-size form.Element a b t s = absurd (true≢false (sym t))
   other-size form.WeightedElement a b t s = absurd (true≢false (sym t))
+  other-size form.EditionHeader a b t s = absurd (true≢false (sym t))
+  other-size form.Barrier a b t s = absurd (true≢false (sym t))
 
   -- of a noise line without n
   pub size-other : (f : Form) → (f ≡ form.Uniform → ⊥) → (f ≡ form.Weighted → ⊥) → Said f fields vs (Written.noise n) → getD fields 2 0 ≡ n .size
@@ -71,6 +73,7 @@ module _ {fields : List ℕ} {vs : List Value} {n : NoiseLine} where
 meaning-none : {f : Form} {w : Written} → noiseForm f ≡ false → Meaning f w → correlationIn w ≡ none
 unfolding correlationIn noiseForm
 meaning-none q (Meaning.header h e) = refl
+meaning-none q (Meaning.edition-header h e) = refl
 meaning-none q (Meaning.plain l e k) = refl
 meaning-none q (Meaning.measure l e) = refl
 meaning-none q (Meaning.allocate l e) = refl
@@ -116,6 +119,8 @@ corr-in form.Uniform {fields} {vs} {w} t s = corr-held _ _ vs w (s .held) (omega
 corr-in form.Weighted {fields} {vs} {w} t s = corr-held _ _ vs w (s .held) (omega arith) (noise-said _ _ vs w (s .says))
 corr-in form.Element t s = absurd (true≢false (sym t))
 corr-in form.WeightedElement t s = absurd (true≢false (sym t))
+corr-in form.EditionHeader t s = absurd (true≢false (sym t))
+corr-in form.Barrier t s = absurd (true≢false (sym t))
 
 present-optional : (l : List ℕ) → present (optional l) ≡ not (eqb (length l) 0)
 unfolding present optional

@@ -74,15 +74,15 @@ module _ (h : Header) (lent : Lent) (main : List ℕ) (n : Noise) (text : List �
   head-spent e = rw e
 
 module _ {job : List ℕ} (place : Place) (next : Next) {fields noiseless : List ℕ} (shape : Shape)
-    (q : NoiseLines job (next .end + 1) (next .form) fields noiseless (shape .width)) (same : q .header ≡ headerOf shape) (lent : Lent) (main : List ℕ)
+    (q : NoiseLines job (next .end + 1) (next .form) fields noiseless (shape .width)) (same : q .header ≡ headerOf job shape) (lent : Lent) (main : List ℕ)
     (line : q .line ≡ place .line + 1) (text deltas : List ℕ) (states : States)
   where
     abbrev comes : Ended
-    comes = execute (headerOf shape) lent (placedAt (place .line) text (Instruction.noise (noiseIn q)) ∷ q .rest) (drop (place .position) main) states
+    comes = execute (headerOf job shape) lent (placedAt (place .line) text (Instruction.noise (noiseIn q)) ∷ q .rest) (drop (place .position) main) states
 
     noise-went : {elements : List ℕ} {sums : List Float} {mask : List ℕ} {r : Prepared} → PreparedAs q elements sums mask r
         → (x z : List ℕ) (position : ℕ) (t : States) → position ≤ length main → Holds (shape .width) x z deltas t
-        → executeOne (headerOf shape) lent (drop (place .position) main) (Instruction.noise (noiseIn q)) states ≡ Executed.went t (drop position main)
+        → executeOne (headerOf job shape) lent (drop (place .position) main) (Instruction.noise (noiseIn q)) states ≡ Executed.went t (drop position main)
         → Went job shape lent main comes (suc (length (q .rest))) (place .line) x z deltas
         (To (record { byte = r .next; line = place .line + 1 + r .lines; position = position }))
     unfolding WentBy
@@ -96,21 +96,21 @@ module _ {job : List ℕ} (place : Place) (next : Next) {fields noiseless : List
             within = within;
             states = t;
             holds = holds;
-            is = rw rest (head-went (headerOf shape) lent main (noiseIn q) text (q .rest) (place .line) (place .position) states t (drop position main) e);
+            is = rw rest (head-went (headerOf job shape) lent main (noiseIn q) text (q .rest) (place .line) (place .position) states t (drop position main) e);
           };
         }
 
-    noise-spent : (x z : List ℕ) → executeOne (headerOf shape) lent (drop (place .position) main) (Instruction.noise (noiseIn q)) states ≡ Executed.spent
+    noise-spent : (x z : List ℕ) → executeOne (headerOf job shape) lent (drop (place .position) main) (Instruction.noise (noiseIn q)) states ≡ Executed.spent
         → Went job shape lent main comes (suc (length (q .rest))) (place .line) x z deltas Spent
     unfolding WentBy
-    noise-spent x z e = record { by = head-spent (headerOf shape) lent main (noiseIn q) text (q .rest) (place .line) (place .position) states e }
+    noise-spent x z e = record { by = head-spent (headerOf job shape) lent main (noiseIn q) text (q .rest) (place .line) (place .position) states e }
 
 -- ---- what the code does
 
 module _ {job : List ℕ} (next : Next) {fields noiseless : List ℕ} (shape : Shape) {elements : List ℕ} {sums : List Float} {mask : List ℕ} {r : Prepared}
     (prepared : (q : NoiseLines job (next .end + 1) (next .form) fields noiseless (shape .width)) → PreparedAs q elements sums mask r)
   where
-    line-ready : (second : List ℕ) (base : ℕ) (q : NoiseLines job (next .end + 1) (next .form) fields noiseless (shape .width)) → q .header ≡ headerOf shape
+    line-ready : (second : List ℕ) (base : ℕ) (q : NoiseLines job (next .end + 1) (next .form) fields noiseless (shape .width)) → q .header ≡ headerOf job shape
         → LineReady (noiseIn q) (lentBy shape noiseless second base) (shape .width) (shape .qubits) (r .fault .probability) (r .fault .distribution)
         (take (r .lines) sums) elements mask
     unfolding noiseOf
@@ -173,17 +173,17 @@ module _ {job : List ℕ} (place : Place) (next : Next) {fields noiseless : List
           by = λ q same line text deltas states holds.
               let p = prepared q in
               noise-went place next shape q same lent main line text deltas states p x z (place .position) states within holds
-              (one-quiet (headerOf shape) lent main (noiseIn q) (r .fault .correlation) (p .correlation) (place .position) states (rw (p .stands .probability) at quiet));
+              (one-quiet (headerOf job shape) lent main (noiseIn q) (r .fault .correlation) (p .correlation) (place .position) states (rw (p .stands .probability) at quiet));
         }
 
     module _ (words : List ℕ) (part : words ≡ partOf lent (correlationOf (r .fault .correlation)) (drop (place .position) main))
         (some-words : le (r .fault .probability) zeroFloat ≡ false) (x z x′ z′ : List ℕ) {d : Drawn}
         (injected : FaultsInjected (shape .qubits) (shape .shots) (shape .width) (r .fault .probability) (r .fault .distribution) (take (r .lines) sums) elements mask words x z x′ z′ d)
       where
-        left : (q : NoiseLines job (next .end + 1) (next .form) fields noiseless (shape .width)) → q .header ≡ headerOf shape → (deltas : List ℕ) (states : States)
+        left : (q : NoiseLines job (next .end + 1) (next .form) fields noiseless (shape .width)) → q .header ≡ headerOf job shape → (deltas : List ℕ) (states : States)
             → Holds (shape .width) x z deltas states
-            → Injected (injectShots (headerOf shape) lent (noiseIn q) (shape .shots) 0 words states) words (shape .width) x′ z′ deltas d
-        left q same deltas states holds = injected .by (shape .outcomes) (noiseIn q) lent (line-ready next shape prepared second base q same) deltas states holds
+            → Injected (injectShots (headerOf job shape) lent (noiseIn q) (shape .shots) 0 words states) words (shape .width) x′ z′ deltas d
+        left q same deltas states holds = injected .by _ (shape .outcomes) (noiseIn q) lent (line-ready next shape prepared second base q same) deltas states holds
 
         read-within : NoiseReady job place next fields noiseless shape → (read : ℕ) → d ≡ drawn.Done read → read ≤ length words
         unfolding placeOf
@@ -205,7 +205,7 @@ module _ {job : List ℕ} (place : Place) (next : Next) {fields noiseless : List
                   noise-went place next shape q same lent main line text deltas states p x′ z′ position (i .states)
                   (rw after (position-within (r .fault .correlation) lent main (place .position) read within fits))
                   (i .holds)
-                  (rw after (one-done (headerOf shape) lent main (noiseIn q) (r .fault .correlation) (p .correlation) (place .position) states (rw (p .stands .probability) at some-words) words part (i .states) read
+                  (rw after (one-done (headerOf job shape) lent main (noiseIn q) (r .fault .correlation) (p .correlation) (place .position) states (rw (p .stands .probability) at some-words) words part (i .states) read
                   (i .is)));
             }
 
@@ -217,6 +217,6 @@ module _ {job : List ℕ} (place : Place) (next : Next) {fields noiseless : List
                   let p = prepared q in
                   let i = rw e at (left q same deltas states holds) in
                   noise-spent place next shape q same lent main line text deltas states x′ z′
-                  (one-spent (headerOf shape) lent main (noiseIn q) (r .fault .correlation) (p .correlation) (place .position) states (rw (p .stands .probability) at some-words) words part
+                  (one-spent (headerOf job shape) lent main (noiseIn q) (r .fault .correlation) (p .correlation) (place .position) states (rw (p .stands .probability) at some-words) words part
                   (i .is));
             }

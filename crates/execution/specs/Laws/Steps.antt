@@ -4,7 +4,7 @@ use mathlib.Core.List.{List}
 use Prim.Native.Nat.{ℕ, _+_, _*_, _<_, _≤_}
 use native.Mathlib.Omega.{arith}
 use lib.ListN.{length, drop}
-use Rattle.job.specs.Job.{answer, accepted}
+use Rattle.job.specs.Job.{answer, accepted, jobOf}
 use Rattle.instructions.specs.declared.Next.{Next}
 use Rattle.instructions.specs.Ahead.{instructionsAt, Ahead, PlainRead, NoiseRead}
 use Rattle.instructions.specs.Laws.Steps.{none-left}
@@ -25,13 +25,14 @@ use Rattle.execution.specs.Went.{headerOf, lentBy, RowsFor, WentBy, Went
 -- ---- a line
 
 module _ {job : List ℕ} (shape : Shape) {recorded : ℕ} (place : Place) {next : Next} {fields : List ℕ}
-    (read : PlainRead job (headerOf shape) recorded (place .line) (place .byte) next fields) (ahead : Ahead job (headerOf shape) recorded (place .line) (place .byte))
+    (read : PlainRead job (headerOf job shape) recorded (place .line) (place .byte) next fields) (ahead : Ahead job (headerOf job shape) recorded (place .line) (place .byte))
     {x z d noiseless : List ℕ} (rows : RowsFor shape x z d noiseless) (wide : 136 ≤ length fields)
   where
     -- it is as the crate lines wants it
     plain-said : Plain (next .form) fields (shape .width) (shape .qubits) (shape .outcomes) (read .line)
     plain-said =
         record {
+          edition = jobOf job .header .edition;
           shots = shape .shots;
           recorded = recorded;
           values = read .values;
@@ -54,7 +55,7 @@ module _ {job : List ℕ} (shape : Shape) {recorded : ℕ} (place : Place) {next
 
     pub plain-went : (lent : Lent) (main : List ℕ) → place .position ≤ length main → (x′ z′ d′ : List ℕ)
         → Obeyed (next .form) fields (shape .width) (shape .qubits) (shape .outcomes) x z d x′ z′ d′ → (states : States) → Holds (shape .width) x z d states
-        → Went job shape lent main (execute (headerOf shape) lent (instructionsAt job (place .line) (place .byte)) (drop (place .position) main) states)
+        → Went job shape lent main (execute (headerOf job shape) lent (instructionsAt job (place .line) (place .byte)) (drop (place .position) main) states)
         (length (instructionsAt job (place .line) (place .byte))) (place .line) x′ z′ d′
         (To (record { byte = next .end + 1; line = place .line + 1; position = place .position }))
     unfolding WentBy execute executeThen executeOne
@@ -65,8 +66,8 @@ module _ {job : List ℕ} (shape : Shape) {recorded : ℕ} (place : Place) {next
             ahead = read .ahead;
             fewer = rw (read .instructions) (omega arith);
             within = within;
-            states = forwardAll (headerOf shape) (read .line) states;
-            holds = holds-line (headerOf shape) (read .line) holds (obeyed .acts (read .line) plain-said);
+            states = forwardAll (headerOf job shape) (read .line) states;
+            holds = holds-line (headerOf job shape) (read .line) holds (obeyed .acts (read .line) plain-said);
             is = rw (read .instructions);
           };
         }
@@ -81,7 +82,7 @@ module _ {job : List ℕ} (shape : Shape) {recorded : ℕ} (place : Place) {next
 -- ---- a noise line
 
 module _ {job : List ℕ} (shape : Shape) {recorded : ℕ} (place : Place) {next : Next} {fields : List ℕ}
-    (read : NoiseRead job (headerOf shape) recorded (place .line) (place .byte) next fields) {noiseless : List ℕ}
+    (read : NoiseRead job (headerOf job shape) recorded (place .line) (place .byte) next fields) {noiseless : List ℕ}
     (rows : shape .outcomes * shape .width ≤ length noiseless)
   where
     pub noise-ready : NoiseReady job place next fields noiseless shape
@@ -91,7 +92,7 @@ module _ {job : List ℕ} (shape : Shape) {recorded : ℕ} (place : Place) {next
     pub noise-done : {main second : List ℕ} {base : ℕ} {x z x′ z′ : List ℕ} {r : Moved}
         → NoiseDone job place next fields shape noiseless main second base x z x′ z′ r → (d : List ℕ) (states : States) → Holds (shape .width) x z d states
         → Went job shape (lentBy shape noiseless second base) main
-        (execute (headerOf shape) (lentBy shape noiseless second base) (instructionsAt job (place .line) (place .byte)) (drop (place .position) main) states)
+        (execute (headerOf job shape) (lentBy shape noiseless second base) (instructionsAt job (place .line) (place .byte)) (drop (place .position) main) states)
         (length (instructionsAt job (place .line) (place .byte))) (place .line) x′ z′ d r
     unfolding noise-lines
     noise-done done d states holds = rw (read .instructions) (done .by (noise-lines read noiseless (shape .width) rows) refl refl _ d states holds)
@@ -102,17 +103,17 @@ module _ (job : List ℕ) (shape : Shape) (lent : Lent) (main : List ℕ) where
   -- execution goes on from here, with the states that the words hold
   pub record Going (all : Ended) (x z d : List ℕ) (place : Place) : Type 0 where
     pub recorded : ℕ
-    pub ahead : Ahead job (headerOf shape) recorded (place .line) (place .byte)
+    pub ahead : Ahead job (headerOf job shape) recorded (place .line) (place .byte)
     pub within : place .position ≤ length main
     pub states : States
     pub holds : Holds (shape .width) x z d states
-    pub is : execute (headerOf shape) lent (instructionsAt job (place .line) (place .byte)) (drop (place .position) main) states ≡ all
+    pub is : execute (headerOf job shape) lent (instructionsAt job (place .line) (place .byte)) (drop (place .position) main) states ≡ all
 
   -- from whatever states the words held at first
   pub record GoingFrom (from : ℕ) (x₀ z₀ d₀ x z d : List ℕ) (place : Place) : Type 0 where
-    pub by : (states : States) → Holds (shape .width) x₀ z₀ d₀ states → Going (execute (headerOf shape) lent (instructionsAt job 2 from) main states) x z d place
+    pub by : (states : States) → Holds (shape .width) x₀ z₀ d₀ states → Going (execute (headerOf job shape) lent (instructionsAt job 2 from) main states) x z d place
 
-  pub going-begun : (from recorded : ℕ) → Ahead job (headerOf shape) recorded 2 from → (x z d : List ℕ)
+  pub going-begun : (from recorded : ℕ) → Ahead job (headerOf job shape) recorded 2 from → (x z d : List ℕ)
       → GoingFrom from x z d x z d (record { byte = from; line = 2; position = 0 })
   going-begun from recorded ahead x z d =
       record {
@@ -121,14 +122,14 @@ module _ (job : List ℕ) (shape : Shape) (lent : Lent) (main : List ℕ) where
 
   module _ {from : ℕ} {x₀ z₀ d₀ x z d : List ℕ} {place : Place} (g : GoingFrom from x₀ z₀ d₀ x z d place) where
     -- there are such states
-    pub going-some : Going (execute (headerOf shape) lent (instructionsAt job 2 from) main (stateOf (shape .width) x₀ z₀ d₀)) x z d place
+    pub going-some : Going (execute (headerOf job shape) lent (instructionsAt job 2 from) main (stateOf (shape .width) x₀ z₀ d₀)) x z d place
     going-some = g .by (stateOf (shape .width) x₀ z₀ d₀) (holds-some (shape .width) x₀ z₀ d₀)
 
     -- an instruction was obeyed
     abbrev pub Obeying : List ℕ → List ℕ → List ℕ → Moved → Type 0
     Obeying x′ z′ d′ moved =
-        (recorded : ℕ) → Ahead job (headerOf shape) recorded (place .line) (place .byte) → (states : States) → Holds (shape .width) x z d states
-        → Went job shape lent main (execute (headerOf shape) lent (instructionsAt job (place .line) (place .byte)) (drop (place .position) main) states)
+        (recorded : ℕ) → Ahead job (headerOf job shape) recorded (place .line) (place .byte) → (states : States) → Holds (shape .width) x z d states
+        → Went job shape lent main (execute (headerOf job shape) lent (instructionsAt job (place .line) (place .byte)) (drop (place .position) main) states)
         (length (instructionsAt job (place .line) (place .byte))) (place .line) x′ z′ d′ moved
 
     pub going-on : (x′ z′ d′ : List ℕ) (next : Place) → Obeying x′ z′ d′ (To next) → GoingFrom from x₀ z₀ d₀ x′ z′ d′ next
@@ -156,14 +157,14 @@ module _ (job : List ℕ) (shape : Shape) (lent : Lent) (main : List ℕ) where
         went (b .recorded) (b .ahead) (b .states) (b .holds) .by .fewer
 
     pub going-stopped : (x′ z′ d′ : List ℕ) → Obeying x′ z′ d′ Spent → (states₀ : States) → Holds (shape .width) x₀ z₀ d₀ states₀
-        → Finished (execute (headerOf shape) lent (instructionsAt job 2 from) main states₀) (shape .width) x′ z′ d′ (answer 14 (place .line))
+        → Finished (execute (headerOf job shape) lent (instructionsAt job 2 from) main states₀) (shape .width) x′ z′ d′ (answer 14 (place .line))
     unfolding WentBy
     going-stopped x′ z′ d′ went states₀ holds₀ =
         let b = g .by states₀ holds₀ in
         Finished.stopped (place .line) (sym (b .is) ∙ went (b .recorded) (b .ahead) (b .states) (b .holds) .by) refl
 
     pub going-end : length job ≤ place .byte → (states₀ : States) → Holds (shape .width) x₀ z₀ d₀ states₀
-        → Finished (execute (headerOf shape) lent (instructionsAt job 2 from) main states₀) (shape .width) x z d accepted
+        → Finished (execute (headerOf job shape) lent (instructionsAt job 2 from) main states₀) (shape .width) x z d accepted
     unfolding execute
     going-end past states₀ holds₀ =
         let b = g .by states₀ holds₀ in

@@ -93,6 +93,8 @@ noise-view form.Uniform vs n e = subst (NoiseView form.Uniform vs) (noise-same (
 noise-view form.Weighted vs n e = subst (NoiseView form.Weighted vs) (noise-same (noise-said _ _ vs _ e)) (NoiseView.weighted refl)
 noise-view form.Element vs n e = let z : _≡_ {A = ℕ} 0 1 = cc in absurd (omega arith)
 noise-view form.WeightedElement vs n e = let z : _≡_ {A = ℕ} 0 1 = cc in absurd (omega arith)
+noise-view form.EditionHeader vs n e = let z : _≡_ {A = ℕ} 0 1 = cc in absurd (omega arith)
+noise-view form.Barrier vs n e = let z : _≡_ {A = ℕ} 0 1 = cc in absurd (omega arith)
 
 -- ---- the kind
 

@@ -80,6 +80,7 @@ module _ (c : Setting) where
   forward-fault (Line.reset qs) f e s = absurd (none-some e)
   forward-fault (Line.inject shot P) f e s = inject-adds shot P s ∙ ap (λ (k : ShotFault). combined s (effect c k)) (some-same e)
   forward-fault (Line.flip shot id) f e s = flip-adds shot id s ∙ ap (λ (k : ShotFault). combined s (effect c k)) (some-same e)
+  forward-fault (Line.barrier qs) f e s = absurd (none-some e)
 
 -- any other line is linear
 others-linear : (c : Setting) (l : Line) → faultIn l ≡ none → (s t : State) → forward c l (combined s t) ≡ combined (forward c l s) (forward c l t)
@@ -98,6 +99,7 @@ others-linear c l e = forward-linear c noBits (unfold noBits in refl) l (all-sho
     all-shots (Line.reset qs) e = unfold concerns in refl
     all-shots (Line.inject shot P) e = unfold faultIn in absurd (none-some (sym e))
     all-shots (Line.flip shot id) e = unfold faultIn in absurd (none-some (sym e))
+    all-shots (Line.barrier qs) e = unfold concerns in refl
 
 -- ---- a run by its other lines and gaps
 

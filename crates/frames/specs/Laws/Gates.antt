@@ -1,18 +1,18 @@
 -- Each gate's rule for frames is conjugation by its unitary. Hadamard's X + Z is X (1 - iY), and Swap's 1 + XX + YY + ZZ is 1 + C + T - CT for
 -- C = XX and T = YY. Assumes nothing.
-use mathlib.Core.Path.{_≡_, refl, sym, ap, ap₂, _∙_, subst}
+use mathlib.Core.Path.{_≡_, refl, sym, ap, ap₂, _∙_, subst, fun-ext}
 use mathlib.Core.Bool.{Bool, true, false, _&&_, cond, true≢false}
 use mathlib.Core.List.{[], _∷_}
 use Prim.Native.Nat.{ℕ, zero, suc, _+_, _<_, _≤_}
 use native.Mathlib.Nat.{not-suc-le-zero}
 use native.Mathlib.Decide.{ℕ-discrete}
 use native.Mathlib.Omega.{arith}
-use Rattle.pauli.specs.Bits.{Bits, _⊕_, _△_, none, only}
+use Rattle.pauli.specs.Bits.{Bits, _⊕_, _△_, none, only, added}
 use Rattle.pauli.specs.Pauli.{Pauli, identity, X-at, Y-at, Z-at, _∗_, anticommutes}
-use Rattle.pauli.specs.Gate.{Gate, operandsOf, swapXZ, addXtoZ, addZtoX, controlledX, controlledZ, swapRows, prepareBell, gateWith, conjugated}
-use Rattle.pauli.specs.Laws.Parity.{at-or-off, only-here, only-off, △-at}
+use Rattle.pauli.specs.Gate.{Gate, operandsOf, swapXZ, addXtoZ, addZtoX, controlledX, controlledZ, controlledY, swapRows, prepareBell, gateWith, conjugated}
+use Rattle.pauli.specs.Laws.Parity.{at-or-off, only-here, only-off, △-at, added-is, bitwise}
 use Rattle.pauli.specs.Laws.Pairing.{pairing, anti-comm, anti-X, anti-Z}
-use Rattle.pauli.specs.Laws.Gates.{swapXZ-is, addXtoZ-is, addZtoX-is, controlledX-is, controlledZ-is, swapRows-is}
+use Rattle.pauli.specs.Laws.Gates.{pauli-path, swapXZ-is, addXtoZ-is, addZtoX-is, controlledX-is, controlledZ-is, controlledY-is, swapRows-is}
 use Rattle.pauli.specs.Laws.Group.{group, X-Z, when-∗, when-⊕}
 use Rattle.frames.specs.Forward.{exponentiate, controlledPauli}
 use Rattle.frames.specs.Conjugation.{phaseOne, phase, termProduct, product, phased, pauliSum, sqrtSum, controlledSum, hadamardSum, swapSum, gateSum, Takes, IsUnitary}
@@ -84,7 +84,7 @@ module _ (n a : ℕ) (h : a < n) where
       XY : termProduct n (phased 0 (X-at a)) (phased 0 (Y-at a)) ≡ phasedTerm 1 (phased 0 (Z-at a))
       XY = pauli-⊙ n (X-at a) (Y-at a) ∙ ap₂ phased phase-XY (simp (← X-Z, group)) ∙ phased-as-term 1 (Z-at a)
 
-ruleset rows = (pairing, swapXZ-is, addXtoZ-is, addZtoX-is, controlledX-is, controlledZ-is, swapRows-is)
+ruleset rows = (pairing, swapXZ-is, addXtoZ-is, addZtoX-is, controlledX-is, controlledZ-is, controlledY-is, swapRows-is)
 
 module _ (n a : ℕ) (h : a < n) (Q : Pauli) where
   exponentiate-X : exponentiate n (X-at a) Q ≡ addZtoX a Q
@@ -110,6 +110,22 @@ hadamard-unitary n a h =
 
 -- ---- gates of two qubits
 
+added-here : (s : Bits) (q : ℕ) (t : Bool) → added s q t q ≡ s q ⊕ t
+added-here s q t = ap (λ (u : Bits). u q) (added-is s q t) ∙ simp (bitwise, only-here)
+
+-- the Z row of ControlledX between SqrtZInv and SqrtZ on the target
+row-composed : (x z : Bits) (a b : ℕ)
+    → added (added (added z b (x b)) a (added z b (x b) b)) b (added x b (x a) b) ≡ added (added z b (x a)) a (x b ⊕ z b)
+row-composed x z a b = rw (added-here z b (x b), added-here x b (x a)) (simp added-is (fun-ext (λ i. simp bitwise)))
+
+pub controlledY-composed : (a b : ℕ) (Q : Pauli) → addXtoZ b (controlledX a b (addXtoZ b Q)) ≡ controlledY a b Q
+unfolding addXtoZ controlledX controlledY
+controlledY-composed a b Q = pauli-path refl (row-composed (Q .x) (Q .z) a b)
+
+Y-x : (b i : ℕ) → (Y-at b) .x i ≡ only b i
+unfolding Y-at
+Y-x b i = refl
+
 Y-z : (b i : ℕ) → (Y-at b) .z i ≡ only b i
 unfolding Y-at
 Y-z b i = refl
@@ -127,6 +143,10 @@ module _ (n a b : ℕ) (h : a < n) (k : b < n) where
   unfolding controlledPauli
   controlled-ZZ Q = simp rows
 
+  pub controlled-ZY : (Q : Pauli) → controlledPauli n (Z-at a) (Y-at b) Q ≡ controlledY a b Q
+  unfolding controlledPauli
+  controlled-ZY Q = simp rows
+
   controlled-XX-YY : (Q : Pauli) → controlledPauli n (X-at a ∗ X-at b) (Y-at a ∗ Y-at b) Q ≡ swapRows a b Q
   unfolding controlledPauli
   controlled-XX-YY Q = simp (pairing, swapRows-is, ← X-Z, when-∗, when-⊕, group)
@@ -139,6 +159,10 @@ module _ (n a b : ℕ) (h : a < n) (k : b < n) where
     Z-with-Z : anticommutes n (Z-at b) (Z-at a) ≡ false
     unfolding Z-at none
     Z-with-Z = anti-Z n b (Z-at a) k
+
+    Y-with-Z : anticommutes n (Y-at b) (Z-at a) ≡ false
+    unfolding Z-at
+    Y-with-Z = anti-comm n (Y-at b) (Z-at a) ∙ simp (pairing, Y-x, only-off b a ne)
 
     YY-with-XX : anticommutes n (Y-at a ∗ Y-at b) (X-at a ∗ X-at b) ≡ false
     YY-with-XX = anti-comm n (Y-at a ∗ Y-at b) (X-at a ∗ X-at b) ∙ simp (pairing, ∗-z, Y-z, only-here, only-off a b (λ e. ne (sym e)), only-off b a ne)
@@ -171,6 +195,10 @@ module _ (n a b : ℕ) (h : a < n) (k : b < n) where
     controlledZ-takes Q =
         subst (Takes n (controlledSum n (Z-at a) (Z-at b)) Q) (controlled-ZZ Q) (controlled-takes n (Z-at a) (Z-at b) Z-with-Z Q)
 
+    controlledY-takes : (Q : Pauli) → Takes n (controlledSum n (Z-at a) (Y-at b)) Q (controlledY a b Q)
+    controlledY-takes Q =
+        subst (Takes n (controlledSum n (Z-at a) (Y-at b)) Q) (controlled-ZY Q) (controlled-takes n (Z-at a) (Y-at b) Y-with-Z Q)
+
     swap-takes : (Q : Pauli) → Takes n (swapSum a b) Q (swapRows a b Q)
     swap-takes Q =
         subst (λ U. Takes n U Q (swapRows a b Q)) swap-is
@@ -179,7 +207,7 @@ module _ (n a b : ℕ) (h : a < n) (k : b < n) where
     swap-unitary : IsUnitary n (swapSum a b)
     swap-unitary = subst (IsUnitary n) swap-is (controlled-unitary n (X-at a ∗ X-at b) (Y-at a ∗ Y-at b) YY-with-XX)
 
--- ---- all fifteen
+-- ---- all gates
 
 -- The operands are below n, and different where there are two.
 pub record GateOperands (n : ℕ) (g : Gate) (a b : ℕ) : Type 0 where
@@ -206,6 +234,7 @@ gate-takes n Gate.ControlledZ a b o Q = controlledZ-takes n a b (o .first) (o .s
 gate-takes n Gate.Swap a b o Q = swap-takes n a b (o .first) (o .second refl) (o .different refl) Q
 gate-takes n Gate.PrepareBell a b o Q =
     product-takes n (hadamard-takes n a (o .first) Q) (controlledX-takes n a b (o .first) (o .second refl) (o .different refl) (swapXZ a Q))
+gate-takes n Gate.ControlledY a b o Q = controlledY-takes n a b (o .first) (o .second refl) (o .different refl) Q
 
 pub gate-unitary : (n : ℕ) (g : Gate) (a b : ℕ) → GateOperands n g a b → IsUnitary n (gateSum n g a b)
 unfolding gateSum operandsOf
@@ -227,3 +256,4 @@ gate-unitary n Gate.PrepareBell a b o =
     product-unitary n (controlledSum n (Z-at a) (X-at b)) (hadamardSum a)
     (controlledX-unitary n a b (o .first) (o .second refl) (o .different refl))
     (hadamard-unitary n a (o .first))
+gate-unitary n Gate.ControlledY a b o = controlled-unitary n (Z-at a) (Y-at b) (Y-with-Z n a b (o .first) (o .second refl) (o .different refl))

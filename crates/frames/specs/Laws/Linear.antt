@@ -1,5 +1,5 @@
 -- Lines without a fault (injection or flip) in the shot are linear in frame and deltas; so a shot without faults stays at its start. Assumes nothing.
-use mathlib.Core.Path.{_≡_, refl, sym, ap, _∙_, fun-ext}
+use mathlib.Core.Path.{_≡_, refl, sym, ap, ap₂, _∙_, fun-ext}
 use mathlib.Core.Bool.{Bool, true, false, cond, not, not-eq-not, and-eq-true-iff}
 use mathlib.Core.List.{List, [], _∷_}
 use Prim.Native.Nat.{ℕ}
@@ -7,7 +7,8 @@ use lib.Dec.{eqb}
 use borrow.Author.Tests.{ne-eqb}
 use Rattle.pauli.specs.Bits.{Bits, _⊕_, _△_, _∩_, replaced, added, members, parity}
 use Rattle.pauli.specs.Pauli.{Pauli, _∗_, when, anticommutes, cleared}
-use Rattle.pauli.specs.Gate.{Gate, swapXZ, addXtoZ, addZtoX, controlledX, controlledZ, exchanged, swapRows, gateWith, prepareBell, conjugated}
+use Rattle.pauli.specs.Gate.{Gate, swapXZ, addXtoZ, addZtoX, controlledX, controlledZ, controlledY, exchanged, swapRows, gateWith, prepareBell, conjugated}
+use Rattle.pauli.specs.Laws.F2.{f2}
 use Rattle.pauli.specs.Laws.Parity.{bitwise, added-is, parity-△}
 use Rattle.pauli.specs.Laws.Pairing.{anti-∗}
 use Rattle.pauli.specs.Laws.Gates.{pauli-path}
@@ -61,6 +62,12 @@ controlledZ-linear a b F G =
     pauli-path refl
     (ap (λ u. added u a (F .x b ⊕ G .x b)) (added-linear (F .z) (G .z) b (F .x a) (G .x a)) ∙ added-linear _ _ a (F .x b) (G .x b))
 
+controlledY-linear : (a b : ℕ) → Linear (controlledY a b)
+unfolding controlledY _∗_ _△_
+controlledY-linear a b F G =
+    pauli-path (added-linear (F .x) (G .x) b (F .x a) (G .x a))
+    (ap₂ (λ u t. added u a t) (added-linear (F .z) (G .z) b (F .x a) (G .x a)) (simp f2) ∙ added-linear _ _ a (F .x b ⊕ F .z b) (G .x b ⊕ G .z b))
+
 swapRows-linear : (a b : ℕ) → Linear (swapRows a b)
 unfolding swapRows _∗_
 swapRows-linear a b F G = pauli-path (exchanged-linear a b (F .x) (G .x)) (exchanged-linear a b (F .z) (G .z))
@@ -82,6 +89,7 @@ gate-linear Gate.ControlledX a b F G = controlledX-linear a b F G
 gate-linear Gate.ControlledZ a b F G = controlledZ-linear a b F G
 gate-linear Gate.Swap a b F G = swapRows-linear a b F G
 gate-linear Gate.PrepareBell a b F G = ap (controlledX a b) (swapXZ-linear a F G) ∙ controlledX-linear a b (swapXZ a F) (swapXZ a G)
+gate-linear Gate.ControlledY a b F G = controlledY-linear a b F G
 
 -- ---- the other actions on the frame
 
@@ -169,6 +177,7 @@ module _ (c : Setting) (shots : Bits) (off : shots (c .shot) ≡ false) where
   forward-linear (Line.reset qs) h s t = on-frame _ (cleared-linear qs) s t
   forward-linear (Line.inject shot P) h s t = on-frame _ (inject-linear _ (apart shots shot (c .shot) h off) (pauliOf P)) s t
   forward-linear (Line.flip shot id) h s t = state-path refl (flip-linear _ (apart shots shot (c .shot) h off) _ _ id)
+  forward-linear (Line.barrier qs) h s t = refl
 
   pub run-linear : (ls : List Line) → within shots ls ≡ true → (s t : State) → run c ls (combined s t) ≡ combined (run c ls s) (run c ls t)
   unfolding run within

@@ -42,6 +42,7 @@ takes-some Gate.ControlledX = omega arith
 takes-some Gate.ControlledZ = omega arith
 takes-some Gate.Swap = omega arith
 takes-some Gate.PrepareBell = omega arith
+takes-some Gate.ControlledY = omega arith
 
 pub operands : (n : ℕ) (g : Gate) (qs : List ℕ) → Tested n qs (eqb (length qs) (operandsOf g)) → GateOperands n g (getD qs 0 0) (getD qs 1 0)
 operands n g qs l =

@@ -36,6 +36,7 @@ other shots P i f (Line.conditional Q ids par) h = absurd (true≢false h)
 other shots P i f (Line.reset qs) h = absurd (true≢false h)
 other shots P i f (Line.inject shot Q) h = i shot Q h
 other shots P i f (Line.flip shot id) h = f shot id h
+other shots P i f (Line.barrier qs) h = absurd (true≢false h)
 
 pub kept-or-not : (P : List Line → Type 0) (shots : Bits) (l : Line) (rest : List Line) → P (l ∷ rest) → (concerns shots l ≡ false → P rest)
     → P (cond (concerns shots l) (l ∷ rest) rest)

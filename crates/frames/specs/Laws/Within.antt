@@ -9,7 +9,7 @@ use borrow.Author.Tests.{eq-eqb}
 use Rattle.pauli.specs.Bits.{_⊕_, _△_, _∩_, none, only, given, outside, members}
 use Rattle.pauli.specs.Pauli.{Pauli, identity, X-at, Y-at, Z-at, _∗_, when, cleared}
 use Rattle.pauli.specs.Gate.{Gate, operandsOf, swapXZ, gateWith, prepareBell, conjugated}
-use Rattle.pauli.specs.Laws.Gates.{swapXZ-is, addXtoZ-is, addZtoX-is, controlledX-is, controlledZ-is, swapRows-is}
+use Rattle.pauli.specs.Laws.Gates.{swapXZ-is, addXtoZ-is, addZtoX-is, controlledX-is, controlledZ-is, controlledY-is, swapRows-is}
 use Rattle.job.specs.declared.Header.{Header}
 use Rattle.job.specs.Line.{SparsePauli, pauliOf, Line, Instruction}
 use Rattle.job.specs.Checks.{allBelow}
@@ -99,6 +99,8 @@ module _ (n : ℕ) where
   gate-within Gate.PrepareBell a b o F w =
       rw (controlledX-is a b (swapXZ a F))
       (within-controlled (swapXZ a F) _ _ _ _ (within-swapXZ a (o .first) F w) (within-X n b (o .second refl)) (within-Z n a (o .first)))
+  gate-within Gate.ControlledY a b o F w =
+      rw (controlledY-is a b F) (within-controlled F _ _ _ _ w (within-Y b (o .second refl)) (within-Z n a (o .first)))
 
   -- ---- Cliffords and permutations
 
@@ -153,6 +155,7 @@ line-within h r shot (Line.conditional P ids par) o s w = within-added (h .qubit
 line-within h r shot (Line.reset qs) o s w = within-cleared (h .qubits) qs (s .frame) w
 line-within h r shot (Line.inject at P) o s w = within-added (h .qubits) (s .frame) _ _ w (within-pauli (h .qubits) P (o .pauli))
 line-within h r shot (Line.flip at id) o s w = w
+line-within h r shot (Line.barrier qs) o s w = w
 
 -- sound lines, one after another
 pub lines-within : (h : Header) (r shot : ℕ) (ls : List Line) → LinesSound h r ls → (s : State) → Within (h .qubits) (s .frame)

@@ -7,6 +7,7 @@ use native.Mathlib.Omega.{arith}
 use lib.ListN.{drop}
 use lib.Ieee.{Float}
 use Rattle.pauli.specs.declared.Shot.{Shot}
+use Rattle.job.specs.Grammar.{headerWith}
 use Rattle.job.specs.Line.{Line, Noise}
 use Rattle.draws.specs.Draws.{elementAt, Lent}
 use Rattle.draws.specs.Execute.{States, forwardAll, injectShots}
@@ -18,19 +19,19 @@ use Rattle.faults.specs.Laws.Drawn.{size-some}
 use Rattle.shots.specs.Laws.Next.{done-within, injects-spent, injects-done, injects-at, at-below}
 use Rattle.injection.specs.declared.Drawn.the-variants.{Done, Spent}
 use Rattle.injection.specs.Holds.{Holds}
-use Rattle.injection.specs.Injected.{ElementReady, ElementInjected, LineReady, FaultsReady, executedAs, placeOf, numbers, FaultsInjected}
+use Rattle.injection.specs.Injected.{ElementReady, ElementInjected, LineReady, FaultsReady, executedAs, placeOf, FaultsInjected}
 use Rattle.injection.specs.Laws.Holds.{holds-line}
 
 module _ (qubits shots w : ℕ) (p : Float) (d : PauliDistribution) (sums : List Float) (elements mask words x₀ z₀ : List ℕ) where
   -- The faults of the shots before this one were injected, and those of the others are left, from a place of the words on.
   pub record Injecting (x z : List ℕ) (at shot : ℕ) : Type 0 where
-    pub by : (outcomes : ℕ) (n : Noise) (lent : Lent) → LineReady n lent w qubits p d sums elements mask → (deltas : List ℕ) (states₀ : States)
+    pub by : (edition outcomes : ℕ) (n : Noise) (lent : Lent) → LineReady n lent w qubits p d sums elements mask → (deltas : List ℕ) (states₀ : States)
         → Holds w x₀ z₀ deltas states₀ → (states : States) × Holds w x z deltas states
-        × (injectShots (numbers qubits outcomes shots) lent n (shots - shot) shot (drop at words) states
-        ≡ injectShots (numbers qubits outcomes shots) lent n shots 0 words states₀)
+        × (injectShots (headerWith edition qubits outcomes shots) lent n (shots - shot) shot (drop at words) states
+        ≡ injectShots (headerWith edition qubits outcomes shots) lent n shots 0 words states₀)
 
   pub injecting-none : Injecting x₀ z₀ 0 0
-  injecting-none = record { by = λ outcomes n lent ready deltas states holds. (states, holds, rw (sub-zero shots)) }
+  injecting-none = record { by = λ edition outcomes n lent ready deltas states holds. (states, holds, rw (sub-zero shots)) }
 
   module _ (x z : List ℕ) (at shot : ℕ) (before : shot ≤ shots) (fits : shots ≤ 64 * w) (r : NextFault)
       (found : FaultFound words at mask shot shots p d sums r) (going : Injecting x z at shot)
@@ -39,12 +40,12 @@ module _ (qubits shots w : ℕ) (p : Float) (d : PauliDistribution) (sums : List
       unfolding executedAs placeOf
       injecting-spent e =
           record {
-            by = λ outcomes n lent ready deltas states₀ holds₀.
-                let (states, holds, same) = going .by outcomes n lent ready deltas states₀ holds₀ in
+            by = λ edition outcomes n lent ready deltas states₀ holds₀.
+                let (states, holds, same) = going .by edition outcomes n lent ready deltas states₀ holds₀ in
                 record {
                   states = states;
                   holds = holds;
-                  is = sym same ∙ injects-spent found before (ready .stands) lent fits (ready .masks) (numbers qubits outcomes shots) states e;
+                  is = sym same ∙ injects-spent found before (ready .stands) lent fits (ready .masks) (headerWith edition qubits outcomes shots) states e;
                   within = omega arith;
                 };
           }
@@ -53,12 +54,12 @@ module _ (qubits shots w : ℕ) (p : Float) (d : PauliDistribution) (sums : List
       unfolding executedAs placeOf
       injecting-done i e =
           record {
-            by = λ outcomes n lent ready deltas states₀ holds₀.
-                let (states, holds, same) = going .by outcomes n lent ready deltas states₀ holds₀ in
+            by = λ edition outcomes n lent ready deltas states₀ holds₀.
+                let (states, holds, same) = going .by edition outcomes n lent ready deltas states₀ holds₀ in
                 record {
                   states = states;
                   holds = holds;
-                  is = sym same ∙ injects-done found before (ready .stands) lent fits (ready .masks) (numbers qubits outcomes shots) states i e;
+                  is = sym same ∙ injects-done found before (ready .stands) lent fits (ready .masks) (headerWith edition qubits outcomes shots) states i e;
                   within = done-within found i e;
                 };
           }
@@ -80,12 +81,12 @@ module _ (qubits shots w : ℕ) (p : Float) (d : PauliDistribution) (sums : List
       pub injecting-at : (s : Shot) (e i : ℕ) (x′ z′ : List ℕ) → r ≡ next.At s e i → ElementInjected w qubits (s .0) d elements e x z x′ z′ → Injecting x′ z′ i (s .0 + 1)
       injecting-at s e i x′ z′ k injected =
           record {
-            by = λ outcomes n lent ready deltas states₀ holds₀.
-                let (states, holds, same) = going .by outcomes n lent ready deltas states₀ holds₀ in
+            by = λ edition outcomes n lent ready deltas states₀ holds₀.
+                let (states, holds, same) = going .by edition outcomes n lent ready deltas states₀ holds₀ in
                 let below = at-below found before (ready .stands) lent fits (ready .masks) s e i k (size-some qubits _ (ready .sound)) in
                 let line = Line.inject (s .0) (elementAt (n .distribution) e) in (
-                  forwardAll (numbers qubits outcomes shots) line states,
-                  holds-line (numbers qubits outcomes shots) line holds (injected .acts (n .distribution) sums (ready .stands .chooses) (ready .held) below outcomes deltas),
-                  sym (injects-at found before (ready .stands) lent fits (ready .masks) (numbers qubits outcomes shots) states s e i k) ∙ same,
+                  forwardAll (headerWith edition qubits outcomes shots) line states,
+                  holds-line (headerWith edition qubits outcomes shots) line holds (injected .acts (n .distribution) sums (ready .stands .chooses) (ready .held) below outcomes deltas),
+                  sym (injects-at found before (ready .stands) lent fits (ready .masks) (headerWith edition qubits outcomes shots) states s e i k) ∙ same,
                 );
           }

@@ -3,12 +3,13 @@ use Prim.Native.Nat.{ℕ, zero, suc, _+_}
 use native.Mathlib.Numerals.{add-one}
 use native.Mathlib.Omega.{arith}
 use mathlib.Core.Path.{_≡_, refl, subst}
+use mathlib.Core.Bool.{true}
 use mathlib.Core.List.{List, _∷_}
 use mathlib.Core.Option.{none, some}
 use lib.ListN.{drop}
 use Rattle.text.specs.Bytes.{lines}
 use Rattle.job.specs.Grammar.{Written, readLine}
-use Rattle.job.specs.Checks.{Context, noContext, ownTests}
+use Rattle.job.specs.Checks.{Context, noContext, inEdition, ownTests}
 use Rattle.job.specs.Job.{isLast, nextOf, checkJob}
 use Rattle.job.specs.Laws.Tests.{AllPass}
 use Rattle.job.specs.Laws.Forms.{WrittenFits, line-fits}
@@ -34,12 +35,12 @@ numbered-none (suc k) e = let z : _≡_ {A = ℕ} 0 1 = cc in absurd (omega arit
 
 -- ---- a line and those behind it
 
-written-sound : (c : Context) (w : Written) → WrittenFits w → AllPass (ownTests c w) → WrittenSound w
+written-sound : (c : Context) (w : Written) → WrittenFits w → inEdition c w ≡ true → AllPass (ownTests c w) → WrittenSound w
 unfolding WrittenSound WrittenFits ownTests
-written-sound c (Written.header h) f t = tt
-written-sound c (Written.line i) f t = (c .header, c .recorded, line-sound c i f t)
-written-sound c (Written.noise n) f t = tt
-written-sound c (Written.element w P) f t = tt
+written-sound c (Written.header h) f e t = tt
+written-sound c (Written.line i) f e t = (c .header, c .recorded, line-sound c i f e t)
+written-sound c (Written.noise n) f e t = tt
+written-sound c (Written.element w P) f e t = tt
 
 -- the first of lines that pass, and the others
 pub record Passed (k : ℕ) (l : List ℕ) (ls : List (List ℕ)) : Type 0 where
@@ -56,7 +57,7 @@ passes-line {k} {l} {ls} a =
     record {
       written = good .0;
       reads = good .1;
-      sound = written-sound (a .context) (good .0) (good .2) (own .own);
+      sound = written-sound (a .context) (good .0) (good .2) (own .edition) (own .own);
       rest = record { context = nextOf (a .context) (readLine l); passes = parts .1 };
     }
 

@@ -17,7 +17,7 @@ use Rattle.job.specs.Float.{zeroFloat}
 use Rattle.job.specs.declared.Header.{Header}
 use Rattle.job.specs.Line.{SparsePauli, Line}
 use Rattle.job.specs.Clifford.{tableWords, tableOf}
-use Rattle.job.specs.Grammar.{Kind, NoiseLine, Written, headerBy, isOne, optional, unitaryLine, cliffordLine, noiseLine, forms, readLine}
+use Rattle.job.specs.Grammar.{Kind, NoiseLine, Written, headerBy, editionBy, isOne, optional, unitaryLine, cliffordLine, noiseLine, forms, readLine}
 use Rattle.job.specs.Checks.{records, elementLines, firstTotal}
 use Rattle.job.specs.Laws.Forms.{SaidFits, line-fits}
 use Rattle.reader.specs.declared.Form.{Form}
@@ -32,6 +32,9 @@ some-same e = cc
 -- a header from the words
 pub header-held : {words : List ℕ} {vs : List Value} → Held words 3 0 vs → headerBy (heldNumber words) ≡ headerBy (λ (i : ℕ). numberAt i vs)
 header-held h = rw (h .number 0 (omega arith), h .number 1 (omega arith), h .number 2 (omega arith))
+
+pub edition-held : {words : List ℕ} {vs : List Value} → Held words 4 0 vs → editionBy (heldNumber words) ≡ editionBy (λ (i : ℕ). numberAt i vs)
+edition-held h = rw (h .number 0 (omega arith), h .number 1 (omega arith), h .number 2 (omega arith), h .number 3 (omega arith))
 
 -- a noise line of a kind and a size
 unfoldable pub noiseBy : Kind → ℕ → List Value → NoiseLine
@@ -72,6 +75,7 @@ clifford-said qs ws w e = go (leb (length qs) 8) (eqb (length ws) (tableWords (l
 -- what a line of a form says: a header, a line that records an outcome or not, noise with element lines or without, an element line
 pub data Meaning (f : Form) : Written → Type 0 where
   header : (h : Header) → f ≡ form.Header → Meaning f (Written.header h)
+  edition-header : (h : Header) → f ≡ form.EditionHeader → Meaning f (Written.header h)
   plain : (l : Line) → records l ≡ false → noiseForm f ≡ false → Meaning f (Written.line l)
   measure : (l : Line) → f ≡ form.Measure → Meaning f (Written.line l)
   allocate : (l : Line) → f ≡ form.Allocate → Meaning f (Written.line l)
@@ -104,6 +108,8 @@ meaning form.Uniform vs w e = subst (Meaning form.Uniform) (noise-said _ _ vs w 
 meaning form.Weighted vs w e = subst (Meaning form.Weighted) (noise-said _ _ vs w e) (Meaning.weighted _ refl refl)
 meaning form.Element vs w e = subst (Meaning form.Element) (some-same e) (Meaning.element _ refl)
 meaning form.WeightedElement vs w e = subst (Meaning form.WeightedElement) (some-same e) (Meaning.weighted-element _ _ refl)
+meaning form.EditionHeader vs w e = subst (Meaning form.EditionHeader) (some-same e) (Meaning.edition-header _ refl)
+meaning form.Barrier vs w e = subst (Meaning form.Barrier) (some-same e) (Meaning.plain _ refl refl)
 
 -- ---- a line that was read
 
@@ -163,6 +169,8 @@ other-no-noise form.Uniform a b d e = absurd (d refl)
 other-no-noise form.Weighted a b d e = absurd (e refl)
 other-no-noise form.Element a b d e = refl
 other-no-noise form.WeightedElement a b d e = refl
+other-no-noise form.EditionHeader a b d e = refl
+other-no-noise form.Barrier a b d e = refl
 
 noise-same : {m n : NoiseLine} → Written.noise m ≡ Written.noise n → m ≡ n
 noise-same e = cc
@@ -212,4 +220,4 @@ keysFrom k zero js = []
 keysFrom k (suc n) js = cond (isIn k js) (keysFrom (suc k) n js) (k ∷ keysFrom (suc k) n js)
 
 abbrev pub othersThan : List ℕ → List ℕ
-othersThan js = keysFrom 0 20 js
+othersThan js = keysFrom 0 22 js

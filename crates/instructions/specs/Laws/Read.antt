@@ -5,7 +5,7 @@ use native.Mathlib.Decide.{ℕ-discrete, decLt}
 use mathlib.Core.Path.{_≡_, refl, sym, ap₂, _∙_, subst}
 use mathlib.Core.List.{List, [], _∷_}
 use mathlib.Core.Option.{some}
-use lib.ListN.{length, getD, take}
+use lib.ListN.{length, getD}
 use Rattle.pauli.specs.Gate.{Gate, gateOf}
 use Rattle.pauli.specs.Laws.Code.{gate-none}
 use Rattle.text.specs.Bytes.{bytes}
@@ -15,7 +15,7 @@ use Rattle.template.specs.Fields.{Held}
 use Rattle.template.specs.Laws.Fields.{list-held}
 use Rattle.job.specs.Line.{SparsePauli, Line}
 use Rattle.job.specs.Clifford.{tableOf}
-use Rattle.job.specs.Grammar.{Written, isOne, forms}
+use Rattle.job.specs.Grammar.{Written, headerWith, isOne, forms}
 use Rattle.job.specs.Sound.{LineSound}
 use Rattle.job.specs.Laws.Permutation.{permutation-parts}
 use Rattle.job.specs.Laws.Table.{few-words}
@@ -59,11 +59,11 @@ line-of e = cc
 pub record Read {form : Form} {f : List ℕ} {w n m : ℕ} {line : Line} (p : Plain form f w n m line) (lists : ℕ) (l : Line) : Type 0 where
   pub few : (i : ℕ) → i < lists → AllKept f i
   pub is : l ≡ line
-  pub sound : LineSound (record { qubits = n; outcomes = m; shots = p .shots }) (p .recorded) l
+  pub sound : LineSound (headerWith (p .edition) n m (p .shots)) (p .recorded) l
 
 module _ {kind : Form} {f : List ℕ} {w n m : ℕ} {line : Line} (p : Plain kind f w n m line) where
   by-values : (a b : ℕ) (l : List (List ℕ) → List ℕ → Line) → Held f a b (p .values) → l (listsIn (p .values)) (numbersIn (p .values)) ≡ line
-      → (LineSound (record { qubits = n; outcomes = m; shots = p .shots }) (p .recorded) (l (listsIn (p .values)) (numbersIn (p .values)))
+      → (LineSound (headerWith (p .edition) n m (p .shots)) (p .recorded) (l (listsIn (p .values)) (numbersIn (p .values)))
       → (i : ℕ) → i < b → length (listAt i (p .values)) ≤ 31)
       → Read p b (l (firsts (heldList f) b) (firsts (λ i. heldNumber f i) a))
   by-values a b l h e short =
@@ -165,10 +165,10 @@ module _ {f : List ℕ} {w n m : ℕ} {line : Line} where
       by-values p 1 3 (λ ls ns. Line.conditional (pauliIn 0 1 ls) (getD ls 2 []) (isOne (getD ns 0 0))) (p .said .held) (written-line (p .said .says))
       (λ s. at-three _ (s .pauli .x .few) (s .pauli .z .few) (s .known .few))
 
-  pub reset-read : (p : Plain form.Reset f w n m line) → Read p 0 (Line.reset (heldNumber f 0 ∷ []))
+  pub reset-read : (p : Plain form.Reset f w n m line) → Read p 1 (Line.reset (heldList f 0))
   unfolding forms placeOf bytes LineSound
   reset-read p =
-      by-values p 1 0 (λ ls ns. Line.reset (getD ns 0 0 ∷ [])) (p .said .held) (written-line (p .said .says)) (λ s. none-below _)
+      by-values p 0 1 (λ ls ns. Line.reset (getD ls 0 [])) (p .said .held) (written-line (p .said .says)) (λ s. at-one _ (s .operands .few))
 
   pub inject-read : (p : Plain form.Inject f w n m line) → Read p 2 (Line.inject (heldNumber f 0) (heldPauli f 0 1))
   unfolding forms placeOf bytes LineSound
@@ -183,18 +183,13 @@ module _ {f : List ℕ} {w n m : ℕ} {line : Line} where
 
 -- ---- what the propagator asks besides
 
--- a gate's code is at most 14
-pub gate-small : (code : ℕ) {g : Gate} → gateOf code ≡ some g → code ≤ 14
-gate-small code {g} e = go (decLt code 15)
+-- a gate's code is at most 15
+pub gate-small : (code : ℕ) {g : Gate} → gateOf code ≡ some g → code ≤ 15
+gate-small code {g} e = go (decLt code 16)
   where
-    go : Dec (code < 15) → code ≤ 14
+    go : Dec (code < 16) → code ≤ 15
     go (yes h) = omega arith
     go (no h) = let k = gate-none code (omega arith) in let z : _≡_ {A = ℕ} 0 1 = cc in absurd (omega arith)
-
--- the first field alone
-pub first-field : (f : List ℕ) → Whole f → take 1 f ≡ heldNumber f 0 ∷ []
-first-field [] h = absurd (omega arith)
-first-field (a ∷ f) h = refl
 
 -- a form that is not one of these, whose line a run and a walk pass over unless it is noise
 pub record Idle (f : Form) : Type 0 where

@@ -8,12 +8,10 @@ use mathlib.Core.Bool.{true, false, true≢false}
 use mathlib.Core.List.{List, [], _∷_}
 use mathlib.Core.Option.{some}
 use lib.ListN.{length, drop, drop-of-length-le, length-map}
-use Rattle.text.specs.Bytes.{bytes, pieces, lines}
-use Rattle.text.specs.Template.{Value}
-use Rattle.template.specs.Values.{heldNumber}
+use Rattle.text.specs.Bytes.{pieces, lines}
 use Rattle.job.specs.declared.Header.{Header}
 use Rattle.job.specs.Line.{Line, WeightedPauli, Instruction}
-use Rattle.job.specs.Grammar.{Kind, NoiseLine, Written, headerBy, forms, readLine}
+use Rattle.job.specs.Grammar.{Kind, NoiseLine, Written, readLine}
 use Rattle.job.specs.Checks.{elementLines, next as nextContext}
 use Rattle.job.specs.Job.{checkJob, distributionOf, noiseOf, placedAt, gather, gathered, Job, jobOf}
 use Rattle.job.specs.Sound.{DistributionSound, NoiseSound, InstructionSound, InstructionsSound}
@@ -24,13 +22,11 @@ use Rattle.job.specs.Laws.Begun.{job-passes, job-begun}
 use Rattle.job.specs.Laws.Gather.{gathered-sound}
 use Rattle.job.specs.Laws.Recorded.{instruction-within}
 use Rattle.job.specs.Laws.Instructions.{LineStep, FirstInstruction, first-instruction}
-use Rattle.reader.specs.declared.Form.{Form}
 use Rattle.reader.specs.declared.Form.the-variants as form
-use Rattle.reader.specs.Parsed.{placeOf, Said}
 use Rattle.instructions.specs.declared.Next.{Next}
 use Rattle.instructions.specs.Reading.{lineAt, LineAt, NextLine, noiseForm}
 use Rattle.instructions.specs.Ahead.{instructionsAt, Ahead, Started, PlainRead, NoiseRead}
-use Rattle.instructions.specs.Laws.Meaning.{header-held, some-same, Meaning, meaning, read-says, line-no-noise, noise-is-noise}
+use Rattle.instructions.specs.Laws.Meaning.{some-same, meaning, read-says, line-no-noise, noise-is-noise}
 
 -- nothing is left at the end
 pub none-left : (job : List ℕ) (k at : ℕ) → length job ≤ at → instructionsAt job k at ≡ []
@@ -54,31 +50,12 @@ started job e passes at =
             within = omega (arith, at .inside);
             number = omega (arith, at .inside);
             ended = job-passes job passes .0;
-            header = rw (← header) (header-sound (b .header) (b .range));
+            header = rw (← header) (header-sound (b .header) (b .range) (b .edition));
             recorded = omega arith;
             accepted = rw (← header, ← parts .1) (b .passes);
           };
       instructions = ap (λ (ls : List (List ℕ)). gathered 2 ls .instructions) (sym (parts .1)) ∙ ap (λ (j : Job). j .instructions) (sym (b .is));
     }
-
-header-same : {g h : Header} → Written.header g ≡ Written.header h → g ≡ h
-header-same e = cc
-
--- the header's numbers are those of its line
-pub header-read : {job : List ℕ} {next : Next} {fields : List ℕ} → checkJob job .number ≡ 0 → NextLine job 0 next fields
-    → jobOf job .header ≡ headerBy (heldNumber fields)
-unfolding forms placeOf bytes
-header-read {job} {next} {fields} passes n =
-    let b = job-begun job passes in
-    let parts = first-of (sym (b .split) ∙ n .place .cut) in
-    let (vs, said) = read-says (n .parsed) (ap readLine (sym (parts .0)) ∙ b .reads) in
-    ap (λ (j : Job). j .header) (b .is) ∙ go (next .form) vs said (meaning (next .form) vs (Written.header (b .header)) (said .says))
-  where
-    go : {h : Header} (f : Form) (vs : List Value) → Said f fields vs (Written.header h) → Meaning f (Written.header h)
-        → h ≡ headerBy (heldNumber fields)
-    go f vs said (Meaning.header h e) =
-        let s = subst (λ (g : Form). Said g fields vs (Written.header h)) e said in
-        header-same (sym (some-same (s .says))) ∙ sym (header-held (s .held))
 
 -- ---- an instruction
 

@@ -10,7 +10,7 @@ use lib.Dec.{eqb, ltb}
 use Rattle.text.specs.Laws.Values.{both}
 use Rattle.job.specs.declared.Answer.{Answer}
 use Rattle.job.specs.Grammar.{Written, readLine}
-use Rattle.job.specs.Checks.{Context, next, expected, headerFits, ownTests, tests, refusalOf}
+use Rattle.job.specs.Checks.{Context, next, expected, inEdition, headerFits, ownTests, tests, refusalOf}
 use Rattle.job.specs.Job.{answer, accepted, isLast, nextOf, checkLines}
 use Rattle.job.specs.Contexts.{Accepted}
 use Rattle.job.specs.Laws.Tests.{AllPass, refusal-passes, passes-lowest}
@@ -68,21 +68,23 @@ pub record Passing (c : Context) (ls : List (List ℕ)) (w : Written) : Type 0 w
   pub due : expected c w ≡ true
   -- on the job's last line no element is missing
   pub ends : (isLast ls && ltb 0 (next c w .due)) ≡ false
+  pub edition : inEdition c w ≡ true
   pub header : headerFits c w ≡ true
   pub own : AllPass (ownTests c w)
 
 pub passing : (c : Context) (ls : List (List ℕ)) (w : Written) → refusalOf c (isLast ls) (some w) ≡ 0 → Passing c ls w
 passing c ls w e =
     let t = refusal-passes c (isLast ls) w e in
-    let form = both (expected c w) _ (not-false _ (t .0)) in
-    record { due = form .0; ends = not-true _ (form .1); header = not-false _ (t .1 .0); own = t .1 .1 }
+    let form = both _ (inEdition c w) (not-false _ (t .0)) in
+    let begins = both (expected c w) _ (form .0) in
+    record { due = begins .0; ends = not-true _ (begins .1); edition = form .1; header = not-false _ (t .1 .0); own = t .1 .1 }
 
 -- and the other way round
 pub passing-good : (c : Context) (ls : List (List ℕ)) (w : Written) → Passing c ls w → refusalOf c (isLast ls) (some w) ≡ 0
 unfolding refusalOf
 passing-good c ls w t =
     passes-lowest (tests c (isLast ls) w)
-    (rw (t .due, t .ends), (ap not (t .header), t .own))
+    (rw (t .due, t .ends, t .edition), (ap not (t .header), t .own))
 
 -- a good line has a form, and is good for its letters
 pub good-says : (c : Context) (last : Bool) (o : Option Written) → SaidFits o → refusalOf c last o ≡ 0 → (w : Written) × (o ≡ some w) × WrittenFits w

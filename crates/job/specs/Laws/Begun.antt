@@ -5,14 +5,14 @@ use mathlib.Core.Path.{_≡_, refl, sym}
 use mathlib.Core.Bool.{Bool, true, false, cond, _&&_, true≢false}
 use mathlib.Core.List.{List, [], _∷_}
 use mathlib.Core.Option.{some}
-use borrow.Author.Tests.{leb-true, ltb-true}
+use borrow.Author.Tests.{leb-true, ltb-true, not-false}
 use lib.Dec.{eqb, ltb, leb}
 use lib.ListN.{length}
 use Rattle.text.specs.Bytes.{LF, extend, pieces, lines}
 use Rattle.text.specs.Laws.Values.{both}
 use Rattle.job.specs.declared.Header.{Header}
 use Rattle.job.specs.Grammar.{Written, readLine}
-use Rattle.job.specs.Checks.{noContext, inRange, next, headerFits}
+use Rattle.job.specs.Checks.{noContext, inRange, knownEdition, next, headerFits, ownTests}
 use Rattle.job.specs.Job.{answer, accepted, isLast, nextOf, wellEnded, checkLines, checkJob, gathered, headerOf, jobOfLines, jobOf}
 use Rattle.job.specs.Contexts.{between, Accepted}
 use Rattle.job.specs.Laws.Forms.{line-fits}
@@ -55,13 +55,14 @@ pub record Begun (job : List ℕ) : Type 0 where
   pub split : lines job ≡ text ∷ rest
   pub reads : readLine text ≡ some (Written.header header)
   pub range : inRange header ≡ true
+  pub edition : knownEdition (header .edition) ≡ true
   pub passes : Accepted 2 (between header 0) rest
   pub is : jobOf job ≡ record { header = header; text = text; instructions = gathered 2 rest .instructions }
 
 -- what stands first, before any header, is a header
 begun-with : (job l : List ℕ) (ls : List (List ℕ)) (w : Written) → lines job ≡ l ∷ ls → readLine l ≡ some w → Passing noContext ls w
     → checkLines 2 (next noContext w) ls ≡ accepted → Begun job
-unfolding headerFits next between noContext jobOfLines headerOf
+unfolding headerFits ownTests next between noContext jobOfLines headerOf
 begun-with job l ls (Written.header h) split reads t p =
     record {
       header = h;
@@ -70,6 +71,7 @@ begun-with job l ls (Written.header h) split reads t p =
       split = split;
       reads = reads;
       range = t .header;
+      edition = not-false _ (t .own .0);
       passes = record { begun = refl; ends = t .ends; passes = p };
       is = rw (split, reads);
     }

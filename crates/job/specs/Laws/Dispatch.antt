@@ -1,6 +1,6 @@
 -- A line's mark, one byte, names the one form that the line can have, so that code which looks at the mark reads by one template. Assumes nothing.
-use Prim.Native.Nat.{ℕ}
-use mathlib.Core.Path.{_≡_, refl, _∙_}
+use Prim.Native.Nat.{ℕ, _+_}
+use mathlib.Core.Path.{_≡_, refl, ap, _∙_}
 use mathlib.Core.Bool.{Bool, true, false, cond, not, _&&_}
 use mathlib.Core.List.{List, [], _∷_}
 use mathlib.Core.Option.{Option, none, some}
@@ -20,7 +20,8 @@ use Rattle.job.specs.Marks.{markOf, readAs, formFrom, formByMark}
 unfoldable pub hasMark : List ℕ → Bool
 hasMark ts =
     ltb 0 (literals ts)
-    && cond (eqb (getD ts 0 0) 111) (ltb 3 (literals ts) && cond (eqb (getD ts 3 0) 110) (ltb 2 (literals (behind 5 ts))) true) true
+    && cond (eqb (getD ts 0 0) 111)
+    (ltb 3 (literals ts) && cond (eqb (getD ts 3 0) 110) (ltb 2 (literals (behind 5 ts))) (cond (eqb (getD ts 3 0) 106) (ltb 7 (literals ts)) true)) true
 
 -- the mark of a line that has values by a template is the template's
 pub mark-same : (ts l : List ℕ) (v : List Value) → hasMark ts ≡ true → valuesOf ts l ≡ some v → markOf l ≡ markOf ts
@@ -29,17 +30,19 @@ mark-same ts l v h e =
     let parts = both (ltb 0 (literals ts)) _ h in
     rw (same-place ts l v e 0 0 (ltb-true _ _ (parts .0))) (first (eqb (getD ts 0 0) 111) (parts .1))
   where
-    third : (b : Bool) → cond b (ltb 2 (literals (behind 5 ts))) true ≡ true
-        → cond b (getD (behind 5 l) 2 0) (getD ts 3 0) ≡ cond b (getD (behind 5 ts) 2 0) (getD ts 3 0)
-    third true q = same-place ts l v e 5 2 (ltb-true _ _ q)
-    third false q = refl
+    third : (b h : Bool) → cond b (ltb 2 (literals (behind 5 ts))) (cond h (ltb 7 (literals ts)) true) ≡ true
+        → cond b (getD (behind 5 l) 2 0) (cond h (256 + getD l 7 0) (getD ts 3 0)) ≡ cond b (getD (behind 5 ts) 2 0) (cond h (256 + getD ts 7 0) (getD ts 3 0))
+    third true h q = same-place ts l v e 5 2 (ltb-true _ _ q)
+    third false true q = ap (λ (k : ℕ). 256 + k) (same-place ts l v e 0 7 (ltb-true _ _ q))
+    third false false q = refl
 
-    first : (b : Bool) → cond b (ltb 3 (literals ts) && cond (eqb (getD ts 3 0) 110) (ltb 2 (literals (behind 5 ts))) true) true ≡ true
-        → cond b (cond (eqb (getD l 3 0) 110) (getD (behind 5 l) 2 0) (getD l 3 0)) (getD ts 0 0)
-        ≡ cond b (cond (eqb (getD ts 3 0) 110) (getD (behind 5 ts) 2 0) (getD ts 3 0)) (getD ts 0 0)
+    first : (b : Bool)
+        → cond b (ltb 3 (literals ts) && cond (eqb (getD ts 3 0) 110) (ltb 2 (literals (behind 5 ts))) (cond (eqb (getD ts 3 0) 106) (ltb 7 (literals ts)) true)) true ≡ true
+        → cond b (cond (eqb (getD l 3 0) 110) (getD (behind 5 l) 2 0) (cond (eqb (getD l 3 0) 106) (256 + getD l 7 0) (getD l 3 0))) (getD ts 0 0)
+        ≡ cond b (cond (eqb (getD ts 3 0) 110) (getD (behind 5 ts) 2 0) (cond (eqb (getD ts 3 0) 106) (256 + getD ts 7 0) (getD ts 3 0))) (getD ts 0 0)
     first true q =
         let parts = both (ltb 3 (literals ts)) _ q in
-        rw (same-place ts l v e 0 3 (ltb-true _ _ (parts .0))) (third (eqb (getD ts 3 0) 110) (parts .1))
+        rw (same-place ts l v e 0 3 (ltb-true _ _ (parts .0))) (third (eqb (getD ts 3 0) 110) (eqb (getD ts 3 0) 106) (parts .1))
     first false q = refl
 
 -- ---- the form of a mark

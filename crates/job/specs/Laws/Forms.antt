@@ -34,9 +34,10 @@ LineFits (Line.permute s qs) = FitQ s × FitQ qs
 LineFits (Line.measure P id) = PauliFits P × (id < 2 ^ 64)
 LineFits (Line.allocate id angle) = id < 2 ^ 64
 LineFits (Line.conditional P ids par) = PauliFits P × FitL ids
-LineFits (Line.reset qs) = FitQ qs × (length qs ≡ 1)
+LineFits (Line.reset qs) = FitQ qs
 LineFits (Line.inject shot P) = (shot < 2 ^ 64) × PauliFits P
 LineFits (Line.flip shot id) = (shot < 2 ^ 64) × (id < 2 ^ 64)
+LineFits (Line.barrier qs) = FitQ qs
 
 unfoldable pub KindFits : Kind → Type 0
 KindFits (Kind.single P) = PauliFits P
@@ -102,9 +103,6 @@ noise-fits kind size v p corr condition k =
 pauli-fits : (i j : ℕ) (v : List Value) → FitL (listAt i v) → FitL (listAt j v) → PauliFits (pauliAt i j v)
 pauli-fits i j v x z = record { x = x; z = z }
 
-one-fits : (n : ℕ) → n < 2 ^ 64 → FitQ (n ∷ [])
-one-fits n h = record { filled = omega arith; small = elim [ zero ↦ h | suc i ↦ omega arith ] }
-
 also : {A B : Type 0} → A → B → A × B
 also a b = (a, b)
 
@@ -122,7 +120,7 @@ forms-fit =
     (also (λ v h. (pauli-fits 0 1 v (h .list 0) (h .list 1), h .number 0))
     (also (λ v h. h .number 0)
     (also (λ v h. (pauli-fits 0 1 v (h .list 0) (h .list 1), h .list 2))
-    (also (λ v h. (one-fits (numberAt 0 v) (h .number 0), refl))
+    (also (λ v h. h .list 0)
     (also (λ v h. (h .number 0, pauli-fits 0 1 v (h .list 0) (h .list 1)))
     (also (λ v h. (h .number 0, h .number 1))
     (also (λ v h. noise-fits _ _ v (h .number 0) (h .list 0) (h .list 1) (pauli-fits 2 3 v (h .list 2) (h .list 3)))
@@ -130,7 +128,9 @@ forms-fit =
     (also (λ v h. noise-fits _ _ v (h .number 0) (h .list 0) (h .list 1) (h .number 2))
     (also (λ v h. noise-fits _ _ v (h .number 0) (h .list 0) (h .list 1) (h .number 2))
     (also (λ v h. (tt, pauli-fits 0 1 v (h .list 0) (h .list 1)))
-    (also (λ v h. (h .number 0, pauli-fits 0 1 v (h .list 0) (h .list 1))) tt))))))))))))))))))
+    (also (λ v h. (h .number 0, pauli-fits 0 1 v (h .list 0) (h .list 1)))
+    (also (λ v h. tt)
+    (also (λ v h. h .list 0) tt))))))))))))))))))))
 
 said-fits : (f : Form) (l : List ℕ) → FormFits f → SaidFits (said (f .says) (valuesOf (f .template) l))
 unfolding said SaidFits FormFits

@@ -143,7 +143,7 @@ gather-sound : (k : ℕ) (c : Context) (l : List ℕ) (ls : List (List ℕ)) (w 
 unfolding WrittenFits gather next expected headerFits ownTests InstructionSound recordedBy
 gather-sound k c l ls (Written.header h) g begun f t p = absurd (true≢false (sym (t .header) ∙ rw begun))
 gather-sound k c l ls (Written.line i) g begun f t p =
-    instruction-sound k c l _ _ (eqb-true _ _ (t .due)) (line-sound c i f (t .own)) (rw (recorded-more (records i) (c .recorded)) at (p .instructions))
+    instruction-sound k c l _ _ (eqb-true _ _ (t .due)) (line-sound c i f (t .edition) (t .own)) (rw (recorded-more (records i) (c .recorded)) at (p .instructions))
 gather-sound k c l ls (Written.noise n) g begun f t p =
     instruction-sound k c l _ _ (eqb-true _ _ (t .due)) (noise-sound c n g f (t .own) p) (rw add-zero (p .instructions))
 gather-sound k c l ls (Written.element w P) g begun f t p =

@@ -43,6 +43,7 @@ module _ (h : Header) (r : ℕ) (t : Option Float) (last : Bool) where
   tests-same (Line.reset qs) = refl
   tests-same (Line.inject shot P) = refl
   tests-same (Line.flip shot id) = refl
+  tests-same (Line.barrier qs) = refl
 
   refusal-same : (o : Option Written) → refusalOf (summed h r t) last o ≡ refusalOf (between h r) last o
   unfolding refusalOf next expected headerFits ownTests noiseTests lowest summed between

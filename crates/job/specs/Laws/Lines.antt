@@ -1,16 +1,18 @@
 -- A line that has a form and passes its tests is sound: laws, a clause for each kind of line. Assumes nothing.
 use Prim.Native.Nat.{ℕ, _≤_}
-use mathlib.Core.Path.{_≡_}
-use mathlib.Core.Bool.{true, _&&_}
+use native.Mathlib.Omega.{arith}
+use mathlib.Core.Path.{_≡_, refl, sym, ap, _∙_}
+use mathlib.Core.Bool.{Bool, true, false, not, _&&_, _||_, true≢false}
 use mathlib.Core.List.{List, [], _∷_, _++_}
-use borrow.Author.Tests.{ltb-true, leb-true, eqb-true, not-false, not-true}
+use borrow.Author.Tests.{ltb-true, leb-true, eqb-true, ne-eqb, not-false, not-true}
 use lib.Dec.{eqb, ltb, leb}
 use lib.ListN.{length}
 use Rattle.text.specs.Written.{FitQ}
 use Rattle.text.specs.Laws.Values.{both}
 use Rattle.job.specs.declared.Header.{Header}
 use Rattle.job.specs.Line.{SparsePauli, Line}
-use Rattle.job.specs.Checks.{Context, allBelow, eachBelow, eachShort, distinct, lineTests, inRange, listsOf}
+use Rattle.job.specs.Grammar.{Written}
+use Rattle.job.specs.Checks.{Context, allBelow, eachBelow, eachShort, distinct, lineTests, isSecondGate, isSecondLine, isSecond, inEdition, inRange, knownEdition, listsOf}
 use Rattle.job.specs.Sound.{Operands, PauliSound, NextOutcome, LineSound, HeaderSound}
 use Rattle.pauli.specs.Gate.{operandsOf}
 use Rattle.job.specs.Clifford.{maxCliffordQubits}
@@ -62,13 +64,22 @@ outcome-sound c id e =
 
 -- ---- lines
 
-pub line-sound : (c : Context) (l : Line) → LineFits l → AllPass (lineTests c l) → LineSound (c .header) (c .recorded) l
-unfolding LineFits lineTests LineSound
-line-sound c (Line.unitary g qs) f t =
+-- what stands in the second edition alone
+second-only : (e : ℕ) (b : Bool) → (not b || eqb e 2) ≡ true → b ≡ true → e ≡ 2
+second-only e true h q = eqb-true e 2 h
+second-only e false h q = absurd (true≢false (sym q))
+
+pub line-sound : (c : Context) (l : Line) → LineFits l → inEdition c (Written.line l) ≡ true → AllPass (lineTests c l) → LineSound (c .header) (c .recorded) l
+unfolding LineFits lineTests LineSound isSecond isSecondLine
+line-sound c (Line.unitary g qs) f e t =
     let lists = both _ (eachShort (qs ∷ [])) (not-false _ (t .1 .0)) in
     let own = both (eqb (length qs) (operandsOf g)) (distinct qs) (lists .0) in
-    record { operands = operands-sound _ qs f (not-false _ (t .0)) (own .1) (lists .1); count = eqb-true _ _ (own .0) }
-line-sound c (Line.clifford qs m) f t =
+    record {
+      operands = operands-sound _ qs f (not-false _ (t .0)) (own .1) (lists .1);
+      count = eqb-true _ _ (own .0);
+      known = λ y. second-only _ (isSecondGate g) e (ap isSecondGate y ∙ unfold isSecondGate in refl);
+    }
+line-sound c (Line.clifford qs m) f e t =
     let lists = both _ (eachShort (qs ∷ [])) (not-false _ (t .1 .0)) in
     let own = both (leb (length qs) maxCliffordQubits) (distinct qs) (lists .0) in
     let table = not-false _ (t .1 .1 .0) in
@@ -78,43 +89,52 @@ line-sound c (Line.clifford qs m) f t =
       table = table;
       small = clifford-small _ m table;
     }
-line-sound c (Line.pauli P) f t = pauli-sound _ P f (not-false _ (t .0)) (not-false _ (t .1 .0))
-line-sound c (Line.exponential P) f t = pauli-sound _ P f (not-false _ (t .0)) (not-false _ (t .1 .0))
-line-sound c (Line.controlled C T) f t =
+line-sound c (Line.pauli P) f e t = pauli-sound _ P f (not-false _ (t .0)) (not-false _ (t .1 .0))
+line-sound c (Line.exponential P) f e t = pauli-sound _ P f (not-false _ (t .0)) (not-false _ (t .1 .0))
+line-sound c (Line.controlled C T) f e t =
     let control = first-pauli _ C (listsOf T) (f .0) (not-false _ (t .0)) (not-false _ (t .1 .0)) in
     record { control = control .0; target = pauli-sound _ T (f .1) (control .1) (control .2); commute = not-true _ (not-false _ (t .1 .1 .0)) }
-line-sound c (Line.permute s qs) f t =
+line-sound c (Line.permute s qs) f e t =
     let lists = both (distinct qs) (eachShort (s ∷ qs ∷ [])) (not-false _ (t .1 .0)) in
     let rest = first-short s (qs ∷ []) (lists .1) in
     record { operands = operands-sound _ qs (f .1) (not-false _ (t .0)) (lists .0) (rest .1); places = not-false _ (t .1 .1 .0) }
-line-sound c (Line.measure P id) f t =
+line-sound c (Line.measure P id) f e t =
     record {
       observable = pauli-sound _ P (f .0) (not-false _ (t .0)) (not-false _ (t .1 .0));
       outcome = outcome-sound c id (not-false _ (t .1 .1 .0));
     }
-line-sound c (Line.allocate id angle) f t = outcome-sound c id (not-false _ (t .0))
-line-sound c (Line.conditional P ids par) f t =
+line-sound c (Line.allocate id angle) f e t = outcome-sound c id (not-false _ (t .0))
+line-sound c (Line.conditional P ids par) f e t =
     let rest = first-short ids (listsOf P) (not-false _ (t .1 .0)) in
     record {
       pauli = pauli-sound _ P (f .0) (not-false _ (t .0)) (rest .1);
       known = record { rising = f .1 .rising; below = not-false _ (t .1 .1 .0); few = rest .0 };
     }
-line-sound c (Line.reset qs) f t =
+line-sound c (Line.reset qs) f e t =
     let lists = both (distinct qs) (eachShort (qs ∷ [])) (not-false _ (t .1 .0)) in
-    record { operands = operands-sound _ qs (f .0) (not-false _ (t .0)) (lists .0) (lists .1); one = f .1 }
-line-sound c (Line.inject shot P) f t =
+    record {
+      operands = operands-sound _ qs f (not-false _ (t .0)) (lists .0) (lists .1);
+      several = λ k. second-only _ (not (eqb (length qs) 1)) e (ap not (ne-eqb (length qs) 1 (λ one. omega (arith, one, k))));
+    }
+line-sound c (Line.inject shot P) f e t =
     record { within = ltb-true _ _ (not-false _ (t .1 .1 .0)); pauli = pauli-sound _ P (f .1) (not-false _ (t .0)) (not-false _ (t .1 .0)) }
-line-sound c (Line.flip shot id) f t = record { within = ltb-true _ _ (not-false _ (t .1 .0)); known = below-first _ id [] (not-false _ (t .0)) .0 }
+line-sound c (Line.flip shot id) f e t = record { within = ltb-true _ _ (not-false _ (t .1 .0)); known = below-first _ id [] (not-false _ (t .0)) .0 }
+line-sound c (Line.barrier qs) f e t =
+    let lists = both (distinct qs) (eachShort (qs ∷ [])) (not-false _ (t .1 .0)) in
+    record { operands = operands-sound _ qs f (not-false _ (t .0)) (lists .0) (lists .1); second = second-only _ true e refl }
 
 -- ---- the header
 
-pub header-sound : (h : Header) → inRange h ≡ true → HeaderSound h
-header-sound h e =
+pub header-sound : (h : Header) → inRange h ≡ true → knownEdition (h .edition) ≡ true → HeaderSound h
+header-sound h e k =
+    let known = both (leb 1 (h .edition)) (leb (h .edition) 2) k in
     let a = both _ (leb (h .shots) 4096) e in
     let b = both _ (leb 1 (h .shots)) (a .0) in
     let c = both _ (leb (h .outcomes) 1024) (b .0) in
     let d = both (leb 1 (h .qubits)) (leb (h .qubits) 256) (c .0) in
     record {
+      some-edition = leb-true _ _ (known .0);
+      two-editions = leb-true _ _ (known .1);
       some-qubits = leb-true _ _ (d .0);
       few-qubits = leb-true _ _ (d .1);
       few-outcomes = leb-true _ _ (c .1);

@@ -38,6 +38,7 @@ tests-of-job c last (Written.line l) = lines l
     lines (Line.reset qs) = refl
     lines (Line.inject shot P) = refl
     lines (Line.flip shot id) = refl
+    lines (Line.barrier qs) = refl
 tests-of-job c last (Written.noise n) = refl
 tests-of-job c last (Written.element w P) = refl
 

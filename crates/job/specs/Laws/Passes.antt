@@ -1,20 +1,22 @@
 -- Sound lines pass, so that the tests refuse nothing that is sound, and a text of copied and new lines is accepted. Laws. Assumes nothing.
 use Prim.Native.Nat.{ℕ, suc, _+_, _≤_}
 use native.Mathlib.Omega.{arith}
+use native.Mathlib.Decide.{ℕ-discrete}
 use mathlib.Core.Path.{_≡_, refl, sym, ap, subst, _∙_}
-use mathlib.Core.Bool.{Bool, true, false, not, _&&_, and-false}
+use mathlib.Core.Bool.{Bool, true, false, not, _&&_, _||_, and-false}
 use mathlib.Core.List.{List, [], _∷_, _++_}
 use mathlib.Core.Option.{Option, some}
 use borrow.Author.Tests.{lt-ltb, le-leb, eq-eqb}
 use lib.Dec.{eqb, ltb}
 use lib.ListN.{length, length-map}
+use Rattle.pauli.specs.Gate.{Gate}
 use Rattle.job.specs.declared.Header.{Header}
 use Rattle.job.specs.Line.{SparsePauli, Line, WeightedPauli, Instruction}
 use Rattle.job.specs.Grammar.{Kind, NoiseLine, Written, readLine}
-use Rattle.job.specs.Checks.{Context, noContext, elementLines, next, allBelow, eachBelow, eachShort, expected, inRange, headerFits, listsOf, lineTests, kindQubits, kindDistinct, elementsFit, noiseTests, ownTests, refusalOf}
+use Rattle.job.specs.Checks.{Context, noContext, elementLines, next, allBelow, eachBelow, eachShort, distinct, isSecondGate, isSecondLine, isSecond, inEdition, expected, inRange, knownEdition, headerFits, listsOf, lineTests, kindQubits, kindDistinct, elementsFit, noiseTests, ownTests, refusalOf}
 use Rattle.job.specs.Job.{accepted, isLast, nextOf, checkLines, distributionOf, noiseOf, recordedBy}
 use Rattle.job.specs.Contexts.{between, Accepted}
-use Rattle.job.specs.Sound.{PauliSound, NextOutcome, LineSound, DistributionSound, NoiseSound, HeaderSound}
+use Rattle.job.specs.Sound.{Operands, PauliSound, NextOutcome, LineSound, DistributionSound, NoiseSound, HeaderSound}
 use Rattle.job.specs.Laws.Permutation.{permutation-parts}
 use Rattle.job.specs.Laws.Tests.{AllPass}
 use Rattle.job.specs.Laws.Accepted.{checks-good, Passing, passing-good, accepted-more}
@@ -66,6 +68,10 @@ short-one l h = short-also l [] h (unfold eachShort in refl)
 id-passes : {m r id : ℕ} → NextOutcome m r id → (eqb id r && ltb id m) ≡ true
 id-passes s = and-both (eq-eqb _ _ (s .next)) (lt-ltb _ _ (s .below))
 
+-- operands of no fixed number
+operands-pass : (n : ℕ) (qs : List ℕ) → Operands n qs → (not (eachBelow n (qs ∷ [])) ≡ false) × ((not (distinct qs && eachShort (qs ∷ [])) ≡ false) × Unit {0})
+operands-pass n qs o = passed (below-one n qs (o .below)) (passed (and-both (o .apart) (short-one qs (o .few))) tt)
+
 -- ---- lines
 
 -- a sound line passes its tests
@@ -90,11 +96,59 @@ line-passes h r (Line.measure P id) s = pauli-passes _ P (s .observable) (passed
 line-passes h r (Line.allocate id angle) s = passed (id-passes s) tt
 line-passes h r (Line.conditional P ids par) s =
     passed (one-below _ P (s .pauli)) (passed (short-also ids (listsOf P) (s .known .few) (one-short _ P (s .pauli))) (passed (s .known .below) tt))
-line-passes h r (Line.reset qs) s =
-    let o = s .operands in
-    passed (below-one _ qs (o .below)) (passed (and-both (o .apart) (short-one qs (o .few))) tt)
+line-passes h r (Line.reset qs) s = operands-pass _ qs (s .operands)
 line-passes h r (Line.inject shot P) s = pauli-passes _ P (s .pauli) (passed (lt-ltb _ _ (s .within)) tt)
 line-passes h r (Line.flip shot id) s = unfold allBelow in passed (and-both (lt-ltb _ _ (s .known)) refl) (passed (lt-ltb _ _ (s .within)) tt)
+line-passes h r (Line.barrier qs) s = operands-pass _ qs (s .operands)
+
+-- and stands in the job's edition
+module _ (e : ℕ) where
+  in-second : (b : Bool) → e ≡ 2 → (not b || eqb e 2) ≡ true
+  in-second true h = eq-eqb e 2 h
+  in-second false h = refl
+
+  -- a gate of the second edition is ControlledY
+  gate-edition : (g : Gate) → (g ≡ Gate.ControlledY → e ≡ 2) → (not (isSecondGate g) || eqb e 2) ≡ true
+  unfolding isSecondGate
+  gate-edition Gate.I h = refl
+  gate-edition Gate.X h = refl
+  gate-edition Gate.Y h = refl
+  gate-edition Gate.Z h = refl
+  gate-edition Gate.Hadamard h = refl
+  gate-edition Gate.SqrtZ h = refl
+  gate-edition Gate.SqrtZInv h = refl
+  gate-edition Gate.SqrtX h = refl
+  gate-edition Gate.SqrtXInv h = refl
+  gate-edition Gate.SqrtY h = refl
+  gate-edition Gate.SqrtYInv h = refl
+  gate-edition Gate.ControlledX h = refl
+  gate-edition Gate.ControlledZ h = refl
+  gate-edition Gate.Swap h = refl
+  gate-edition Gate.PrepareBell h = refl
+  gate-edition Gate.ControlledY h = eq-eqb e 2 (h refl)
+
+  reset-edition : (qs : List ℕ) → 1 ≤ length qs → (2 ≤ length qs → e ≡ 2) → (not (not (eqb (length qs) 1)) || eqb e 2) ≡ true
+  reset-edition qs filled h = go (ℕ-discrete (length qs) 1)
+    where
+      go : Dec (length qs ≡ 1) → (not (not (eqb (length qs) 1)) || eqb e 2) ≡ true
+      go (yes one) = rw (eq-eqb (length qs) 1 one)
+      go (no more) = in-second (not (eqb (length qs) 1)) (h (omega (arith, filled, more)))
+
+pub line-edition : (h : Header) (r : ℕ) (l : Line) → LineSound h r l → inEdition (between h r) (Written.line l) ≡ true
+unfolding LineSound isSecond isSecondLine between
+line-edition h r (Line.unitary g qs) s = gate-edition (h .edition) g (s .known)
+line-edition h r (Line.clifford qs t) s = refl
+line-edition h r (Line.pauli P) s = refl
+line-edition h r (Line.exponential P) s = refl
+line-edition h r (Line.controlled C T) s = refl
+line-edition h r (Line.permute p qs) s = refl
+line-edition h r (Line.measure P id) s = refl
+line-edition h r (Line.allocate id angle) s = refl
+line-edition h r (Line.conditional P ids par) s = refl
+line-edition h r (Line.reset qs) s = reset-edition (h .edition) qs (s .operands .filled) (s .several)
+line-edition h r (Line.inject shot P) s = refl
+line-edition h r (Line.flip shot id) s = refl
+line-edition h r (Line.barrier qs) s = in-second (h .edition) true (s .second)
 
 -- ---- noise
 
@@ -134,16 +188,19 @@ pub line-more : (h : Header) (r k : ℕ) (t : List ℕ) (ts : List (List ℕ)) (
 line-more h r k t ts l reads s a =
     accepted-more k (between h r) t ts (Written.line l) (unfold between in refl) reads
     (unfold expected next headerFits ownTests between in
-    record { due = refl; ends = and-false (isLast ts); header = refl; own = line-passes h r l s })
+    record { due = refl; ends = and-false (isLast ts); edition = line-edition h r l s; header = refl; own = line-passes h r l s })
     (subst (λ (c : Context). Accepted (suc k) c ts) (sym (next-between l h r)) a)
 
 -- ---- the header
 
 -- a header in range passes on the first line
 header-passes : (ts : List (List ℕ)) (h : Header) → HeaderSound h → Passing noContext ts (Written.header h)
-unfolding expected next headerFits ownTests noContext
-header-passes ts h s = record { due = refl; ends = and-false (isLast ts); header = range; own = tt }
+unfolding expected next isSecond headerFits ownTests noContext
+header-passes ts h s = record { due = refl; ends = and-false (isLast ts); edition = refl; header = range; own = passed known tt }
   where
+    known : knownEdition (h .edition) ≡ true
+    known = and-both (le-leb _ _ (s .some-edition)) (le-leb _ _ (s .two-editions))
+
     range : inRange h ≡ true
     range =
         and-both (and-both (and-both (and-both (le-leb _ _ (s .some-qubits)) (le-leb _ _ (s .few-qubits))) (le-leb _ _ (s .few-outcomes))) (le-leb _ _ (s .some-shots)))

@@ -24,6 +24,7 @@ line-in-range h r (Line.conditional P ids par) s b = tt
 line-in-range h r (Line.reset qs) s b = tt
 line-in-range h r (Line.inject shot P) s b = tt
 line-in-range h r (Line.flip shot id) s b = omega (arith, s .known)
+line-in-range h r (Line.barrier qs) s b = tt
 
 pub lines-in-range : (h : Header) (r : ℕ) (ls : List Line) → LinesSound h r ls → r ≤ h .outcomes → AllInRange (h .qubits) (h .outcomes) ls
 unfolding LinesSound

@@ -40,6 +40,7 @@ instruction-records h r (Instruction.line (Line.conditional P ids par)) s = noth
 instruction-records h r (Instruction.line (Line.reset qs)) s = nothing
 instruction-records h r (Instruction.line (Line.inject shot P)) s = nothing
 instruction-records h r (Instruction.line (Line.flip shot id)) s = nothing
+instruction-records h r (Instruction.line (Line.barrier qs)) s = nothing
 instruction-records h r (Instruction.noise n) s = nothing
 
 records-within : {outcomes r k : ℕ} {ids : List ℕ} → Records outcomes r k ids → r ≤ outcomes → r + k ≤ outcomes

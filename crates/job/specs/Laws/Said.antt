@@ -14,7 +14,7 @@ use Rattle.job.specs.declared.Header.{Header}
 use Rattle.job.specs.Line.{Line, WeightedPauli, Instruction, Placed}
 use Rattle.job.specs.Float.{float, totalFrom, isTotal}
 use Rattle.job.specs.Grammar.{Kind, NoiseLine, Written, readLine}
-use Rattle.job.specs.Checks.{Context, elementLines, firstTotal, nextTotal, next, sameWeight, expected, headerFits, weightFits, totalFits, ownTests}
+use Rattle.job.specs.Checks.{Context, elementLines, firstTotal, nextTotal, next, sameWeight, isSecond, expected, headerFits, weightFits, totalFits, ownTests}
 use Rattle.job.specs.Job.{isLast, checkLines, distributionOf, noiseOf, recordedBy}
 use Rattle.job.specs.Contexts.{between, Accepted}
 use Rattle.job.specs.Sound.{Every, PauliSound, weightsOf, DistributionSound, NoiseSound, InstructionSound, InstructionsSound, instructionsOf, ListSound, hasWeights, saidWeight, ElementsSaid, NoiseRead, SaidAs, LinesSound}
@@ -55,13 +55,14 @@ module _ (h : Header) (r : ℕ) (ts : List (List ℕ)) (rest : (k : ℕ) → Acc
       → readLine u ≡ some (Written.element w (e .pauli)) → ElementsSaid (weighs t) us es → PauliSound (h .qubits) (e .pauli) → sameWeight w t ≡ true
       → (weightFits w && (not (eqb (suc (length es)) 1) || totalFits (nextTotal t w))) ≡ true
       → Accepted (suc k) (during h r (length es) (nextTotal t w)) (us ++ ts) → Accepted k (during h r (suc (length es)) t) (u ∷ us ++ ts)
-  unfolding during next expected headerFits ownTests
+  unfolding during next expected isSecond headerFits ownTests
   element-more k t u us e es w reads said s same fits a =
       let less : suc (length es) - 1 ≡ length es = omega arith in
       accepted-more k (during h r (suc (length es)) t) u (us ++ ts) (Written.element w (e .pauli)) refl reads
       record {
         due = and-both (lt-ltb 0 (suc (length es)) (omega arith)) same;
         ends = rw less (last-due (weighs t) us ts es said);
+        edition = refl;
         header = refl;
         own = pauli-passes (h .qubits) (e .pauli) s (passed fits tt);
       }
@@ -118,8 +119,8 @@ noise-more h r k t us ts n es said s rest =
     let (ps, ws) = elements-sound (h .qubits) (n .kind) es (said .count) (s .distribution) in
     let elements : ElementsSaid (weighs (firstTotal (n .kind))) us es = rw (weights-first (n .kind)) (said .elements) in
     accepted-more k (between h r) t (us ++ ts) (Written.noise n) refl (said .line)
-    (unfold expected headerFits ownTests in
-    record { due = refl; ends = rw (← said .count) (last-due _ us ts es elements); header = refl; own = noise-passes h r n es (said .count) s })
+    (unfold expected isSecond headerFits ownTests in
+    record { due = refl; ends = rw (← said .count) (last-due _ us ts es elements); edition = refl; header = refl; own = noise-passes h r n es (said .count) s })
     (rw (← said .count) (elements-accepted h r ts rest (suc k) (firstTotal (n .kind)) us es elements ps ws))
 
 pub instructions-accepted : (h : Header) (r k : ℕ) (ts : List (List ℕ)) (is : List Instruction) → SaidAs ts is → ListSound h r is → Accepted k (between h r) ts

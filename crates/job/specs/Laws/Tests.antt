@@ -43,6 +43,7 @@ tests-rise c last (Written.line l) = lines l
     lines (Line.reset qs) = refl
     lines (Line.inject shot P) = refl
     lines (Line.flip shot id) = refl
+    lines (Line.barrier qs) = refl
 tests-rise c last (Written.noise n) = refl
 tests-rise c last (Written.element w P) = refl
 

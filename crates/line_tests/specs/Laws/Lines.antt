@@ -11,7 +11,7 @@ use lib.ListN.{length, take, drop, length-drop}
 use lib.Seq.{take-take, length-take-le}
 use Rattle.pauli.specs.Bits.{_⊕_, outside, members, sumOver}
 use Rattle.pauli.specs.Pauli.{anticommutes}
-use Rattle.pauli.specs.Gate.{Gate, I, X, Y, Z, Hadamard, SqrtZ, SqrtZInv, SqrtX, SqrtXInv, SqrtY, SqrtYInv, ControlledX, ControlledZ, Swap, PrepareBell, gateOf, operandsOf}
+use Rattle.pauli.specs.Gate.{Gate, I, X, Y, Z, Hadamard, SqrtZ, SqrtZInv, SqrtX, SqrtXInv, SqrtY, SqrtYInv, ControlledX, ControlledZ, Swap, PrepareBell, ControlledY, gateOf, operandsOf}
 use Rattle.pauli.specs.Code.{operandCount}
 use Rattle.text.specs.Bytes.{bytes}
 use Rattle.text.specs.Template.{Value, numberAt, listAt}
@@ -25,7 +25,7 @@ use Rattle.text.specs.Laws.Values.{both}
 use Rattle.template.specs.Values.{Whole, AllKept, heldCount, heldList, membersOn, keptMembers}
 use Rattle.template.specs.Fields.{Held}
 use Rattle.template.specs.Laws.Fields.{list-held}
-use Rattle.job.specs.Checks.{test, allBelow, eachBelow, eachShort, distinct, isPermutation, idTest, lineTests, ownTests, lowest}
+use Rattle.job.specs.Checks.{test, allBelow, eachBelow, eachShort, distinct, isPermutation, idTest, lineTests, ownTests, lowest, knownEdition}
 use Rattle.reader.specs.declared.Form.the-variants as form
 use Rattle.reader.specs.Parsed.{placeOf, Said}
 use Rattle.tables.specs.Rows.{TableFor}
@@ -118,6 +118,7 @@ few-operands ControlledX = omega arith
 few-operands ControlledZ = omega arith
 few-operands Swap = omega arith
 few-operands PrepareBell = omega arith
+few-operands ControlledY = omega arith
 
 pub few-counted : {r : ℕ} (o : Option Gate) → r ≡ operandCount o → r ≤ 2
 unfolding operandCount
@@ -192,15 +193,16 @@ module _ (c : Known) {f : List ℕ} {vs : List Value} {w : Written} where
             ∙ ap (λ (x : Written). lowest (ownTests (contextOf c) x)) (some-same (h .says));
       }
 
-  pub tests-reset : Said form.Reset f vs w → Tested c f 1 0 vs w (test 4 (ltb (numberAt 0 vs) (c .header .qubits)) ∷ [])
-  unfolding forms placeOf bytes ownTests lineTests contextOf eachBelow allBelow eachShort distinct members outside lowest
-  tests-reset h =
-      record {
-        held = h .held;
-        own =
-            ap (λ (b : Bool). lowest (test 4 b ∷ [])) (sym (and-true (ltb (numberAt 0 vs) (c .header .qubits) && true) ∙ and-true (ltb (numberAt 0 vs) (c .header .qubits))))
-            ∙ ap (λ (x : Written). lowest (ownTests (contextOf c) x)) (some-same (h .says));
-      }
+  -- operands of no fixed number
+  pub tests-reset : Said form.Reset f vs w
+      → Tested c f 0 1 vs w (test 4 (eachBelow (c .header .qubits) (listsFrom 0 1 vs)) ∷ test 5 (distinct (listAt 0 vs) && eachShort (listsFrom 0 1 vs)) ∷ [])
+  unfolding forms placeOf bytes ownTests lineTests contextOf listsFrom
+  tests-reset h = record { held = h .held; own = ap (λ (x : Written). lowest (ownTests (contextOf c) x)) (some-same (h .says)) }
+
+  pub tests-barrier : Said form.Barrier f vs w
+      → Tested c f 0 1 vs w (test 4 (eachBelow (c .header .qubits) (listsFrom 0 1 vs)) ∷ test 5 (distinct (listAt 0 vs) && eachShort (listsFrom 0 1 vs)) ∷ [])
+  unfolding forms placeOf bytes ownTests lineTests contextOf listsFrom
+  tests-barrier h = record { held = h .held; own = ap (λ (x : Written). lowest (ownTests (contextOf c) x)) (some-same (h .says)) }
 
   pub tests-inject : Said form.Inject f vs w
       → Tested c f 1 2 vs w
@@ -251,6 +253,12 @@ module _ (c : Known) {f : List ℕ} {vs : List Value} {w : Written} where
   unfolding forms placeOf bytes ownTests lineTests contextOf
   tests-allocate h = record { held = h .held; own = ap (λ (x : Written). lowest (ownTests (contextOf c) x)) (some-same (h .says)) }
 
+  -- without the field the edition is 1
   pub tests-header : Said form.Header f vs w → 0 ≡ lowest (ownTests (contextOf c) w)
   unfolding lowest forms placeOf bytes ownTests
   tests-header h = ap (λ (x : Written). lowest (ownTests (contextOf c) x)) (some-same (h .says))
+
+  pub tests-edition : Said form.EditionHeader f vs w
+      → Tested c f 4 0 vs w (test 23 (knownEdition (numberAt 0 vs)) ∷ [])
+  unfolding forms placeOf bytes ownTests
+  tests-edition h = record { held = h .held; own = ap (λ (x : Written). lowest (ownTests (contextOf c) x)) (some-same (h .says)) }

@@ -76,6 +76,8 @@ module _ {fields : List ℕ} {w n m : ℕ} (x z d : List ℕ) where
   idle-acts form.Weighted h line p = absurd (no-noise _ _ (p .values) (p .said .says))
   idle-acts form.Element h line p = let e = p .said .says in let z : _≡_ {A = ℕ} 0 1 = cc in absurd (omega arith)
   idle-acts form.WeightedElement h line p = let e = p .said .says in let z : _≡_ {A = ℕ} 0 1 = cc in absurd (omega arith)
+  idle-acts form.EditionHeader h line p = let e = p .said .says in let z : _≡_ {A = ℕ} 0 1 = cc in absurd (omega arith)
+  idle-acts form.Barrier h line p = subst (λ (l : Line). Acts w (lineRule n m l) x z d x z d) (written-line (p .said .says)) record { shots = λ s k. refl }
 
   pub idle-obeyed : {f : Form} → Idle f → Obeyed f fields w n m x z d x z d
   idle-obeyed {f} h = record { acts = idle-acts f h }

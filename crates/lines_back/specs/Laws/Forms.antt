@@ -57,6 +57,8 @@ acts form.Uniform = false
 acts form.Weighted = false
 acts form.Element = false
 acts form.WeightedElement = false
+acts form.EditionHeader = false
+acts form.Barrier = false
 
 -- they say plain lines
 line-written : (f : Form) (vs : List Value) (w : Written) → acts f ≡ true → formOf f .says vs ≡ some w → (l : Line) × (w ≡ Written.line l)
@@ -81,6 +83,8 @@ line-written form.Uniform vs w a e = absurd (true≢false (sym a))
 line-written form.Weighted vs w a e = absurd (true≢false (sym a))
 line-written form.Element vs w a e = absurd (true≢false (sym a))
 line-written form.WeightedElement vs w a e = absurd (true≢false (sym a))
+line-written form.EditionHeader vs w a e = absurd (true≢false (sym a))
+line-written form.Barrier vs w a e = absurd (true≢false (sym a))
 
 module _ {f : Form} {words : List ℕ} (q : Readable f words) where
   abbrev ready-line : (l : Line) → q .written ≡ Written.line l → HeldLine f words
@@ -94,6 +98,7 @@ module _ {f : Form} {words : List ℕ} (q : Readable f words) where
         line = l;
         plain =
             record {
+              edition = q .header .edition;
               shots = q .header .shots;
               recorded = r;
               values = q .values;
@@ -140,6 +145,7 @@ acted-as {k = k} {words = words} {shot = shot} {number = number} {w = w} {set = 
 noise-written : {f : Form} {w : Written} → Meaning f w → noiseForm f ≡ true → (n : NoiseLine) × (w ≡ Written.noise n)
 unfolding noiseForm
 noise-written (Meaning.header h e) n = absurd (true≢false (sym n ∙ rw e))
+noise-written (Meaning.edition-header h e) n = absurd (true≢false (sym n ∙ rw e))
 noise-written (Meaning.plain l r k) n = absurd (true≢false (sym n ∙ k))
 noise-written (Meaning.measure l e) n = absurd (true≢false (sym n ∙ rw e))
 noise-written (Meaning.allocate l e) n = absurd (true≢false (sym n ∙ rw e))
@@ -190,6 +196,8 @@ idle-written form.Uniform vs v h n e c k w before = absurd (true≢false n)
 idle-written form.Weighted vs v h n e c k w before = absurd (true≢false n)
 idle-written form.Element vs v h n e c k w before = subst (λ (u : Written). (w ≡ writtenBack c u w) × (before ≡ noiseBack k u before)) (some-same e) (refl, refl)
 idle-written form.WeightedElement vs v h n e c k w before = subst (λ (u : Written). (w ≡ writtenBack c u w) × (before ≡ noiseBack k u before)) (some-same e) (refl, refl)
+idle-written form.EditionHeader vs v h n e c k w before = subst (λ (u : Written). (w ≡ writtenBack c u w) × (before ≡ noiseBack k u before)) (some-same e) (refl, refl)
+idle-written form.Barrier vs v h n e c k w before = subst (λ (u : Written). (w ≡ writtenBack c u w) × (before ≡ noiseBack k u before)) (some-same e) (refl, refl)
 
 pub nothing-done : {f : Form} {words : List ℕ} {shot number : ℕ} {w : WalkWords} {set : List ℕ} → Idle f → noiseForm f ≡ false → length set ≡ 16
     → LineBack f words shot number w w set set

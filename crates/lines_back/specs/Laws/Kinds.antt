@@ -2,7 +2,7 @@
 use Prim.Native.Nat.{ℕ, _≤_}
 use mathlib.Core.Path.{_≡_, refl, sym, ap, _∙_, subst}
 use mathlib.Core.Bool.{Bool, true, false, _&&_}
-use mathlib.Core.List.{List, [], _∷_}
+use mathlib.Core.List.{List}
 use lib.Dec.{eqb}
 use lib.ListN.{getD}
 use Rattle.pauli.specs.declared.Pauli.{Pauli as PauliWords}
@@ -69,7 +69,7 @@ module _ {f : List ℕ} {b r : PauliWords} (shot : ℕ) (set : Bits) where
   unfolding carry counts
   permute-goes e = by-line _ (λ p. permute-read (p .plain) .is) (λ p. to r set e) (λ p. refl)
 
-  pub reset-goes : asPauli r ≡ cleared (heldNumber f 0 ∷ []) (asPauli b) → Back form.Reset f shot b set r set false
+  pub reset-goes : asPauli r ≡ cleared (heldList f 0) (asPauli b) → Back form.Reset f shot b set r set false
   unfolding carry counts
   reset-goes e = by-line _ (λ p. reset-read (p .plain) .is) (λ p. to r set e) (λ p. refl)
 

@@ -24,7 +24,7 @@ use Rattle.lines_from_last.specs.Line.{Known}
 -- a line that passes
 passed-sound : (c : Context) (ls : List (List ℕ)) (l : Line) → WrittenFits (Written.line l) → Passing c ls (Written.line l) → LineSound (c .header) (c .recorded) l
 unfolding WrittenFits ownTests
-passed-sound c ls l fits passing = line-sound c l fits (passing .own)
+passed-sound c ls l fits passing = line-sound c l fits (passing .edition) (passing .own)
 
 passed-known : (c : Context) (text : List ℕ) (ls : List (List ℕ)) (w : Written) → c .recorded ≤ c .header .outcomes → readLine text ≡ some w → WrittenFits w
     → Passing c ls w → Known (c .header) text

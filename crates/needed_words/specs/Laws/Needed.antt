@@ -43,30 +43,30 @@ module _ {job : List ℕ} {shape : Shape} {from : ℕ} {x z d noiseless : List �
       rw (zeros x x′ ex, zeros z z′ ez, zeros d d′ ed) (holds-starts (shape .width) (length x) (length z) (length d))
 
   module _ (source : Source) (same : source .noiseless ≡ noiseless) {x′ z′ d′ : List ℕ} {r : Answer}
-      (finished : Finished (execute (headerOf shape) (lentBy shape noiseless (source .second) (source .base)) (instructionsAt job 2 from) (source .main) starts) (shape .width) x′ z′ d′ r)
+      (finished : Finished (execute (headerOf job shape) (lentBy shape noiseless (source .second) (source .base)) (instructionsAt job 2 from) (source .main) starts) (shape .width) x′ z′ d′ r)
       (lx : length x′ ≡ length x) (lz : length z′ ≡ length z) (ld : length d′ ≡ length d)
     where
       abbrev all : Ended
-      all = execute (headerOf shape) (lentOf (headerOf shape) source) (instructionsAt job 2 from) (source .main) starts
+      all = execute (headerOf job shape) (lentOf (headerOf job shape) source) (instructionsAt job 2 from) (source .main) starts
 
       in-source : Finished all (shape .width) x′ z′ d′ r
       in-source = rw (← ready .words, same) finished
 
       past : (states : States) → all ≡ Ended.ended states → (s : ℕ) → shape .shots ≤ s → states s ≡ start
-      past states e s k = past-shots (headerOf shape) (lentOf (headerOf shape) source) (instructionsAt job 2 from) (source .main) states refl (ready .sound) e s k
+      past states e s k = past-shots (headerOf job shape) (lentOf (headerOf job shape) source) (instructionsAt job 2 from) (source .main) states refl (ready .sound) e s k
 
-      pub run-finished : Words x′ → Words z′ → Words d′ → r .number ≡ 0 → NeededRun job (headerOf shape) source from x′ z′ d′ r
+      pub run-finished : Words x′ → Words z′ → Words d′ → r .number ≡ 0 → NeededRun job (headerOf job shape) source from x′ z′ d′ r
       run-finished fx fz fd zero =
           record {
-            is = needed-finished (headerOf shape) (ready .words) (ready .ahead .header .some-shots) past (lx ∙ ready .of-x) (lz ∙ ready .of-z) (ld ∙ ready .of-deltas) fx fz fd in-source zero;
+            is = needed-finished (headerOf job shape) (ready .words) (ready .ahead .header .some-shots) past (lx ∙ ready .of-x) (lz ∙ ready .of-z) (ld ∙ ready .of-deltas) fx fz fd in-source zero;
           }
 
       pub run-stopped : {x″ z″ d″ : List ℕ} → x″ ≡ cleared 0 (length x′) x′ → z″ ≡ cleared 0 (length z′) z′ → d″ ≡ cleared 0 (length d′) d′ → (r .number ≡ 0 → ⊥)
-          → NeededRun job (headerOf shape) source from x″ z″ d″ r
+          → NeededRun job (headerOf job shape) source from x″ z″ d″ r
       run-stopped {x″} {z″} {d″} ex ez ed some =
           record {
             is =
-                needed-stopped (headerOf shape)
+                needed-stopped (headerOf job shape)
                 (zeros x′ x″ ex ∙ rw (lx, ready .of-x))
                 (zeros z′ z″ ez ∙ rw (lz, ready .of-z))
                 (zeros d′ d″ ed ∙ rw (ld, ready .of-deltas))

@@ -35,6 +35,7 @@ line-below h r (Line.conditional P ids par) s = refl
 line-below h r (Line.reset qs) s = refl
 line-below h r (Line.inject shot P) s = lt-ltb shot (h .shots) (s .within)
 line-below h r (Line.flip shot id) s = lt-ltb shot (h .shots) (s .within)
+line-below h r (Line.barrier qs) s = refl
 
 own-below : (h : Header) (r : ℕ) (i : Instruction) → InstructionSound h r i → ownBelow (h .shots) i ≡ true
 unfolding InstructionSound ownBelow

@@ -13,7 +13,7 @@ use Rattle.text.specs.Bytes.{bytes}
 use Rattle.text.specs.Template.{Value, numberAt}
 use Rattle.job.specs.Float.{float, zeroFloat, isWeight}
 use Rattle.job.specs.Grammar.{Written, forms}
-use Rattle.job.specs.Checks.{Context, elementLines, firstTotal, nextTotal, sameWeight, expected, next, weightFits, ownTests, tests, refusalOf}
+use Rattle.job.specs.Checks.{Context, elementLines, firstTotal, nextTotal, sameWeight, inEdition, expected, next, weightFits, ownTests, tests, refusalOf}
 use Rattle.text.specs.Laws.Values.{both}
 use Rattle.job.specs.Laws.Tests.{AllPass, refusal-passes}
 use Rattle.reader.specs.declared.Form.{Form}
@@ -35,6 +35,7 @@ module _ (c : Context) (f : Form) where
   pub expected-other : (f ≡ form.Element → ⊥) → (f ≡ form.WeightedElement → ⊥) → (w : Written) → Meaning f w → eqb (c .due) 0 ≡ expected c w
   unfolding expected
   expected-other a b w (Meaning.header h e) = refl
+  expected-other a b w (Meaning.edition-header h e) = refl
   expected-other a b w (Meaning.plain l e m) = refl
   expected-other a b w (Meaning.measure l e) = refl
   expected-other a b w (Meaning.allocate l e) = refl
@@ -48,6 +49,7 @@ module _ (c : Context) (f : Form) where
       → (w : Written) → Meaning f w → 0 ≡ next c w .due
   unfolding next
   none-due a b d g w (Meaning.header h e) = refl
+  none-due a b d g w (Meaning.edition-header h e) = refl
   none-due a b d g w (Meaning.plain l e m) = refl
   none-due a b d g w (Meaning.measure l e) = refl
   none-due a b d g w (Meaning.allocate l e) = refl
@@ -61,6 +63,7 @@ module _ (c : Context) (f : Form) where
   pub no-total-after : (f ≡ form.Weighted → ⊥) → (f ≡ form.WeightedElement → ⊥) → (w : Written) → Meaning f w → expected c w ≡ true → next c w .total ≡ none
   unfolding next expected
   no-total-after a b w (Meaning.header h e) x = refl
+  no-total-after a b w (Meaning.edition-header h e) x = refl
   no-total-after a b w (Meaning.plain l e m) x = refl
   no-total-after a b w (Meaning.measure l e) x = refl
   no-total-after a b w (Meaning.allocate l e) x = refl
@@ -80,6 +83,7 @@ module _ (c : Context) (f : Form) where
   unfolding next
   total-begins b w (Meaning.weighted n e k) x t q = some-same (sym k ∙ q)
   total-begins b w (Meaning.header h e) x t q = no-sum q
+  total-begins b w (Meaning.edition-header h e) x t q = no-sum q
   total-begins b w (Meaning.plain l e m) x t q = no-sum q
   total-begins b w (Meaning.measure l e) x t q = no-sum q
   total-begins b w (Meaning.allocate l e) x t q = no-sum q
@@ -189,7 +193,7 @@ module _ (c : Known) {f : List ℕ} {vs : List Value} {w : Written} (h : Said fo
 
 module _ (c : Context) (last : Bool) (w : Written) (e : refusalOf c last (some w) ≡ 0) where
   pub passed-expected : expected c w ≡ true
-  passed-expected = both (expected c w) _ (not-false _ (refusal-passes c last w e .0)) .0
+  passed-expected = both (expected c w) _ (both _ (inEdition c w) (not-false _ (refusal-passes c last w e .0)) .0) .0
 
 -- an unread line's form
 pub unread-form : (f : Form) → isUnread f ≡ true → f ≡ form.Unread
@@ -213,6 +217,8 @@ unread-form form.Uniform e = absurd (true≢false (sym e))
 unread-form form.Weighted e = absurd (true≢false (sym e))
 unread-form form.Element e = absurd (true≢false (sym e))
 unread-form form.WeightedElement e = absurd (true≢false (sym e))
+unread-form form.EditionHeader e = absurd (true≢false (sym e))
+unread-form form.Barrier e = absurd (true≢false (sym e))
 
 -- nothing is said of an unread line
 pub unread-said : {f : List ℕ} {vs : List Value} {w : Written} → Said form.Unread f vs w → ⊥

@@ -13,7 +13,7 @@ returns c = same-at (λ _. 1) (λ k. operandCount (gateOf k)) 0 11 refl (c .befo
 
 returns-2 : tie.Need-returns-2
 unfolding operandCount operandsOf gateOf gateFrom gates
-returns-2 c = same-at (λ _. 2) (λ k. operandCount (gateOf k)) 11 4 refl (c .before .before .args .gate) (omega arith) (omega arith)
+returns-2 c = same-at (λ _. 2) (λ k. operandCount (gateOf k)) 11 5 refl (c .before .before .args .gate) (omega arith) (omega arith)
 
 returns-3 : tie.Need-returns-3
 unfolding operandCount

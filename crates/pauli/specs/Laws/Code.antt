@@ -34,8 +34,8 @@ from-none [] code h = refl
 from-none (g ∷ gs) zero h = absurd (not-suc-le-zero h)
 from-none (g ∷ gs) (suc code) h = from-none gs code (le-of-suc-le-suc h)
 
--- a code above 14 has no gate
-pub gate-none : (code : ℕ) → 15 ≤ code → gateOf code ≡ none
+-- a code above 15 has no gate
+pub gate-none : (code : ℕ) → 16 ≤ code → gateOf code ≡ none
 unfolding gateOf gates
 gate-none code h = from-none gates code h
 
@@ -60,7 +60,7 @@ module _ (bell : ℕ → ℕ → Pauli → Pauli) (a b : ℕ) (P : Pauli) (code 
   unfolding byGate gateWith gateOf gateFrom gates
   sqrtY-made h l = same-at (λ _. swapXZ a P) made 9 2 refl code (omega arith) (omega arith)
 
-  pub none-made : 15 ≤ code → P ≡ made code
+  pub none-made : 16 ≤ code → P ≡ made code
   unfolding byGate
   none-made h = rw (gate-none code h)
 

@@ -4,7 +4,7 @@ use mathlib.Core.Bool.{Bool}
 use Prim.Native.Nat.{ℕ}
 use Rattle.pauli.specs.Bits.{Bits, _⊕_, _△_, none, given}
 use Rattle.pauli.specs.Pauli.{Pauli, X-at, Z-at, Y-at, _∗_, when}
-use Rattle.pauli.specs.Gate.{swapXZ, addXtoZ, addZtoX, controlledX, controlledZ, swapRows}
+use Rattle.pauli.specs.Gate.{swapXZ, addXtoZ, addZtoX, controlledX, controlledZ, controlledY, swapRows}
 use Rattle.pauli.specs.Laws.F2.{f2}
 use Rattle.pauli.specs.Laws.Parity.{replaced-is, added-is, △-none, none-△, given-none, given-△, exchanged-is}
 
@@ -38,6 +38,10 @@ module _ (a b : ℕ) (F : Pauli) where
   pub controlledZ-is : controlledZ a b F ≡ F ∗ when (F .x a) (Z-at b) ∗ when (F .x b) (Z-at a)
   unfolding controlledZ _∗_ when X-at Z-at
   controlledZ-is = pauli-path (kept (F .x) (F .x a) ∙ kept _ (F .x b)) (simp rows)
+
+  pub controlledY-is : controlledY a b F ≡ F ∗ when (F .x a) (Y-at b) ∗ when (F .x b ⊕ F .z b) (Z-at a)
+  unfolding controlledY _∗_ when Y-at Z-at
+  controlledY-is = pauli-path (simp rows) (simp rows)
 
   pub swapRows-is : swapRows a b F ≡ F ∗ when (F .x a ⊕ F .x b) (X-at a ∗ X-at b) ∗ when (F .z a ⊕ F .z b) (Z-at a ∗ Z-at b)
   unfolding swapRows _∗_ when X-at Z-at

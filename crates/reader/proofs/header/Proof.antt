@@ -1,26 +1,40 @@
 -- `reader::header` meets its contract. Assumes nothing.
 use borrow.Author.Needs.{needs}
+use borrow.Author.Tests.{not-true}
 use mathlib.Core.Path.{refl}
 use Rattle.text.specs.Bytes.{bytes}
 use Rattle.job.specs.Grammar.{forms}
 use Rattle.reader.specs.declared.Form.the-variants as form
-use Rattle.reader.specs.Parsed.{placeOf}
-use Rattle.reader.specs.Laws.Tried.{plain-tried}
+use Rattle.reader.specs.Parsed.{placeOf, formOf}
+use Rattle.reader.specs.Laws.Sift.{no-values}
+use Rattle.reader.specs.Laws.Tried.{form-room, says, later}
 use Rattle.reader.proofs.header.Statement.{statement}
 use Rattle.reader.proofs.header.Tie as tie
 
-slice-aggregate-form-by : tie.Need-slice-aggregate-form-by
-slice-aggregate-form-by c = search needs
+slice-aggregate-read-all : tie.Need-slice-aggregate-read-all
+slice-aggregate-read-all c = search needs
 
-form-by-requires : tie.Need-form-by-requires
-form-by-requires c κs = search needs
+read-all-requires : tie.Need-read-all-requires
+read-all-requires c κs = search needs
+
+edition-header-requires : tie.Need-edition-header-requires
+edition-header-requires c κs = search needs
 
 same-length : tie.Need-same-length
 same-length c = search needs
 
 returns : tie.Need-returns
 unfolding placeOf forms bytes
-returns c = plain-tried form.Header refl (λ vs. (_, refl)) (c .before .before .form-by .ensures)
+returns c = says form.Header refl (c .before .before .before .read-all .ensures .read (c .if1 .taken)) _ refl
+
+same-length-2 : tie.Need-same-length-2
+same-length-2 c = search needs
+
+returns-2 : tie.Need-returns-2
+unfolding placeOf forms bytes
+returns-2 c =
+    let refused = c .before .before .before .before .before .before .before .read-all .ensures .refused (c .before .before .before .before .if1 .left) (form-room form.Header) in
+    later form.Header (no-values (formOf form.Header) _ refused) (c .before .before .edition-header .ensures)
 
 pub header-spec : {M : Type 1} → statement M
-header-spec = tie.close (tie.spec slice-aggregate-form-by form-by-requires same-length returns)
+header-spec = tie.close (tie.spec slice-aggregate-read-all read-all-requires same-length returns edition-header-requires same-length-2 returns-2)

@@ -7,7 +7,7 @@ use Rattle.job.specs.Grammar.{forms}
 use Rattle.text.specs.Laws.Places.{literals}
 use Rattle.reader.specs.declared.Form.the-variants as form
 use Rattle.reader.specs.Parsed.{placeOf}
-use Rattle.reader.specs.Tried.{only, noiseForms}
+use Rattle.reader.specs.Tried.{only, noiseForms, headerForms}
 use Rattle.reader.specs.Laws.Sift.{sift, opens, opening, isAmong, allAmong, none-opening}
 use Rattle.reader.specs.Laws.Tried.{none-left, by-bytes}
 use Rattle.reader.proofs.operation.Statement.{statement}
@@ -51,6 +51,9 @@ flip-requires c κs = c .before .before .before .before .pre .2
 
 reset-requires : tie.Need-reset-requires
 reset-requires c κs = c .before .before .before .before .pre .2
+
+barrier-requires : tie.Need-barrier-requires
+barrier-requires c κs = c .before .before .before .before .pre .2
 
 header-requires : tie.Need-header-requires
 header-requires c κs = c .before .before .before .before .pre .2
@@ -179,15 +182,24 @@ returns-14 : tie.Need-returns-14
 unfolding sift opens literals placeOf forms bytes
 returns-14 c =
     let pre = c .before .before .before .before .before .before .before .pre in
-    by-bytes 111 106 (pre .0) (sym (pre .1) ∙ c .before .before .before .before .match .keys14) (only form.Header) refl (c .before .before .header .ensures)
+    by-bytes 111 98 (pre .0) (sym (pre .1) ∙ c .before .before .before .before .match .keys14) (only form.Barrier) refl (c .before .before .barrier .ensures)
+
+same-length-15 : tie.Need-same-length-15
+same-length-15 c = search needs
 
 returns-15 : tie.Need-returns-15
-unfolding sift opens literals placeOf forms bytes isAmong allAmong
+unfolding sift opens literals placeOf forms bytes
 returns-15 c =
+    let pre = c .before .before .before .before .before .before .before .pre in
+    by-bytes 111 106 (pre .0) (sym (pre .1) ∙ c .before .before .before .before .match .keys15) headerForms refl (c .before .before .header .ensures)
+
+returns-16 : tie.Need-returns-16
+unfolding sift opens literals placeOf forms bytes isAmong allAmong
+returns-16 c =
     let pre = c .before .before .before .pre in
     by-bytes 111 _ (pre .0) (sym (pre .1)) []
-    (none-opening 3 _ (106 ∷ 122 ∷ 116 ∷ 114 ∷ 109 ∷ 99 ∷ 102 ∷ 112 ∷ 101 ∷ 107 ∷ 111 ∷ 105 ∷ 110 ∷ 117 ∷ []) (opening 0 111 forms) refl (c .match .rest))
+    (none-opening 3 _ (106 ∷ 98 ∷ 122 ∷ 116 ∷ 114 ∷ 109 ∷ 99 ∷ 102 ∷ 112 ∷ 101 ∷ 107 ∷ 111 ∷ 105 ∷ 110 ∷ 117 ∷ []) (opening 0 111 forms) refl (c .match .rest))
     none-left
 
 pub operation-spec : {M : Type 1} → statement M
-operation-spec = tie.close (tie.spec unitary-requires noise-requires inject-requires measure-requires controlled-requires exponential-requires pauli-requires conditional-requires clifford-requires permute-requires allocate-requires flip-requires reset-requires header-requires same-length returns same-length-2 returns-2 same-length-3 returns-3 same-length-4 returns-4 same-length-5 returns-5 same-length-6 returns-6 same-length-7 returns-7 same-length-8 returns-8 same-length-9 returns-9 same-length-10 returns-10 same-length-11 returns-11 same-length-12 returns-12 same-length-13 returns-13 same-length-14 returns-14 returns-15)
+operation-spec = tie.close (tie.spec unitary-requires noise-requires inject-requires measure-requires controlled-requires exponential-requires pauli-requires conditional-requires clifford-requires permute-requires allocate-requires flip-requires reset-requires barrier-requires header-requires same-length returns same-length-2 returns-2 same-length-3 returns-3 same-length-4 returns-4 same-length-5 returns-5 same-length-6 returns-6 same-length-7 returns-7 same-length-8 returns-8 same-length-9 returns-9 same-length-10 returns-10 same-length-11 returns-11 same-length-12 returns-12 same-length-13 returns-13 same-length-14 returns-14 same-length-15 returns-15 returns-16)

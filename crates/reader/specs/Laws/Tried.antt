@@ -16,7 +16,7 @@ use Rattle.template.specs.Values.{heldNumber, heldCount}
 use Rattle.template.specs.Fields.{numberLetters, listLetters, Room, HasForm, ReadAs}
 use Rattle.text.specs.Laws.Values.{both}
 use Rattle.job.specs.Clifford.{tableWords, tableOf}
-use Rattle.job.specs.Grammar.{Written, Form as TableForm, unitaryLine, cliffordLine, forms, said, readBy, readLine}
+use Rattle.job.specs.Grammar.{Written, Form as TableForm, unitaryLine, cliffordLine, forms, said, orLater, readBy, readLine}
 use Rattle.job.specs.Line.{Line}
 use Rattle.job.specs.Marks.{readAs}
 use Rattle.reader.specs.declared.Form.{Form}
@@ -68,23 +68,27 @@ module _ {line fields : List ℕ} where
     pub says-nothing : readAs (formOf f) line ≡ none → Tried (only f) line form.Unread fields
     says-nothing e = record { parsed = λ h. not-parsed (h ∙ read-alone (formOf f) line ∙ e) }
 
-    -- it does
-    pub says : isUnread f ≡ false → (h : HasForm line (formOf f .template) fields) (w : Written) → formOf f .says (h .values) ≡ some w
-        → Tried (only f) line f fields
-    says known h w e =
+    -- it does, whatever forms come after
+    pub says : {fs : List TableForm} → isUnread f ≡ false → (h : HasForm line (formOf f .template) fields) (w : Written) → formOf f .says (h .values) ≡ some w
+        → Tried (formOf f ∷ fs) line f fields
+    says {fs} known h w e =
         record {
-          parsed = λ alone. record {
+          parsed = λ first. record {
             unread = λ u. absurd (true≢false (sym u ∙ known));
             read = λ _. record {
               values = h .values;
               written = w;
               by-form = h .reads;
               says = e;
-              reads = alone ∙ read-alone (formOf f) line ∙ unfold said in rw (h .reads) e;
+              reads = first ∙ unfold readBy said orLater in rw (h .reads, e);
               held = h .held;
             };
           };
         }
+
+    -- it says nothing by the form: the later ones are left
+    pub later : {fs : List TableForm} {r : Form} → readAs (formOf f) line ≡ none → Tried fs line r fields → Tried (formOf f ∷ fs) line r fields
+    later e t = record { parsed = λ h. t .parsed (h ∙ unfold readBy orLater in rw e) }
 
     -- a line by whose values the form says something, read by the form's template
     pub read-tried : {r : Form} → isUnread f ≡ false → (ok : Bool) → r ≡ formIf ok f → ReadAs line (formOf f .template) ok fields
@@ -124,7 +128,7 @@ gate-from [] code h = absurd (omega arith)
 gate-from (g ∷ gs) zero h = (g, refl)
 gate-from (g ∷ gs) (suc code) h = gate-from gs code (omega arith)
 
-gate-some : (code : ℕ) → code ≤ 14 → (g : Gate) × (gateOf code ≡ some g)
+gate-some : (code : ℕ) → code ≤ 15 → (g : Gate) × (gateOf code ≡ some g)
 unfolding gateOf gates
 gate-some code h = gate-from gates code (omega arith)
 
@@ -134,13 +138,13 @@ module _ {line fields : List ℕ} (h : HasForm line (formOf form.Unitary .templa
   unfolding placeOf forms bytes
   code-held = h .held .number 0 (omega arith)
 
-  pub gate-high : 14 < heldNumber fields 0 → Tried (only form.Unitary) line form.Unread fields
+  pub gate-high : 15 < heldNumber fields 0 → Tried (only form.Unitary) line form.Unread fields
   unfolding placeOf forms bytes said unitaryLine
   gate-high high =
       let no-gate : gateOf (numberAt 0 (h .values)) ≡ none = gate-none (numberAt 0 (h .values)) (omega (arith, code-held)) in
       says-nothing form.Unitary (rw (h .reads, no-gate))
 
-  pub gate-good : heldNumber fields 0 ≤ 14 → Tried (only form.Unitary) line form.Unitary fields
+  pub gate-good : heldNumber fields 0 ≤ 15 → Tried (only form.Unitary) line form.Unitary fields
   unfolding placeOf forms bytes unitaryLine
   gate-good low =
       let found = gate-some (numberAt 0 (h .values)) (omega (arith, code-held)) in

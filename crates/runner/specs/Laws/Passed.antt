@@ -1,5 +1,5 @@
 -- A job that passed its tests. Laws. Assumes nothing.
-use mathlib.Core.Path.{_≡_, refl, sym, ap, _∙_}
+use mathlib.Core.Path.{_≡_, refl, sym, ap, subst, _∙_}
 use mathlib.Core.Bool.{true, false}
 use mathlib.Core.List.{List, _++_}
 use Prim.Native.Nat.{ℕ, _+_, _*_, _/_, _^_, _≤_, _<_}
@@ -9,6 +9,7 @@ use lib.ListN.{length, drop}
 use Rattle.text.specs.Bytes.{LF, until}
 use Rattle.job.specs.declared.Header.{Header}
 use Rattle.job.specs.declared.Answer.{Answer}
+use Rattle.job.specs.Grammar.{headerWith}
 use Rattle.job.specs.Job.{answer, jobOf, checkJob}
 use Rattle.job.specs.Sound.{InstructionsSound, HeaderSound}
 use Rattle.job.specs.Laws.Begun.{ended-parts}
@@ -20,6 +21,7 @@ use Rattle.checker.specs.declared.Examined.{Examined}
 use Rattle.checker.specs.Examines.{Examines}
 use Rattle.rows.specs.Shape.{shapeOf}
 use Rattle.run.specs.Run.{Memory, frameWords, outcomeWords, enoughWords, untouched, runReply}
+use Rattle.execution.specs.Went.{headerOf}
 use Rattle.needed_words.specs.Needed.{NeededReady, NeededRun}
 use Rattle.runner.specs.Laws.Replies.{run-refused, run-short, run-enough, needed-over}
 
@@ -61,12 +63,16 @@ module _ {job : List ℕ} {r : Examined} (x : Examines job r) where
         }
 
 module _ {job : List ℕ} {h : Header} {from : ℕ} (p : Passed job h from) where
+  -- the shape of its rows has the header
+  shaped : h ≡ headerOf job (shapeOf (h .qubits) (h .outcomes) (h .shots))
+  shaped = ap (λ (g : Header). headerWith (g .edition) (h .qubits) (h .outcomes) (h .shots)) (sym (p .header))
+
   pub needed-ready : {x z d noiseless : List ℕ} → length x ≡ frameWords h → length z ≡ frameWords h → length d ≡ outcomeWords h
       → outcomeWords h ≤ length noiseless → NeededReady job (shapeOf (h .qubits) (h .outcomes) (h .shots)) from x z d noiseless
   needed-ready lx lz ld ln =
       record {
-        ahead = p .ahead;
-        sound = p .sound;
+        ahead = subst (λ (g : Header). Ahead job g 0 2 from) shaped (p .ahead);
+        sound = subst (λ (g : Header). InstructionsSound g 0 (instructionsAt job 2 from)) shaped (p .sound);
         words = refl;
         of-x = lx;
         of-z = lz;
@@ -74,10 +80,12 @@ module _ {job : List ℕ} {h : Header} {from : ℕ} (p : Passed job h from) wher
         of-noiseless = ln;
       }
 
-  pub needed-reply : (m : Memory) {x z d : List ℕ} {r : Answer} → enoughWords h m ≡ true → NeededRun job h (m .source) from x z d r
+  pub needed-reply : (m : Memory) {x z d : List ℕ} {r : Answer} → enoughWords h m ≡ true
+      → NeededRun job (headerOf job (shapeOf (h .qubits) (h .outcomes) (h .shots))) (m .source) from x z d r
       → runReply job m
       ≡ record { answered = r; x = x ++ drop (frameWords h) (m .x); z = z ++ drop (frameWords h) (m .z); deltas = d ++ drop (outcomeWords h) (m .deltas) }
-  needed-reply m enough run =
+  needed-reply m enough runs =
+      let run = subst (λ (g : Header). NeededRun job g (m .source) from _ _ _ _) (sym shaped) runs in
       run-enough job m (p .passed) (rw (p .header) enough)
       ∙ rw (p .header, ← p .instructions) (needed-over h m _ ∙ rw (run .is))
 

@@ -123,7 +123,7 @@ module _ {job : List ℕ} {r : Examined} (x : Examines job r) (passes : r .answe
   header-known =
       let b = job-begun job checked in
       let same : r .header ≡ b .header = x .finds checked .header ∙ ap (λ (j : Job). j .header) (b .is) in
-      rw same (header-sound (b .header) (b .range))
+      rw same (header-sound (b .header) (b .range) (b .edition))
 
   module _ {shape : Shape} (e : shape ≡ shapeOf (r .header .qubits) (r .header .outcomes) (r .header .shots)) where
     pub few-words : shape .outcomes * shape .width ≤ 65536

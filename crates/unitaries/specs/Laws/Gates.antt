@@ -1,5 +1,5 @@
 -- Gates in every shot: from what the operations on words ensure to the rules of document 01. Assumes nothing.
-use mathlib.Core.Path.{_≡_, refl, sym, ap, _∙_}
+use mathlib.Core.Path.{_≡_, refl, sym, ap, subst, _∙_, fun-ext}
 use mathlib.Core.Bool.{true}
 use mathlib.Core.List.{List}
 use mathlib.Core.Option.{some}
@@ -9,7 +9,7 @@ use lib.Dec.{ltb}
 use borrow.Author.Tests.{ltb-true}
 use lib.ListN.{length, getD}
 use Rattle.pauli.specs.Pauli.{Pauli}
-use Rattle.pauli.specs.Gate.{Gate, gates, gateFrom, gateOf, operandsOf, gateWith, conjugated, swapXZ, addXtoZ, addZtoX, controlledX, controlledZ, swapRows}
+use Rattle.pauli.specs.Gate.{Gate, gates, gateFrom, gateOf, operandsOf, gateWith, conjugated, swapXZ, addXtoZ, addZtoX, controlledX, controlledZ, controlledY, swapRows}
 use Rattle.pauli.specs.Code.{byGate, operandCount}
 use Rattle.pauli.specs.Laws.Gates.{pauli-path}
 use Rattle.pauli.specs.Laws.Code.{same-at}
@@ -17,13 +17,14 @@ use Rattle.job.specs.Line.{Line}
 use Rattle.job.specs.Checks.{allBelow, distinct}
 use Rattle.job.specs.Laws.Lists.{below-at, distinct-at}
 use Rattle.frames.specs.Forward.{onFrame, forward}
+use Rattle.frames.specs.Laws.Gates.{controlledY-composed}
 use Rattle.rows.specs.Overwrite.{copied, xored, swapped}
 use Rattle.rows.specs.Column.{column}
 use Rattle.rows.specs.Laws.Overwrite.{length-xored}
 use Rattle.rows.specs.Laws.Column.{column-copied, column-xored, column-swapped}
 use Rattle.propagator.specs.Acts.{frameOf, Acts, lineRule}
 use Rattle.propagator.specs.Laws.Lists.{row-in}
-use Rattle.propagator.specs.Laws.Acts.{acts-frame}
+use Rattle.propagator.specs.Laws.Acts.{acts-frame, acts-then}
 
 module _ (w n : ℕ) (x z d : List ℕ) (lx : length x ≡ n * w) (lz : length z ≡ n * w) where
   module _ (q : ℕ) (h : q < n) where
@@ -71,6 +72,13 @@ module _ (w n : ℕ) (x z d : List ℕ) (lx : length x ≡ n * w) (lz : length z
         (rw ex (column-swapped w s k a b x (row-in w n a (length x) lx ha) (row-in w n b (length x) lx hb)))
         (rw ez (column-swapped w s k a b z (row-in w n a (length z) lz ha) (row-in w n b (length z) lz hb))))
 
+-- ControlledX between SqrtZInv and SqrtZ on the target
+pub cy-acts : {w : ℕ} {x z d x₁ z₁ z₂ z₃ : List ℕ} (a b : ℕ) → Acts w (λ s. onFrame (addXtoZ b)) x z d x z₁ d
+    → Acts w (λ s. onFrame (controlledX a b)) x z₁ d x₁ z₂ d → Acts w (λ s. onFrame (addXtoZ b)) x₁ z₂ d x₁ z₃ d
+    → Acts w (λ s. onFrame (controlledY a b)) x z d x₁ z₃ d
+cy-acts {w} {x} {z} {d} {x₁} {z₁} {z₂} {z₃} a b first second third =
+    subst (λ (f : Pauli → Pauli). Acts w (λ s. onFrame f) x z d x₁ z₃ d) (fun-ext (controlledY-composed a b)) (acts-then (acts-then first second) third)
+
 -- ---- the gate of a code
 
 -- the last operand is the second of two, and a gate on one qubit does not look at it
@@ -92,25 +100,26 @@ last-operand Gate.ControlledX qs P e = rw e
 last-operand Gate.ControlledZ qs P e = rw e
 last-operand Gate.Swap qs P e = rw e
 last-operand Gate.PrepareBell qs P e = rw e
+last-operand Gate.ControlledY qs P e = rw e
 
 module _ (code : ℕ) (qs : List ℕ) (count : length qs ≡ operandCount (gateOf code)) where
   -- a code has a gate, and so an operand
-  pub has-operand : code ≤ 14 → 0 < length qs
+  pub has-operand : code ≤ 15 → 0 < length qs
   unfolding operandCount operandsOf gateOf gateFrom gates
-  has-operand h = rw count (ltb-true 0 _ (same-at (λ k. ltb 0 (operandCount (gateOf k))) (λ _. true) 0 15 refl code (omega arith) (omega arith)))
+  has-operand h = rw count (ltb-true 0 _ (same-at (λ k. ltb 0 (operandCount (gateOf k))) (λ _. true) 0 16 refl code (omega arith) (omega arith)))
 
   -- two operands are two qubits
-  pub operands-apart : (a b : ℕ) → 11 ≤ code → code ≤ 14 → distinct qs ≡ true → a ≡ getD qs 0 0 → b ≡ getD qs (length qs - 1) 0 → a ≡ b → ⊥
+  pub operands-apart : (a b : ℕ) → 11 ≤ code → code ≤ 15 → distinct qs ≡ true → a ≡ getD qs 0 0 → b ≡ getD qs (length qs - 1) 0 → a ≡ b → ⊥
   unfolding operandCount operandsOf gateOf gateFrom gates
   operands-apart a b h l once ea eb e =
-      let two : length qs ≡ 2 = count ∙ same-at (λ k. operandCount (gateOf k)) (λ _. 2) 11 4 refl code h (omega arith) in
+      let two : length qs ≡ 2 = count ∙ same-at (λ k. operandCount (gateOf k)) (λ _. 2) 11 5 refl code h (omega arith) in
       let same : 0 ≡ length qs - 1 = distinct-at qs once 0 (length qs - 1) (omega arith) (omega arith) (sym ea ∙ e ∙ eb) in
       omega arith
 
-  pub first-below : (n a : ℕ) → code ≤ 14 → allBelow n qs ≡ true → a ≡ getD qs 0 0 → a < n
+  pub first-below : (n a : ℕ) → code ≤ 15 → allBelow n qs ≡ true → a ≡ getD qs 0 0 → a < n
   first-below n a h below e = rw e (below-at n qs below 0 (has-operand h))
 
-  pub last-below : (n b : ℕ) → code ≤ 14 → allBelow n qs ≡ true → b ≡ getD qs (length qs - 1) 0 → b < n
+  pub last-below : (n b : ℕ) → code ≤ 15 → allBelow n qs ≡ true → b ≡ getD qs (length qs - 1) 0 → b < n
   last-below n b h below e = let some : 0 < length qs = has-operand h in rw e (below-at n qs below (length qs - 1) (omega arith))
 
   -- a rule that is what the code's gate does on the first and the last operand

@@ -1,7 +1,7 @@
 -- `walker::passed_over` meets its contract. Assumes nothing.
 use mathlib.Core.Path.{sym}
 use mathlib.Core.Bool.{true≢false}
-use Rattle.walker.specs.Laws.Passed.{pauli-passed, allocation-passed}
+use Rattle.walker.specs.Laws.Passed.{pauli-passed, allocation-passed, barrier-passed}
 use borrow.Author.Needs.{needs}
 use Rattle.walker.proofs.passed_over.Statement.{statement}
 use Rattle.walker.proofs.passed_over.Tie as tie
@@ -34,7 +34,10 @@ returns-5 : tie.Need-returns-5
 returns-5 c = λ e v reads. allocation-passed _ _ v (c .before .before .if2 .left) reads (c .match .keys3)
 
 returns-6 : tie.Need-returns-6
-returns-6 c = λ e. absurd (true≢false (sym e))
+returns-6 c = λ e v reads. barrier-passed _ _ v (c .before .before .if2 .left) reads (c .match .keys4)
+
+returns-7 : tie.Need-returns-7
+returns-7 c = λ e. absurd (true≢false (sym e))
 
 pub passed-over-spec : {M : Type 1} → statement M
 passed-over-spec =
@@ -49,4 +52,5 @@ passed-over-spec =
     returns-3
     returns-4
     returns-5
-    returns-6)
+    returns-6
+    returns-7)

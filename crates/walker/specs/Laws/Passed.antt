@@ -1,4 +1,4 @@
--- Lines that do nothing in a walk of a shot, by a few of their bytes: Paulis, allocations, and injections in another shot. Laws. Assumes nothing.
+-- Lines that do nothing in a walk of a shot, by a few of their bytes: Paulis, allocations, barriers, and injections in another shot. Laws. Assumes nothing.
 use Prim.Native.Nat.{ℕ, _<_}
 use native.Mathlib.Omega.{arith}
 use mathlib.Core.Path.{_≡_, refl, sym, ap, subst, _∙_}
@@ -61,6 +61,12 @@ module _ (l : List ℕ) (shot : ℕ) (v : Written) (first : getD l 0 0 ≡ 111) 
   unfolding forms placeOf bytes sift opens literals writtenBack noiseBack backward carry counts
   allocation-passed third =
       let (vs, have, says) = by-values (formOf form.Allocate) l v (sym (one-form l 111 114 form.Allocate refl first third) ∙ reads) in
+      subst (PassedOver shot) (some-same says) record { walks = λ w. refl; noise = λ k before. refl }
+
+  pub barrier-passed : getD l 3 0 ≡ 98 → PassedOver shot v
+  unfolding forms placeOf bytes sift opens literals writtenBack noiseBack backward carry counts
+  barrier-passed third =
+      let (vs, have, says) = by-values (formOf form.Barrier) l v (sym (one-form l 111 98 form.Barrier refl first third) ∙ reads) in
       subst (PassedOver shot) (some-same says) record { walks = λ w. refl; noise = λ k before. refl }
 
 -- ---- injections in another shot

@@ -2,6 +2,7 @@
 
 mod by_shot;
 mod codes;
+mod editions;
 mod names;
 mod refusals;
 mod seeds;

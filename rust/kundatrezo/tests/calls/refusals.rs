@@ -39,6 +39,7 @@ fn numbers_of_the_checks() {
         (job(&noise(ONE, "d=4 n=1 size=1\nw=0000000000000000 x=- z=-")), (12, 3)),
         (job("op=k x=0 z=- u=- v=0"), (20, 2)),
         (job(&noise(ONE, "d=2 q=0,1 size=16")), (21, 2)),
+        (HEADER.replace("qubits", "edition=3 qubits").into_bytes(), (23, 1)),
     ];
     for (job, expected) in &cases {
         // every call makes these tests, and makes them first
@@ -54,7 +55,7 @@ fn numbers_of_the_checks() {
         assert_eq!(refused(correlation(job)), *expected);
     }
     let seen: Vec<u64> = cases.iter().map(|(_, (number, _))| *number).collect();
-    assert!((1..=12).chain([20, 21]).all(|number| seen.contains(&number)));
+    assert!((1..=12).chain([20, 21, 23]).all(|number| seen.contains(&number)));
 }
 
 #[test]

@@ -106,8 +106,10 @@ fn the_printing_program() {
         return;
     };
     let job = document("examples/bell.job");
-    let printed = finish(&mut Command::new(&print), job.as_bytes());
-    assert_eq!(printed, kundatrezo(["run", "-"], job.as_bytes()));
+    for job in [&job, &document("examples/parity.job")] {
+        let printed = finish(&mut Command::new(&print), job.as_bytes());
+        assert_eq!(printed, kundatrezo(["run", "-"], job.as_bytes()));
+    }
     let refused = finish(&mut Command::new(&print), job.replace("q=0,1", "q=0,9").as_bytes());
     assert_eq!(refused, Done::printed("ok=0 refusal=4 line=3\n"));
     let script = "exec \"$0\" >/dev/full";

@@ -55,7 +55,7 @@ fn examples_pass_the_checks() {
         let whole = if example.starts_with("op=job") { example.clone() } else { format!("{BEGINNING}{example}") };
         assert_eq!(kundatrezo(["check", "-"], whole.as_bytes()).status, 0, "{example}");
     }
-    for file in ["examples/bell.job", "examples/syndrome.job", "examples/five_qubit_code.job"] {
+    for file in ["examples/bell.job", "examples/syndrome.job", "examples/five_qubit_code.job", "examples/parity.job"] {
         assert!(examples.contains(&document(file)), "{file}");
     }
 }
@@ -78,7 +78,7 @@ fn forms_and_gates() {
     for form in &forms {
         assert!(page.contains(&format!("`{form}`")), "{form}");
     }
-    assert!(forms.len() >= 19, "{forms:?}");
+    assert!(forms.len() >= 21, "{forms:?}");
     let gates = document("crates/pauli/specs/Gate.antt");
     let names = gates.lines().find_map(|line| line.strip_prefix("gates = ")).expect("the list of gates");
     for (code, name) in names.trim_end_matches(" ∷ []").split(" ∷ ").enumerate() {
@@ -92,7 +92,7 @@ fn tables_of_gates() {
     let folder = folder("tables");
     let faults = "op=i shot=0 x=6 z=-\nop=i shot=1 x=- z=6\nop=i shot=2 x=3 z=-\nop=i shot=3 x=- z=3\n";
     let frames = |line: &str| {
-        let job = format!("op=job qubits=8 outcomes=0 shots=4\n{faults}{line}\n");
+        let job = format!("op=job edition=2 qubits=8 outcomes=0 shots=4\n{faults}{line}\n");
         let [x, z] = ["x", "z"].map(|name| folder.join(name));
         let paths = [&x, &z].map(|path| path.to_str().expect("a path in plain text"));
         let done = kundatrezo(["run", "-", "--x", paths[0], "--z", paths[1]], job.as_bytes());
@@ -106,7 +106,7 @@ fn tables_of_gates() {
         let gate = frames(&format!("op=u g={code} q={qubits}"));
         assert_eq!(frames(&format!("op=c q={qubits} t={table}")), gate, "{name}");
     }
-    assert_eq!(rows.len(), 1 + 7);
+    assert_eq!(rows.len(), 1 + 8);
 }
 
 #[test]

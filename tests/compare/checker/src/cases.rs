@@ -21,6 +21,7 @@ pub fn cases() -> Vec<Case> {
     cases.lines_by_number();
     cases.words_of_tables();
     cases.wide_tables();
+    cases.lines_by_edition();
     cases.noise_lines();
     cases.sizes();
     cases.element_lines();
@@ -88,7 +89,28 @@ impl Cases {
             ("qubits=1 shots=1 outcomes=0", 2),
             ("qubits=1  outcomes=0 shots=1", 2),
             ("qubits=1 outcomes=0 shots=1 ", 2),
-            ("edition=2 qubits=1 outcomes=0 shots=1", 2),
+            ("edition=1 qubits=1 outcomes=0 shots=1", 0),
+            ("edition=2 qubits=256 outcomes=1024 shots=4096", 0),
+            ("edition=0 qubits=1 outcomes=0 shots=1", 23),
+            ("edition=3 qubits=1 outcomes=0 shots=1", 23),
+            ("edition=18446744073709551615 qubits=1 outcomes=0 shots=1", 23),
+            ("edition=18446744073709551616 qubits=1 outcomes=0 shots=1", 2),
+            ("edition=02 qubits=1 outcomes=0 shots=1", 2),
+            ("edition= qubits=1 outcomes=0 shots=1", 2),
+            ("edition=- qubits=1 outcomes=0 shots=1", 2),
+            ("edition=1,2 qubits=1 outcomes=0 shots=1", 2),
+            ("edition=2  qubits=1 outcomes=0 shots=1", 2),
+            ("edition=2 edition=2 qubits=1 outcomes=0 shots=1", 2),
+            ("edition=2 qubits=1 outcomes=0", 2),
+            // The field has one place.
+            ("qubits=1 edition=2 outcomes=0 shots=1", 2),
+            ("qubits=1 outcomes=0 edition=2 shots=1", 2),
+            ("qubits=1 outcomes=0 shots=1 edition=2", 2),
+            // Of two numbers that hold, the range's is tested first.
+            ("edition=3 qubits=257 outcomes=0 shots=1", 3),
+            ("edition=0 qubits=1 outcomes=1025 shots=1", 3),
+            ("edition=3 qubits=1 outcomes=0 shots=0", 3),
+            ("edition=2 qubits=0 outcomes=0 shots=1", 3),
         ];
         for (numbers, number) in numbers {
             self.job(format!("op=job {numbers}\n"), number, u64::from(number != 0));
@@ -97,11 +119,22 @@ impl Cases {
 
     fn first_and_later_headers(&mut self) {
         self.job("op=u g=4 q=0\n", 3, 1);
-        self.job("op=u g=15 q=0\n", 2, 1);
+        self.job("op=z q=0\n", 3, 1);
         self.job("x=- z=-\n", 2, 1);
+        // Without a header the edition is 1, and these have no form.
+        self.job("op=u g=15 q=0,1\n", 2, 1);
+        self.job("op=z q=0,1\n", 2, 1);
+        self.job("op=b q=0\n", 2, 1);
+        // A bad edition counts whatever stands below it.
+        self.job("op=job edition=3 qubits=1 outcomes=0 shots=1\nop=b q=1\n", 23, 1);
+        self.job("op=job edition=0 qubits=1 outcomes=0 shots=1\nop=x\n", 23, 1);
         self.line("op=job qubits=1 outcomes=0 shots=1", 3);
         self.line("op=job qubits=0 outcomes=0 shots=1", 3);
         self.line("op=job qubits=1 outcomes=0 shots=", 2);
+        for edition in 0..4 {
+            self.line(&format!("op=job edition={edition} qubits=1 outcomes=0 shots=1"), 3);
+        }
+        self.line("op=job edition=02 qubits=1 outcomes=0 shots=1", 2);
         // A noise line alone lacks its header and its element line: the lower number counts.
         self.job("op=n p=0000000000000000 corr=- cond=- parity=0 d=3 n=1 size=1\n", 2, 1);
     }
@@ -304,6 +337,54 @@ impl Cases {
         // Of five qubits and eight, the least significant word alone is wrong.
         self.line(&clifford(&numbers(7..15), "0008000400020000,0080004000200010,0800040002000100,8000400020001000"), 7);
         self.line(&clifford(&numbers(0..5), "0080100200400800,0000000801002004"), 7);
+    }
+
+    /// Lines whose number hangs on the edition: that in the first, with its field and without, and that in the second.
+    fn lines_by_edition(&mut self) {
+        let long = &numbers(0..32);
+        let full = &numbers(0..31);
+        let table: [(String, u64, u64); 34] = [
+            ("op=u g=14 q=0,39".into(), 0, 0),
+            ("op=u g=15 q=0,39".into(), 2, 0),
+            ("op=u g=15 q=39,0".into(), 2, 0),
+            ("op=u g=15 q=0,40".into(), 2, 4),
+            ("op=u g=15 q=40".into(), 2, 4),
+            ("op=u g=15 q=0".into(), 2, 5),
+            ("op=u g=15 q=3,3".into(), 2, 5),
+            ("op=u g=15 q=0,1,2".into(), 2, 5),
+            ("op=u g=015 q=0,1".into(), 2, 2),
+            ("op=u g=16 q=0,1".into(), 2, 2),
+            ("op=u g=16 q=0,40".into(), 2, 2),
+            ("op=b q=39".into(), 2, 0),
+            ("op=b q=39,0,7".into(), 2, 0),
+            ("op=b q=40".into(), 2, 4),
+            ("op=b q=40,40".into(), 2, 4),
+            ("op=b q=3,7,3".into(), 2, 5),
+            (format!("op=b q={full}"), 2, 0),
+            (format!("op=b q={long}"), 2, 5),
+            (format!("op=b q={long},40"), 2, 4),
+            (format!("op=b q={long},033"), 2, 2),
+            ("op=b q=-".into(), 2, 2),
+            ("op=b q=".into(), 2, 2),
+            ("op=b".into(), 2, 2),
+            ("op=b q=0 ".into(), 2, 2),
+            ("op=b x=0 z=-".into(), 2, 2),
+            ("op=z q=39".into(), 0, 0),
+            ("op=z q=40".into(), 4, 4),
+            ("op=z q=39,0,7".into(), 2, 0),
+            ("op=z q=0,40".into(), 2, 4),
+            ("op=z q=7,7".into(), 2, 5),
+            (format!("op=z q={full}"), 2, 0),
+            (format!("op=z q={long}"), 2, 5),
+            (format!("op=z q={long},40"), 2, 4),
+            ("op=z q=0,-".into(), 2, 2),
+        ];
+        for (line, first, second) in table {
+            for (field, number) in [("", first), ("edition=1 ", first), ("edition=2 ", second)] {
+                let header = HEADER.replace("qubits", &format!("{field}qubits"));
+                self.job(format!("{header}{line}\n"), number, 2 * u64::from(number != 0));
+            }
+        }
     }
 
     fn noise_lines(&mut self) {

@@ -1,6 +1,6 @@
 //! The form of a line: test 2, for a line by itself.
 
-use crate::job::{Distribution, Header, Instruction, List, MAX_CLIFFORD_QUBITS, MAX_GATE, Noise, Pauli, table_words};
+use crate::job::{Distribution, Header, Instruction, List, MAX_CLIFFORD_QUBITS, Noise, Pauli, max_gate, table_words};
 
 /// What a line says that is no element line. A noise line of d=3 or d=4 has its n, and an empty list for the elements that follow.
 pub(crate) enum Written {
@@ -9,14 +9,14 @@ pub(crate) enum Written {
     Noise(Box<Noise>, Option<u64>),
 }
 
-/// What a line says by its form, or nothing.
-pub(crate) fn written(line: &[u8]) -> Option<Written> {
+/// What a line says by its form in a job of an edition, or nothing.
+pub(crate) fn written(line: &[u8], edition: u64) -> Option<Written> {
     let (mark, rest) = line.split_at_checked(4)?;
     let fields = Fields(rest);
     match mark {
         b"op=j" => fields.header().map(Written::Header),
         b"op=n" => fields.noise().map(|(noise, elements)| Written::Noise(noise, elements)),
-        _ => fields.instruction(mark).map(Written::Instruction),
+        _ => fields.instruction(mark, edition).map(Written::Instruction),
     }
 }
 
@@ -42,16 +42,19 @@ impl Fields<'_> {
     // ---- whole lines, after their first four bytes
 
     fn header(mut self) -> Option<Header> {
-        let qubits = self.number(b"ob qubits=")?;
+        self.literal(b"ob")?;
+        let edition = if self.0.starts_with(b" edition=") { Some(self.number(b" edition=")?) } else { None };
+        let qubits = self.number(b" qubits=")?;
         let outcomes = self.number(b" outcomes=")?;
         let shots = self.number(b" shots=")?;
-        self.end(Header { qubits, outcomes, shots })
+        self.end(Header { edition, qubits, outcomes, shots })
     }
 
-    fn instruction(mut self, mark: &[u8]) -> Option<Instruction> {
+    /// Code 15, a barrier and a reset of several qubits are forms of the second edition.
+    fn instruction(mut self, mark: &[u8], edition: u64) -> Option<Instruction> {
         let instruction = match mark {
             b"op=u" => Instruction::Unitary {
-                gate: self.number(b" g=").filter(|&gate| gate <= MAX_GATE)?,
+                gate: self.number(b" g=").filter(|&gate| gate <= max_gate(edition))?,
                 qubits: self.list(b" q=")?,
             },
             b"op=c" => self.clifford()?,
@@ -69,7 +72,10 @@ impl Fields<'_> {
                 ids: self.rising(b" id=")?,
                 parity: self.bit(b" parity=")?,
             },
-            b"op=z" => Instruction::Reset { qubit: self.number(b" q=")? },
+            b"op=z" => {
+                Instruction::Reset { qubits: self.list(b" q=").filter(|qubits| edition == 2 || qubits.len() == 1)? }
+            }
+            b"op=b" if edition == 2 => Instruction::Barrier { qubits: self.list(b" q=")? },
             b"op=i" => Instruction::Inject { shot: self.number(b" shot=")?, pauli: self.pauli(b" x=", b" z=")? },
             b"op=t" => Instruction::Flip { shot: self.number(b" shot=")?, id: self.number(b" id=")? },
             _ => return None,

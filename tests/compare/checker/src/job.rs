@@ -18,16 +18,22 @@ pub const MAX_LIST: usize = 31;
 pub const MAX_CLIFFORD_QUBITS: usize = 8;
 /// Most element lines of a noise line.
 pub const MAX_ELEMENTS: u64 = 64;
-/// The highest gate code, PrepareBell.
-pub const MAX_GATE: u64 = 14;
+/// The editions that a header may name.
+pub const EDITIONS: std::ops::RangeInclusive<u64> = 1..=2;
 /// The highest code of a gate on one qubit.
 pub const MAX_ONE_QUBIT_GATE: u64 = 10;
+
+/// The highest gate code of an edition: PrepareBell, or in the second ControlledY.
+#[must_use]
+pub fn max_gate(edition: u64) -> u64 {
+    if edition == 1 { 14 } else { 15 }
+}
 
 /// A list of numbers as written.
 pub type List = SmallVec<[u64; 2]>;
 
 /// The numbers of the tests of a job, which every call makes.
-pub const TESTS: [u64; 14] = [1, 2, 3, 4, 5, 6, 7, 8, 9, 10, 11, 12, 20, 21];
+pub const TESTS: [u64; 15] = [1, 2, 3, 4, 5, 6, 7, 8, 9, 10, 11, 12, 20, 21, 23];
 /// The numbers that are calls' own.
 pub const OF_CALLS: [u64; 7] = [13, 14, 15, 16, 17, 18, 19];
 
@@ -58,12 +64,20 @@ impl Refusal {
 #[derive(Debug, Clone, Copy, Default, PartialEq, Eq)]
 #[allow(missing_docs)]
 pub struct Header {
+    /// As written; none where the field is left out.
+    pub edition: Option<u64>,
     pub qubits: u64,
     pub outcomes: u64,
     pub shots: u64,
 }
 
 impl Header {
+    /// The edition; without the field it is 1.
+    #[must_use]
+    pub fn edition(&self) -> u64 {
+        self.edition.unwrap_or(1)
+    }
+
     /// Words in a row of bits, one bit a shot.
     #[must_use]
     pub fn row_words(&self) -> usize {
@@ -134,7 +148,8 @@ pub enum Instruction {
     Measure { observable: Pauli, id: u64 },
     Allocate { id: u64, angle: bool },
     Conditional { pauli: Pauli, ids: List, parity: bool },
-    Reset { qubit: u64 },
+    Reset { qubits: List },
+    Barrier { qubits: List },
     Inject { shot: u64, pauli: Pauli },
     Flip { shot: u64, id: u64 },
     Noise(Box<Noise>),

@@ -1,11 +1,11 @@
-//! Reading a job: its form, and its tests, 1 to 12, 20 and 21.
+//! Reading a job: its form, and its tests, 1 to 12, 20, 21 and 23.
 //!
 //! The first bad line counts, and its lowest number. A line is first read by its form (2, in [`crate::form`]); what it says is then put to the
 //! tests in the order of their numbers, each a yes or no on the whole line.
 
 use crate::form::{self, Written};
 use crate::job::{
-    Distribution, Header, Instruction, Job, Line, MAX_BYTES, MAX_CLIFFORD_QUBITS, MAX_ELEMENTS, MAX_LIST,
+    Distribution, EDITIONS, Header, Instruction, Job, Line, MAX_BYTES, MAX_CLIFFORD_QUBITS, MAX_ELEMENTS, MAX_LIST,
     MAX_ONE_QUBIT_GATE, MAX_OUTCOMES, MAX_QUBITS, MAX_SHOTS, Noise, Pauli, Refusal, table_row,
 };
 
@@ -63,6 +63,9 @@ impl<'a> Reader<'a> {
             Written::Header(header) if in_range(&header) => reader.header = header,
             _ => return Err(reader.refusal(3)),
         }
+        if !EDITIONS.contains(&reader.header.edition()) {
+            return Err(reader.refusal(23));
+        }
         Ok(reader)
     }
 
@@ -87,7 +90,8 @@ impl<'a> Reader<'a> {
 
     /// Test 2 of a line that is no element line.
     fn take_written(&mut self) -> Result<Written, Refusal> {
-        let written = form::written(self.take_line()).ok_or(self.refusal(2))?;
+        let text = self.take_line();
+        let written = form::written(text, self.header.edition()).ok_or(self.refusal(2))?;
         match written {
             Written::Noise(_, Some(elements)) if self.ends_before(elements) => Err(self.refusal(2)),
             _ => Ok(written),
@@ -197,7 +201,7 @@ impl<'a> Reader<'a> {
             Instruction::Measure { observable, id } => self.test_pauli(observable).or_else(|| self.test_next(*id)),
             Instruction::Allocate { id, .. } => self.test_next(*id),
             Instruction::Conditional { pauli, ids, .. } => self.test_pauli(pauli).or_else(|| self.test_outcomes(ids)),
-            Instruction::Reset { qubit } => (*qubit >= self.header.qubits).then_some(4),
+            Instruction::Reset { qubits } | Instruction::Barrier { qubits } => self.test_operands(qubits, true),
             Instruction::Inject { shot, pauli } => self.test_pauli(pauli).or_else(|| self.test_shot(*shot)),
             Instruction::Flip { shot, id } => self.test_outcomes(&[*id]).or_else(|| self.test_shot(*shot)),
             Instruction::Noise(_) => unreachable!("noise lines have tests of their own"),

@@ -6,8 +6,9 @@ use std::fmt::Write;
 /// The header's line with its LF.
 #[must_use]
 pub fn header(header: &Header) -> String {
-    let Header { qubits, outcomes, shots } = header;
-    format!("op=job qubits={qubits} outcomes={outcomes} shots={shots}\n")
+    let Header { edition, qubits, outcomes, shots } = header;
+    let edition = edition.map_or(String::new(), |edition| format!("edition={edition} "));
+    format!("op=job {edition}qubits={qubits} outcomes={outcomes} shots={shots}\n")
 }
 
 /// An instruction's line, or lines, each with its LF.
@@ -27,7 +28,8 @@ pub fn instruction(instruction: &Instruction) -> String {
         Instruction::Conditional { pauli, ids, parity } => {
             format!("op=f {} id={} parity={}\n", parts(pauli), list(ids), u8::from(*parity))
         }
-        Instruction::Reset { qubit } => format!("op=z q={qubit}\n"),
+        Instruction::Reset { qubits } => format!("op=z q={}\n", list(qubits)),
+        Instruction::Barrier { qubits } => format!("op=b q={}\n", list(qubits)),
         Instruction::Inject { shot, pauli } => inject(*shot, pauli),
         Instruction::Flip { shot, id } => format!("op=t shot={shot} id={id}\n"),
         Instruction::Noise(fault) => noise(fault),

@@ -5,7 +5,7 @@ use checker::plain::settled;
 use checker::read::read;
 use generator::damage::damaged;
 use generator::inputs::{input, lent};
-use generator::jobs::{DENSE, Shape, job_of};
+use generator::jobs::{DENSE, Shape, edition, job_of};
 use generator::random::Random;
 use reference::Reference;
 use reference::vectors::{Call, Input, Output};
@@ -110,7 +110,12 @@ fn filled(start: &str, length: usize) -> Vec<u8> {
 /// A job of so many lines at most and with so much noise at one of the shots, and what its call is lent.
 fn at_shots(random: &mut Random, call: Call, most_lines: u64, noise: u64) -> Input {
     let shots = random.pick(&SHOTS);
-    let header = Header { qubits: random.pick(&[1, 2, 3, 4, 33]), outcomes: random.between(0, 3), shots };
+    let header = Header {
+        edition: edition(random),
+        qubits: random.pick(&[1, 2, 3, 4, 33]),
+        outcomes: random.between(0, 3),
+        shots,
+    };
     let lines = random.between(1, most_lines);
     let made = job_of(random, header, lines, &Shape { noise, ..DENSE });
     let mut input = lent(random, call, &made.bytes());
@@ -160,7 +165,7 @@ fn wanted(call: Call) -> Vec<String> {
     };
     let mut all: Vec<String> =
         [0].iter().chain(&TESTS).chain(own_numbers).map(|number| format!("number {number}")).collect();
-    all.extend((0..=14).map(|gate| format!("gate {gate}")));
+    all.extend((0..=15).map(|gate| format!("gate {gate}")));
     all.extend(KINDS.map(String::from));
     all.extend((1..=MAX_CLIFFORD_QUBITS).map(|qubits| format!("clifford on {qubits}")));
     if call != Call::Walk {
@@ -188,8 +193,20 @@ fn wanted(call: Call) -> Vec<String> {
     all
 }
 
-const KINDS: [&str; 10] =
-    ["pauli", "exponential", "controlled", "permute", "measure", "allocate", "conditional", "reset", "inject", "flip"];
+const KINDS: [&str; 12] = [
+    "pauli",
+    "exponential",
+    "controlled",
+    "permute",
+    "measure",
+    "allocate",
+    "conditional",
+    "reset",
+    "reset list",
+    "barrier",
+    "inject",
+    "flip",
+];
 
 const DISTRIBUTIONS: [&str; 4] = ["single", "depolarizing", "uniform", "weighted"];
 
@@ -256,7 +273,9 @@ fn kind(instruction: &Instruction) -> String {
         Instruction::Measure { .. } => "measure",
         Instruction::Allocate { .. } => "allocate",
         Instruction::Conditional { .. } => "conditional",
+        Instruction::Reset { qubits } if qubits.len() > 1 => "reset list",
         Instruction::Reset { .. } => "reset",
+        Instruction::Barrier { .. } => "barrier",
         Instruction::Inject { .. } => "inject",
         Instruction::Flip { .. } => "flip",
         Instruction::Noise(noise) => distribution(noise),

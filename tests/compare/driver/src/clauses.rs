@@ -97,7 +97,7 @@ mod tests {
         headers[1].header.outcomes += 1;
         headers[2].header.shots += 1;
         let mut line = one.clone();
-        line.others[3] = Instruction::Reset { qubit: 1 };
+        line.others[3] = Instruction::Reset { qubits: [1].into_iter().collect() };
         let mut less = one.clone();
         _ = less.others.pop();
         _ = less.faults.pop();

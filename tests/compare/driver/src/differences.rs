@@ -32,7 +32,7 @@ impl fmt::Display for Refusals {
 pub fn passes(under_test: &dyn Calls, call: Call, count: u64, seed: u64, all: &mut Refusals) -> bool {
     let name = call.name();
     let mut refusals = Refusals::default();
-    let mut differences = 0;
+    let (mut second, mut differences) = (0, 0);
     for seed in (0..count).map(|k| seed.wrapping_add(k)) {
         let input = input(&mut Random::new(seed), call);
         let expected = input.make(call, &Reference).expect("the reference makes every call");
@@ -41,6 +41,7 @@ pub fn passes(under_test: &dyn Calls, call: Call, count: u64, seed: u64, all: &m
             return true;
         };
         *refusals.0.entry(number(&expected)).or_default() += 1;
+        second += u64::from(input.job.starts_with(b"op=job edition=2 "));
         if expected != actual {
             differences += 1;
             if differences == 1 {
@@ -48,7 +49,8 @@ pub fn passes(under_test: &dyn Calls, call: Call, count: u64, seed: u64, all: &m
             }
         }
     }
-    println!("{name}: {count} inputs, refusals {refusals}, {differences} differences");
+    let jobs = if call.is_on_job() { format!(", {second} of the second edition") } else { String::new() };
+    println!("{name}: {count} inputs{jobs}, refusals {refusals}, {differences} differences");
     all.add(&refusals);
     differences == 0
 }

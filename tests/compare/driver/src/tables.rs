@@ -46,7 +46,7 @@ pub fn passes(under_test: &dyn Calls, count: u64, seed: u64) -> bool {
 /// A job with tables of every width; with noise or without, which a walk asks for.
 fn job(random: &mut Random, noise: u64) -> Made {
     let qubits = random.pick(&[8, 8, 9, 12, 40]);
-    let header = Header { qubits, outcomes: 12, shots: random.pick(&[1, 5, 64, 65, 200]) };
+    let header = Header { edition: None, qubits, outcomes: 12, shots: random.pick(&[1, 5, 64, 65, 200]) };
     let lines = random.between(8, 40);
     job_of(random, header, lines, &Shape { noise, tables: 6, ..DENSE })
 }

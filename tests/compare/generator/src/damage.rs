@@ -10,12 +10,13 @@ pub fn damaged(random: &mut Random, job: &[u8]) -> Vec<u8> {
     let mut copy = job.to_vec();
     let times = if random.one_in(4) { 2 } else { 1 };
     for _ in 0..times {
-        copy = match random.below(26) {
+        copy = match random.below(29) {
             0 | 1 => byte_damaged(random, copy),
             2 | 3 => line_damaged(random, &copy),
             4 => whole_damaged(random, copy),
             5 | 6 => controls_damaged(random, &copy, &header),
             7 => field_damaged(random, &copy),
+            8..11 => edition_damaged(random, &copy),
             _ => value_damaged(random, &copy, &header),
         };
     }
@@ -86,6 +87,35 @@ fn controls_damaged(random: &mut Random, job: &[u8], header: &Header) -> Vec<u8>
         _ => format!("op=k x=- z={list} u={list} v=-\n"),
     };
     lines.insert(1 + random.index(lines.len()), line.as_bytes());
+    lines.concat()
+}
+
+/// Another edition, or none: lines of the second edition may then stand in a job of the first. Or a line of the second edition put in.
+fn edition_damaged(random: &mut Random, job: &[u8]) -> Vec<u8> {
+    const EDITIONS: [&str; 9] = [
+        "",
+        "edition=1 ",
+        "edition=2 ",
+        "edition=0 ",
+        "edition=3 ",
+        "edition=02 ",
+        "edition= ",
+        "edition=-",
+        "edition=18446744073709551615 ",
+    ];
+    const LINES: [&str; 6] =
+        ["op=b q=0\n", "op=b q=0,0\n", "op=z q=0,1\n", "op=z q=1,1\n", "op=u g=15 q=0,1\n", "op=u g=15 q=0\n"];
+    let mut lines: Vec<&[u8]> = job.split_inclusive(|&byte| byte == b'\n').collect();
+    if random.one_in(3) {
+        lines.insert(random.index(lines.len() + 1), random.pick(&LINES).as_bytes());
+        return lines.concat();
+    }
+    let Some(numbers) = lines.first().and_then(|line| line.strip_prefix(b"op=job ")) else {
+        return job.to_vec();
+    };
+    let start = numbers.windows(7).position(|bytes| bytes == b"qubits=").unwrap_or(0);
+    let header = [b"op=job ", random.pick(&EDITIONS).as_bytes(), &numbers[start..]].concat();
+    lines[0] = &header;
     lines.concat()
 }
 
@@ -175,10 +205,11 @@ fn changed(random: &mut Random, field: &Field<'_>, header: &Header) -> String {
     }
     match (field.key, field.line) {
         ("op", _) => random.pick(&LETTERS).to_owned(),
+        ("edition", _) => near(random, &[0, 1, 2, 3]),
         ("qubits", _) => near(random, &[0, 1, 256, header.qubits]),
         ("outcomes", _) => near(random, &[0, 1, 1024, header.outcomes]),
         ("shots", _) => near(random, &[0, 1, 4096, header.shots]),
-        ("g", _) => near(random, &[10, 11, 14, 15]),
+        ("g", _) => near(random, &[10, 11, 14, 15, 16]),
         ("shot", _) => near(random, &[header.shots, 64]),
         ("n", _) => near(random, &[0, 1, 64, old]),
         ("size", _) => near(random, &[1, 3, 15, old, old]),
@@ -191,7 +222,7 @@ fn changed(random: &mut Random, field: &Field<'_>, header: &Header) -> String {
         ("id", "op=o" | "op=r" | "op=t") => near(random, &[old, header.outcomes]),
         ("id" | "cond", _) => list_changed(random, value, header.outcomes),
         ("s", _) => list_changed(random, value, value.split(',').count() as u64),
-        ("q", "op=z") => near(random, &[header.qubits]),
+        ("q", "op=z") if header.edition() == 1 => near(random, &[header.qubits]),
         _ => list_changed(random, value, header.qubits),
     }
 }

@@ -1,7 +1,7 @@
 //! What calls are handed: a job, and lists and buffers of lengths that suit it, or nearly.
 
 use crate::damage::damaged;
-use crate::jobs::{ANY, DENSE, Made, Shape, job};
+use crate::jobs::{ANY, DENSE, Made, Shape, edition, job};
 use crate::random::Random;
 use checker::calls::{Calls, Draws};
 use checker::gaps::fault_shot;
@@ -34,7 +34,7 @@ pub fn input(random: &mut Random, call: Call) -> Input {
 
 /// Jobs that a call is mostly handed: a walk without noise, a printing program within its limits.
 fn shape(random: &mut Random, call: Call) -> Shape {
-    let printed = Header { qubits: 64, outcomes: 256, shots: 64 };
+    let printed = Header { edition: None, qubits: 64, outcomes: 256, shots: 64 };
     let size = if random.one_in(2) { DENSE } else { ANY };
     match call {
         Call::Run | Call::Settle => size,
@@ -50,7 +50,7 @@ fn shape(random: &mut Random, call: Call) -> Shape {
 
 /// A long job; settling and annotation may pass the longest text that they may write.
 fn large(random: &mut Random, call: Call) -> Made {
-    let header = Header { qubits: 256, outcomes: 4, shots: 4096 };
+    let header = Header { edition: edition(random), qubits: 256, outcomes: 4, shots: 4096 };
     let pauli = Pauli {
         x: random.subset(256, MAX_LIST).into_iter().collect(),
         z: random.subset(256, MAX_LIST).into_iter().collect(),

@@ -2,14 +2,14 @@
 
 use crate::random::Random;
 use checker::job::{
-    Distribution, Header, Instruction, List, MAX_CLIFFORD_QUBITS, MAX_LIST, Noise, Pauli, table_of_rows, usize_of,
+    Distribution, Header, Instruction, List, MAX_CLIFFORD_QUBITS, MAX_LIST, Noise, Pauli, max_gate, table_of_rows, usize_of,
 };
 use checker::write;
 
 /// Which jobs to make.
 #[derive(Debug, Clone, Copy)]
 pub struct Shape {
-    /// Most qubits, outcomes and shots.
+    /// Most qubits, outcomes and shots; jobs are of either edition, whatever stands here.
     pub limits: Header,
     /// Most instructions.
     pub lines: u64,
@@ -27,7 +27,7 @@ pub struct Shape {
 
 /// Any job of a header's limits.
 pub const ANY: Shape = Shape {
-    limits: Header { qubits: 256, outcomes: 1024, shots: 4096 },
+    limits: Header { edition: None, qubits: 256, outcomes: 1024, shots: 4096 },
     lines: 1500,
     usual_lines: 25,
     all_outcomes: false,
@@ -38,7 +38,7 @@ pub const ANY: Shape = Shape {
 
 /// Jobs small enough to go through every set and shot.
 pub const SMALL: Shape = Shape {
-    limits: Header { qubits: 8, outcomes: 5, shots: 5 },
+    limits: Header { edition: None, qubits: 8, outcomes: 5, shots: 5 },
     lines: 40,
     usual_lines: 25,
     all_outcomes: false,
@@ -49,7 +49,7 @@ pub const SMALL: Shape = Shape {
 
 /// Jobs with little room and many lines, so that what a line does is noticed by others.
 pub const DENSE: Shape = Shape {
-    limits: Header { qubits: 9, outcomes: 40, shots: 70 },
+    limits: Header { edition: None, qubits: 9, outcomes: 40, shots: 70 },
     lines: 150,
     usual_lines: 80,
     all_outcomes: true,
@@ -117,10 +117,16 @@ fn header(random: &mut Random, shape: &Shape) -> Header {
     let outcomes = [0, 1, 2, 3, 8, 40, 64, 256, 1023, 1024];
     let shots = [1, 2, 3, 5, 63, 64, 65, 127, 128, 129, 1000, 4095, 4096];
     Header {
+        edition: edition(random),
         qubits: limit(random, &qubits, 1, limits.qubits),
         outcomes: if shape.all_outcomes { limits.outcomes } else { limit(random, &outcomes, 0, limits.outcomes) },
         shots: limit(random, &shots, 1, limits.shots),
     }
+}
+
+/// The second edition, the first, or the first without its field.
+pub fn edition(random: &mut Random) -> Option<u64> {
+    random.pick(&[Some(2), Some(2), Some(1), None])
 }
 
 /// A number that often is an interesting one.
@@ -164,7 +170,8 @@ impl Maker<'_> {
 
     /// A line of a random kind, unless this header or place has none of it.
     fn instruction_if_possible(&mut self) -> Option<Instruction> {
-        Some(match self.random.below(18 + self.shape.noise + self.shape.tables) {
+        let of_second = 2 * (self.header.edition() - 1);
+        Some(match self.random.below(18 + self.shape.noise + self.shape.tables + of_second) {
             0..3 | 16 | 17 => self.unitary()?,
             3..5 => self.clifford(1),
             5 => Instruction::Pauli(self.pauli()),
@@ -174,11 +181,12 @@ impl Maker<'_> {
             9..11 => Instruction::Measure { observable: self.pauli(), id: self.next_id()? },
             11 => Instruction::Allocate { id: self.next_id()?, angle: self.random.one_in(2) },
             12 => Instruction::Conditional { pauli: self.pauli(), ids: self.ids(), parity: self.random.one_in(2) },
-            13 => Instruction::Reset { qubit: self.qubits(1)[0] },
+            13 => self.reset(),
             14 => Instruction::Inject { shot: self.shot(), pauli: self.pauli() },
             15 if self.recorded > 0 => Instruction::Flip { shot: self.shot(), id: self.random.below(self.recorded) },
-            kind if kind >= 18 + self.shape.noise => self.clifford(5),
-            18.. => Instruction::Noise(Box::new(self.noise())),
+            kind if (18..18 + self.shape.noise).contains(&kind) => Instruction::Noise(Box::new(self.noise())),
+            kind if (18..18 + self.shape.noise + self.shape.tables).contains(&kind) => self.clifford(5),
+            18.. => Instruction::Barrier { qubits: self.operands(MAX_LIST) },
             _ => return None,
         })
     }
@@ -249,10 +257,17 @@ impl Maker<'_> {
     }
 
     fn unitary(&mut self) -> Option<Instruction> {
-        let gate = if self.random.one_in(3) { self.random.between(11, 14) } else { self.random.below(15) };
+        let last = max_gate(self.header.edition());
+        let gate = if self.random.one_in(3) { self.random.between(11, last) } else { self.random.below(last + 1) };
         let count = if gate <= 10 { 1 } else { 2 };
         let qubits = self.qubits(count);
         (qubits.len() == count).then_some(Instruction::Unitary { gate, qubits })
+    }
+
+    /// One qubit, and in the second edition several.
+    fn reset(&mut self) -> Instruction {
+        let qubits = if self.header.edition() == 1 { self.qubits(1) } else { self.operands(MAX_LIST) };
+        Instruction::Reset { qubits }
     }
 
     /// A Clifford on so many qubits at least.

@@ -4,10 +4,10 @@ use crate::jobs::{ANY, Made, Shape, clifford_table, job_of};
 use crate::random::Random;
 use checker::job::{Distribution, Header, Instruction, List, Noise};
 
-/// A header for measuring, with as many outcomes as may be.
+/// A header of the first edition for measuring, with as many outcomes as may be.
 #[must_use]
 pub fn header(qubits: u64, shots: u64) -> Header {
-    Header { qubits, outcomes: 1024, shots }
+    Header { edition: None, qubits, outcomes: 1024, shots }
 }
 
 /// Gate lines alone.

@@ -20,10 +20,12 @@ pub struct Program {
     steps: Vec<(u64, Step)>,
 }
 
-/// A line: an instruction of a circuit, or one of the three things that `FramePropagator` is told directly.
+/// A line: an instruction of a circuit, one of the three things that `FramePropagator` is told directly, or one of the second edition.
 enum Step {
     Instruction(Published),
-    Reset(usize),
+    ControlledY { control: usize, target: usize },
+    Reset(Vec<usize>),
+    Barrier,
     Inject(usize, SparsePauli),
     Flip(usize, usize),
 }
@@ -64,9 +66,13 @@ impl Program {
         let run = || {
             for (line, step) in &self.steps {
                 at = *line;
+                let mut execute =
+                    |instruction: &Published| propagator.execute(instruction, base, &noiseless.0, &mut rng);
                 match step {
-                    Step::Instruction(instruction) => propagator.execute(instruction, base, &noiseless.0, &mut rng),
-                    Step::Reset(qubit) => propagator.reset_qubit(*qubit),
+                    Step::Instruction(instruction) => execute(instruction),
+                    Step::ControlledY { control, target } => controlled_y(*control, *target).iter().for_each(execute),
+                    Step::Reset(qubits) => qubits.iter().for_each(|&qubit| propagator.reset_qubit(qubit)),
+                    Step::Barrier => {}
                     Step::Inject(shot, pauli) => propagator.inject_pauli(*shot, pauli),
                     Step::Flip(shot, id) => propagator.inject_outcome_flip(*shot, *id),
                 }
@@ -76,7 +82,7 @@ impl Program {
         Ok(Executed { propagator, header: self.header, recorded: self.recorded, words_read: rng.read() })
     }
 
-    /// The job's instructions as a circuit, which has no resets, injections and flips.
+    /// The job's instructions as a circuit, which has no resets, barriers, injections and flips.
     pub fn circuit(&self) -> Circuit {
         self.first_instructions(self.steps.len())
     }
@@ -84,9 +90,7 @@ impl Program {
     fn first_instructions(&self, count: usize) -> Circuit {
         let mut circuit = Circuit::new();
         for (_, step) in &self.steps[..count] {
-            if let Step::Instruction(instruction) = step {
-                circuit.push(instruction.clone());
-            }
+            step.in_circuit().into_iter().for_each(|instruction| circuit.push(instruction));
         }
         circuit
     }
@@ -115,10 +119,7 @@ impl Program {
 
     /// `with_depolarizing_noise` on each line: the qubits of the noise that it adds, and whether that comes before the line.
     pub fn annotations(&self, p: f64) -> impl Iterator<Item = Option<Annotation>> {
-        self.steps.iter().map(move |(_, step)| match step {
-            Step::Instruction(instruction) => annotation(instruction, p),
-            Step::Reset(_) | Step::Inject(..) | Step::Flip(..) => None,
-        })
+        self.steps.iter().map(move |(_, step)| annotation(&step.in_circuit()?, p))
     }
 
     /// The draws of each noise line, by the published condition and distribution.
@@ -138,6 +139,17 @@ impl Program {
             all.push(drawn.ok_or(Refusal::at(14, *line))?);
         }
         Ok(all)
+    }
+}
+
+impl Step {
+    /// The instruction that annotation and locations see; ControlledY is one as ControlledX is.
+    fn in_circuit(&self) -> Option<Published> {
+        match self {
+            Step::Instruction(instruction) => Some(instruction.clone()),
+            Step::ControlledY { control, target } => Some(unitary(UnitaryOp::ControlledX, vec![*control, *target])),
+            Step::Reset(_) | Step::Barrier | Step::Inject(..) | Step::Flip(..) => None,
+        }
     }
 }
 
@@ -278,7 +290,10 @@ fn draw_from(fault: &PauliFault, noiseless: &NoiselessOutcomes, rng: &mut impl R
 
 fn step(instruction: &Instruction) -> Step {
     Step::Instruction(match instruction {
-        Instruction::Unitary { gate, qubits } => Published::Unitary { opcode: opcode(*gate), qubits: indices(qubits) },
+        Instruction::Unitary { gate: 15, qubits } => {
+            return Step::ControlledY { control: usize_of(qubits[0]), target: usize_of(qubits[1]) };
+        }
+        Instruction::Unitary { gate, qubits } => unitary(opcode(*gate), indices(qubits)),
         Instruction::Clifford { qubits, table } => {
             Published::Clifford { clifford: clifford(table, qubits.len()), qubits: indices(qubits) }
         }
@@ -300,10 +315,24 @@ fn step(instruction: &Instruction) -> Step {
             Published::ConditionalPauli { pauli: of(pauli), outcomes: indices(ids), parity: *parity }
         }
         Instruction::Noise(noise) => Published::noise(fault(noise)),
-        Instruction::Reset { qubit } => return Step::Reset(usize_of(*qubit)),
+        Instruction::Reset { qubits } => return Step::Reset(indices(qubits)),
+        Instruction::Barrier { .. } => return Step::Barrier,
         Instruction::Inject { shot, pauli } => return Step::Inject(usize_of(*shot), of(pauli)),
         Instruction::Flip { shot, id } => return Step::Flip(usize_of(*shot), usize_of(*id)),
     })
+}
+
+/// ControlledY, which the published code does not have, as it is run: SqrtZInv on the target, ControlledX, SqrtZ.
+fn controlled_y(control: usize, target: usize) -> [Published; 3] {
+    [
+        unitary(UnitaryOp::SqrtZInv, vec![target]),
+        unitary(UnitaryOp::ControlledX, vec![control, target]),
+        unitary(UnitaryOp::SqrtZ, vec![target]),
+    ]
+}
+
+fn unitary(opcode: UnitaryOp, qubits: Vec<usize>) -> Published {
+    Published::Unitary { opcode, qubits }
 }
 
 /// A weighted distribution: the published one, where all weights are positive. Elsewhere an element of weight zero is never drawn (note 2): the sums

@@ -2,7 +2,7 @@
 use native.Mathlib.Omega.{arith}
 use mathlib.Core.Path.{_∙_}
 use Rattle.noise_tests.specs.Laws.Elements.{unread-said}
-use Rattle.line_tests.specs.Laws.Lines.{tests-header, tests-pauli, tests-exponential, tests-allocate}
+use Rattle.line_tests.specs.Laws.Lines.{tests-header, tests-edition, tests-pauli, tests-exponential, tests-allocate, tests-reset, tests-barrier}
 use Rattle.noise_tests.specs.Laws.Noise.{tests-uniform, tests-weighted, tests-element}
 use Rattle.noise_tests.specs.Laws.Elements.{no-weights, with-weights}
 use borrow.Author.Needs.{needs}
@@ -75,8 +75,8 @@ conditional-number-requires c κs = search needs
 enum-told-12 : tie.Need-enum-told-12
 enum-told-12 c = search needs
 
-reset-number-requires : tie.Need-reset-number-requires
-reset-number-requires c κs = search needs
+operands-number-requires : tie.Need-operands-number-requires
+operands-number-requires c κs = search needs
 
 enum-told-13 : tie.Need-enum-told-13
 enum-told-13 c = search needs
@@ -126,6 +126,21 @@ enum-told-20 c = search needs
 weighted-element-number-requires : tie.Need-weighted-element-number-requires
 weighted-element-number-requires c κs = search needs
 
+enum-told-21 : tie.Need-enum-told-21
+enum-told-21 c = search needs
+
+number-requires-2 : tie.Need-number-requires-2
+number-requires-2 c κs = search needs
+
+edition-number-requires : tie.Need-edition-number-requires
+edition-number-requires c κs = search needs
+
+enum-told-22 : tie.Need-enum-told-22
+enum-told-22 c = search needs
+
+operands-number-requires-2 : tie.Need-operands-number-requires-2
+operands-number-requires-2 c κs = search needs
+
 returns : tie.Need-returns
 returns c = λ vs w h x. absurd (unread-said (rw (c .enum-told .given .1) at h))
 
@@ -170,7 +185,10 @@ returns-11 : tie.Need-returns-11
 returns-11 c = λ vs w h x. c .conditional-number .ensures vs w (rw (c .before .enum-told11 .given .1) at h)
 
 returns-12 : tie.Need-returns-12
-returns-12 c = λ vs w h x. c .reset-number .ensures vs w (rw (c .before .enum-told12 .given .1) at h)
+returns-12 c =
+    λ vs w h x.
+    let t = tests-reset (c .before .before .before .before .args .c) (rw (c .before .enum-told12 .given .1) at h) in
+    c .operands-number .ensures _ _ vs (t .held) (omega arith) ∙ t .own
 
 returns-13 : tie.Need-returns-13
 returns-13 c = λ vs w h x. c .inject-number .ensures vs w (rw (c .before .enum-told13 .given .1) at h)
@@ -209,6 +227,19 @@ returns-20 c =
     let s = rw (c .before .enum-told20 .given .1) at h in
     c .weighted-element-number .ensures vs w s (with-weights (c .before .before .before .before .args .c) s x)
 
+returns-21 : tie.Need-returns-21
+returns-21 c =
+    λ vs w h x.
+    let t = tests-edition (c .before .before .before .before .before .args .c) (rw (c .before .before .enum-told21 .given .1) at h) in
+    let edition = c .before .number2 .ensures ∙ t .held .number 0 (omega arith) in
+    (rw edition at (c .edition-number .ensures)) ∙ t .own
+
+returns-22 : tie.Need-returns-22
+returns-22 c =
+    λ vs w h x.
+    let t = tests-barrier (c .before .before .before .before .args .c) (rw (c .before .enum-told22 .given .1) at h) in
+    c .operands-number2 .ensures _ _ vs (t .held) (omega arith) ∙ t .own
+
 pub own-number-spec : {M : Type 1} → statement M
 own-number-spec =
     tie.close
@@ -235,7 +266,7 @@ own-number-spec =
     enum-told-11
     conditional-number-requires
     enum-told-12
-    reset-number-requires
+    operands-number-requires
     enum-told-13
     inject-number-requires
     enum-told-14
@@ -252,6 +283,11 @@ own-number-spec =
     pauli-number-requires-3
     enum-told-20
     weighted-element-number-requires
+    enum-told-21
+    number-requires-2
+    edition-number-requires
+    enum-told-22
+    operands-number-requires-2
     returns
     returns-2
     returns-3
@@ -271,4 +307,6 @@ own-number-spec =
     returns-17
     returns-18
     returns-19
-    returns-20)
+    returns-20
+    returns-21
+    returns-22)

@@ -26,6 +26,9 @@ swap-parts-requires-2 c κs = search needs
 controlled-x-requires-2 : tie.Need-controlled-x-requires-2
 controlled-x-requires-2 c κs = search needs
 
+controlled-y-requires : tie.Need-controlled-y-requires
+controlled-y-requires c κs = search needs
+
 add-x-to-z-requires : tie.Need-add-x-to-z-requires
 add-x-to-z-requires c κs = search needs
 
@@ -56,19 +59,23 @@ unfolding byGate gateWith gateOf gateFrom gates prepareBell
 returns-5 c = c .controlled-x2 .ensures ∙ rw (c .before .swap-parts2 .ensures, c .before .before .match .keys5)
 
 returns-6 : tie.Need-returns-6
-returns-6 c = idle-made prepareBell _ _ _ _ (omega arith)
+unfolding byGate gateWith gateOf gateFrom gates
+returns-6 c = c .controlled-y .ensures ∙ rw (c .before .match .keys6)
 
 returns-7 : tie.Need-returns-7
-returns-7 c = c .add-x-to-z .ensures ∙ sqrtZ-made prepareBell _ _ _ _ (omega arith) (omega arith)
+returns-7 c = idle-made prepareBell _ _ _ _ (omega arith)
 
 returns-8 : tie.Need-returns-8
-returns-8 c = c .add-z-to-x .ensures ∙ sqrtX-made prepareBell _ _ _ _ (omega arith) (omega arith)
+returns-8 c = c .add-x-to-z .ensures ∙ sqrtZ-made prepareBell _ _ _ _ (omega arith) (omega arith)
 
 returns-9 : tie.Need-returns-9
-returns-9 c = c .swap-parts3 .ensures ∙ sqrtY-made prepareBell _ _ _ _ (omega arith) (omega arith)
+returns-9 c = c .add-z-to-x .ensures ∙ sqrtX-made prepareBell _ _ _ _ (omega arith) (omega arith)
 
 returns-10 : tie.Need-returns-10
-returns-10 c = none-made prepareBell _ _ _ _ (omega arith)
+returns-10 c = c .swap-parts3 .ensures ∙ sqrtY-made prepareBell _ _ _ _ (omega arith) (omega arith)
+
+returns-11 : tie.Need-returns-11
+returns-11 c = none-made prepareBell _ _ _ _ (omega arith)
 
 pub conjugate-spec : {M : Type 1} → statement M
 conjugate-spec =
@@ -80,6 +87,7 @@ conjugate-spec =
     swap-requires
     swap-parts-requires-2
     controlled-x-requires-2
+    controlled-y-requires
     add-x-to-z-requires
     add-z-to-x-requires
     swap-parts-requires-3
@@ -92,4 +100,5 @@ conjugate-spec =
     returns-7
     returns-8
     returns-9
-    returns-10)
+    returns-10
+    returns-11)

@@ -6,7 +6,7 @@ use mathlib.Core.Path.{_∙_}
 use Rattle.pauli.specs.Code.{byGate}
 use Rattle.pauli.specs.Laws.Code.{idle-made, sqrtZ-made, sqrtX-made, sqrtY-made, none-made}
 use Rattle.unitaries.specs.Laws.Gates.{has-operand, first-below, last-below, operands-apart, code-acts}
-use Rattle.pauli.specs.Gate.{gates, gateFrom, gateOf, gateWith, prepareBell, swapXZ, addXtoZ, addZtoX, controlledX, controlledZ, swapRows}
+use Rattle.pauli.specs.Gate.{gates, gateFrom, gateOf, gateWith, prepareBell, swapXZ, addXtoZ, addZtoX, controlledX, controlledZ, controlledY, swapRows}
 use Rattle.unitaries.proofs.gates.apply_unitary_op.Statement.{statement}
 use Rattle.unitaries.proofs.gates.apply_unitary_op.Tie as tie
 
@@ -36,6 +36,9 @@ apply-h-requires-2 c κs = (c .before .before .before .before .before .before .b
 
 apply-cnot-requires-2 : tie.Need-apply-cnot-requires-2
 apply-cnot-requires-2 c κs = (c .before .before .before .before .before .before .apply-h2 .kept .0 ∙ c .before .before .before .before .before .before .before .before .before .before .before .before .before .before .before .pre .0, c .before .before .before .before .before .before .apply-h2 .kept .1 .0 ∙ c .before .before .before .before .before .before .before .before .before .before .before .before .before .before .before .pre .1, first-below _ _ (c .before .before .before .before .before .before .before .before .before .before .before .before .before .before .before .pre .3) _ _ (c .before .before .before .before .before .before .before .before .before .before .before .before .before .before .before .pre .2) (c .before .before .before .before .before .before .before .before .before .before .before .before .before .before .before .pre .4) (c .before .before .before .before .before .before .before .before .before .before .before .operand .ensures), last-below _ _ (c .before .before .before .before .before .before .before .before .before .before .before .before .before .before .before .pre .3) _ _ (c .before .before .before .before .before .before .before .before .before .before .before .before .before .before .before .pre .2) (c .before .before .before .before .before .before .before .before .before .before .before .before .before .before .before .pre .4) (c .before .before .before .before .before .before .before .before .before .before .operand2 .ensures), operands-apart _ _ (c .before .before .before .before .before .before .before .before .before .before .before .before .before .before .before .pre .3) _ _ (omega arith) (omega arith) (c .before .before .before .before .before .before .before .before .before .before .before .before .before .before .before .pre .5) (c .before .before .before .before .before .before .before .before .before .before .before .operand .ensures) (c .before .before .before .before .before .before .before .before .before .before .operand2 .ensures))
+
+apply-cy-requires : tie.Need-apply-cy-requires
+apply-cy-requires c κs = (c .before .before .before .before .before .before .before .before .pre .0, c .before .before .before .before .before .before .before .before .pre .1, first-below _ _ (c .before .before .before .before .before .before .before .before .pre .3) _ _ (c .before .before .before .before .before .before .before .before .pre .2) (c .before .before .before .before .before .before .before .before .pre .4) (c .before .before .before .before .operand .ensures), last-below _ _ (c .before .before .before .before .before .before .before .before .pre .3) _ _ (c .before .before .before .before .before .before .before .before .pre .2) (c .before .before .before .before .before .before .before .before .pre .4) (c .before .before .before .operand2 .ensures), operands-apart _ _ (c .before .before .before .before .before .before .before .before .pre .3) _ _ (omega arith) (omega arith) (c .before .before .before .before .before .before .before .before .pre .5) (c .before .before .before .before .operand .ensures) (c .before .before .before .operand2 .ensures))
 
 apply-s-requires : tie.Need-apply-s-requires
 apply-s-requires c κs = (c .before .before .before .before .before .before .before .before .before .before .pre .0, c .before .before .before .before .before .before .before .before .before .before .pre .1, first-below _ _ (c .before .before .before .before .before .before .before .before .before .before .pre .3) _ _ (c .before .before .before .before .before .before .before .before .before .before .pre .2) (c .before .before .before .before .before .before .before .before .before .before .pre .4) (c .before .before .before .before .before .before .operand .ensures))
@@ -96,17 +99,18 @@ returns-5 : tie.Need-returns-5
 unfolding byGate gateWith gateOf gateFrom gates prepareBell
 returns-5 c = λ g e m d. code-acts (c .before .before .before .before .before .before .before .before .before .before .before .before .before .before .before .before .before .before .before .before .args .gate) (c .before .before .before .before .before .before .before .before .before .before .before .before .before .before .before .before .before .before .before .before .args .qubits .now) (c .before .before .before .before .before .before .before .before .before .before .before .before .before .before .before .before .before .before .before .before .pre .3) (c .before .before .before .before .before .before .before .before .before .before .before .before .before .before .before .before .operand .result .0) (c .before .before .before .before .before .before .before .before .before .before .before .before .before .before .before .operand2 .result .0) (c .before .before .before .before .before .before .before .before .before .before .before .before .before .before .before .before .operand .ensures) (c .before .before .before .before .before .before .before .before .before .before .before .before .before .before .before .operand2 .ensures) (λ P. controlledX (c .before .before .before .before .before .before .before .before .before .before .before .before .before .before .before .before .operand .result .0) (c .before .before .before .before .before .before .before .before .before .before .before .before .before .before .before .operand2 .result .0) (swapXZ (c .before .before .before .before .before .before .before .before .before .before .before .before .before .before .before .before .operand .result .0) P)) (λ P. rw (c .before .before .before .before .before .before .before .before .before .before .before .before .before .before .match .keys5)) _ _ m _ _ d _ _ (acts-then (c .before .before .before .before .before .before .before .before .before .before .before .apply-h2 .ensures d) (c .before .before .before .before .apply-cnot2 .ensures d)) g e
 
-returns-6 : tie.Need-returns-6
-returns-6 c = λ g e m d. code-acts (c .before .before .before .before .before .before .before .args .gate) (c .before .before .before .before .before .before .before .args .qubits .now) (c .before .before .before .before .before .before .before .pre .3) (c .before .before .before .operand .result .0) (c .before .before .operand2 .result .0) (c .before .before .before .operand .ensures) (c .before .before .operand2 .ensures) (λ P. P) (λ P. idle-made prepareBell _ _ P _ (omega arith)) _ _ m _ _ d _ _ (acts-none _ _ _ d) g e
-
 same-length-11 : tie.Need-same-length-11
 same-length-11 c = search needs
 
 same-length-12 : tie.Need-same-length-12
 same-length-12 c = search needs
 
+returns-6 : tie.Need-returns-6
+unfolding byGate gateWith gateOf gateFrom gates
+returns-6 c = λ g e m d. code-acts (c .before .before .before .before .before .before .before .before .before .before .before .before .before .args .gate) (c .before .before .before .before .before .before .before .before .before .before .before .before .before .args .qubits .now) (c .before .before .before .before .before .before .before .before .before .before .before .before .before .pre .3) (c .before .before .before .before .before .before .before .before .before .operand .result .0) (c .before .before .before .before .before .before .before .before .operand2 .result .0) (c .before .before .before .before .before .before .before .before .before .operand .ensures) (c .before .before .before .before .before .before .before .before .operand2 .ensures) (controlledY (c .before .before .before .before .before .before .before .before .before .operand .result .0) (c .before .before .before .before .before .before .before .before .operand2 .result .0)) (λ P. rw (c .before .before .before .before .before .before .before .match .keys6)) _ _ m _ _ d _ _ (c .before .before .before .before .apply-cy .ensures d) g e
+
 returns-7 : tie.Need-returns-7
-returns-7 c = λ g e m d. code-acts (c .before .before .before .before .before .before .before .before .before .before .before .before .before .args .gate) (c .before .before .before .before .before .before .before .before .before .before .before .before .before .args .qubits .now) (c .before .before .before .before .before .before .before .before .before .before .before .before .before .pre .3) (c .before .before .before .before .before .before .before .before .before .operand .result .0) (c .before .before .before .before .before .before .before .before .operand2 .result .0) (c .before .before .before .before .before .before .before .before .before .operand .ensures) (c .before .before .before .before .before .before .before .before .operand2 .ensures) (addXtoZ (c .before .before .before .before .before .before .before .before .before .operand .result .0)) (λ P. sqrtZ-made prepareBell _ _ P _ (omega arith) (omega arith)) _ _ m _ _ d _ _ (c .before .before .apply-s .ensures d) g e
+returns-7 c = λ g e m d. code-acts (c .before .before .before .before .before .before .before .args .gate) (c .before .before .before .before .before .before .before .args .qubits .now) (c .before .before .before .before .before .before .before .pre .3) (c .before .before .before .operand .result .0) (c .before .before .operand2 .result .0) (c .before .before .before .operand .ensures) (c .before .before .operand2 .ensures) (λ P. P) (λ P. idle-made prepareBell _ _ P _ (omega arith)) _ _ m _ _ d _ _ (acts-none _ _ _ d) g e
 
 same-length-13 : tie.Need-same-length-13
 same-length-13 c = search needs
@@ -115,7 +119,7 @@ same-length-14 : tie.Need-same-length-14
 same-length-14 c = search needs
 
 returns-8 : tie.Need-returns-8
-returns-8 c = λ g e m d. code-acts (c .before .before .before .before .before .before .before .before .before .before .before .before .before .before .args .gate) (c .before .before .before .before .before .before .before .before .before .before .before .before .before .before .args .qubits .now) (c .before .before .before .before .before .before .before .before .before .before .before .before .before .before .pre .3) (c .before .before .before .before .before .before .before .before .before .before .operand .result .0) (c .before .before .before .before .before .before .before .before .before .operand2 .result .0) (c .before .before .before .before .before .before .before .before .before .before .operand .ensures) (c .before .before .before .before .before .before .before .before .before .operand2 .ensures) (addZtoX (c .before .before .before .before .before .before .before .before .before .before .operand .result .0)) (λ P. sqrtX-made prepareBell _ _ P _ (omega arith) (omega arith)) _ _ m _ _ d _ _ (c .before .before .apply-sqrt-x .ensures d) g e
+returns-8 c = λ g e m d. code-acts (c .before .before .before .before .before .before .before .before .before .before .before .before .before .args .gate) (c .before .before .before .before .before .before .before .before .before .before .before .before .before .args .qubits .now) (c .before .before .before .before .before .before .before .before .before .before .before .before .before .pre .3) (c .before .before .before .before .before .before .before .before .before .operand .result .0) (c .before .before .before .before .before .before .before .before .operand2 .result .0) (c .before .before .before .before .before .before .before .before .before .operand .ensures) (c .before .before .before .before .before .before .before .before .operand2 .ensures) (addXtoZ (c .before .before .before .before .before .before .before .before .before .operand .result .0)) (λ P. sqrtZ-made prepareBell _ _ P _ (omega arith) (omega arith)) _ _ m _ _ d _ _ (c .before .before .apply-s .ensures d) g e
 
 same-length-15 : tie.Need-same-length-15
 same-length-15 c = search needs
@@ -124,10 +128,19 @@ same-length-16 : tie.Need-same-length-16
 same-length-16 c = search needs
 
 returns-9 : tie.Need-returns-9
-returns-9 c = λ g e m d. code-acts (c .before .before .before .before .before .before .before .before .before .before .before .before .before .before .before .before .before .args .gate) (c .before .before .before .before .before .before .before .before .before .before .before .before .before .before .before .before .before .args .qubits .now) (c .before .before .before .before .before .before .before .before .before .before .before .before .before .before .before .before .before .pre .3) (c .before .before .before .before .before .before .before .before .before .before .before .before .before .operand .result .0) (c .before .before .before .before .before .before .before .before .before .before .before .before .operand2 .result .0) (c .before .before .before .before .before .before .before .before .before .before .before .before .before .operand .ensures) (c .before .before .before .before .before .before .before .before .before .before .before .before .operand2 .ensures) (swapXZ (c .before .before .before .before .before .before .before .before .before .before .before .before .before .operand .result .0)) (λ P. sqrtY-made prepareBell _ _ P _ (omega arith) (omega arith)) _ _ m _ _ d _ _ (c .before .before .before .before .apply-h3 .ensures d) g e
+returns-9 c = λ g e m d. code-acts (c .before .before .before .before .before .before .before .before .before .before .before .before .before .before .args .gate) (c .before .before .before .before .before .before .before .before .before .before .before .before .before .before .args .qubits .now) (c .before .before .before .before .before .before .before .before .before .before .before .before .before .before .pre .3) (c .before .before .before .before .before .before .before .before .before .before .operand .result .0) (c .before .before .before .before .before .before .before .before .before .operand2 .result .0) (c .before .before .before .before .before .before .before .before .before .before .operand .ensures) (c .before .before .before .before .before .before .before .before .before .operand2 .ensures) (addZtoX (c .before .before .before .before .before .before .before .before .before .before .operand .result .0)) (λ P. sqrtX-made prepareBell _ _ P _ (omega arith) (omega arith)) _ _ m _ _ d _ _ (c .before .before .apply-sqrt-x .ensures d) g e
+
+same-length-17 : tie.Need-same-length-17
+same-length-17 c = search needs
+
+same-length-18 : tie.Need-same-length-18
+same-length-18 c = search needs
 
 returns-10 : tie.Need-returns-10
-returns-10 c = λ g e m d. code-acts (c .before .before .before .before .before .before .before .before .before .before .args .gate) (c .before .before .before .before .before .before .before .before .before .before .args .qubits .now) (c .before .before .before .before .before .before .before .before .before .before .pre .3) (c .before .before .before .before .before .before .operand .result .0) (c .before .before .before .before .before .operand2 .result .0) (c .before .before .before .before .before .before .operand .ensures) (c .before .before .before .before .before .operand2 .ensures) (λ P. P) (λ P. none-made prepareBell _ _ P _ (omega arith)) _ _ m _ _ d _ _ (acts-none _ _ _ d) g e
+returns-10 c = λ g e m d. code-acts (c .before .before .before .before .before .before .before .before .before .before .before .before .before .before .before .before .before .args .gate) (c .before .before .before .before .before .before .before .before .before .before .before .before .before .before .before .before .before .args .qubits .now) (c .before .before .before .before .before .before .before .before .before .before .before .before .before .before .before .before .before .pre .3) (c .before .before .before .before .before .before .before .before .before .before .before .before .before .operand .result .0) (c .before .before .before .before .before .before .before .before .before .before .before .before .operand2 .result .0) (c .before .before .before .before .before .before .before .before .before .before .before .before .before .operand .ensures) (c .before .before .before .before .before .before .before .before .before .before .before .before .operand2 .ensures) (swapXZ (c .before .before .before .before .before .before .before .before .before .before .before .before .before .operand .result .0)) (λ P. sqrtY-made prepareBell _ _ P _ (omega arith) (omega arith)) _ _ m _ _ d _ _ (c .before .before .before .before .apply-h3 .ensures d) g e
+
+returns-11 : tie.Need-returns-11
+returns-11 c = λ g e m d. code-acts (c .before .before .before .before .before .before .before .before .before .before .args .gate) (c .before .before .before .before .before .before .before .before .before .before .args .qubits .now) (c .before .before .before .before .before .before .before .before .before .before .pre .3) (c .before .before .before .before .before .before .operand .result .0) (c .before .before .before .before .before .operand2 .result .0) (c .before .before .before .before .before .before .operand .ensures) (c .before .before .before .before .before .operand2 .ensures) (λ P. P) (λ P. none-made prepareBell _ _ P _ (omega arith)) _ _ m _ _ d _ _ (acts-none _ _ _ d) g e
 
 pub apply-unitary-op-spec : {M : Type 1} → statement M
 apply-unitary-op-spec =
@@ -142,6 +155,7 @@ apply-unitary-op-spec =
     apply-swap-requires
     apply-h-requires-2
     apply-cnot-requires-2
+    apply-cy-requires
     apply-s-requires
     apply-sqrt-x-requires
     apply-h-requires-3
@@ -160,9 +174,9 @@ apply-unitary-op-spec =
     same-length-9
     same-length-10
     returns-5
-    returns-6
     same-length-11
     same-length-12
+    returns-6
     returns-7
     same-length-13
     same-length-14
@@ -170,4 +184,7 @@ apply-unitary-op-spec =
     same-length-15
     same-length-16
     returns-9
-    returns-10)
+    same-length-17
+    same-length-18
+    returns-10
+    returns-11)

@@ -16,6 +16,7 @@ fn located_qubits(instruction: &Instruction) -> Vec<u64> {
         Instruction::Allocate { .. }
         | Instruction::Conditional { .. }
         | Instruction::Reset { .. }
+        | Instruction::Barrier { .. }
         | Instruction::Inject { .. }
         | Instruction::Flip { .. }
         | Instruction::Noise(_) => Vec::new(),

@@ -33,10 +33,12 @@ impl Frame {
         (on_x + on_z) % 2 == 1
     }
 
-    /// Forget a qubit.
-    pub fn clear(&mut self, qubit: u64) {
-        self.x[usize_of(qubit)] = false;
-        self.z[usize_of(qubit)] = false;
+    /// Forget some qubits.
+    pub fn clear(&mut self, qubits: &[u64]) {
+        for &qubit in qubits {
+            self.x[usize_of(qubit)] = false;
+            self.z[usize_of(qubit)] = false;
+        }
     }
 
     /// What a line does to the frame and the deltas of a shot; noise, which settling has replaced, does nothing.
@@ -53,10 +55,11 @@ impl Frame {
                     self.add(pauli);
                 }
             }
-            Instruction::Reset { qubit } => self.clear(*qubit),
+            Instruction::Reset { qubits } => self.clear(qubits),
             Instruction::Inject { shot: injected, pauli } if *injected == shot => self.add(pauli),
             Instruction::Flip { shot: flipped, id } if *flipped == shot => deltas[usize_of(*id)] ^= true,
             Instruction::Pauli(_)
+            | Instruction::Barrier { .. }
             | Instruction::Allocate { .. }
             | Instruction::Inject { .. }
             | Instruction::Flip { .. }
@@ -85,6 +88,7 @@ impl Frame {
                 self.z.swap(first, second);
             }
             (14, Some(second)) => prepare_bell(self, first, second),
+            (15, Some(target)) => self.controlled_y(first, target),
             _ => unreachable!("a checked gate"),
         }
     }
@@ -96,6 +100,14 @@ impl Frame {
     fn controlled_x(&mut self, control: usize, target: usize) {
         self.x[target] ^= self.x[control];
         self.z[control] ^= self.z[target];
+    }
+
+    /// The target's old parts are both added to the control's Z part.
+    fn controlled_y(&mut self, control: usize, target: usize) {
+        let (x, z) = (self.x[target], self.z[target]);
+        self.x[target] ^= self.x[control];
+        self.z[target] ^= self.x[control];
+        self.z[control] ^= x ^ z;
     }
 
     fn prepare_bell(&mut self, first: usize, second: usize) {

@@ -60,7 +60,7 @@ impl Carried {
                     ids.iter().for_each(|&id| self.set[usize_of(id)] ^= true);
                 }
             }
-            Instruction::Reset { qubit } => self.observable.clear(*qubit),
+            Instruction::Reset { qubits } => self.observable.clear(qubits),
             Instruction::Inject { shot: injected, pauli } if *injected == shot => {
                 self.count += u64::from(self.observable.anticommutes(pauli));
             }
@@ -68,6 +68,7 @@ impl Carried {
                 self.count += u64::from(self.set[usize_of(*id)]);
             }
             Instruction::Pauli(_)
+            | Instruction::Barrier { .. }
             | Instruction::Allocate { .. }
             | Instruction::Inject { .. }
             | Instruction::Flip { .. }
