@@ -30,6 +30,7 @@ totals-deltas job m ran id below = reply-total job m (run-ends job m ran) id bel
 pub totals-settled : (h : Header) (lent : Lent) (is : List Placed) (main : List ℕ) (states ends : States) (ls : List SettledLine)
     → settle lent is main ≡ Settled.settled ls → execute h lent is main states ≡ Ended.ended ends
     → flipTotals h (runAll h (settledList ls) states) ≡ flipTotals h ends
+unfolding runAll
 totals-settled h lent is main states ends ls settles executes =
     let ended : Ended.ended (runAll h (settledList ls) states) ≡ Ended.ended ends = sym (executed-ended h lent is main states ls settles) ∙ executes in
     let same : runAll h (settledList ls) states ≡ ends = cc in
