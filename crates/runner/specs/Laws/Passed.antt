@@ -91,8 +91,8 @@ module _ {job : List ℕ} {h : Header} {from : ℕ} (p : Passed job h from) wher
         deltas = d ++ drop (outcomeWords h) (m .deltas);
         totals = totals ++ drop (h .outcomes) (m .totals);
       }
-  needed-reply m enough runs =
-      let run = subst (λ (g : Header). NeededRun job g (m .source) from _ _ _ _ _) (sym shaped) runs in
+  needed-reply m {x} {z} {d} {totals} {r} enough runs =
+      let run = subst (λ (g : Header). NeededRun job g (m .source) from x z d totals r) (sym shaped) runs in
       run-enough job m (p .passed) (rw (p .header) enough)
       ∙ rw (p .header, ← p .instructions) (needed-over h m _ ∙ rw (run .is))
 
