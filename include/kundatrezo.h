@@ -154,7 +154,7 @@ static inline int kundatrezo_float_state_ok(void)
 }
 
 /* The bytes of stack that a call takes at most, those of memcpy and memset and of binding them included. The tests measure them. */
-#define KUNDATREZO_RUN_STACK 61440
+#define KUNDATREZO_RUN_STACK 69632
 #define KUNDATREZO_SETTLE_STACK 45056
 #define KUNDATREZO_CORRELATION_STACK 12288
 #define KUNDATREZO_OTHER_STACK 8192 /* every other call */
@@ -195,6 +195,14 @@ struct kundatrezo_examination kundatrezo_examine(const uint8_t *job, size_t job_
 struct kundatrezo_answer kundatrezo_run(const uint8_t *job, size_t job_len, uint64_t *x, size_t x_len, uint64_t *z, size_t z_len, uint64_t *deltas,
                                         size_t deltas_len, const uint64_t *noiseless, size_t noiseless_len, const uint64_t *main_words,
                                         size_t main_len, const uint64_t *second, size_t second_len, uint64_t base);
+
+/* The same run, which also counts for each outcome the shots in which it is flipped: totals has a number for each outcome of the header, and becomes the ones
+ * in its row of deltas; that of an outcome which no line records is 0. Numbers beyond the header's outcomes stay. A list that is shorter than the outcomes is
+ * refused by KUNDATREZO_WORDS, and KUNDATREZO_DRAWS leaves the numbers of the header's outcomes 0. */
+struct kundatrezo_answer kundatrezo_run_totals(const uint8_t *job, size_t job_len, uint64_t *x, size_t x_len, uint64_t *z, size_t z_len, uint64_t *deltas,
+                                               size_t deltas_len, uint64_t *totals, size_t totals_len, const uint64_t *noiseless, size_t noiseless_len,
+                                               const uint64_t *main_words, size_t main_len, const uint64_t *second, size_t second_len,
+                                               uint64_t base);
 
 /* Settling: the job with each noise instruction replaced by the injections that a run with the same words draws. Bytes of out beyond the text stay, and
  * a refusal writes nothing; the figure of KUNDATREZO_ROOM is exactly the bytes that the text takes, which may be more than KUNDATREZO_MAX_BYTES;

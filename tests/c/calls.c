@@ -158,6 +158,31 @@ static void second_edition(void)
     }
 }
 
+/* The totals: shot 1 flips outcome 0 by a fault and outcome 1 by a flip, which another takes back in shot 0. */
+static void run_totals(void)
+{
+    static const char counted[] = "op=job qubits=1 outcomes=3 shots=2\n"
+                                  "op=i shot=1 x=0 z=-\n"
+                                  "op=o x=- z=0 id=0\n"
+                                  "op=r id=1 angle=0\n"
+                                  "op=t shot=0 id=1\n"
+                                  "op=t shot=1 id=1\n"
+                                  "op=t shot=0 id=1\n";
+    uint64_t none[1] = {0}, x[1] = {7}, z[1] = {7}, deltas[3] = {7, 7, 7}, totals[4] = {7, 7, 7, 7}, noiseless[3] = {0, 0, 0};
+    const uint8_t *job = (const uint8_t *)counted;
+    size_t length = sizeof counted - 1;
+    struct kundatrezo_answer got = kundatrezo_run_totals(job, length, x, 1, z, 1, deltas, 3, totals, 2, noiseless, 3, none, 0, none, 0, 0);
+    expect_figure("run with too few totals", KUNDATREZO_WORDS, 0, 7, got, totals[0]);
+    got = kundatrezo_run_totals(job, length, x, 1, z, 1, deltas, 3, totals, 4, noiseless, 3, none, 0, none, 0, 0);
+    for (int id = 0; id < 3; id++)
+        expect_figure("run, totals", 0, 0, id < 2 ? 1 : 0, got, totals[id]);
+    expect_figure("run, totals beyond", 0, 0, 7, got, totals[3]);
+    uint64_t words[64] = {0}, xs[2] = {0, 0}, zs[2] = {0, 0}, row[2] = {0, 0};
+    got = kundatrezo_run_totals((const uint8_t *)drawn, sizeof drawn - 1, xs, 2, zs, 2, row, 2, totals, 4, noiseless, 2, words, 64, none, 0, 0);
+    expect_figure("run with draws spent, totals", KUNDATREZO_DRAWS, 2, 0, got, totals[0]);
+    expect_figure("run with draws spent, totals beyond", KUNDATREZO_DRAWS, 2, 1, got, totals[1]);
+}
+
 /* A condition looks at the noiseless bits of the shots alone, not at those past the last one. */
 static void padding(void)
 {
@@ -304,6 +329,7 @@ int main(void)
     examine();
     run();
     second_edition();
+    run_totals();
     padding();
     encode();
     settle();

@@ -50,7 +50,7 @@ static const char plain[] = PLAIN, noisy[] = PLAIN NOISE;
 #define NOISY (const uint8_t *)noisy, sizeof noisy - 1
 
 static uint8_t out[KUNDATREZO_MAX_BYTES];
-static uint64_t x[200], z[200], deltas[40], noiseless[40], main_words[5000], second[5000], set[] = {0, 2};
+static uint64_t x[200], z[200], deltas[40], totals[4], noiseless[40], main_words[5000], second[5000], set[] = {0, 2};
 
 static void no_call(void) {}
 
@@ -61,6 +61,11 @@ static void examine(void) { kundatrezo_examine(NOISY); }
 static void run(void)
 {
     kundatrezo_run(NOISY, x, 200, z, 200, deltas, 40, noiseless, 40, main_words, 5000, second, 5000, 0);
+}
+
+static void run_totals(void)
+{
+    kundatrezo_run_totals(NOISY, x, 200, z, 200, deltas, 40, totals, 4, noiseless, 40, main_words, 5000, second, 5000, 0);
 }
 
 static void settle(void)
@@ -110,6 +115,7 @@ static const struct {
     {"check", check, KUNDATREZO_OTHER_STACK},
     {"examine", examine, KUNDATREZO_OTHER_STACK},
     {"run", run, KUNDATREZO_RUN_STACK},
+    {"run_totals", run_totals, KUNDATREZO_RUN_STACK},
     {"settle", settle, KUNDATREZO_SETTLE_STACK},
     {"walk", walk, KUNDATREZO_OTHER_STACK},
     {"annotate", annotate, KUNDATREZO_OTHER_STACK},

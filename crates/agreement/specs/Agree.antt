@@ -43,6 +43,7 @@ pub record AgreeReply : Type 0 where
   pub x : List ℕ
   pub z : List ℕ
   pub deltas : List ℕ
+  pub totals : List ℕ
   pub out : List ℕ
 
 -- The words are as the run leaves them. The bytes are as settling leaves them; after a run that refuses it is not called.
@@ -57,5 +58,6 @@ agreeReply job m out shot set =
       x = ran .x;
       z = ran .z;
       deltas = ran .deltas;
+      totals = ran .totals;
       out = cond (eqb (ran .answered .number) 0) (settled .out) out;
     }

@@ -80,6 +80,7 @@ pub fn agree<'a>(
     x: &mut [u64],
     z: &mut [u64],
     deltas: &mut [u64],
+    totals: &mut [u64],
     noiseless: &[u64],
     main: &'a [u64],
     second: &'a [u64],
@@ -88,9 +89,19 @@ pub fn agree<'a>(
     shot: u64,
     set: &[u64],
 ) -> Agreement
-    ensures { λ r. ⌜ (agreeReply (now (job .entry)) (record { x = now (x .entry); z = now (z .entry); deltas = now (deltas .entry); source = record { noiseless = now (noiseless .entry); main = now (main .entry); second = now (second .entry); base = base } }) (now (out .entry)) shot (now (set .entry)) ≡ record { agreement = r; x = now (x .exit); z = now (z .exit); deltas = now (deltas .exit); out = now (out .exit) }) × (r .answer .number ≡ 0 → r .agrees ≡ true) ⌝ }
+    ensures { λ r. ⌜ (agreeReply (now (job .entry)) (record { x = now (x .entry); z = now (z .entry); deltas = now (deltas .entry); totals = now (totals .entry); source = record { noiseless = now (noiseless .entry); main = now (main .entry); second = now (second .entry); base = base } }) (now (out .entry)) shot (now (set .entry)) ≡ record { agreement = r; x = now (x .exit); z = now (z .exit); deltas = now (deltas .exit); totals = now (totals .exit); out = now (out .exit) }) × (r .answer .number ≡ 0 → r .agrees ≡ true) ⌝ }
 {
-    let ran = run(job, x, z, &mut *deltas, noiseless, main, second, base);
+    let ran = run(
+        job,
+        x,
+        z,
+        &mut *deltas,
+        totals,
+        noiseless,
+        main,
+        second,
+        base,
+    );
     if ran.number != 0 {
         return refused(Call::Run, ran, 0);
     }

@@ -25,7 +25,7 @@ countOf job ls shot set = walk (settingOf (jobOf job .header) shot) (settledList
 
 -- the same memory with another source
 abbrev pub withSource : Memory → Source → Memory
-withSource m other = record { x = m .x; z = m .z; deltas = m .deltas; source = other }
+withSource m other = record { x = m .x; z = m .z; deltas = m .deltas; totals = m .totals; source = other }
 
 -- the bits of a shot in the words that a run leaves
 abbrev pub shotBits : List ℕ → Memory → ℕ → State

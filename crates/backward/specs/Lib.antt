@@ -8,5 +8,6 @@ pub mod Calls
 pub mod CallTheorems
 pub mod SizeTheorems
 pub mod ShotTheorems
+pub mod TotalTheorems
 -- Laws of these definitions.
 pub mod Laws

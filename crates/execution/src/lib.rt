@@ -14,6 +14,7 @@ use rows::Shape;
 ghost use Prim.Native.Nat.{ℕ, _*_, _≤_};
 ghost use lib.ListN.{length};
 ghost use Rattle.instructions.specs.Ahead.{Ahead};
+ghost use Rattle.totals.specs.Held.{TotalsHeld};
 ghost use Rattle.execution.specs.Went.{headerOf, RowsFor, NoiseReady, NoiseRoom, NoiseDone, StepReady, Stepped, Executes};
 
 // The place of the next instruction; or the draws were spent.
@@ -75,7 +76,7 @@ fn apply_noise<'a>(
     })
 }
 
-// The instruction at a place.
+// The instruction at a place. After it, as before, the totals are the ones of the deltas' rows; faults that are injected change neither.
 fn step<'a>(
     job: &[u8],
     place: Place,
@@ -85,14 +86,15 @@ fn step<'a>(
     x: &mut [u64],
     z: &mut [u64],
     deltas: &mut [u64],
+    totals: &mut [u64],
     shape: Shape,
     noiseless: &[u64],
     main: &'a [u64],
     second: &'a [u64],
     base: u64,
 ) -> Moved
-    requires { ⌜ StepReady (now job) shape place (now f) (now elements) (now main) × RowsFor shape (now x) (now z) (now deltas) (now noiseless) × (31 * shape .width ≤ length (now scratch)) ⌝ }
-    ensures { λ r. ⌜ Stepped (now (job .entry)) shape (now (noiseless .entry)) (now (main .entry)) (now (second .entry)) base place (now (x .entry)) (now (z .entry)) (now (deltas .entry)) (now (x .exit)) (now (z .exit)) (now (deltas .exit)) r ⌝ }
+    requires { ⌜ StepReady (now job) shape place (now f) (now elements) (now main) × RowsFor shape (now x) (now z) (now deltas) (now noiseless) × (31 * shape .width ≤ length (now scratch)) × TotalsHeld (shape .width) (shape .outcomes) (now deltas) (now totals) ⌝ }
+    ensures { λ r. ⌜ Stepped (now (job .entry)) shape (now (noiseless .entry)) (now (main .entry)) (now (second .entry)) base place (now (x .entry)) (now (z .entry)) (now (deltas .entry)) (now (x .exit)) (now (z .exit)) (now (deltas .exit)) r × TotalsHeld (shape .width) (shape .outcomes) (now (deltas .exit)) (now (totals .exit)) ⌝ }
 {
     let line = next_line(job, place.byte, &mut *f);
     let form = line.form;
@@ -112,7 +114,7 @@ fn step<'a>(
             base,
         );
     }
-    apply_line(form, f, x, z, deltas, scratch, shape);
+    apply_line(form, f, x, z, deltas, totals, scratch, shape);
     Moved::To(Place {
         byte: line.end + 1,
         line: place.line + 1,
@@ -127,14 +129,15 @@ pub fn execute<'a>(
     x: &mut [u64],
     z: &mut [u64],
     deltas: &mut [u64],
+    totals: &mut [u64],
     shape: Shape,
     noiseless: &[u64],
     main: &'a [u64],
     second: &'a [u64],
     base: u64,
 ) -> Answer
-    requires { ⌜ ((recorded : ℕ) × Ahead (now job) (headerOf (now job) shape) recorded 2 from) × RowsFor shape (now x) (now z) (now deltas) (now noiseless) ⌝ }
-    ensures { λ r. ⌜ Executes (now (job .entry)) shape (now (noiseless .entry)) (now (main .entry)) (now (second .entry)) base from (now (x .entry)) (now (z .entry)) (now (deltas .entry)) (now (x .exit)) (now (z .exit)) (now (deltas .exit)) r ⌝ }
+    requires { ⌜ ((recorded : ℕ) × Ahead (now job) (headerOf (now job) shape) recorded 2 from) × RowsFor shape (now x) (now z) (now deltas) (now noiseless) × TotalsHeld (shape .width) (shape .outcomes) (now deltas) (now totals) ⌝ }
+    ensures { λ r. ⌜ Executes (now (job .entry)) shape (now (noiseless .entry)) (now (main .entry)) (now (second .entry)) base from (now (x .entry)) (now (z .entry)) (now (deltas .entry)) (now (x .exit)) (now (z .exit)) (now (deltas .exit)) r × TotalsHeld (shape .width) (shape .outcomes) (now (deltas .exit)) (now (totals .exit)) ⌝ }
 {
     let mut f = [0u64; 136];
     let mut elements = [0u64; 4096];
@@ -154,6 +157,7 @@ pub fn execute<'a>(
             &mut *x,
             &mut *z,
             &mut *deltas,
+            &mut *totals,
             shape,
             noiseless,
             main,

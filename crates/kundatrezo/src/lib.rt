@@ -3,6 +3,9 @@
 // A slice is a pointer and a length in elements, an answer a struct by value. No call requires anything: lists of any length and a job of any bytes
 // get an answer, and what is promised here is the whole of it.
 ghost use mathlib.Core.Path.{_≡_};
+ghost use mathlib.Core.List.{List};
+ghost use Prim.Native.Nat.{ℕ};
+ghost use lib.ListN.{replicate};
 ghost use Rattle.job.specs.Job.{checkJob};
 ghost use Rattle.examination.specs.Reply.{examineReply};
 ghost use Rattle.writer.specs.Reply.{textReply};
@@ -36,6 +39,24 @@ pub extern "C" fn kundatrezo_examine(job: &[u8]) -> Examination
 
 // A run of a job.
 #[no_mangle]
+pub extern "C" fn kundatrezo_run_totals<'a>(
+    job: &[u8],
+    x: &mut [u64],
+    z: &mut [u64],
+    deltas: &mut [u64],
+    totals: &mut [u64],
+    noiseless: &[u64],
+    main: &'a [u64],
+    second: &'a [u64],
+    base: u64,
+) -> Answer
+    ensures { λ r. ⌜ runReply (now (job .entry)) (record { x = now (x .entry); z = now (z .entry); deltas = now (deltas .entry); totals = now (totals .entry); source = record { noiseless = now (noiseless .entry); main = now (main .entry); second = now (second .entry); base = base } }) ≡ record { answered = r; x = now (x .exit); z = now (z .exit); deltas = now (deltas .exit); totals = now (totals .exit) } ⌝ }
+{
+    runner::run(job, x, z, deltas, totals, noiseless, main, second, base)
+}
+
+// A run of a job for a caller that wants no totals: it keeps them in a list of its own, which has room for the outcomes of any header.
+#[no_mangle]
 pub extern "C" fn kundatrezo_run<'a>(
     job: &[u8],
     x: &mut [u64],
@@ -46,9 +67,20 @@ pub extern "C" fn kundatrezo_run<'a>(
     second: &'a [u64],
     base: u64,
 ) -> Answer
-    ensures { λ r. ⌜ runReply (now (job .entry)) (record { x = now (x .entry); z = now (z .entry); deltas = now (deltas .entry); source = record { noiseless = now (noiseless .entry); main = now (main .entry); second = now (second .entry); base = base } }) ≡ record { answered = r; x = now (x .exit); z = now (z .exit); deltas = now (deltas .exit) } ⌝ }
+    ensures { λ r. ⌜ ((totals : List ℕ) × (runReply (now (job .entry)) (record { x = now (x .entry); z = now (z .entry); deltas = now (deltas .entry); totals = replicate 1024 0; source = record { noiseless = now (noiseless .entry); main = now (main .entry); second = now (second .entry); base = base } }) ≡ record { answered = r; x = now (x .exit); z = now (z .exit); deltas = now (deltas .exit); totals = totals })) ⌝ }
 {
-    runner::run(job, x, z, deltas, noiseless, main, second, base)
+    let mut totals = [0u64; 1024];
+    runner::run(
+        job,
+        x,
+        z,
+        deltas,
+        &mut totals,
+        noiseless,
+        main,
+        second,
+        base,
+    )
 }
 
 // The job with its noise replaced by the injections that the same words draw.

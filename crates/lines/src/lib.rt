@@ -12,6 +12,7 @@ ghost use lib.ListN.{length};
 ghost use Rattle.job.specs.Line.{Line};
 ghost use Rattle.reader.specs.declared.Form.the-variants as Forms;
 ghost use Rattle.instructions.specs.Plain.{Plain};
+ghost use Rattle.totals.specs.Held.{TotalsHeld};
 ghost use Rattle.lines.specs.Plain.{Ready, Obeyed, FrameReady, FrameObeyed};
 
 // ---- Lines on frames alone
@@ -77,15 +78,23 @@ fn inject(values: &[u64], x: &mut [u64], z: &mut [u64], shape: Shape)
 
 // ---- Lines on deltas, or by them
 
-fn measure(values: &[u64], x: &[u64], z: &[u64], deltas: &mut [u64], shape: Shape)
-    requires { ⌜ Ready Forms.Measure (now values) (shape .width) (shape .qubits) (shape .outcomes) (now x) (now z) (now deltas) ⌝ }
-    ensures { λ _. ⌜ Obeyed Forms.Measure (now (values .entry)) (shape .width) (shape .qubits) (shape .outcomes) (now (x .entry)) (now (z .entry)) (now (deltas .entry)) (now (x .entry)) (now (z .entry)) (now (deltas .exit)) ⌝ }
+fn measure(
+    values: &[u64],
+    x: &[u64],
+    z: &[u64],
+    deltas: &mut [u64],
+    totals: &mut [u64],
+    shape: Shape,
+)
+    requires { ⌜ Ready Forms.Measure (now values) (shape .width) (shape .qubits) (shape .outcomes) (now x) (now z) (now deltas) × TotalsHeld (shape .width) (shape .outcomes) (now deltas) (now totals) ⌝ }
+    ensures { λ _. ⌜ Obeyed Forms.Measure (now (values .entry)) (shape .width) (shape .qubits) (shape .outcomes) (now (x .entry)) (now (z .entry)) (now (deltas .entry)) (now (x .entry)) (now (z .entry)) (now (deltas .exit)) × TotalsHeld (shape .width) (shape .outcomes) (now (deltas .exit)) (now (totals .exit)) ⌝ }
 {
     let outcome = OutcomeId(number(values, 0) as usize);
     propagator::paulis::measure(
         x,
         z,
         deltas,
+        totals,
         shape,
         list(values, 0),
         list(values, 1),
@@ -116,29 +125,31 @@ fn conditional(
     );
 }
 
-fn flip(values: &[u64], deltas: &mut [u64], shape: Shape)
-    requires { ⌜ ((n : ℕ) × (line : Line) × Plain Forms.Flip (now values) (shape .width) n (shape .outcomes) line) × (length (now deltas) ≡ shape .outcomes * shape .width) ⌝ }
-    ensures { λ _. ⌜ ((n : ℕ) (x z : List ℕ) → Obeyed Forms.Flip (now (values .entry)) (shape .width) n (shape .outcomes) x z (now (deltas .entry)) x z (now (deltas .exit))) ⌝ }
+fn flip(values: &[u64], deltas: &mut [u64], totals: &mut [u64], shape: Shape)
+    requires { ⌜ ((n : ℕ) × (line : Line) × Plain Forms.Flip (now values) (shape .width) n (shape .outcomes) line) × (length (now deltas) ≡ shape .outcomes * shape .width) × TotalsHeld (shape .width) (shape .outcomes) (now deltas) (now totals) ⌝ }
+    ensures { λ _. ⌜ ((n : ℕ) (x z : List ℕ) → Obeyed Forms.Flip (now (values .entry)) (shape .width) n (shape .outcomes) x z (now (deltas .entry)) x z (now (deltas .exit))) × TotalsHeld (shape .width) (shape .outcomes) (now (deltas .exit)) (now (totals .exit)) ⌝ }
 {
     let shot = Shot(number(values, 0) as usize);
     let outcome = OutcomeId(number(values, 1) as usize);
-    propagator::paulis::inject_outcome_flip(deltas, shape, shot, outcome);
+    propagator::paulis::inject_outcome_flip(deltas, totals, shape, shot, outcome);
 }
 
 // ---- Any of them
 
-// A line of a form. Those that are not named do nothing. A line takes at most 31 rows of scratch: a permutation's.
+// A line of a form. Those that are not named do nothing. The totals are the ones of the deltas' rows before and after every line. A line takes at most 31
+// rows of scratch: a permutation's.
 pub fn apply_line(
     form: Form,
     values: &[u64],
     x: &mut [u64],
     z: &mut [u64],
     deltas: &mut [u64],
+    totals: &mut [u64],
     scratch: &mut [u64],
     shape: Shape,
 )
-    requires { ⌜ Ready form (now values) (shape .width) (shape .qubits) (shape .outcomes) (now x) (now z) (now deltas) × (31 * shape .width ≤ length (now scratch)) ⌝ }
-    ensures { λ _. ⌜ Obeyed form (now (values .entry)) (shape .width) (shape .qubits) (shape .outcomes) (now (x .entry)) (now (z .entry)) (now (deltas .entry)) (now (x .exit)) (now (z .exit)) (now (deltas .exit)) ⌝ }
+    requires { ⌜ Ready form (now values) (shape .width) (shape .qubits) (shape .outcomes) (now x) (now z) (now deltas) × (31 * shape .width ≤ length (now scratch)) × TotalsHeld (shape .width) (shape .outcomes) (now deltas) (now totals) ⌝ }
+    ensures { λ _. ⌜ Obeyed form (now (values .entry)) (shape .width) (shape .qubits) (shape .outcomes) (now (x .entry)) (now (z .entry)) (now (deltas .entry)) (now (x .exit)) (now (z .exit)) (now (deltas .exit)) × TotalsHeld (shape .width) (shape .outcomes) (now (deltas .exit)) (now (totals .exit)) ⌝ }
 {
     match form {
         Form::Unitary => unitary(values, x, z, shape),
@@ -146,11 +157,11 @@ pub fn apply_line(
         Form::Exponential => exponential(values, x, z, scratch, shape),
         Form::Controlled => controlled(values, x, z, scratch, shape),
         Form::Permute => permute(values, x, z, scratch, shape),
-        Form::Measure => measure(values, x, z, deltas, shape),
+        Form::Measure => measure(values, x, z, deltas, totals, shape),
         Form::Conditional => conditional(values, x, z, deltas, scratch, shape),
         Form::Reset => reset(values, x, z, shape),
         Form::Inject => inject(values, x, z, shape),
-        Form::Flip => flip(values, deltas, shape),
+        Form::Flip => flip(values, deltas, totals, shape),
         _ => {}
     }
 }

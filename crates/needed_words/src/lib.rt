@@ -9,8 +9,8 @@ ghost use Rattle.run.specs.Run.{Source};
 ghost use Rattle.execution.specs.Went.{headerOf};
 ghost use Rattle.needed_words.specs.Needed.{NeededReady, NeededRun};
 
-fn clear_all(x: &mut [u64], z: &mut [u64], deltas: &mut [u64])
-    ensures { λ _. ⌜ (now (x .exit) ≡ cleared 0 (length (now (x .entry))) (now (x .entry))) × (now (z .exit) ≡ cleared 0 (length (now (z .entry))) (now (z .entry))) × (now (deltas .exit) ≡ cleared 0 (length (now (deltas .entry))) (now (deltas .entry))) ⌝ }
+fn clear_all(x: &mut [u64], z: &mut [u64], deltas: &mut [u64], totals: &mut [u64])
+    ensures { λ _. ⌜ (now (x .exit) ≡ cleared 0 (length (now (x .entry))) (now (x .entry))) × (now (z .exit) ≡ cleared 0 (length (now (z .entry))) (now (z .entry))) × (now (deltas .exit) ≡ cleared 0 (length (now (deltas .entry))) (now (deltas .entry))) × (now (totals .exit) ≡ cleared 0 (length (now (totals .entry))) (now (totals .entry))) ⌝ }
 {
     let nx = x.len();
     rows::clear(x, 0, nx);
@@ -18,31 +18,35 @@ fn clear_all(x: &mut [u64], z: &mut [u64], deltas: &mut [u64])
     rows::clear(z, 0, nz);
     let nd = deltas.len();
     rows::clear(deltas, 0, nd);
+    let nt = totals.len();
+    rows::clear(totals, 0, nt);
 }
 
-// The words are cleared first, and again where the draws were spent.
+// The words and the totals are cleared first, and again where the draws were spent.
 pub fn run_needed<'a>(
     job: &[u8],
     from: usize,
     x: &mut [u64],
     z: &mut [u64],
     deltas: &mut [u64],
+    totals: &mut [u64],
     shape: Shape,
     noiseless: &[u64],
     main: &'a [u64],
     second: &'a [u64],
     base: u64,
 ) -> Answer
-    requires { ⌜ NeededReady (now job) shape from (now x) (now z) (now deltas) (now noiseless) ⌝ }
-    ensures { λ r. ⌜ NeededRun (now (job .entry)) (headerOf (now (job .entry)) shape) (record { noiseless = now (noiseless .entry); main = now (main .entry); second = now (second .entry); base = base }) from (now (x .exit)) (now (z .exit)) (now (deltas .exit)) r ⌝ }
+    requires { ⌜ NeededReady (now job) shape from (now x) (now z) (now deltas) (now totals) (now noiseless) ⌝ }
+    ensures { λ r. ⌜ NeededRun (now (job .entry)) (headerOf (now (job .entry)) shape) (record { noiseless = now (noiseless .entry); main = now (main .entry); second = now (second .entry); base = base }) from (now (x .exit)) (now (z .exit)) (now (deltas .exit)) (now (totals .exit)) r ⌝ }
 {
-    clear_all(&mut *x, &mut *z, &mut *deltas);
+    clear_all(&mut *x, &mut *z, &mut *deltas, &mut *totals);
     let r = execute(
         job,
         from,
         &mut *x,
         &mut *z,
         &mut *deltas,
+        &mut *totals,
         shape,
         noiseless,
         main,
@@ -52,6 +56,6 @@ pub fn run_needed<'a>(
     if r.number == 0 {
         return r;
     }
-    clear_all(x, z, deltas);
+    clear_all(x, z, deltas, totals);
     r
 }

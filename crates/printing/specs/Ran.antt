@@ -21,9 +21,10 @@ pub record RunsSmall (job : List ℕ) (h : Header) (n : ℕ) : Type 0 where
   pub recorded : n ≡ recordedIn (jobOf job .instructions)
   pub small : smallEnough h ≡ true
 
--- the words that a header needs, all 0
-pub record Lends (h : Header) (x z deltas noiseless : List ℕ) : Type 0 where
+-- the words and totals that a header needs, all 0
+pub record Lends (h : Header) (x z deltas totals noiseless : List ℕ) : Type 0 where
   pub x-words : x ≡ replicate (frameWords h) 0
   pub z-words : z ≡ replicate (frameWords h) 0
   pub delta-words : deltas ≡ replicate (outcomeWords h) 0
+  pub of-totals : totals ≡ replicate (h .outcomes) 0
   pub noiseless-words : noiseless ≡ replicate (outcomeWords h) 0

@@ -51,13 +51,14 @@ fn put_run(
     x: &mut [u64],
     z: &mut [u64],
     deltas: &mut [u64],
+    totals: &mut [u64],
     noiseless: &[u64],
 ) -> usize
-    requires { ⌜ (RunsSmall (now job) h n) × Lends h (now x) (now z) (now deltas) (now noiseless) ⌝ }
+    requires { ⌜ (RunsSmall (now job) h n) × Lends h (now x) (now z) (now deltas) (now totals) (now noiseless) ⌝ }
     ensures { λ r. ⌜ Puts 0 (ranText (now (job .entry))) (now (out .entry)) (now (out .exit)) r ⌝ }
 {
     let none = &noiseless[..0];
-    let a = run(job, x, z, &mut *deltas, noiseless, none, none, 0);
+    let a = run(job, x, z, &mut *deltas, totals, noiseless, none, none, 0);
     if a.number != 0 {
         return put_refusal(out, a);
     }
@@ -72,6 +73,7 @@ fn put_reply(out: &mut [u8], job: &[u8], h: Header, n: usize) -> usize
     let mut x = [0u64; 64];
     let mut z = [0u64; 64];
     let mut deltas = [0u64; 256];
+    let mut totals = [0u64; 256];
     let noiseless = [0u64; 256];
     let shape = rows::shape_of(h.qubits as usize, h.outcomes as usize, h.shots as usize);
     let frame = shape.qubits * shape.width;
@@ -84,6 +86,7 @@ fn put_reply(out: &mut [u8], job: &[u8], h: Header, n: usize) -> usize
         &mut x[..frame],
         &mut z[..frame],
         &mut deltas[..outcomes],
+        &mut totals[..shape.outcomes],
         &noiseless[..outcomes],
     )
 }

@@ -13,6 +13,7 @@ ghost use Rattle.job.specs.Line.{Line, pauliOf};
 ghost use Rattle.job.specs.Checks.{allBelow, distinct};
 ghost use Rattle.frames.specs.Forward.{onFrame};
 ghost use Rattle.rows.specs.Column.{column};
+ghost use Rattle.totals.specs.Held.{TotalsHeld};
 ghost use Rattle.propagator.specs.Acts.{Acts, lineRule, written, PauliIn, MaskPut};
 
 // ---- Masks
@@ -91,22 +92,24 @@ pub fn apply_controlled_pauli(
 
 // ---- Measurement and what goes by its outcomes
 
-// Measuring adds to the outcome's row the shots whose frame anticommutes with the observable.
+// Measuring adds to the outcome's row the shots whose frame anticommutes with the observable. The row is counted then.
 pub fn measure(
     x: &[u64],
     z: &[u64],
     deltas: &mut [u64],
+    totals: &mut [u64],
     shape: Shape,
     px: &[u64],
     pz: &[u64],
     outcome: OutcomeId,
 )
-    requires { ⌜ (length (now x) ≡ shape .qubits * shape .width) × (length (now z) ≡ shape .qubits * shape .width) × (length (now deltas) ≡ shape .outcomes * shape .width) × PauliIn (shape .qubits) (now px) (now pz) × (outcome .0 < shape .outcomes) ⌝ }
-    ensures { λ _. ⌜ Acts (shape .width) (lineRule (shape .qubits) (shape .outcomes) (Line.measure (written (now (px .entry)) (now (pz .entry))) (outcome .0))) (now (x .entry)) (now (z .entry)) (now (deltas .entry)) (now (x .entry)) (now (z .entry)) (now (deltas .exit)) ⌝ }
+    requires { ⌜ (length (now x) ≡ shape .qubits * shape .width) × (length (now z) ≡ shape .qubits * shape .width) × (length (now deltas) ≡ shape .outcomes * shape .width) × PauliIn (shape .qubits) (now px) (now pz) × (outcome .0 < shape .outcomes) × TotalsHeld (shape .width) (shape .outcomes) (now deltas) (now totals) ⌝ }
+    ensures { λ _. ⌜ Acts (shape .width) (lineRule (shape .qubits) (shape .outcomes) (Line.measure (written (now (px .entry)) (now (pz .entry))) (outcome .0))) (now (x .entry)) (now (z .entry)) (now (deltas .entry)) (now (x .entry)) (now (z .entry)) (now (deltas .exit)) × TotalsHeld (shape .width) (shape .outcomes) (now (deltas .exit)) (now (totals .exit)) ⌝ }
 {
     let id = outcome.0;
     rows::add_listed(&mut *deltas, id, x, shape.width, pz);
-    rows::add_listed(deltas, id, z, shape.width, px);
+    rows::add_listed(&mut *deltas, id, z, shape.width, px);
+    totals::recount(deltas, totals, shape.width, id);
 }
 
 // A conditional Pauli is added where the listed deltas sum to 1, since there its condition came out the other way. The parity that it is
@@ -150,11 +153,17 @@ pub fn inject_pauli(x: &mut [u64], z: &mut [u64], shape: Shape, shot: Shot, px: 
 }
 
 // Adds 1 to an outcome's delta in one shot.
-pub fn inject_outcome_flip(deltas: &mut [u64], shape: Shape, shot: Shot, outcome: OutcomeId)
-    requires { ⌜ (length (now deltas) ≡ shape .outcomes * shape .width) × (outcome .0 < shape .outcomes) × (shot .0 < 64 * shape .width) ⌝ }
-    ensures { λ _. ⌜ ((n : ℕ) (x z : List ℕ) → Acts (shape .width) (lineRule n (shape .outcomes) (Line.flip (shot .0) (outcome .0))) x z (now (deltas .entry)) x z (now (deltas .exit))) ⌝ }
+pub fn inject_outcome_flip(
+    deltas: &mut [u64],
+    totals: &mut [u64],
+    shape: Shape,
+    shot: Shot,
+    outcome: OutcomeId,
+)
+    requires { ⌜ (length (now deltas) ≡ shape .outcomes * shape .width) × (outcome .0 < shape .outcomes) × (shot .0 < 64 * shape .width) × TotalsHeld (shape .width) (shape .outcomes) (now deltas) (now totals) ⌝ }
+    ensures { λ _. ⌜ ((n : ℕ) (x z : List ℕ) → Acts (shape .width) (lineRule n (shape .outcomes) (Line.flip (shot .0) (outcome .0))) x z (now (deltas .entry)) x z (now (deltas .exit))) × TotalsHeld (shape .width) (shape .outcomes) (now (deltas .exit)) (now (totals .exit)) ⌝ }
 {
     let s = shot.0;
     let id = outcome.0;
-    rows::flip_bit(deltas, shape.width, id, s);
+    totals::flip_counted(deltas, totals, shape, id, s);
 }

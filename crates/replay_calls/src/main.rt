@@ -149,24 +149,27 @@ struct Ends {
     x: usize,
     z: usize,
     deltas: usize,
+    totals: usize,
 }
 
 fn list_ends(fields: &[u64], whole: usize) -> Ends
     requires { ⌜ Whole (now fields) ⌝ }
-    ensures { λ r. ⌜ (r .noiseless ≤ r .main) × (r .main ≤ r .second) × (r .second ≤ r .x) × (r .x ≤ r .z) × (r .z ≤ r .deltas) × (r .deltas ≤ whole) ⌝ }
+    ensures { λ r. ⌜ (r .noiseless ≤ r .main) × (r .main ≤ r .second) × (r .second ≤ r .x) × (r .x ≤ r .z) × (r .z ≤ r .deltas) × (r .deltas ≤ r .totals) × (r .totals ≤ whole) ⌝ }
 {
     let noiseless = part_end(0, values::member(fields, 1, 0), whole);
     let main = part_end(noiseless, values::member(fields, 1, 1), whole);
     let second = part_end(main, values::member(fields, 1, 2), whole);
     let x = part_end(second, values::member(fields, 1, 3), whole);
     let z = part_end(x, values::member(fields, 1, 4), whole);
+    let deltas = part_end(z, values::member(fields, 1, 5), whole);
     Ends {
         noiseless,
         main,
         second,
         x,
         z,
-        deltas: part_end(z, values::member(fields, 1, 5), whole),
+        deltas,
+        totals: part_end(deltas, values::member(fields, 1, 6), whole),
     }
 }
 
@@ -233,8 +236,9 @@ fn run_lent(
     x: &mut [u64],
     z: &mut [u64],
     deltas: &mut [u64],
+    totals: &mut [u64],
 ) -> Answer
-    requires { ⌜ (e .noiseless ≤ e .main) × (e .main ≤ e .second) × (e .second ≤ e .x) × (e .x ≤ e .z) × (e .z ≤ e .deltas) × (e .deltas ≤ length (now lent)) × (e .deltas ≤ length (now x)) × (e .deltas ≤ length (now z)) × (e .deltas ≤ length (now deltas)) ⌝ }
+    requires { ⌜ (e .noiseless ≤ e .main) × (e .main ≤ e .second) × (e .second ≤ e .x) × (e .x ≤ e .z) × (e .z ≤ e .deltas) × (e .deltas ≤ e .totals) × (e .totals ≤ length (now lent)) × (e .totals ≤ length (now x)) × (e .totals ≤ length (now z)) × (e .totals ≤ length (now deltas)) × (e .totals ≤ length (now totals)) ⌝ }
 {
     let a = e.noiseless;
     let b = e.main;
@@ -242,11 +246,13 @@ fn run_lent(
     let in_x = e.x - c;
     let in_z = e.z - e.x;
     let in_deltas = e.deltas - e.z;
+    let in_totals = e.totals - e.deltas;
     run(
         job,
         &mut x[..in_x],
         &mut z[..in_z],
         &mut deltas[..in_deltas],
+        &mut totals[..in_totals],
         &lent[..a],
         &lent[a..b],
         &lent[b..c],
@@ -254,21 +260,33 @@ fn run_lent(
     )
 }
 
-// Whether the rows that a run left are those that it must leave.
-fn same_rows(at: usize, must: &[u64], e: Ends, x: &[u64], z: &[u64], deltas: &[u64]) -> bool
-    requires { ⌜ (e .second ≤ e .x) × (e .x ≤ e .z) × (e .z ≤ e .deltas) × (e .deltas ≤ length (now must)) × (e .deltas ≤ length (now x)) × (e .deltas ≤ length (now z)) × (e .deltas ≤ length (now deltas)) ⌝ }
+// Whether the rows and totals that a run left are those that it must leave.
+fn same_rows(
+    at: usize,
+    must: &[u64],
+    e: Ends,
+    x: &[u64],
+    z: &[u64],
+    deltas: &[u64],
+    totals: &[u64],
+) -> bool
+    requires { ⌜ (e .second ≤ e .x) × (e .x ≤ e .z) × (e .z ≤ e .deltas) × (e .deltas ≤ e .totals) × (e .totals ≤ length (now must)) × (e .totals ≤ length (now x)) × (e .totals ≤ length (now z)) × (e .totals ≤ length (now deltas)) × (e .totals ≤ length (now totals)) ⌝ }
 {
     let a = e.second;
     let b = e.x;
     let c = e.z;
     let d = e.deltas;
+    let f = e.totals;
     if !same_words(at, x, &must[a..b]) {
         return false;
     }
     if !same_words(at, z, &must[b..c]) {
         return false;
     }
-    same_words(at, deltas, &must[c..d])
+    if !same_words(at, deltas, &must[c..d]) {
+        return false;
+    }
+    same_words(at, totals, &must[d..f])
 }
 
 // Whether a run over the first n words answers and leaves what it must.
@@ -281,8 +299,9 @@ fn ran(
     x: &mut [u64],
     z: &mut [u64],
     deltas: &mut [u64],
+    totals: &mut [u64],
 ) -> bool
-    requires { ⌜ Whole (now fields) × (n ≤ length (now lent)) × (n ≤ length (now x)) × (n ≤ length (now z)) × (n ≤ length (now deltas)) ⌝ }
+    requires { ⌜ Whole (now fields) × (n ≤ length (now lent)) × (n ≤ length (now x)) × (n ≤ length (now z)) × (n ≤ length (now deltas)) × (n ≤ length (now totals)) ⌝ }
 {
     let e = list_ends(fields, n);
     let r = run_lent(
@@ -293,11 +312,12 @@ fn ran(
         &mut *x,
         &mut *z,
         &mut *deltas,
+        &mut *totals,
     );
     if !same_answer(at, fields, r.number, r.line, 0) {
         return false;
     }
-    same_rows(at, lent, e, x, z, deltas)
+    same_rows(at, lent, e, x, z, deltas, totals)
 }
 
 fn replay_run(at: usize, fields: &[u64], bytes: &[u8]) -> bool
@@ -307,6 +327,7 @@ fn replay_run(at: usize, fields: &[u64], bytes: &[u8]) -> bool
     let mut x = words_buffer();
     let mut z = words_buffer();
     let mut deltas = words_buffer();
+    let mut totals = words_buffer();
     let a = part_end(0, values::member(fields, 0, 0), bytes.len());
     let n = words(&bytes[a..], &mut lent);
     ran(
@@ -318,6 +339,7 @@ fn replay_run(at: usize, fields: &[u64], bytes: &[u8]) -> bool
         &mut x,
         &mut z,
         &mut deltas,
+        &mut totals,
     )
 }
 

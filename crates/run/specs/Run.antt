@@ -10,7 +10,8 @@ use Rattle.job.specs.Job.{answer, accepted, jobOf, checkJob}
 use Rattle.job.specs.Reply.{over}
 use Rattle.draws.specs.Draws.{Lent}
 use Rattle.draws.specs.Execute.{States, starts, Ended, execute}
-use Rattle.rows.specs.Words.{wordsPerRow, bitIn, pack}
+use Rattle.rows.specs.Words.{wordsPerRow, bitIn, tabulated, pack}
+use Rattle.totals.specs.Ones.{onesTo}
 
 -- what draws are taken from: the words of the noiseless bits, the two lists of draws and the base of the second
 pub record Source : Type 0 where
@@ -19,19 +20,22 @@ pub record Source : Type 0 where
   pub second : List ℕ
   pub base : ℕ
 
--- what a caller lends: the words of the frames' X and Z parts and of the deltas, as they are before the call, and what draws are taken from
+-- what a caller lends: the words of the frames' X and Z parts and of the deltas and a list of totals, as they are before the call, and what draws are
+-- taken from
 pub record Memory : Type 0 where
   pub x : List ℕ
   pub z : List ℕ
   pub deltas : List ℕ
+  pub totals : List ℕ
   pub source : Source
 
--- the answer, and the words after the call
+-- the answer, and the words and the totals after the call
 pub record RunReply : Type 0 where
   pub answered : Answer
   pub x : List ℕ
   pub z : List ℕ
   pub deltas : List ℕ
+  pub totals : List ℕ
 
 -- the words that the header needs of a row per qubit, and of a row per outcome
 abbrev pub frameWords : Header → ℕ
@@ -40,12 +44,13 @@ frameWords h = h .qubits * wordsPerRow (h .shots)
 abbrev pub outcomeWords : Header → ℕ
 outcomeWords h = h .outcomes * wordsPerRow (h .shots)
 
--- 13: lent words too few
+-- 13: lent words too few, or a list of totals shorter than the outcomes
 unfoldable pub enoughWords : Header → Memory → Bool
 enoughWords h m =
     leb (frameWords h) (length (m .x))
     && leb (frameWords h) (length (m .z))
     && leb (outcomeWords h) (length (m .deltas))
+    && leb (h .outcomes) (length (m .totals))
     && leb (outcomeWords h) (length (m .source .noiseless))
 
 -- the source with its noiseless bits by outcome and shot
@@ -54,9 +59,9 @@ lentOf h s = record { noiseless = bitIn (wordsPerRow (h .shots)) (s .noiseless);
 
 -- a refusal other than 14 leaves all memory untouched
 abbrev pub untouched : Answer → Memory → RunReply
-untouched a m = record { answered = a; x = m .x; z = m .z; deltas = m .deltas }
+untouched a m = record { answered = a; x = m .x; z = m .z; deltas = m .deltas; totals = m .totals }
 
--- 14: a needed draw lies past its list; needed frame and delta words are zero
+-- 14: a needed draw lies past its list; needed frame and delta words and totals are zero
 unfoldable pub spentReply : Header → Memory → ℕ → RunReply
 spentReply h m k =
     record {
@@ -64,9 +69,14 @@ spentReply h m k =
       x = over (replicate (frameWords h) 0) (m .x);
       z = over (replicate (frameWords h) 0) (m .z);
       deltas = over (replicate (outcomeWords h) 0) (m .deltas);
+      totals = over (replicate (h .outcomes) 0) (m .totals);
     }
 
--- the states packed into the needed words
+-- a number for each outcome, recorded or not: the ones in its deltas
+unfoldable pub flipTotals : Header → States → List ℕ
+flipTotals h states = tabulated (λ id. onesTo (h .shots) (λ s. states s .deltas id)) (h .outcomes)
+
+-- the states packed into the needed words, and their totals
 unfoldable pub finishedReply : Header → Memory → States → RunReply
 finishedReply h m states =
     record {
@@ -74,6 +84,7 @@ finishedReply h m states =
       x = over (pack (h .qubits) (h .shots) (λ q s. states s .frame .x q)) (m .x);
       z = over (pack (h .qubits) (h .shots) (λ q s. states s .frame .z q)) (m .z);
       deltas = over (pack (h .outcomes) (h .shots) (λ id s. states s .deltas id)) (m .deltas);
+      totals = over (flipTotals h states) (m .totals);
     }
 
 unfoldable pub endedReply : Header → Memory → Ended → RunReply

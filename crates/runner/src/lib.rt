@@ -7,16 +7,18 @@ ghost use mathlib.Core.Path.{_≡_};
 ghost use Rattle.run.specs.Run.{Source, Memory, RunReply, runReply};
 ghost use Rattle.runner.specs.Enough.{suffice};
 
-// Whether so many words are lent: a frame's of the X and of the Z part, the outcomes' of the deltas and of the noiseless bits.
+// Whether so many words are lent: a frame's of the X and of the Z part, the outcomes' of the deltas and of the noiseless bits; and a total for each outcome.
 fn enough(
     frame: usize,
     outcomes: usize,
+    rows: usize,
     x: usize,
     z: usize,
     deltas: usize,
+    totals: usize,
     noiseless: usize,
 ) -> bool
-    ensures { λ r. ⌜ r ≡ suffice frame outcomes x z deltas noiseless ⌝ }
+    ensures { λ r. ⌜ r ≡ suffice frame outcomes rows x z deltas totals noiseless ⌝ }
 {
     if x < frame {
         return false;
@@ -25,6 +27,9 @@ fn enough(
         return false;
     }
     if deltas < outcomes {
+        return false;
+    }
+    if totals < rows {
         return false;
     }
     outcomes <= noiseless
@@ -40,19 +45,20 @@ fn too_few() -> Answer
     }
 }
 
-// A run of a job over lent words: the X and Z parts of the frames and the deltas, which are written, the noiseless bits, the main and the second list of
-// draws, and the base of the second. The words beyond those that are needed stay, and a refusal other than 14 writes nothing.
+// A run of a job over lent words: the X and Z parts of the frames, the deltas and their totals, which are written, the noiseless bits, the main and the
+// second list of draws, and the base of the second. The words beyond those that are needed stay, and a refusal other than 14 writes nothing.
 pub fn run<'a>(
     job: &[u8],
     x: &mut [u64],
     z: &mut [u64],
     deltas: &mut [u64],
+    totals: &mut [u64],
     noiseless: &[u64],
     main: &'a [u64],
     second: &'a [u64],
     base: u64,
 ) -> Answer
-    ensures { λ r. ⌜ runReply (now (job .entry)) (record { x = now (x .entry); z = now (z .entry); deltas = now (deltas .entry); source = record { noiseless = now (noiseless .entry); main = now (main .entry); second = now (second .entry); base = base } }) ≡ record { answered = r; x = now (x .exit); z = now (z .exit); deltas = now (deltas .exit) } ⌝ }
+    ensures { λ r. ⌜ runReply (now (job .entry)) (record { x = now (x .entry); z = now (z .entry); deltas = now (deltas .entry); totals = now (totals .entry); source = record { noiseless = now (noiseless .entry); main = now (main .entry); second = now (second .entry); base = base } }) ≡ record { answered = r; x = now (x .exit); z = now (z .exit); deltas = now (deltas .exit); totals = now (totals .exit) } ⌝ }
 {
     let examined = examine(job);
     let answer = examined.answer;
@@ -66,9 +72,11 @@ pub fn run<'a>(
     if !enough(
         frame,
         outcomes,
+        shape.outcomes,
         x.len(),
         z.len(),
         deltas.len(),
+        totals.len(),
         noiseless.len(),
     ) {
         return too_few();
@@ -80,6 +88,7 @@ pub fn run<'a>(
         &mut x[..frame],
         &mut z[..frame],
         &mut deltas[..outcomes],
+        &mut totals[..shape.outcomes],
         shape,
         noiseless,
         main,

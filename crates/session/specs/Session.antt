@@ -28,13 +28,14 @@ mostShots = 64
 abbrev pub smallEnough : Header → Bool
 smallEnough h = leb (h .qubits) mostQubits && leb (h .outcomes) mostOutcomes && leb (h .shots) mostShots
 
--- empty draws and zero noiseless bits, and as many words as the header needs
+-- empty draws and zero noiseless bits, and as many words and totals as the header needs
 unfoldable pub lentMemory : Header → Memory
 lentMemory h =
     record {
       x = replicate (frameWords h) 0;
       z = replicate (frameWords h) 0;
       deltas = replicate (outcomeWords h) 0;
+      totals = replicate (h .outcomes) 0;
       source = record { noiseless = replicate (outcomeWords h) 0; main = []; second = []; base = 0 };
     }
 

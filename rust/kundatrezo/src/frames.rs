@@ -17,6 +17,7 @@ use std::ops::BitXorAssign;
 /// let noiseless = [0; 2];
 /// let frames = Frames::of_run(job, &noiseless, Draws::new(&words))?;
 /// assert_eq!(frames.delta_row(0), [u64::MAX, 0x3f]);
+/// assert_eq!(frames.totals(), [70]);
 /// assert!(bit(frames.x_row(0), 69) && !bit(frames.z_row(0), 69));
 /// # Ok::<(), kundatrezo::Refusal>(())
 /// ```
@@ -26,6 +27,7 @@ pub struct Frames {
     x: Vec<u64>,
     z: Vec<u64>,
     deltas: Vec<u64>,
+    totals: Vec<u64>,
 }
 
 impl Frames {
@@ -46,8 +48,8 @@ impl Frames {
         Ok(frames)
     }
 
-    /// Run a job in this memory, which grows as the job's header asks. After a refusal by 13 or 14 every row is zero, and after one by a test of the job there are
-    /// no rows.
+    /// Run a job in this memory, which grows as the job's header asks. After a refusal by 13 or 14 every row and total is zero, and after one by a test of the job
+    /// there are none.
     ///
     /// # Errors
     ///
@@ -59,12 +61,14 @@ impl Frames {
             (&mut self.x, self.job.frame_words()),
             (&mut self.z, self.job.frame_words()),
             (&mut self.deltas, self.job.outcome_words()),
+            (&mut self.totals, self.job.outcomes),
         ] {
             list.clear();
             list.resize(need, 0);
         }
         examined?;
-        run(job, Rows::new(&mut self.x, &mut self.z, &mut self.deltas), noiseless, draws)
+        let rows = Rows::new(&mut self.x, &mut self.z, &mut self.deltas).with_totals(&mut self.totals);
+        run(job, rows, noiseless, draws)
     }
 
     /// The numbers of the job that the rows lie by; all zero where the last job did not pass the checks.
@@ -89,6 +93,12 @@ impl Frames {
     #[must_use]
     pub fn deltas(&self) -> &[u64] {
         &self.deltas
+    }
+
+    /// How many shots flip each outcome of the header: the ones in its delta row. That of an outcome which no line records is 0.
+    #[must_use]
+    pub fn totals(&self) -> &[u64] {
+        &self.totals
     }
 
     /// The X row of a qubit.
@@ -127,7 +137,7 @@ impl Frames {
     }
 }
 
-/// Adds the rows of another run, by exclusive or; frames without rows take the other's.
+/// Adds the rows of another run, by exclusive or, and counts the totals of the sum; frames without rows take the other's.
 ///
 /// Let the two jobs be without noise and have the same header and the same lines but for injections and flips. The sum is then what a job leaves that
 /// holds the injections and flips of both, each among the same lines, and twice where both hold it there (`faults-add-calls` in
@@ -151,7 +161,7 @@ impl Frames {
 /// // both hold the X of shot 0 before the first measurement: there it stands twice, and cancels
 /// let both = run([&format!("{x}{x}"), y])?;
 /// assert_eq!((sum.x(), sum.z(), sum.deltas()), (both.x(), both.z(), both.deltas()));
-/// assert_eq!(sum.deltas(), [0b00, 0b10]);
+/// assert_eq!((sum.deltas(), sum.totals()), (&[0b00, 0b10][..], &[0, 1][..]));
 /// # Ok::<(), kundatrezo::Refusal>(())
 /// ```
 impl BitXorAssign<&Frames> for Frames {
@@ -166,6 +176,10 @@ impl BitXorAssign<&Frames> for Frames {
             for (word, other) in rows.iter_mut().zip(others) {
                 *word ^= other;
             }
+        }
+        for (id, total) in self.totals.iter_mut().enumerate() {
+            let words = self.job.words_per_row();
+            *total = self.deltas[id * words..][..words].iter().map(|word| u64::from(word.count_ones())).sum();
         }
     }
 }

@@ -6,7 +6,7 @@
 //! | call | gives |
 //! |---|---|
 //! | [`check`] | whether the job passes the tests of a job; [`examine`] says what it asks of its caller, too |
-//! | [`run`] | the frames and the outcome deltas of all shots; [`Frames`] has memory of its own |
+//! | [`run`] | the frames and the outcome deltas of all shots, and how many of them flip each outcome; [`Frames`] has memory of its own |
 //! | [`settle`] | the job with its noise replaced by the injections that the same words draw; [`settled`] as a `Vec` |
 //! | [`walk`] | for a set of outcomes and a shot, the count of faults that flip the set's parity |
 //! | [`annotate`] | the job with depolarizing noise before each measurement and after each gate; [`annotated`] as a `Vec` |
@@ -58,7 +58,7 @@
 //! let noiseless = vec![0; examine(&job)?.outcome_words()];
 //! let words: Vec<u64> = Xorshift::new(2026).take(100_000).collect();
 //! let frames = Frames::of_run(&job, &noiseless, Draws::new(&words))?;
-//! let flipped: u32 = frames.delta_row(0).iter().map(|word| word.count_ones()).sum();
+//! let flipped = frames.totals()[0];
 //! // of 15 Paulis on the two qubits 8 flip the outcome, and there are two such noise lines
 //! assert!((flipped as f64 / 4096.0 - 2.0 * 0.01 * 8.0 / 15.0).abs() < 0.005);
 //! # Ok::<(), kundatrezo::Refusal>(())
@@ -66,7 +66,7 @@
 //!
 //! # What a caller owes
 //!
-//! Nothing but stack: a run takes up to 60 KiB of it, settling 44 KiB, and every other call less than 8 KiB. The pages are touched one after the other, so
+//! Nothing but stack: a run takes up to 68 KiB of it, settling 44 KiB, and every other call less than 8 KiB. The pages are touched one after the other, so
 //! that a thread with less ends the process at its guard page. What C callers owe besides is the crate's: each call is made in the default floating-point
 //! state, whatever the thread has set (subnormals off, another rounding, exceptions), and leaves that as it was.
 //!
@@ -108,7 +108,7 @@ pub const MAX_OUTCOMES: usize = 1_024;
 /// Most shots of a header.
 pub const MAX_SHOTS: usize = 4_096;
 
-/// The lent words that a run writes.
+/// The lent words that a run writes, and the totals, if they are wanted.
 #[derive(Debug)]
 #[non_exhaustive]
 pub struct Rows<'a> {
@@ -118,13 +118,21 @@ pub struct Rows<'a> {
     pub z: &'a mut [u64],
     /// The deltas: [`Examination::outcome_words`] words.
     pub deltas: &'a mut [u64],
+    /// A number for each outcome of the header, [`Examination::outcomes`] of them: how many shots have a delta of 1.
+    pub totals: Option<&'a mut [u64]>,
 }
 
 impl<'a> Rows<'a> {
-    /// The X part of the frames, the Z part, and the deltas.
+    /// The X part of the frames, the Z part, and the deltas; no totals.
     #[must_use]
     pub fn new(x: &'a mut [u64], z: &'a mut [u64], deltas: &'a mut [u64]) -> Self {
-        Self { x, z, deltas }
+        Self { x, z, deltas, totals: None }
+    }
+
+    /// The same with a list for the totals.
+    #[must_use]
+    pub fn with_totals(self, totals: &'a mut [u64]) -> Self {
+        Self { totals: Some(totals), ..self }
     }
 }
 
@@ -144,22 +152,23 @@ pub fn check(job: &[u8]) -> Answer {
     answer_of(&sys::check(job), 0).map(drop)
 }
 
-/// Run a job to its end in all of its shots: the final frames and the outcome deltas are left in `rows`, whatever was there before.
+/// Run a job to its end in all of its shots: the final frames, the outcome deltas and their totals are left in `rows`, whatever was there before. The total
+/// of an outcome is the number of ones in its row of deltas; that of an outcome which no line records is 0.
 ///
 /// `noiseless` has the noiseless outcomes, [`Examination::outcome_words`] words, which the conditions of noise lines look at.
 ///
 /// # Errors
 ///
-/// The refusal by a test of the job, 13 (a lent list is too short) or 14 (a draw lies past its list). 14 leaves the needed words of `rows` zero, the others
-/// leave all memory untouched.
+/// The refusal by a test of the job, 13 (a lent list is too short, that of the totals too) or 14 (a draw lies past its list). 14 leaves the needed words of
+/// `rows` zero, the totals of the header's outcomes too; the others leave all memory untouched.
 ///
 /// ```
 /// use kundatrezo::{Draws, Rows, run};
 ///
 /// let job = b"op=job qubits=1 outcomes=1 shots=2\nop=i shot=1 x=0 z=-\nop=o x=- z=0 id=0\n";
-/// let (mut x, mut z, mut deltas) = ([0], [0], [0]);
-/// run(job, Rows::new(&mut x, &mut z, &mut deltas), &[0], Draws::default())?;
-/// assert_eq!((x, z, deltas), ([0b10], [0], [0b10]));
+/// let (mut x, mut z, mut deltas, mut totals) = ([0], [0], [0], [0]);
+/// run(job, Rows::new(&mut x, &mut z, &mut deltas).with_totals(&mut totals), &[0], Draws::default())?;
+/// assert_eq!((x, z, deltas, totals), ([0b10], [0], [0b10], [1]));
 /// # Ok::<(), kundatrezo::Refusal>(())
 /// ```
 pub fn run(job: &[u8], rows: Rows<'_>, noiseless: &[u64], draws: Draws<'_>) -> Answer {

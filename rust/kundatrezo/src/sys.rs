@@ -74,6 +74,26 @@ unsafe extern "C" {
         base: u64,
     ) -> Answer;
 
+    fn kundatrezo_run_totals(
+        job: *const u8,
+        job_len: usize,
+        x: *mut u64,
+        x_len: usize,
+        z: *mut u64,
+        z_len: usize,
+        deltas: *mut u64,
+        deltas_len: usize,
+        totals: *mut u64,
+        totals_len: usize,
+        noiseless: *const u64,
+        noiseless_len: usize,
+        main: *const u64,
+        main_len: usize,
+        second: *const u64,
+        second_len: usize,
+        base: u64,
+    ) -> Answer;
+
     fn kundatrezo_settle(
         job: *const u8,
         job_len: usize,
@@ -130,24 +150,48 @@ pub fn examine(job: &[u8]) -> Examination {
 }
 
 pub fn run(job: &[u8], rows: Rows<'_>, noiseless: &[u64], draws: Draws<'_>) -> Answer {
-    in_default_state(|| unsafe {
-        kundatrezo_run(
-            job.as_ptr(),
-            job.len(),
-            rows.x.as_mut_ptr(),
-            rows.x.len(),
-            rows.z.as_mut_ptr(),
-            rows.z.len(),
-            rows.deltas.as_mut_ptr(),
-            rows.deltas.len(),
-            noiseless.as_ptr(),
-            noiseless.len(),
-            draws.main.as_ptr(),
-            draws.main.len(),
-            draws.second.as_ptr(),
-            draws.second.len(),
-            draws.base,
-        )
+    let Rows { x, z, deltas, totals } = rows;
+    in_default_state(|| match totals {
+        None => unsafe {
+            kundatrezo_run(
+                job.as_ptr(),
+                job.len(),
+                x.as_mut_ptr(),
+                x.len(),
+                z.as_mut_ptr(),
+                z.len(),
+                deltas.as_mut_ptr(),
+                deltas.len(),
+                noiseless.as_ptr(),
+                noiseless.len(),
+                draws.main.as_ptr(),
+                draws.main.len(),
+                draws.second.as_ptr(),
+                draws.second.len(),
+                draws.base,
+            )
+        },
+        Some(totals) => unsafe {
+            kundatrezo_run_totals(
+                job.as_ptr(),
+                job.len(),
+                x.as_mut_ptr(),
+                x.len(),
+                z.as_mut_ptr(),
+                z.len(),
+                deltas.as_mut_ptr(),
+                deltas.len(),
+                totals.as_mut_ptr(),
+                totals.len(),
+                noiseless.as_ptr(),
+                noiseless.len(),
+                draws.main.as_ptr(),
+                draws.main.len(),
+                draws.second.as_ptr(),
+                draws.second.len(),
+                draws.base,
+            )
+        },
     })
 }
 

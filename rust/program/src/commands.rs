@@ -3,7 +3,7 @@
 use crate::arguments::{Arguments, Command, FILE, Flag, Operand};
 use crate::completions::{self, SHELLS};
 use crate::words::{self, Lent};
-use crate::{Failure, files, manual, numbers, print, shots, sizes};
+use crate::{Failure, files, manual, numbers, print, rates, shots, sizes};
 use kundatrezo::{Examination, Frames, MAX_BYTES, Number, Refusal, Shots, bit};
 use std::fmt::Write;
 
@@ -15,6 +15,11 @@ const SHOTS: Flag =
     Flag { name: "--shots", value: FILE, text: "write the deltas by shot as lines of digits, and do not print them" };
 const PACKED: Flag =
     Flag { name: "--packed", value: FILE, text: "write the deltas by shot as packed bytes, and do not print them" };
+const TOTALS: Flag = Flag {
+    name: "--totals",
+    value: FILE,
+    text: "write the outcomes' totals and rates to this file, and do not print the deltas",
+};
 const OUTPUT: Flag =
     Flag { name: "--output", value: FILE, text: "write the text to this file; without it, to standard output" };
 const ROOM: Flag =
@@ -53,7 +58,7 @@ the number of outcomes that it records, and 'lines=' with that of its lines."],
     Command {
         name: "run",
         operand: Operand::Job,
-        summary: "the frames and the outcome deltas of all shots",
+        summary: "the frames and the outcome deltas of all shots, and how often each outcome is flipped",
         details: &[
             "\
 Runs a job in all of its shots. Prints 'ok=1' and the qubits, outcomes and shots of its header, then 'id='
@@ -61,9 +66,10 @@ and 'delta=' for each recorded outcome, with a digit for each shot, shot 0 first
             words::SERIES,
             ROWS,
             BY_SHOT,
+            rates::DETAILS,
             words::DETAILS,
         ],
-        options: &[words::FLAGS, &[X, Z, DELTAS, SHOTS, PACKED]],
+        options: &[words::FLAGS, &[X, Z, DELTAS, SHOTS, PACKED, TOTALS]],
         obey: run,
     },
     Command {
@@ -206,7 +212,10 @@ fn run(arguments: &Arguments) -> Result<(), Failure> {
     if let Some(path) = arguments.value(PACKED.name) {
         files::write(path, &shots::packed(&by_shot))?;
     }
-    let written = [DELTAS, SHOTS, PACKED].iter().any(|flag| arguments.value(flag.name).is_some());
+    if let Some(path) = arguments.value(TOTALS.name) {
+        files::write(path, rates::text(&frames, examined.recorded).as_bytes())?;
+    }
+    let written = [DELTAS, SHOTS, PACKED, TOTALS].iter().any(|flag| arguments.value(flag.name).is_some());
     let printed = if written { 0 } else { examined.recorded };
     print(session(&frames, printed) + &lent.report()?)
 }

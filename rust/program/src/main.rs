@@ -7,6 +7,7 @@ mod files;
 mod hints;
 mod manual;
 mod numbers;
+mod rates;
 mod shots;
 mod sizes;
 mod words;

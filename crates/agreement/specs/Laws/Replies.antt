@@ -73,7 +73,8 @@ walk-taken job source out shot set settles settled walks walked = go (walkable (
 delta-words : (h : Header) (m : Memory) → enoughWords h m ≡ true → outcomeWords h ≤ length (m .deltas)
 unfolding enoughWords
 delta-words h m e =
-    let three = both (leb (frameWords h) (length (m .x)) && leb (frameWords h) (length (m .z)) && leb (outcomeWords h) (length (m .deltas))) _ e in
+    let four = both (leb (frameWords h) (length (m .x)) && leb (frameWords h) (length (m .z)) && leb (outcomeWords h) (length (m .deltas)) && leb (h .outcomes) (length (m .totals))) _ e in
+    let three = both (leb (frameWords h) (length (m .x)) && leb (frameWords h) (length (m .z)) && leb (outcomeWords h) (length (m .deltas))) _ (four .0) in
     leb-true _ _ (both (leb (frameWords h) (length (m .x)) && leb (frameWords h) (length (m .z))) _ (three .0) .1)
 
 -- so the rows of the set, and the shot in them, lie in the words of a run of the job
@@ -93,7 +94,7 @@ rows-within job m shot set runs done taken row kept =
 
 -- what is said, the words that a run left, and the bytes
 abbrev replyOf : Agreement → RunReply → List ℕ → AgreeReply
-replyOf a ran after = record { agreement = a; x = ran .x; z = ran .z; deltas = ran .deltas; out = after }
+replyOf a ran after = record { agreement = a; x = ran .x; z = ran .z; deltas = ran .deltas; totals = ran .totals; out = after }
 
 module _ (job : List ℕ) (m : Memory) (out : List ℕ) (shot : ℕ) (set : List ℕ) where
   -- a reply, and that the calls agree

@@ -158,7 +158,7 @@ enough-other : (h : Header) (m : Memory) (other : Source) → enoughWords h m �
     → enoughWords h (withSource m other) ≡ true
 unfolding enoughWords
 enough-other h m other e enough =
-    let parts = both (leb (frameWords h) (length (m .x)) && leb (frameWords h) (length (m .z)) && leb (outcomeWords h) (length (m .deltas))) _ e in
+    let parts = both (leb (frameWords h) (length (m .x)) && leb (frameWords h) (length (m .z)) && leb (outcomeWords h) (length (m .deltas)) && leb (h .outcomes) (length (m .totals))) _ e in
     rw (parts .0, le-leb _ _ enough)
 
 finished-same : (h g : Header) (m : Memory) (other : Source) (ls : List SettledLine) → g ≡ h
@@ -197,7 +197,7 @@ settled-number j ls out = go (textFits (settledText (j .text) ls) out)
 noiseless-enough : (h : Header) (m : Memory) → enoughWords h m ≡ true → outcomeWords h ≤ length (m .source .noiseless)
 unfolding enoughWords
 noiseless-enough h m e =
-    leb-true _ _ (both (leb (frameWords h) (length (m .x)) && leb (frameWords h) (length (m .z)) && leb (outcomeWords h) (length (m .deltas))) _ e .1)
+    leb-true _ _ (both (leb (frameWords h) (length (m .x)) && leb (frameWords h) (length (m .z)) && leb (outcomeWords h) (length (m .deltas)) && leb (h .outcomes) (length (m .totals))) _ e .1)
 
 module _ (job : List ℕ) (m : Memory) where
   -- settling where there is enough for a run

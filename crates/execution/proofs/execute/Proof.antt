@@ -1,25 +1,27 @@
 -- `execution::execute` meets its contract. Assumes nothing.
 use Rattle.execution.specs.Laws.Steps.{GoingFrom, going-begun, going-some, going-on, going-fewer, going-stopped, going-end}
 use Rattle.execution.specs.Went.{lentBy}
+use Rattle.totals.specs.Held.{TotalsHeld}
 use Rattle.instructions.specs.Ahead.{instructionsAt}
 use lib.ListN.{length}
 use borrow.Author.Needs.{needs}
-use mathlib.Core.Path.{_≡_, refl, _∙_}
+use mathlib.Core.Path.{_≡_, refl, sym, _∙_}
 use native.Mathlib.Omega.{arith}
 use Rattle.execution.proofs.execute.Statement.{statement}
 use Rattle.execution.proofs.execute.Tie as tie
 
 abbrev Inv-loop : tie.InvT-loop
-Inv-loop job from x₀ z₀ deltas₀ shape noiseless main second base f₀ elements₀ scratch₀ place₀ x z deltas f elements scratch place =
+Inv-loop job from x₀ z₀ deltas₀ totals₀ shape noiseless main second base f₀ elements₀ scratch₀ place₀ x z deltas totals f elements scratch place =
     (length f ≡ 136) × (length elements ≡ 4096) × (length scratch ≡ 1984) × (length x ≡ length x₀) × (length z ≡ length z₀) × (length deltas ≡ length deltas₀)
     × GoingFrom job shape (lentBy shape noiseless second base) main from x₀ z₀ deltas₀ x z deltas place
+    × TotalsHeld (shape .width) (shape .outcomes) deltas totals
 
 abbrev μ-loop : tie.MeasureT-loop
-μ-loop job from x₀ z₀ deltas₀ shape noiseless main second base f₀ elements₀ scratch₀ place₀ x z deltas f elements scratch place =
+μ-loop job from x₀ z₀ deltas₀ totals₀ shape noiseless main second base f₀ elements₀ scratch₀ place₀ x z deltas totals f elements scratch place =
     length (instructionsAt job (place .line) (place .byte))
 
 loop-holds : tie.Need-loop-holds Inv-loop μ-loop
-loop-holds c = (refl, refl, refl, refl, refl, refl, going-begun _ _ _ _ _ _ (c .before .before .before .before .before .before .before .pre .0 .1) _ _ _)
+loop-holds c = (refl, refl, refl, refl, refl, refl, going-begun _ _ _ _ _ _ (c .before .before .before .before .before .before .before .before .pre .0 .1) _ _ _, c .before .before .before .before .before .before .before .before .pre .2)
 
 slice-aggregate-step : tie.Need-slice-aggregate-step Inv-loop μ-loop
 slice-aggregate-step c = omega (arith, c .before .before .before .loop .inv .0)
@@ -32,13 +34,13 @@ slice-aggregate-step-3 c = omega (arith, c .before .before .before .before .befo
 
 step-requires : tie.Need-step-requires Inv-loop μ-loop
 step-requires c κs =
-    let i = c .before .before .before .before .before .before .before .before .loop .inv in
+    let i = c .before .before .before .before .before .before .before .before .before .loop .inv in
     let g = going-some _ _ _ _ (i .6) in
-    let rows = c .before .before .before .before .before .before .before .before .before .before .before .before .before .before .before .before .pre .1 in (
+    let rows = c .before .before .before .before .before .before .before .before .before .before .before .before .before .before .before .before .before .before .pre .1 in (
       record {
         recorded = g .recorded;
         ahead = g .ahead;
-        inside = c .before .before .before .before .before .before .if1 .taken;
+        inside = c .before .before .before .before .before .before .before .if1 .taken;
         of-fields = omega (arith, i .0);
         of-elements = omega (arith, i .1);
         within = g .within;
@@ -52,6 +54,7 @@ step-requires c κs =
         of-noiseless = rows .of-noiseless;
       },
       omega (arith, i .2, rows .narrow),
+      i .7,
     )
 
 enum-known-moved : tie.Need-enum-known-moved Inv-loop μ-loop
@@ -61,50 +64,59 @@ enum-told : tie.Need-enum-told Inv-loop μ-loop
 enum-told c = search needs
 
 same-length : tie.Need-same-length Inv-loop μ-loop
-same-length c = c .before .before .before .before .before .before .before .before .before .before .before .step .kept .1 .1 .1 .1 .1 .0 ∙ c .before .before .before .before .before .before .before .before .before .before .before .before .before .before .before .before .before .before .before .before .loop .inv .3
+same-length c = c .before .before .before .before .before .before .before .before .before .before .before .before .before .step .kept .1 .1 .1 .1 .1 .0 ∙ c .before .before .before .before .before .before .before .before .before .before .before .before .before .before .before .before .before .before .before .before .before .before .before .loop .inv .3
 
 same-length-2 : tie.Need-same-length-2 Inv-loop μ-loop
-same-length-2 c = c .before .before .before .before .before .before .before .before .before .before .before .step .kept .1 .1 .1 .1 .1 .1 .0 ∙ c .before .before .before .before .before .before .before .before .before .before .before .before .before .before .before .before .before .before .before .before .loop .inv .4
+same-length-2 c = c .before .before .before .before .before .before .before .before .before .before .before .before .before .step .kept .1 .1 .1 .1 .1 .1 .0 ∙ c .before .before .before .before .before .before .before .before .before .before .before .before .before .before .before .before .before .before .before .before .before .before .before .loop .inv .4
 
 same-length-3 : tie.Need-same-length-3 Inv-loop μ-loop
-same-length-3 c = c .before .before .before .before .before .before .before .before .before .before .before .step .kept .1 .1 .1 .1 .1 .1 .1 .0 ∙ c .before .before .before .before .before .before .before .before .before .before .before .before .before .before .before .before .before .before .before .before .loop .inv .5
+same-length-3 c = c .before .before .before .before .before .before .before .before .before .before .before .before .before .step .kept .1 .1 .1 .1 .1 .1 .1 .0 ∙ c .before .before .before .before .before .before .before .before .before .before .before .before .before .before .before .before .before .before .before .before .before .before .before .loop .inv .5
+
+same-length-4 : tie.Need-same-length-4 Inv-loop μ-loop
+same-length-4 c = c .before .before .before .before .before .before .before .before .before .before .before .before .before .step .ensures .1 .long ∙ sym (c .before .before .before .before .before .before .before .before .before .before .before .before .before .before .before .before .before .before .before .before .before .before .before .before .before .before .before .before .before .before .before .before .pre .2 .long)
 
 returns : tie.Need-returns Inv-loop μ-loop
-returns c =
-    record {
-      by = going-stopped _ _ _ _ (c .before .before .before .before .before .before .before .before .before .before .before .before .before .before .before .before .before .before .before .before .loop .inv .6) _ _ _
-          (λ recorded ahead states holds. rw (c .enum-told .given .1) at (c .before .before .before .before .before .before .before .before .before .before .before .step .ensures .by recorded ahead states holds));
-    }
+returns c = (
+  record {
+    by = going-stopped _ _ _ _ (c .before .before .before .before .before .before .before .before .before .before .before .before .before .before .before .before .before .before .before .before .before .before .before .loop .inv .6) _ _ _
+        (λ recorded ahead states holds. rw (c .enum-told .given .1) at (c .before .before .before .before .before .before .before .before .before .before .before .before .before .step .ensures .0 .by recorded ahead states holds));
+  },
+  c .before .before .before .before .before .before .before .before .before .before .before .before .before .step .ensures .1,
+)
 
 loop-less : tie.Need-loop-less Inv-loop μ-loop
 loop-less c =
-    going-fewer _ _ _ _ (c .before .before .before .before .before .before .before .before .before .before .before .before .before .before .before .before .before .before .before .before .before .loop .inv .6) _ _ _ _
-    (λ recorded ahead states holds. rw (c .before .moved .given .1) at (c .before .before .before .before .before .before .before .before .before .before .before .before .step .ensures .by recorded ahead states holds))
+    going-fewer _ _ _ _ (c .before .before .before .before .before .before .before .before .before .before .before .before .before .before .before .before .before .before .before .before .before .before .before .before .loop .inv .6) _ _ _ _
+    (λ recorded ahead states holds. rw (c .before .moved .given .1) at (c .before .before .before .before .before .before .before .before .before .before .before .before .before .before .step .ensures .0 .by recorded ahead states holds))
 
 loop-again : tie.Need-loop-again Inv-loop μ-loop
 loop-again c =
-    let i = c .before .before .before .before .before .before .before .before .before .before .before .before .before .before .before .before .before .before .before .before .before .loop .inv in (
-      c .before .before .before .before .before .before .before .before .before .before .before .before .step .kept .1 .1 .0 ∙ i .0,
-      c .before .before .before .before .before .before .before .before .before .before .before .before .step .kept .1 .1 .1 .0 ∙ i .1,
-      c .before .before .before .before .before .before .before .before .before .before .before .before .step .kept .1 .1 .1 .1 .0 ∙ i .2,
-      c .before .before .before .before .before .before .before .before .before .before .before .before .step .kept .1 .1 .1 .1 .1 .0 ∙ i .3,
-      c .before .before .before .before .before .before .before .before .before .before .before .before .step .kept .1 .1 .1 .1 .1 .1 .0 ∙ i .4,
-      c .before .before .before .before .before .before .before .before .before .before .before .before .step .kept .1 .1 .1 .1 .1 .1 .1 .0 ∙ i .5,
+    let i = c .before .before .before .before .before .before .before .before .before .before .before .before .before .before .before .before .before .before .before .before .before .before .before .before .loop .inv in (
+      c .before .before .before .before .before .before .before .before .before .before .before .before .before .before .step .kept .1 .1 .0 ∙ i .0,
+      c .before .before .before .before .before .before .before .before .before .before .before .before .before .before .step .kept .1 .1 .1 .0 ∙ i .1,
+      c .before .before .before .before .before .before .before .before .before .before .before .before .before .before .step .kept .1 .1 .1 .1 .0 ∙ i .2,
+      c .before .before .before .before .before .before .before .before .before .before .before .before .before .before .step .kept .1 .1 .1 .1 .1 .0 ∙ i .3,
+      c .before .before .before .before .before .before .before .before .before .before .before .before .before .before .step .kept .1 .1 .1 .1 .1 .1 .0 ∙ i .4,
+      c .before .before .before .before .before .before .before .before .before .before .before .before .before .before .step .kept .1 .1 .1 .1 .1 .1 .1 .0 ∙ i .5,
       going-on _ _ _ _ (i .6) _ _ _ _
-          (λ recorded ahead states holds. rw (c .before .moved .given .1) at (c .before .before .before .before .before .before .before .before .before .before .before .before .step .ensures .by recorded ahead states holds)),
+          (λ recorded ahead states holds. rw (c .before .moved .given .1) at (c .before .before .before .before .before .before .before .before .before .before .before .before .before .before .step .ensures .0 .by recorded ahead states holds)),
+      c .before .before .before .before .before .before .before .before .before .before .before .before .before .before .step .ensures .1,
     )
 
-same-length-4 : tie.Need-same-length-4 Inv-loop μ-loop
-same-length-4 c = c .before .before .loop .inv .3
-
 same-length-5 : tie.Need-same-length-5 Inv-loop μ-loop
-same-length-5 c = c .before .before .loop .inv .4
+same-length-5 c = c .before .before .loop .inv .3
 
 same-length-6 : tie.Need-same-length-6 Inv-loop μ-loop
-same-length-6 c = c .before .before .loop .inv .5
+same-length-6 c = c .before .before .loop .inv .4
+
+same-length-7 : tie.Need-same-length-7 Inv-loop μ-loop
+same-length-7 c = c .before .before .loop .inv .5
+
+same-length-8 : tie.Need-same-length-8 Inv-loop μ-loop
+same-length-8 c = c .before .before .loop .inv .7 .long ∙ sym (c .before .before .before .before .before .before .before .before .before .before .before .pre .2 .long)
 
 returns-2 : tie.Need-returns-2 Inv-loop μ-loop
-returns-2 c = record { by = going-end _ _ _ _ (c .before .before .loop .inv .6) (c .if1 .left) }
+returns-2 c = (record { by = going-end _ _ _ _ (c .before .before .loop .inv .6) (c .if1 .left) }, c .before .before .loop .inv .7)
 
 pub execute-spec : {M : Type 1} → statement M
 execute-spec =
@@ -122,10 +134,12 @@ execute-spec =
     same-length
     same-length-2
     same-length-3
+    same-length-4
     returns
     loop-less
     loop-again
-    same-length-4
     same-length-5
     same-length-6
+    same-length-7
+    same-length-8
     returns-2)

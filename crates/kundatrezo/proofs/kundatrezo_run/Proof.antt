@@ -3,6 +3,9 @@ use borrow.Author.Needs.{needs}
 use Rattle.kundatrezo.proofs.kundatrezo_run.Statement.{statement}
 use Rattle.kundatrezo.proofs.kundatrezo_run.Tie as tie
 
+slice-aggregate-run : tie.Need-slice-aggregate-run
+slice-aggregate-run c = search needs
+
 run-requires : tie.Need-run-requires
 run-requires c κs = search needs
 
@@ -16,7 +19,7 @@ same-length-3 : tie.Need-same-length-3
 same-length-3 c = search needs
 
 returns : tie.Need-returns
-returns c = c .before .before .before .before .before .before .run .ensures
+returns c = (_, c .before .before .before .before .before .before .before .run .ensures)
 
 pub kundatrezo-run-spec : {M : Type 1} → statement M
-kundatrezo-run-spec = tie.close (tie.spec run-requires same-length same-length-2 same-length-3 returns)
+kundatrezo-run-spec = tie.close (tie.spec slice-aggregate-run run-requires same-length same-length-2 same-length-3 returns)

@@ -2,7 +2,7 @@
 use mathlib.Core.Path.{sym}
 use native.Mathlib.Omega.{arith}
 use lib.Seq.{length-take-le}
-use Rattle.printing.specs.Laws.Printed.{shots-few, frame-few, outcomes-few, lends-zeros}
+use Rattle.printing.specs.Laws.Printed.{shots-few, frame-few, outcomes-few, totals-few, lends-zeros}
 use borrow.Author.Needs.{needs}
 use Rattle.printing.proofs.put_reply.Statement.{statement}
 use Rattle.printing.proofs.put_reply.Tie as tie
@@ -34,14 +34,20 @@ array-borrow-prefix-deltas c = rw (c .before .before .before .before .before .sh
 slice-aggregate-put-run-3 : tie.Need-slice-aggregate-put-run-3
 slice-aggregate-put-run-3 c = rw (c .before .before .before .before .before .before .shape-of .ensures) (sym (length-take-le _ _ (outcomes-few (c .before .before .before .before .before .before .before .before .before .pre))))
 
-array-share-prefix-noiseless : tie.Need-array-share-prefix-noiseless
-array-share-prefix-noiseless c = rw (c .before .before .before .before .before .before .shape-of .ensures) (outcomes-few (c .before .before .before .before .before .before .before .before .before .pre))
+array-borrow-prefix-totals : tie.Need-array-borrow-prefix-totals
+array-borrow-prefix-totals c = rw (c .before .before .before .before .before .before .shape-of .ensures) (totals-few (c .before .before .before .before .before .before .before .before .before .pre))
 
 slice-aggregate-put-run-4 : tie.Need-slice-aggregate-put-run-4
-slice-aggregate-put-run-4 c = rw (c .before .before .before .before .before .before .before .shape-of .ensures) (sym (length-take-le _ _ (outcomes-few (c .before .before .before .before .before .before .before .before .before .before .pre))))
+slice-aggregate-put-run-4 c = rw (c .before .before .before .before .before .before .before .shape-of .ensures) (sym (length-take-le _ _ (totals-few (c .before .before .before .before .before .before .before .before .before .before .pre))))
+
+array-share-prefix-noiseless : tie.Need-array-share-prefix-noiseless
+array-share-prefix-noiseless c = rw (c .before .before .before .before .before .before .before .shape-of .ensures) (outcomes-few (c .before .before .before .before .before .before .before .before .before .before .pre))
+
+slice-aggregate-put-run-5 : tie.Need-slice-aggregate-put-run-5
+slice-aggregate-put-run-5 c = rw (c .before .before .before .before .before .before .before .before .shape-of .ensures) (sym (length-take-le _ _ (outcomes-few (c .before .before .before .before .before .before .before .before .before .before .before .pre))))
 
 put-run-requires : tie.Need-put-run-requires
-put-run-requires c κs = rw (c .before .before .before .before .before .before .before .shape-of .ensures) (c .before .before .before .before .before .before .before .before .before .before .pre, lends-zeros (c .before .before .before .before .before .before .before .before .before .before .pre))
+put-run-requires c κs = rw (c .before .before .before .before .before .before .before .before .shape-of .ensures) (c .before .before .before .before .before .before .before .before .before .before .before .pre, lends-zeros (c .before .before .before .before .before .before .before .before .before .before .before .pre))
 
 same-length : tie.Need-same-length
 same-length c = search needs
@@ -62,8 +68,10 @@ put-reply-spec =
     slice-aggregate-put-run-2
     array-borrow-prefix-deltas
     slice-aggregate-put-run-3
-    array-share-prefix-noiseless
+    array-borrow-prefix-totals
     slice-aggregate-put-run-4
+    array-share-prefix-noiseless
+    slice-aggregate-put-run-5
     put-run-requires
     same-length
     returns)

@@ -89,33 +89,33 @@ pub ran-printed : (job : List ℕ) (r : RunReply) (h : Header) (n : ℕ) → Run
 unfolding ranText replyLines sessionLines headerText
 ran-printed job r h n s e z = rw (e, eq-eqb (r .answered .number) 0 z, s .header, s .recorded)
 
-abbrev lentBy : List ℕ → List ℕ → List ℕ → List ℕ → Memory
-lentBy x z deltas noiseless =
-    record { x = x; z = z; deltas = deltas; source = record { noiseless = noiseless; main = []; second = []; base = 0 } }
+abbrev lentBy : List ℕ → List ℕ → List ℕ → List ℕ → List ℕ → Memory
+lentBy x z deltas totals noiseless =
+    record { x = x; z = z; deltas = deltas; totals = totals; source = record { noiseless = noiseless; main = []; second = []; base = 0 } }
 
-lent-zeros : {h : Header} {x z deltas noiseless : List ℕ} → Lends h x z deltas noiseless → lentBy x z deltas noiseless ≡ lentMemory h
+lent-zeros : {h : Header} {x z deltas totals noiseless : List ℕ} → Lends h x z deltas totals noiseless → lentBy x z deltas totals noiseless ≡ lentMemory h
 unfolding lentMemory
-lent-zeros l = rw (l .x-words, l .z-words, l .delta-words, l .noiseless-words)
+lent-zeros l = rw (l .x-words, l .z-words, l .delta-words, l .of-totals, l .noiseless-words)
 
-ran-lent : {job : List ℕ} {h : Header} {n : ℕ} {x z deltas noiseless : List ℕ} (r : RunReply) → RunsSmall job h n → Lends h x z deltas noiseless
-    → runReply job (lentBy x z deltas noiseless) ≡ r → runReply job (lentMemory (jobOf job .header)) ≡ r
+ran-lent : {job : List ℕ} {h : Header} {n : ℕ} {x z deltas totals noiseless : List ℕ} (r : RunReply) → RunsSmall job h n → Lends h x z deltas totals noiseless
+    → runReply job (lentBy x z deltas totals noiseless) ≡ r → runReply job (lentMemory (jobOf job .header)) ≡ r
 ran-lent {job} {h} r s l e =
     ap (λ (g : Header). runReply job (lentMemory g)) (sym (s .header)) ∙ ap (runReply job) (sym (lent-zeros l)) ∙ e
 
 -- a run that refuses, and one that ends
-pub run-refused : {job : List ℕ} {h : Header} {n : ℕ} {x z deltas noiseless : List ℕ} {a : Answer} {x₁ z₁ deltas₁ out after : List ℕ} {next : ℕ}
-    → RunsSmall job h n → Lends h x z deltas noiseless
-    → runReply job (lentBy x z deltas noiseless) ≡ record { answered = a; x = x₁; z = z₁; deltas = deltas₁ } → (a .number ≡ 0 → ⊥)
+pub run-refused : {job : List ℕ} {h : Header} {n : ℕ} {x z deltas totals noiseless : List ℕ} {a : Answer} {x₁ z₁ deltas₁ totals₁ out after : List ℕ} {next : ℕ}
+    → RunsSmall job h n → Lends h x z deltas totals noiseless
+    → runReply job (lentBy x z deltas totals noiseless) ≡ record { answered = a; x = x₁; z = z₁; deltas = deltas₁; totals = totals₁ } → (a .number ≡ 0 → ⊥)
     → Puts 0 (unlines (refusalLines a)) out after next → Puts 0 (ranText job) out after next
 run-refused {job} s l e ne p = rw (ran-refused job _ (ran-lent _ s l e) ne) p
 
-pub run-ended : {job : List ℕ} {h : Header} {n : ℕ} {x z deltas noiseless : List ℕ} {a : Answer} {x₁ z₁ deltas₁ out after : List ℕ} {next : ℕ}
-    → RunsSmall job h n → Lends h x z deltas noiseless
-    → runReply job (lentBy x z deltas noiseless) ≡ record { answered = a; x = x₁; z = z₁; deltas = deltas₁ } → a .number ≡ 0
+pub run-ended : {job : List ℕ} {h : Header} {n : ℕ} {x z deltas totals noiseless : List ℕ} {a : Answer} {x₁ z₁ deltas₁ totals₁ out after : List ℕ} {next : ℕ}
+    → RunsSmall job h n → Lends h x z deltas totals noiseless
+    → runReply job (lentBy x z deltas totals noiseless) ≡ record { answered = a; x = x₁; z = z₁; deltas = deltas₁; totals = totals₁ } → a .number ≡ 0
     → Puts 0 (unlines (headerText h ∷ deltaLines h deltas₁ n 0)) out after next → Puts 0 (ranText job) out after next
 run-ended {job} {h} {n} s l e z p = rw (ran-printed job _ h n s (ran-lent _ s l e) z) p
 
-pub rows-ready : {job : List ℕ} {h : Header} {n : ℕ} {x z deltas noiseless : List ℕ} {k : ℕ} → RunsSmall job h n → Lends h x z deltas noiseless
+pub rows-ready : {job : List ℕ} {h : Header} {n : ℕ} {x z deltas totals noiseless : List ℕ} {k : ℕ} → RunsSmall job h n → Lends h x z deltas totals noiseless
     → k ≡ length deltas → (h .shots ≤ 64) × (n ≤ 256) × (n * wordsPerRow (h .shots) ≤ k)
 rows-ready {job} {h} {n} {k = k} s l kept =
     let small = small-parts h (s .small) in
@@ -133,12 +133,16 @@ frame-few {job} {h} s = let small = small-parts h (s .small) in few-rows (h .qub
 pub outcomes-few : {job : List ℕ} {h : Header} {n : ℕ} → RunsSmall job h n → outcomeWords h ≤ 256
 outcomes-few {job} {h} s = let small = small-parts h (s .small) in few-rows (h .outcomes) (h .shots) 256 (small .outcomes) (small .shots)
 
+pub totals-few : {job : List ℕ} {h : Header} {n : ℕ} → RunsSmall job h n → h .outcomes ≤ 256
+totals-few {job} {h} s = small-parts h (s .small) .outcomes
+
 pub lends-zeros : {job : List ℕ} {h : Header} {n : ℕ} → RunsSmall job h n
-    → Lends h (take (frameWords h) (replicate 64 0)) (take (frameWords h) (replicate 64 0)) (take (outcomeWords h) (replicate 256 0)) (take (outcomeWords h) (replicate 256 0))
+    → Lends h (take (frameWords h) (replicate 64 0)) (take (frameWords h) (replicate 64 0)) (take (outcomeWords h) (replicate 256 0)) (take (h .outcomes) (replicate 256 0)) (take (outcomeWords h) (replicate 256 0))
 lends-zeros {job} {h} s =
     let frame = zeros-taken (frameWords h) 64 (frame-few s) in
     let outcomes = zeros-taken (outcomeWords h) 256 (outcomes-few s) in
-    record { x-words = frame; z-words = frame; delta-words = outcomes; noiseless-words = outcomes }
+    let totals = zeros-taken (h .outcomes) 256 (totals-few s) in
+    record { x-words = frame; z-words = frame; delta-words = outcomes; of-totals = totals; noiseless-words = outcomes }
 
 -- ---- the program
 

@@ -1,24 +1,28 @@
 -- Paulis that are added where a mask says, in every shot. Assumes nothing.
-use mathlib.Core.Path.{_≡_, ap, ap₂, _∙_}
+use mathlib.Core.Path.{_≡_, refl, ap, ap₂, _∙_}
 use mathlib.Core.Bool.{Bool, true, false}
 use mathlib.Core.List.{List}
 use Prim.Native.Nat.{ℕ, _+_, _*_, _/_, _%_, _<_, _≤_}
 use native.Mathlib.Omega.{arith}
 use lib.Dec.{eqb}
 use native.Mathlib.Nat.{zero-mul, zero-add}
-use lib.ListN.{length}
+use lib.ListN.{length, set}
 use Rattle.pauli.specs.Bits.{Bits, members, replaced, added as addedAt, _⊕_, _∩_, parity, sumOver}
 use Rattle.pauli.specs.Pauli.{Pauli, _∗_, when, anticommutes, cleared}
 use Rattle.pauli.specs.Laws.Gates.{pauli-path}
 use Rattle.job.specs.Line.{SparsePauli, pauliOf, Line}
 use Rattle.job.specs.Checks.{allBelow, distinct}
-use Rattle.frames.specs.Forward.{onFrame, forward, exponentiate, controlledPauli}
+use Rattle.frames.specs.Forward.{State, onFrame, forward, exponentiate, controlledPauli}
+use Rattle.rows.specs.Words.{bitIn}
 use Rattle.rows.specs.Overwrite.{xored, cleared as clearedWords, flipped}
 use Rattle.rows.specs.Listed.{overList}
 use Rattle.rows.specs.Column.{column}
 use Rattle.rows.specs.Laws.Overwrite.{length-cleared, length-xored}
 use Rattle.rows.specs.Laws.Listed.{length-over}
 use Rattle.rows.specs.Laws.Column.{column-add-mask, column-flip, column-clear, column-flipped, column-add-listed, column-sum-listed, added-twice, added-replaced, replaced-here, replaced-off}
+use Rattle.totals.specs.Ones.{onesTo}
+use Rattle.totals.specs.Held.{TotalsHeld}
+use Rattle.totals.specs.Laws.Held.{added-off, held-set}
 use Rattle.propagator.specs.Acts.{frameOf, Acts, lineRule, written, PauliIn, MaskPut}
 use Rattle.propagator.specs.Laws.Lists.{odd-members, sum-members, row-in, rows-in}
 use Rattle.propagator.specs.Laws.Acts.{acts-frame}
@@ -58,6 +62,13 @@ module _ (w n : ℕ) (x z : List ℕ) (lx : length x ≡ n * w) (lz : length z �
       shot s h =
           rw (e₂, column-add-listed w s h id z px d₁ fits₁, e₁, column-add-listed w s h id x pz d fits, added-twice)
           (ap (addedAt (column w d s) id) (sums-anticommute s))
+
+  -- the other rows are as they were, so that their totals hold
+  pub measure-held : (m id : ℕ) (d d′ totals totals′ : List ℕ) → id < m → Acts w (lineRule n m (Line.measure (written px pz) id)) x z d x z d′ → TotalsHeld w m d totals
+      → totals′ ≡ set totals id (onesTo (64 * w) (bitIn w d′ id)) → TotalsHeld w m d′ totals′
+  unfolding forward
+  measure-held m id d d′ totals totals′ below acts held e =
+      rw e (held-set held id below _ (λ s r h ne. ap (λ (t : State). t .deltas r) (acts .shots s h) ∙ added-off (column w d s) id _ r ne) refl)
 
   pub pauli-acts : (d masks : List ℕ) (r : ℕ) (x′ z′ : List ℕ) → x′ ≡ overList (λ q. xored (q * w) (r * w) w masks) px x
       → z′ ≡ overList (λ q. xored (q * w) (r * w) w masks) pz z

@@ -17,6 +17,9 @@ words-buffer-requires-3 c κs = search needs
 words-buffer-requires-4 : tie.Need-words-buffer-requires-4
 words-buffer-requires-4 c κs = search needs
 
+words-buffer-requires-5 : tie.Need-words-buffer-requires-5
+words-buffer-requires-5 c κs = search needs
+
 member-requires : tie.Need-member-requires
 member-requires c κs = search needs
 
@@ -53,6 +56,9 @@ slice-aggregate-ran-4 c = search needs
 slice-aggregate-ran-5 : tie.Need-slice-aggregate-ran-5
 slice-aggregate-ran-5 c = search needs
 
+slice-aggregate-ran-6 : tie.Need-slice-aggregate-ran-6
+slice-aggregate-ran-6 c = search needs
+
 ran-requires : tie.Need-ran-requires
 ran-requires c κs = search needs
 
@@ -67,6 +73,7 @@ replay-run-spec =
     words-buffer-requires-2
     words-buffer-requires-3
     words-buffer-requires-4
+    words-buffer-requires-5
     member-requires
     part-end-requires
     sub-words
@@ -79,5 +86,6 @@ replay-run-spec =
     slice-aggregate-ran-3
     slice-aggregate-ran-4
     slice-aggregate-ran-5
+    slice-aggregate-ran-6
     ran-requires
     returns)

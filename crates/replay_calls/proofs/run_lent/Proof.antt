@@ -14,6 +14,9 @@ sub-in-z c = search needs
 sub-in-deltas : tie.Need-sub-in-deltas
 sub-in-deltas c = search needs
 
+sub-in-totals : tie.Need-sub-in-totals
+sub-in-totals c = search needs
+
 slice-relend-prefix-run : tie.Need-slice-relend-prefix-run
 slice-relend-prefix-run c = search needs
 
@@ -32,8 +35,14 @@ slice-relend-prefix-run-3 c = search needs
 slice-aggregate-run-3 : tie.Need-slice-aggregate-run-3
 slice-aggregate-run-3 c = sym (length-take-le _ _ (search needs))
 
+slice-relend-prefix-run-4 : tie.Need-slice-relend-prefix-run-4
+slice-relend-prefix-run-4 c = search needs
+
 slice-aggregate-run-4 : tie.Need-slice-aggregate-run-4
 slice-aggregate-run-4 c = sym (length-take-le _ _ (search needs))
+
+slice-aggregate-run-5 : tie.Need-slice-aggregate-run-5
+slice-aggregate-run-5 c = sym (length-take-le _ _ (search needs))
 
 mul-run : tie.Need-mul-run
 mul-run c = search needs
@@ -71,6 +80,9 @@ same-length-2 c = search needs
 same-length-3 : tie.Need-same-length-3
 same-length-3 c = search needs
 
+same-length-4 : tie.Need-same-length-4
+same-length-4 c = search needs
+
 returns : tie.Need-returns
 returns c = search needs
 
@@ -81,13 +93,16 @@ run-lent-spec =
     sub-in-x
     sub-in-z
     sub-in-deltas
+    sub-in-totals
     slice-relend-prefix-run
     slice-aggregate-run
     slice-relend-prefix-run-2
     slice-aggregate-run-2
     slice-relend-prefix-run-3
     slice-aggregate-run-3
+    slice-relend-prefix-run-4
     slice-aggregate-run-4
+    slice-aggregate-run-5
     mul-run
     sub-run
     part-run-start
@@ -100,4 +115,5 @@ run-lent-spec =
     same-length
     same-length-2
     same-length-3
+    same-length-4
     returns)

@@ -47,12 +47,12 @@ bit-word (suc n) b (suc k) h =
 
 -- ---- a list of given words
 
-length-tabulated : (f : ℕ → ℕ) (n : ℕ) → length (tabulated f n) ≡ n
+pub length-tabulated : (f : ℕ → ℕ) (n : ℕ) → length (tabulated f n) ≡ n
 unfolding tabulated
 length-tabulated f zero = refl
 length-tabulated f (suc n) = ap suc (length-tabulated (λ i. f (suc i)) n)
 
-tabulated-at : (f : ℕ → ℕ) (n i : ℕ) → i < n → getD (tabulated f n) i 0 ≡ f i
+pub tabulated-at : (f : ℕ → ℕ) (n i : ℕ) → i < n → getD (tabulated f n) i 0 ≡ f i
 unfolding tabulated
 tabulated-at f zero i h = absurd (omega arith)
 tabulated-at f (suc n) zero h = refl

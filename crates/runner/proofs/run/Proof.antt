@@ -37,7 +37,7 @@ find-requires : tie.Need-find-requires
 find-requires c κs = search needs
 
 add-from : tie.Need-add-from
-add-from c = record { fits = omega (arith, c .find .ensures .1, c .before .before .before .before .before .before .before .before .before .before .before .before .before .before .before .before .before .before .good) }
+add-from c = record { fits = omega (arith, c .find .ensures .1, c .before .before .before .before .before .before .before .before .before .before .before .before .before .before .before .before .before .before .before .good) }
 
 slice-relend-prefix-run-needed : tie.Need-slice-relend-prefix-run-needed
 slice-relend-prefix-run-needed c = (enough-words (sym (c .before .before .enough .ensures) ∙ not-false _ (c .before .if2 .left))) .of-x
@@ -57,14 +57,21 @@ slice-relend-prefix-run-needed-3 c = (enough-words (sym (c .before .before .befo
 slice-aggregate-run-needed-3 : tie.Need-slice-aggregate-run-needed-3
 slice-aggregate-run-needed-3 c = sym (length-take-le _ _ ((enough-words (sym (c .before .before .before .before .before .enough .ensures) ∙ not-false _ (c .before .before .before .before .if2 .left))) .of-deltas))
 
+slice-relend-prefix-run-needed-4 : tie.Need-slice-relend-prefix-run-needed-4
+slice-relend-prefix-run-needed-4 c = (enough-words (sym (c .before .before .before .before .before .enough .ensures) ∙ not-false _ (c .before .before .before .before .if2 .left))) .of-totals
+
+slice-aggregate-run-needed-4 : tie.Need-slice-aggregate-run-needed-4
+slice-aggregate-run-needed-4 c = sym (length-take-le _ _ ((enough-words (sym (c .before .before .before .before .before .before .enough .ensures) ∙ not-false _ (c .before .before .before .before .before .if2 .left))) .of-totals))
+
 run-needed-requires : tie.Need-run-needed-requires
 run-needed-requires c κs =
-    let e = enough-words (rw (c .before .before .before .before .before .before .before .before .shape-of .ensures) at (sym (c .before .before .before .before .before .enough .ensures) ∙ not-false _ (c .before .before .before .before .if2 .left))) in
-    rw (c .before .before .before .before .before .before .before .before .shape-of .ensures)
-    (needed-ready (passed-at (c .before .before .before .before .before .before .before .before .before .before .before .before .before .examine .ensures) (c .before .before .before .before .before .before .before .before .before .before .if1 .left) (c .before .before .before .find .ensures .0))
+    let e = enough-words (rw (c .before .before .before .before .before .before .before .before .before .shape-of .ensures) at (sym (c .before .before .before .before .before .before .enough .ensures) ∙ not-false _ (c .before .before .before .before .before .if2 .left))) in
+    rw (c .before .before .before .before .before .before .before .before .before .shape-of .ensures)
+    (needed-ready (passed-at (c .before .before .before .before .before .before .before .before .before .before .before .before .before .before .examine .ensures) (c .before .before .before .before .before .before .before .before .before .before .before .if1 .left) (c .before .before .before .before .find .ensures .0))
     (length-take-le _ _ (e .of-x))
     (length-take-le _ _ (e .of-z))
     (length-take-le _ _ (e .of-deltas))
+    (length-take-le _ _ (e .of-totals))
     (e .of-noiseless))
 
 same-length : tie.Need-same-length
@@ -76,12 +83,15 @@ same-length-2 c = search needs
 same-length-3 : tie.Need-same-length-3
 same-length-3 c = search needs
 
+same-length-4 : tie.Need-same-length-4
+same-length-4 c = search needs
+
 returns-3 : tie.Need-returns-3
 returns-3 c =
-    rw (c .before .before .before .before .before .before .before .before .before .before .before .before .before .before .before .shape-of .ensures)
-    (needed-reply (passed-at (c .before .before .before .before .before .before .before .before .before .before .before .before .before .before .before .before .before .before .before .before .examine .ensures) (c .before .before .before .before .before .before .before .before .before .before .before .before .before .before .before .before .before .if1 .left) (c .before .before .before .before .before .before .before .before .before .before .find .ensures .0)) _
-    (sym (same-test _ _) ∙ rw (c .before .before .before .before .before .before .before .before .before .before .before .before .before .before .before .shape-of .ensures) at (sym (c .before .before .before .before .before .before .before .before .before .before .before .before .enough .ensures) ∙ not-false _ (c .before .before .before .before .before .before .before .before .before .before .before .if2 .left)))
-    (rw (c .before .before .before .before .before .before .before .before .before .before .before .before .before .before .before .shape-of .ensures) at (c .before .before .before .before .before .before .run-needed .ensures)))
+    rw (c .before .before .before .before .before .before .before .before .before .before .before .before .before .before .before .before .before .before .shape-of .ensures)
+    (needed-reply (passed-at (c .before .before .before .before .before .before .before .before .before .before .before .before .before .before .before .before .before .before .before .before .before .before .before .examine .ensures) (c .before .before .before .before .before .before .before .before .before .before .before .before .before .before .before .before .before .before .before .before .if1 .left) (c .before .before .before .before .before .before .before .before .before .before .before .before .before .find .ensures .0)) _
+    (sym (same-test _ _) ∙ rw (c .before .before .before .before .before .before .before .before .before .before .before .before .before .before .before .before .before .before .shape-of .ensures) at (sym (c .before .before .before .before .before .before .before .before .before .before .before .before .before .before .before .enough .ensures) ∙ not-false _ (c .before .before .before .before .before .before .before .before .before .before .before .before .before .before .if2 .left)))
+    (rw (c .before .before .before .before .before .before .before .before .before .before .before .before .before .before .before .before .before .before .shape-of .ensures) at (c .before .before .before .before .before .before .before .before .run-needed .ensures)))
 
 pub run-spec : {M : Type 1} → statement M
 run-spec =
@@ -103,8 +113,11 @@ run-spec =
     slice-aggregate-run-needed-2
     slice-relend-prefix-run-needed-3
     slice-aggregate-run-needed-3
+    slice-relend-prefix-run-needed-4
+    slice-aggregate-run-needed-4
     run-needed-requires
     same-length
     same-length-2
     same-length-3
+    same-length-4
     returns-3)

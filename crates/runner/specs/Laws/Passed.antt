@@ -67,9 +67,9 @@ module _ {job : List ℕ} {h : Header} {from : ℕ} (p : Passed job h from) wher
   shaped : h ≡ headerOf job (shapeOf (h .qubits) (h .outcomes) (h .shots))
   shaped = ap (λ (g : Header). headerWith (g .edition) (h .qubits) (h .outcomes) (h .shots)) (sym (p .header))
 
-  pub needed-ready : {x z d noiseless : List ℕ} → length x ≡ frameWords h → length z ≡ frameWords h → length d ≡ outcomeWords h
-      → outcomeWords h ≤ length noiseless → NeededReady job (shapeOf (h .qubits) (h .outcomes) (h .shots)) from x z d noiseless
-  needed-ready lx lz ld ln =
+  pub needed-ready : {x z d totals noiseless : List ℕ} → length x ≡ frameWords h → length z ≡ frameWords h → length d ≡ outcomeWords h → length totals ≡ h .outcomes
+      → outcomeWords h ≤ length noiseless → NeededReady job (shapeOf (h .qubits) (h .outcomes) (h .shots)) from x z d totals noiseless
+  needed-ready lx lz ld lt ln =
       record {
         ahead = subst (λ (g : Header). Ahead job g 0 2 from) shaped (p .ahead);
         sound = subst (λ (g : Header). InstructionsSound g 0 (instructionsAt job 2 from)) shaped (p .sound);
@@ -77,15 +77,22 @@ module _ {job : List ℕ} {h : Header} {from : ℕ} (p : Passed job h from) wher
         of-x = lx;
         of-z = lz;
         of-deltas = ld;
+        of-totals = lt;
         of-noiseless = ln;
       }
 
-  pub needed-reply : (m : Memory) {x z d : List ℕ} {r : Answer} → enoughWords h m ≡ true
-      → NeededRun job (headerOf job (shapeOf (h .qubits) (h .outcomes) (h .shots))) (m .source) from x z d r
+  pub needed-reply : (m : Memory) {x z d totals : List ℕ} {r : Answer} → enoughWords h m ≡ true
+      → NeededRun job (headerOf job (shapeOf (h .qubits) (h .outcomes) (h .shots))) (m .source) from x z d totals r
       → runReply job m
-      ≡ record { answered = r; x = x ++ drop (frameWords h) (m .x); z = z ++ drop (frameWords h) (m .z); deltas = d ++ drop (outcomeWords h) (m .deltas) }
-  needed-reply m enough runs =
-      let run = subst (λ (g : Header). NeededRun job g (m .source) from _ _ _ _) (sym shaped) runs in
+      ≡ record {
+        answered = r;
+        x = x ++ drop (frameWords h) (m .x);
+        z = z ++ drop (frameWords h) (m .z);
+        deltas = d ++ drop (outcomeWords h) (m .deltas);
+        totals = totals ++ drop (h .outcomes) (m .totals);
+      }
+  needed-reply m {x} {z} {d} {totals} {r} enough runs =
+      let run = subst (λ (g : Header). NeededRun job g (m .source) from x z d totals r) (sym shaped) runs in
       run-enough job m (p .passed) (rw (p .header) enough)
       ∙ rw (p .header, ← p .instructions) (needed-over h m _ ∙ rw (run .is))
 

@@ -364,7 +364,7 @@ fn help_names_every_command_and_option() {
     let drawn: &[&str] = &lists.split(' ').collect::<Vec<_>>();
     let commands = [
         ("check", vec![]),
-        ("run", [drawn, &["x", "z", "deltas", "shots", "packed"]].concat()),
+        ("run", [drawn, &["x", "z", "deltas", "shots", "packed", "totals"]].concat()),
         ("settle", [drawn, &["output", "room"]].concat()),
         ("walk", vec!["shot", "set"]),
         ("annotate", vec!["p", "p-bits", "output", "room"]),

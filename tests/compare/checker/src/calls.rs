@@ -44,13 +44,14 @@ pub struct Draws<'a> {
     pub second: &'a [u64],
 }
 
-/// The lent words that a run writes.
+/// The lent words that a run writes; without totals it is the call that keeps none.
 #[derive(Debug)]
 #[allow(missing_docs)]
 pub struct Rows<'a> {
     pub frames_x: &'a mut [u64],
     pub frames_z: &'a mut [u64],
     pub deltas: &'a mut [u64],
+    pub totals: Option<&'a mut [u64]>,
 }
 
 /// Every call, on lists of any length.
@@ -58,7 +59,7 @@ pub trait Calls {
     /// The tests of a job.
     fn check(&self, job: &[u8]) -> Answer;
 
-    /// Run a job to its end; frames and deltas are in `rows`.
+    /// Run a job to its end; frames, deltas and their totals are in `rows`.
     fn run(&self, job: &[u8], draws: Draws<'_>, noiseless: &[u64], rows: Rows<'_>) -> Answer;
 
     /// Write the settled job at the front of `out`; the figure is its bytes.

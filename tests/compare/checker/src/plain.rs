@@ -127,7 +127,7 @@ pub fn print_with(calls: &impl Calls, input: &[u8]) -> Vec<u8> {
     let (mut frames_x, mut frames_z) = (vec![0; header.frame_words()], vec![0; header.frame_words()]);
     let (mut deltas, noiseless) = (vec![0; header.outcome_words()], vec![0; header.outcome_words()]);
     let draws = Draws { base: 0, main: &[], second: &[] };
-    let rows = Rows { frames_x: &mut frames_x, frames_z: &mut frames_z, deltas: &mut deltas };
+    let rows = Rows { frames_x: &mut frames_x, frames_z: &mut frames_z, deltas: &mut deltas, totals: None };
     let answer = calls.run(input, draws, &noiseless, rows);
     if answer.number != 0 {
         assert_eq!(answer.number, 14, "a checked job with enough words");
@@ -165,14 +165,20 @@ fn run(bytes: &[u8], draws: Draws<'_>, noiseless: &[u64], rows: Rows<'_>) -> Res
         (rows.deltas, outcome_words),
         (noiseless, outcome_words),
     ])?;
+    let outcomes = usize_of(job.header.outcomes);
+    if let Some(totals) = &rows.totals {
+        need_words(&[(totals, outcomes)])?;
+    }
     let mut rows = Rows {
         frames_x: &mut rows.frames_x[..frame_words],
         frames_z: &mut rows.frames_z[..frame_words],
         deltas: &mut rows.deltas[..outcome_words],
+        totals: rows.totals.map(|totals| &mut totals[..outcomes]),
     };
     rows.frames_x.fill(0);
     rows.frames_z.fill(0);
     rows.deltas.fill(0);
+    rows.totals.iter_mut().for_each(|totals| totals.fill(0));
     let settled = settled(&job, draws, noiseless)?;
     for shot in 0..job.header.shots {
         run_shot(&job, &settled, shot, &mut rows);
@@ -199,5 +205,6 @@ fn run_shot(job: &Job<'_>, settled: &Settled, shot: u64, rows: &mut Rows<'_>) {
     }
     for (id, delta) in deltas.into_iter().enumerate() {
         put(rows.deltas, id, delta);
+        rows.totals.iter_mut().for_each(|totals| totals[id] += u64::from(delta));
     }
 }

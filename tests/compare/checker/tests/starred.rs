@@ -17,7 +17,7 @@ op=t shot=2 id=1
 fn run(job: &str, main: &[u64]) -> (Answer, u64, u64, Vec<u64>) {
     let (mut frames_x, mut frames_z, mut deltas) = ([7], [7], [7; 2]);
     let draws = Draws { base: 0, main, second: &[] };
-    let rows = Rows { frames_x: &mut frames_x, frames_z: &mut frames_z, deltas: &mut deltas };
+    let rows = Rows { frames_x: &mut frames_x, frames_z: &mut frames_z, deltas: &mut deltas, totals: None };
     let answer = Plain.run(job.as_bytes(), draws, &[0; 2], rows);
     (answer, frames_x[0], frames_z[0], deltas.to_vec())
 }

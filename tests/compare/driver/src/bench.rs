@@ -8,7 +8,7 @@
 
 use crate::block;
 use checker::calls::{Calls, Draws, Rows};
-use checker::job::{Job, MAX_BYTES};
+use checker::job::{Job, MAX_BYTES, usize_of};
 use checker::plain::by_shot::Shape;
 use checker::plain::{Plain, settled};
 use checker::read::read;
@@ -193,10 +193,9 @@ fn measure_run(name: &str, made: &Made) {
     let job = load.job();
     let program = Program::new(&job);
     let noiseless = lend(&job, &load.draws(), &load.noiseless);
-    let lists = || {
-        (vec![0; made.header.frame_words()], vec![0; made.header.frame_words()], vec![0; made.header.outcome_words()])
-    };
-    let mut rows = lists();
+    let header = made.header;
+    let mut rows = (vec![0; header.frame_words()], vec![0; header.frame_words()], vec![0; header.outcome_words()]);
+    let mut totals = vec![0; usize_of(header.outcomes)];
     Timed {
         published: Some(Box::new(|| _ = black_box(program.execute(0, &load.main, &noiseless).is_ok()))),
         with_reading: Box::new(|| {
@@ -205,7 +204,12 @@ fn measure_run(name: &str, made: &Made) {
         }),
         engine: engine(Call::Run).map(|engine| {
             Box::new(move || {
-                let rows = Rows { frames_x: &mut rows.0, frames_z: &mut rows.1, deltas: &mut rows.2 };
+                let rows = Rows {
+                    frames_x: &mut rows.0,
+                    frames_z: &mut rows.1,
+                    deltas: &mut rows.2,
+                    totals: Some(&mut totals),
+                };
                 let answer = engine.run(black_box(&load.bytes), load.draws(), &load.noiseless, rows);
                 assert_eq!(answer.number, 0);
             }) as _

@@ -48,9 +48,10 @@ pub fn chosen(call: Call, case: impl Fn(&Input, &Output) -> Vec<u8>) -> Vec<Vec<
             1 => at_shots(random, call, 20, if call == Call::Walk { 0 } else { 6 }),
             _ => short_damaged(random, call),
         };
-        for rows in [&mut input.frames_x, &mut input.frames_z, &mut input.deltas] {
+        for rows in [&mut input.frames_x, &mut input.frames_z, &mut input.deltas, &mut input.totals] {
             rows.fill(FRESH);
         }
+        input.with_totals = true;
         let output = answered(&input);
         let shown = shown(call, &input, &output);
         let case = case(&input, &output);
@@ -182,7 +183,7 @@ fn wanted(call: Call) -> Vec<String> {
         _ => {}
     }
     let lists: &[&str] = match call {
-        Call::Run => &["x", "z", "deltas", "noiseless"],
+        Call::Run => &["x", "z", "deltas", "totals", "noiseless"],
         Call::Settle => &["noiseless"],
         _ => &[],
     };
@@ -220,6 +221,7 @@ fn shown(call: Call, input: &Input, output: &Output) -> Vec<String> {
             all.push(length("x", input.frames_x.len(), job.header.frame_words()));
             all.push(length("z", input.frames_z.len(), job.header.frame_words()));
             all.push(length("deltas", input.deltas.len(), job.header.outcome_words()));
+            all.push(length("totals", input.totals.len(), usize_of(job.header.outcomes)));
             all.push(length("noiseless", input.noiseless.len(), job.header.outcome_words()));
         }
         Call::Settle => all.push(length("noiseless", input.noiseless.len(), job.header.outcome_words())),

@@ -85,6 +85,7 @@ pub fn report(under_test: &dyn Calls, call: Call, seed: u64, input: &Input) {
             ("frames_x", &output.frames_x),
             ("frames_z", &output.frames_z),
             ("deltas", &output.deltas),
+            ("totals", &output.totals),
             ("rows", &output.rows),
         ];
         for (key, words) in words.into_iter().filter(|(_, words)| !words.is_empty()) {

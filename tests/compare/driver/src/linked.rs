@@ -50,8 +50,12 @@ impl Calls for Linked {
     }
 
     fn run(&self, job: &[u8], draws: Draws<'_>, noiseless: &[u64], rows: Rows<'_>) -> Answer {
-        let rows = kundatrezo::Rows::new(rows.frames_x, rows.frames_z, rows.deltas);
-        plain(kundatrezo::run(job, rows, noiseless, words(draws)))
+        let lent = kundatrezo::Rows::new(rows.frames_x, rows.frames_z, rows.deltas);
+        let lent = match rows.totals {
+            Some(totals) => lent.with_totals(totals),
+            None => lent,
+        };
+        plain(kundatrezo::run(job, lent, noiseless, words(draws)))
     }
 
     fn settle(&self, job: &[u8], draws: Draws<'_>, noiseless: &[u64], out: &mut [u8]) -> Answer {

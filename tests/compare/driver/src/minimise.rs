@@ -12,7 +12,7 @@ const MOST_RUNS: usize = 512;
 /// A lent list of an input.
 type List = fn(&mut Input) -> &mut Vec<u64>;
 
-const LISTS: [List; 8] = [
+const LISTS: [List; 9] = [
     |input| &mut input.set,
     |input| &mut input.main,
     |input| &mut input.second,
@@ -20,6 +20,7 @@ const LISTS: [List; 8] = [
     |input| &mut input.frames_x,
     |input| &mut input.frames_z,
     |input| &mut input.deltas,
+    |input| &mut input.totals,
     |input| &mut input.rows,
 ];
 

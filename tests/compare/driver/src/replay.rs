@@ -41,7 +41,7 @@ fn case(call: Call, input: &Input, output: &Output) -> Vec<u8> {
     let mut case = Vec::new();
     add(&mut case, &input.job);
     let draws = [&input.noiseless, &input.main, &input.second];
-    let after = [&output.frames_x, &output.frames_z, &output.deltas];
+    let after = [&output.frames_x, &output.frames_z, &output.deltas, &output.totals];
     let words: Vec<&Vec<u64>> = match call {
         Call::Walk => vec![&input.set],
         Call::Settle => draws.to_vec(),

@@ -63,6 +63,8 @@ impl Ran {
             frames_x: words(frames),
             frames_z: words(frames),
             deltas: words(outcomes),
+            with_totals: true,
+            totals: words(usize_of(job.header.outcomes)),
             base: random.word(),
             ..Input::default()
         };

@@ -3,6 +3,7 @@
 use crate::shots::{Ran, Said};
 use checker::calls::Calls;
 use checker::gaps::Gaps;
+use checker::job::usize_of;
 use checker::read::read;
 use generator::inputs::input;
 use generator::random::Random;
@@ -52,15 +53,27 @@ fn ties(under_test: &dyn Calls) -> bool {
         let job = Gaps::of_job(read(&input.job).ok()?);
         Ran::of(job, &input.make(Call::Run, under_test)?)
     };
+    let totals = |number: u64| {
+        let input = &cases.iter().find(|case| case.number == number)?.input;
+        let outcomes = usize_of(read(&input.job).ok()?.header.outcomes);
+        Some(input.make(Call::Run, under_test)?.totals[..outcomes].to_vec())
+    };
     let is_so = |case: &Case, tie: &Tie| {
-        let own = ran(case.number)?;
+        let own = || ran(case.number);
         Some(match tie {
-            Tie::Apart(other, kept) => own.apart(&ran(*other)?, &|shot| kept.contains(&shot))? == Said::Equal,
-            Tie::Sum([one, other]) => own.sum(&ran(*one)?, &ran(*other)?)? == Said::Equal,
-            Tie::NoSum([one, other]) => own.sum(&ran(*one)?, &ran(*other)?)? == Said::Differ,
+            Tie::Apart(other, kept) => own()?.apart(&ran(*other)?, &|shot| kept.contains(&shot))? == Said::Equal,
+            Tie::Sum([one, other]) => own()?.sum(&ran(*one)?, &ran(*other)?)? == Said::Equal,
+            Tie::NoSum([one, other]) => own()?.sum(&ran(*one)?, &ran(*other)?)? == Said::Differ,
+            Tie::SettledFrom(other) => totals(case.number)? == totals(*other)?,
         })
     };
-    let tied: Vec<(&Case, &Tie)> = cases.iter().filter_map(|case| Some((case, case.tie.as_ref()?))).collect();
+    // a settled text may hold before the noise that it comes from does
+    let is_held = |tie: &Tie| match tie {
+        Tie::SettledFrom(other) => cases.iter().any(|case| case.number == *other),
+        _ => true,
+    };
+    let tied = cases.iter().filter_map(|case| Some((case, case.tie.as_ref()?)));
+    let tied: Vec<(&Case, &Tie)> = tied.filter(|(_, tie)| is_held(tie)).collect();
     let wrong: Vec<_> = tied.iter().filter(|(case, tie)| is_so(case, tie) != Some(true)).collect();
     for (case, tie) in &wrong {
         println!("run case {}: {tie:?} is not so", case.number);

@@ -98,6 +98,8 @@ pub fn lent(random: &mut Random, call: Call, bytes: &[u8]) -> Input {
             input.frames_x = words_near(random, job.header.frame_words());
             input.frames_z = words_near(random, job.header.frame_words());
             input.deltas = words_near(random, job.header.outcome_words());
+            input.totals = words_near(random, usize_of(job.header.outcomes));
+            input.with_totals = !random.one_in(4);
         }
         Call::Settle => {
             lend_draws(random, &job, &mut input);

@@ -90,17 +90,28 @@ fn run(bytes: &[u8], draws: Draws<'_>, noiseless: &[u64], rows: Rows<'_>) -> Res
         (rows.deltas, outcome_words),
         (noiseless, outcome_words),
     ])?;
+    let outcomes = usize_of(job.header.outcomes);
+    if let Some(totals) = &rows.totals {
+        need_words(&[(totals, outcomes)])?;
+    }
+    let mut totals = rows.totals.map(|totals| &mut totals[..outcomes]);
     let frames_x = &mut rows.frames_x[..frame_words];
     let frames_z = &mut rows.frames_z[..frame_words];
     let deltas = &mut rows.deltas[..outcome_words];
     frames_x.fill(0);
     frames_z.fill(0);
     deltas.fill(0);
+    totals.iter_mut().for_each(|totals| totals.fill(0));
     let executed = execute(&job, draws, noiseless)?;
     deltas.copy_from_slice(&all_deltas(&executed, &job.header));
     let (x_rows, z_rows) = executed.frames();
     frames_x.copy_from_slice(&x_rows);
     frames_z.copy_from_slice(&z_rows);
+    // the published Rust keeps no totals (note 5)
+    let rows = deltas.chunks_exact(job.header.row_words());
+    for (total, row) in totals.into_iter().flatten().zip(rows) {
+        *total = row.iter().map(|word| u64::from(word.count_ones())).sum();
+    }
     Ok(())
 }
 

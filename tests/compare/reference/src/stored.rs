@@ -41,6 +41,8 @@ pub enum Tie {
     Sum([u64; 2]),
     /// It nearly does, and its deltas are not the exclusive or of theirs.
     NoSum([u64; 2]),
+    /// The job is the settled text of the other with its draws.
+    SettledFrom(u64),
 }
 
 /// The bytes that a text may have which is built to be compared; a longer one is only measured.
@@ -73,6 +75,7 @@ fn list_of<'a>(key: &str, output: &'a mut Output) -> &'a mut Vec<u64> {
         "after_frames_x" => &mut output.frames_x,
         "after_frames_z" => &mut output.frames_z,
         "after_deltas" => &mut output.deltas,
+        "after_totals" => &mut output.totals,
         "after_rows" => &mut output.rows,
         _ => panic!("{key} has no hash"),
     }
@@ -83,7 +86,8 @@ fn hash_of(key: &str, output: &Output) -> String {
         let written = usize::try_from(output.answer.figure).expect("a text in memory");
         return fnv1a(&output.bytes[..written.min(output.bytes.len())]);
     }
-    fnv1a(joined(list_of(key, &mut output.clone()), 16).as_bytes())
+    let radix = if key == "after_totals" { 10 } else { 16 };
+    fnv1a(joined(list_of(key, &mut output.clone()), radix).as_bytes())
 }
 
 /// Let what has a hash be what came back.
@@ -233,6 +237,8 @@ fn case(call: Call, fields: &Fields) -> Case {
         frames_x: words("frames_x"),
         frames_z: words("frames_z"),
         deltas: words("deltas"),
+        with_totals: fields.contains_key("totals"),
+        totals: split(&text("totals"), 10),
         out_len: usize::try_from(number("out_len")).expect("a length"),
         p: u64::from_str_radix(&text("p"), 16).unwrap_or(0),
         shot: number("shot"),
@@ -248,6 +254,7 @@ fn case(call: Call, fields: &Fields) -> Case {
         frames_x: words("after_frames_x"),
         frames_z: words("after_frames_z"),
         deltas: words("after_deltas"),
+        totals: split(&text("after_totals"), 10),
         rows: words("after_rows"),
         bytes: match call {
             Call::Print => bytes("stdout"),
@@ -257,7 +264,8 @@ fn case(call: Call, fields: &Fields) -> Case {
     };
     let pair = |key: &str| <[u64; 2]>::try_from(split(&text(key), 10)).ok();
     let apart = fields.contains_key("apart").then(|| Tie::Apart(number("apart"), split(&text("kept"), 10)));
-    let tie = apart.or_else(|| pair("sum").map(Tie::Sum)).or_else(|| pair("no_sum").map(Tie::NoSum));
+    let settled = fields.contains_key("settled_from").then(|| Tie::SettledFrom(number("settled_from")));
+    let tie = apart.or_else(|| pair("sum").map(Tie::Sum)).or_else(|| pair("no_sum").map(Tie::NoSum)).or(settled);
     let hash = |key: &String| key.strip_suffix("_hash").map(|list| (list.to_owned(), text(key)));
     Case { number: number("case"), input, output, hashes: fields.keys().filter_map(hash).collect(), tie }
 }

@@ -1,6 +1,7 @@
 //! Calls with what they are handed and what they answer, and the form in which they are stored: lines `key value`, from `case N` to `end`.
 //!
-//! After `job N`, `text N` and `stdout N` follow exactly N bytes and one LF. Words are 16 hexadecimal digits each with commas between, `-` for none.
+//! After `job N`, `text N` and `stdout N` follow exactly N bytes and one LF. Words are 16 hexadecimal digits each with commas between, `-` for none; totals
+//! are decimal numbers.
 
 use crate::stored::Case;
 use checker::calls::{Answer, Calls, Draws, Rows};
@@ -72,6 +73,9 @@ pub struct Input {
     pub frames_x: Vec<u64>,
     pub frames_z: Vec<u64>,
     pub deltas: Vec<u64>,
+    /// Whether a run lends a list of totals.
+    pub with_totals: bool,
+    pub totals: Vec<u64>,
     pub out_len: usize,
     pub p: u64,
     pub shot: u64,
@@ -90,6 +94,7 @@ pub struct Output {
     pub frames_x: Vec<u64>,
     pub frames_z: Vec<u64>,
     pub deltas: Vec<u64>,
+    pub totals: Vec<u64>,
     pub rows: Vec<u64>,
     /// Every lent byte after the call, or what the program printed.
     pub bytes: Vec<u8>,
@@ -118,8 +123,13 @@ impl Input {
                 output.frames_x = self.frames_x.clone();
                 output.frames_z = self.frames_z.clone();
                 output.deltas = self.deltas.clone();
-                let rows =
-                    Rows { frames_x: &mut output.frames_x, frames_z: &mut output.frames_z, deltas: &mut output.deltas };
+                output.totals = if self.with_totals { self.totals.clone() } else { Vec::new() };
+                let rows = Rows {
+                    frames_x: &mut output.frames_x,
+                    frames_z: &mut output.frames_z,
+                    deltas: &mut output.deltas,
+                    totals: self.with_totals.then_some(output.totals.as_mut_slice()),
+                };
                 output.answer = calls.run(job, self.draws(), &self.noiseless, rows);
             }
             Call::Settle => {
@@ -173,11 +183,12 @@ pub fn input_bytes(call: Call, input: &Input) -> Vec<u8> {
         let lists = [("frames_x", &input.frames_x), ("frames_z", &input.frames_z), ("deltas", &input.deltas)];
         lists.map(|(key, words)| (key, joined(words, 16))).to_vec()
     };
+    let totals = || if input.with_totals { vec![("totals", joined(&input.totals, 10))] } else { Vec::new() };
     let counts = || vec![("outcomes", input.outcomes.to_string()), ("shots", input.shots.to_string())];
     let deltas = || vec![("deltas", joined(&input.deltas, 16))];
     let by_shot = || vec![("rows", joined(&input.rows, 16))];
     let fields = match call {
-        Call::Run => [base(), draws(), rows()].concat(),
+        Call::Run => [base(), draws(), rows(), totals()].concat(),
         Call::Settle => [base(), out_len(), draws()].concat(),
         Call::Walk => vec![("shot", input.shot.to_string()), ("set", joined(&input.set, 10))],
         Call::Annotate => [out_len(), vec![("p", format!("{:016x}", input.p))]].concat(),
@@ -219,6 +230,9 @@ fn output_bytes(call: Call, output: &Output) -> Vec<u8> {
     };
     for (key, words) in written {
         bytes.extend(format!("after_{key} {}\n", joined(words, 16)).into_bytes());
+    }
+    if call == Call::Run && !output.totals.is_empty() {
+        bytes.extend(format!("after_totals {}\n", joined(&output.totals, 10)).into_bytes());
     }
     bytes
 }
