@@ -15,7 +15,7 @@ use Rattle.draws.specs.Laws.Settling.{settledList-append}
 use Rattle.draws.specs.Known.{Injections}
 use Rattle.draws.specs.Laws.Within.{injected, noise-injects}
 
-append-in-range : (n m : ℕ) (ls ms : List Line) → AllInRange n m ls → AllInRange n m ms → AllInRange n m (ls ++ ms)
+pub append-in-range : (n m : ℕ) (ls ms : List Line) → AllInRange n m ls → AllInRange n m ms → AllInRange n m (ls ++ ms)
 append-in-range n m [] ms a b = b
 append-in-range n m (l ∷ ls) ms (f, a) b = (f, append-in-range n m ls ms a b)
 
