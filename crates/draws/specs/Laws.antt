@@ -3,6 +3,7 @@
 pub mod Tests
 pub mod Settling
 pub mod Words
+pub mod Left
 pub mod Enough
 pub mod Spent
 pub mod Weights

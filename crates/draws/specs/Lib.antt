@@ -4,6 +4,8 @@ pub mod Settle
 pub mod Execute
 -- Definitions that the theorems on them use.
 pub mod Known
+-- Definition, to be believed: what a job leaves of the main list, also where its draws are spent.
+pub mod Left
 -- Laws of these definitions.
 pub mod Laws
 -- Theorems on them.

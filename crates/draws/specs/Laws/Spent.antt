@@ -1,5 +1,5 @@
 -- Laws: how far a job has read the main list, and at which line its draws are spent. Assumes nothing.
-use mathlib.Core.Path.{_≡_, refl, sym, ap, _∙_, fun-ext}
+use mathlib.Core.Path.{_≡_, refl, sym, ap, subst, _∙_, fun-ext}
 use mathlib.Core.Bool.{cond}
 use mathlib.Core.List.{List, [], _∷_, _++_, map, append-assoc}
 use mathlib.Core.Option.{Option, none, some}
@@ -121,6 +121,43 @@ spent-noise lent main text (Instruction.noise n) e = go (drawLine lent n (partOf
     go Draws.spent d = record { noise = n; is-noise = refl; spent = d }
     go (Draws.drawn fs left) d = let no : _≡_ {A = ℕ} 0 1 = cc (step-drawn lent main text n refl fs left d) in absurd (omega arith)
 
+-- at the first instruction, or behind it
+unfoldable pub spent-here : (lent : Lent) (main : List ℕ) (i : Placed) (is : List Placed) (n : Noise) → i .instruction ≡ Instruction.noise n
+    → drawLine lent n (partOf lent (n .correlation) main) ≡ Draws.spent → SpentAt lent main (i ∷ is) (i .line)
+unfolding settle mainLeft
+spent-here lent main i is n noise spent =
+    record {
+      before = [];
+      here = i;
+      after = is;
+      noise = n;
+      lines = [];
+      list = refl;
+      line = refl;
+      is-noise = noise;
+      settles = refl;
+      spent = spent;
+    }
+
+unfoldable pub spent-later : (lent : Lent) (main : List ℕ) (i : Placed) (is : List Placed) (ls : List SettledLine) (left : List ℕ)
+    → stepOf lent main (i .text) (i .instruction) ≡ Step.lines ls left → {k : ℕ} → SpentAt lent left is k → SpentAt lent main (i ∷ is) k
+unfolding prefixed
+spent-later lent main i is ls left d s =
+    record {
+      before = i ∷ s .before;
+      here = s .here;
+      after = s .after;
+      noise = s .noise;
+      lines = ls ++ s .lines;
+      list = ap (λ (l : List Placed). i ∷ l) (s .list);
+      line = s .line;
+      is-noise = s .is-noise;
+      settles = settle-goes lent main i (s .before) ls left d ∙ ap (prefixed ls) (s .settles);
+      spent =
+          ap (λ (l : List ℕ). drawLine lent (s .noise) (partOf lent (s .noise .correlation) l)) (left-goes lent main i (s .before) ls left d)
+          ∙ s .spent;
+    }
+
 pub spent-at : (lent : Lent) (main : List ℕ) (is : List Placed) (k : ℕ) → settle lent is main ≡ Settled.spentAt k → SpentAt lent main is k
 unfolding settle
 spent-at lent main [] k e = let no : _≡_ {A = ℕ} 0 1 = cc in absurd (omega arith)
@@ -130,34 +167,10 @@ spent-at lent main (i ∷ is) k e = go (stepOf lent main (i .text) (i .instructi
         → ((left : List ℕ) → settle lent is left ≡ Settled.spentAt k → SpentAt lent left is k) → SpentAt lent main (i ∷ is) k
     go Step.spent d ih =
         let s : SpentNoise lent main (i .instruction) = spent-noise lent main (i .text) (i .instruction) d in
-        record {
-          before = [];
-          here = i;
-          after = is;
-          noise = s .noise;
-          lines = [];
-          list = refl;
-          line = cc (settle-stops lent main i is d);
-          is-noise = s .is-noise;
-          settles = refl;
-          spent = unfold mainLeft in s .spent;
-        }
+        let here : i .line ≡ k = cc (settle-stops lent main i is d) in
+        subst (SpentAt lent main (i ∷ is)) here (spent-here lent main i is (s .noise) (s .is-noise) (s .spent))
     go (Step.lines ls left) d ih =
-        let s : SpentAt lent left is k = ih left (prefixed-spent ls (settle lent is left) k (sym (settle-goes lent main i is ls left d) ∙ e)) in
-        record {
-          before = i ∷ s .before;
-          here = s .here;
-          after = s .after;
-          noise = s .noise;
-          lines = ls ++ s .lines;
-          list = ap (λ (l : List Placed). i ∷ l) (s .list);
-          line = s .line;
-          is-noise = s .is-noise;
-          settles = settle-goes lent main i (s .before) ls left d ∙ ap (prefixed ls) (s .settles) ∙ (unfold prefixed in refl);
-          spent =
-              ap (λ (l : List ℕ). drawLine lent (s .noise) (partOf lent (s .noise .correlation) l)) (left-goes lent main i (s .before) ls left d)
-              ∙ s .spent;
-        }
+        spent-later lent main i is ls left d (ih left (prefixed-spent ls (settle lent is left) k (sym (settle-goes lent main i is ls left d) ∙ e)))
 
 -- ---- more words after both lists change nothing that was settled
 

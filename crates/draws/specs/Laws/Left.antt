@@ -1,0 +1,199 @@
+-- Laws: what a job leaves of a list, and of a longer one. Assumes nothing.
+use mathlib.Core.Path.{_≡_, refl, sym, ap, subst, _∙_}
+use mathlib.Core.List.{List, [], _∷_, _++_, append-assoc, append-nil}
+use mathlib.Core.Option.{Option, none, some}
+use Prim.Native.Nat.{ℕ, _+_, _-_, _≤_, _<_, min}
+use native.Mathlib.Omega.{arith}
+use lib.ListN.{length, length-append}
+use Rattle.job.specs.Line.{Noise, Instruction, Placed}
+use Rattle.draws.specs.Draws.{Lent, Fault, Draws, drawLine, partOf}
+use Rattle.draws.specs.Settle.{SettledLine, Step, stepOf, Settled, prefixed, settleThen, settle}
+use Rattle.draws.specs.Known.{SpentAt, leftBy, mainLeft}
+use Rattle.draws.specs.Left.{spentOn, leftSpent, leftThen, leftAfter, StaysWithin}
+use Rattle.draws.specs.Laws.Words.{Took, took-more, StepTook, step-took, step-spent, step-drawn, main-read, main-kept, spent-past}
+use Rattle.draws.specs.Laws.Spent.{Suffix, settle-goes, spent-here, spent-later}
+
+-- ---- a beginning is taken
+
+suffix-length : {main left : List ℕ} → Suffix main left → length left ≤ length main
+suffix-length {main} {left} s = let e : length main ≡ length (s .used) + length left = ap length (s .whole) ∙ length-append (s .used) left in omega (arith, e)
+
+spent-suffix : (i : Instruction) (main : List ℕ) → Suffix main (leftSpent i main)
+unfolding leftSpent spentOn
+spent-suffix (Instruction.line l) main = record { used = []; whole = refl }
+spent-suffix (Instruction.noise n) main = go (n .correlation)
+  where
+    go : (c : Option ℕ) → Suffix main (spentOn c main)
+    go none = record { used = main; whole = sym (append-nil main) }
+    go (some c) = record { used = []; whole = refl }
+
+-- What is left is an end of the list.
+pub left-suffix : (lent : Lent) (is : List Placed) (main : List ℕ) → Suffix main (leftAfter lent is main)
+unfolding leftAfter
+left-suffix lent [] main = record { used = []; whole = refl }
+left-suffix lent (i ∷ is) main =
+    go (stepOf lent main (i .text) (i .instruction)) (step-took lent main (i .text) (i .instruction)) (left-suffix lent is)
+  where
+    go : (o : Step) → StepTook (λ m. stepOf lent m (i .text) (i .instruction)) main o → ((mid : List ℕ) → Suffix mid (leftAfter lent is mid))
+        → Suffix main (leftThen (i .instruction) main o (leftAfter lent is))
+    go Step.spent t ih = unfold leftThen in spent-suffix (i .instruction) main
+    go (Step.lines ls mid) t ih =
+        unfold leftThen StepTook in
+        record {
+          used = t .used ++ ih mid .used;
+          whole = t .whole ∙ ap (λ (l : List ℕ). t .used ++ l) (ih mid .whole) ∙ sym (append-assoc (t .used) (ih mid .used) (leftAfter lent is mid));
+        }
+
+pub left-length : (lent : Lent) (is : List Placed) (main : List ℕ) → length (leftAfter lent is main) ≤ length main
+left-length lent is main = suffix-length (left-suffix lent is main)
+
+-- ---- a longer list
+
+-- A job either stays within a list, whatever follows it, or uses it up and needs more.
+pub data Uses (lent : Lent) (is : List Placed) (own : List ℕ) : Type 0 where
+  within : (rest : List ℕ) → ((more : List ℕ) → leftAfter lent is (own ++ more) ≡ rest ++ more)
+      → ((more : List ℕ) → settle lent is (own ++ more) ≡ settle lent is own) → Uses lent is own
+  past : (k : ℕ) (s : SpentAt lent own is k) → s .noise .correlation ≡ none
+      → ((more : List ℕ) → length (leftAfter lent is (own ++ more)) ≤ length more) → Uses lent is own
+
+-- of a step that was made
+made : {O : Type 0} {f done : List ℕ → O} {ws left : List ℕ} → Took f done ws left → f ws ≡ done left
+made {f = f} {left = left} t = ap f (t .whole) ∙ t .alone left
+
+module _ (lent : Lent) (i : Placed) (is : List Placed) (own mid : List ℕ) (ls : List SettledLine)
+    (t : Took (λ m. stepOf lent m (i .text) (i .instruction)) (Step.lines ls) own mid) where
+  left-on : (more : List ℕ) → leftAfter lent (i ∷ is) (own ++ more) ≡ leftAfter lent is (mid ++ more)
+  unfolding leftAfter leftThen
+  left-on more = ap (λ (o : Step). leftThen (i .instruction) (own ++ more) o (leftAfter lent is)) (took-more t more)
+
+  settle-on : (more : List ℕ) → settle lent (i ∷ is) (own ++ more) ≡ prefixed ls (settle lent is (mid ++ more))
+  settle-on more = settle-goes lent (own ++ more) i is ls (mid ++ more) (took-more t more)
+
+  uses-on : Uses lent is mid → Uses lent (i ∷ is) own
+  unfolding spent-later
+  uses-on (Uses.within rest left same) =
+      Uses.within rest (λ more. left-on more ∙ left more)
+      (λ more.
+      settle-on more ∙ ap (prefixed ls) (same more)
+      ∙ sym (ap (settle lent (i ∷ is)) (sym (append-nil own)) ∙ settle-on [] ∙ ap (λ (m : List ℕ). prefixed ls (settle lent is m)) (append-nil mid)))
+  uses-on (Uses.past k s corr less) =
+      Uses.past k (spent-later lent own i is ls mid (made t) s) corr (λ more. subst (λ (l : List ℕ). length l ≤ length more) (sym (left-on more)) (less more))
+
+-- a step that was spent
+module _ (lent : Lent) (i : Placed) (is : List Placed) (own : List ℕ) (n : Noise) (noise : i .instruction ≡ Instruction.noise n)
+    (spent : stepOf lent own (i .text) (i .instruction) ≡ Step.spent) where
+  abbrev step : List ℕ → Step
+  step m = stepOf lent m (i .text) (Instruction.noise n)
+
+  own-spent : (c : Option ℕ) → n .correlation ≡ c → (o : Draws) → drawLine lent n (partOf lent c own) ≡ o → o ≡ Draws.spent
+  own-spent c corr Draws.spent e = refl
+  own-spent c corr (Draws.drawn fs left) e =
+      let made = step-drawn lent own (i .text) n corr fs left e in
+      let no : _≡_ {A = ℕ} 0 1 = cc (made, spent, noise) in absurd (omega arith)
+
+  -- of the main list: more words are read past its end, or spent too
+  left-main : n .correlation ≡ none → (more : List ℕ) → (o : Step) → step (own ++ more) ≡ o
+      → length (leftThen (Instruction.noise n) (own ++ more) o (leftAfter lent is)) ≤ length more
+  unfolding leftThen leftSpent spentOn partOf
+  left-main corr more Step.spent e = rw corr (omega arith)
+  left-main corr more (Step.lines ls left) e =
+      let r = main-read lent (own ++ more) (i .text) n ls left corr e in
+      let less = spent-past lent n own (own-spent none corr (drawLine lent n own) refl) more (r .0) left (r .1) in
+      omega (arith, less, left-length lent is left)
+
+  -- of the second: the main list does not matter
+  left-second : (p : ℕ) → n .correlation ≡ some p → (more : List ℕ) → step more ≡ Step.spent
+  unfolding partOf
+  left-second p corr more = step-spent lent more (i .text) n corr (own-spent (some p) corr (drawLine lent n (partOf lent (some p) own)) refl)
+
+  uses-spent : Uses lent (i ∷ is) own
+  unfolding leftAfter leftThen leftSpent spentOn settle settleThen spent-here
+  uses-spent = which (n .correlation) refl
+    where
+      which : (c : Option ℕ) → n .correlation ≡ c → Uses lent (i ∷ is) own
+      which none corr =
+          Uses.past (i .line) (spent-here lent own i is n noise (own-spent (n .correlation) refl _ refl)) corr
+          (λ more. rw noise (left-main corr more (step (own ++ more)) refl))
+      which (some p) corr = Uses.within own
+          (λ more. rw (noise, left-second p corr (own ++ more), corr) refl)
+          (λ more. rw (noise, left-second p corr (own ++ more), left-second p corr own) refl)
+
+pub uses : (lent : Lent) (is : List Placed) (own : List ℕ) → Uses lent is own
+unfolding leftAfter
+uses lent [] own = Uses.within own (λ more. refl) (λ more. unfold settle in refl)
+uses lent (i ∷ is) own =
+    go (stepOf lent own (i .text) (i .instruction)) refl (step-took lent own (i .text) (i .instruction)) (uses lent is)
+  where
+    of-noise : (j : Instruction) → i .instruction ≡ j → stepOf lent own (i .text) (i .instruction) ≡ Step.spent → Uses lent (i ∷ is) own
+    of-noise (Instruction.line l) e spent = let no : _≡_ {A = ℕ} 0 1 = unfold stepOf in cc in absurd (omega arith)
+    of-noise (Instruction.noise n) e spent = uses-spent lent i is own n e spent
+
+    go : (o : Step) → stepOf lent own (i .text) (i .instruction) ≡ o → StepTook (λ m. stepOf lent m (i .text) (i .instruction)) own o
+        → ((mid : List ℕ) → Uses lent is mid) → Uses lent (i ∷ is) own
+    go Step.spent e t ih = of-noise (i .instruction) refl e
+    go (Step.lines ls mid) e t ih = unfold StepTook in uses-on lent i is own mid ls t (ih mid)
+
+-- A job that stays within a list does the same whatever follows it, and leaves that.
+pub record Stays (lent : Lent) (is : List Placed) (own : List ℕ) : Type 0 where
+  pub rest : List ℕ
+  pub left : (more : List ℕ) → leftAfter lent is (own ++ more) ≡ rest ++ more
+  pub same : (more : List ℕ) → settle lent is (own ++ more) ≡ settle lent is own
+
+pub stays : (lent : Lent) (is : List Placed) (own : List ℕ) → StaysWithin lent is own → Stays lent is own
+unfolding StaysWithin
+stays lent is own w = go (uses lent is own)
+  where
+    go : Uses lent is own → Stays lent is own
+    go (Uses.within rest left same) = record { rest = rest; left = left; same = same }
+    go (Uses.past k s corr less) = absurd (w k s corr)
+
+-- How many words are taken of the own ones is the same, whatever follows them.
+pub own-taken : (lent : Lent) (is : List Placed) (own more other : List ℕ)
+    → min (length (own ++ more) - length (leftAfter lent is (own ++ more))) (length own)
+    ≡ min (length (own ++ other) - length (leftAfter lent is (own ++ other))) (length own)
+own-taken lent is own more other = go (uses lent is own)
+  where
+    long : length (own ++ more) ≡ length own + length more
+    long = length-append own more
+
+    also : length (own ++ other) ≡ length own + length other
+    also = length-append own other
+
+    go : Uses lent is own
+        → min (length (own ++ more) - length (leftAfter lent is (own ++ more))) (length own)
+        ≡ min (length (own ++ other) - length (leftAfter lent is (own ++ other))) (length own)
+    go (Uses.within rest left same) =
+        let a : length (leftAfter lent is (own ++ more)) ≡ length rest + length more = ap length (left more) ∙ length-append rest more in
+        let b : length (leftAfter lent is (own ++ other)) ≡ length rest + length other = ap length (left other) ∙ length-append rest other in
+        omega (arith, a, b, long, also)
+    go (Uses.past k s corr less) = omega (arith, less more, less other, long, also)
+
+-- ---- where draws are spent
+
+-- behind instructions that settle
+left-append : (lent : Lent) (before after : List Placed) (main : List ℕ) (ls : List SettledLine) → settle lent before main ≡ Settled.settled ls
+    → leftAfter lent (before ++ after) main ≡ leftAfter lent after (mainLeft lent main before)
+unfolding leftAfter mainLeft settle
+left-append lent [] after main ls e = refl
+left-append lent (i ∷ before) after main ls e = go (stepOf lent main (i .text) (i .instruction)) refl (λ mid ms. left-append lent before after mid ms)
+  where
+    go : (o : Step) → stepOf lent main (i .text) (i .instruction) ≡ o
+        → ((mid : List ℕ) (ms : List SettledLine) → settle lent before mid ≡ Settled.settled ms → leftAfter lent (before ++ after) mid ≡ leftAfter lent after (mainLeft lent mid before))
+        → leftThen (i .instruction) main o (leftAfter lent (before ++ after)) ≡ leftAfter lent after (mainLeft lent (leftBy main o) before)
+    go Step.spent d ih = let no : _≡_ {A = ℕ} 0 1 = unfold settleThen in cc in absurd (omega arith)
+    go (Step.lines ks mid) d ih = unfold leftThen leftBy in ih-on (settle lent before mid) refl
+      where
+        ih-on : (o : Settled) → settle lent before mid ≡ o → leftAfter lent (before ++ after) mid ≡ leftAfter lent after (mainLeft lent mid before)
+        ih-on (Settled.spentAt k) f = let no : _≡_ {A = ℕ} 0 1 = unfold settleThen prefixed in cc in absurd (omega arith)
+        ih-on (Settled.settled ms) f = ih mid ms f
+
+-- A word of the main list was needed: all are used up. One of the second: the main list is as the lines before left it.
+pub left-spent : {lent : Lent} {main : List ℕ} {is : List Placed} {k : ℕ} (s : SpentAt lent main is k)
+    → leftAfter lent is main ≡ spentOn (s .noise .correlation) (mainLeft lent main (s .before))
+unfolding leftAfter leftThen leftSpent
+left-spent {lent} {main} s =
+    let left = mainLeft lent main (s .before) in
+    let stops : stepOf lent left (s .here .text) (s .here .instruction) ≡ Step.spent =
+    ap (λ (i : Instruction). stepOf lent left (s .here .text) i) (s .is-noise) ∙ step-spent lent left (s .here .text) (s .noise) refl (s .spent) in
+    ap (λ (l : List Placed). leftAfter lent l main) (s .list) ∙ left-append lent (s .before) (s .here ∷ s .after) main (s .lines) (s .settles)
+    ∙ rw (stops, s .is-noise) refl

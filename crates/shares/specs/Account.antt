@@ -1,0 +1,127 @@
+-- Definitions that the theorems on shares use: sequences of calls, and the places of the main list whose words they are handed. Assumes nothing.
+use mathlib.Core.Bool.{cond}
+use mathlib.Core.List.{List, [], _∷_, _++_}
+use Prim.Native.Nat.{ℕ, zero, suc, _+_, _-_}
+use lib.Dec.{eqb}
+use lib.ListN.{length, getD, take, replicate}
+use Rattle.job.specs.declared.Answer.{Answer}
+use Rattle.job.specs.Job.{Job, jobOf}
+use Rattle.job.specs.Reply.{TextReply}
+use Rattle.draws.specs.Left.{StaysWithin}
+use Rattle.run.specs.Run.{Source, Memory, RunReply, lentOf}
+use Rattle.backward.specs.Calls.{withSource}
+use Rattle.shares.specs.Shares.{Share, sum, stretchFrom, ownLeft, commonLeft}
+use Rattle.shares.specs.Replies.{shared, takenBy, takesWords, Shared, sharedRunReply, sharedSettleReply}
+
+-- ---- places
+
+-- so many places from one on
+unfoldable pub places : ℕ → ℕ → List ℕ
+places at zero = []
+places at (suc n) = at ∷ places (suc at) n
+
+-- how often a place stands in a list
+unfoldable pub times : ℕ → List ℕ → ℕ
+times p [] = 0
+times p (q ∷ qs) = cond (eqb p q) (suc (times p qs)) (times p qs)
+
+-- the places of the words that are available to a caller, in the order in which they are read
+unfoldable pub availablePlaces : Share → List ℕ → List ℕ
+availablePlaces s main =
+    places (stretchFrom (s .shares) (s .caller) + getD (s .marks) (s .caller) 0) (length (ownLeft (s .shares) (s .marks) (s .caller) main))
+    ++ places (sum (s .shares) + getD (s .marks) (length (s .shares)) 0) (length (commonLeft (s .shares) (s .marks) main))
+
+-- the places whose words a call is handed: the first of those available, as many as its job takes
+unfoldable pub handed : Job → Share → Source → Answer → List ℕ
+handed j s from a = cond (takesWords a) (take (takenBy j (shared s from)) (availablePlaces s (from .main))) []
+
+-- ---- calls from the same list, under the same shares
+
+-- a run or a settling: the caller's number, the job, and what is lent beside the main list and the marks
+pub data Call : Type 0 where
+  run : ℕ → List ℕ → Memory → Call
+  settle : ℕ → List ℕ → Source → List ℕ → Call
+
+-- the whole reply of a call
+pub data Reply : Type 0 where
+  ran : RunReply → Reply
+  wrote : TextReply → Reply
+
+unfoldable pub callerOf : Call → ℕ
+callerOf (Call.run c job m) = c
+callerOf (Call.settle c job s out) = c
+
+-- what is lent, with this main list
+abbrev pub from : List ℕ → Source → Source
+from main s = record { noiseless = s .noiseless; main = main; second = s .second; base = s .base }
+
+abbrev pub withMain : List ℕ → Memory → Memory
+withMain main m = withSource m (from main (m .source))
+
+module _ (main shares : List ℕ) where
+  -- a caller's share, with the marks that the last call left
+  abbrev pub shareOf : ℕ → List ℕ → Share
+  shareOf caller marks = record { shares = shares; marks = marks; caller = caller }
+
+  abbrev pub ranBy : ℕ → List ℕ → Memory → List ℕ → Shared RunReply
+  ranBy c job m marks = sharedRunReply job (withMain main m) (shareOf c marks)
+
+  abbrev pub settledBy : ℕ → List ℕ → Source → List ℕ → List ℕ → Shared TextReply
+  settledBy c job s out marks = sharedSettleReply job (from main s) out (shareOf c marks)
+
+  -- a call's reply, the marks that it leaves, and the places that it is handed
+  unfoldable pub replyTo : Call → List ℕ → Reply
+  replyTo (Call.run c job m) marks = Reply.ran (ranBy c job m marks .reply)
+  replyTo (Call.settle c job s out) marks = Reply.wrote (settledBy c job s out marks .reply)
+
+  unfoldable pub marksBy : Call → List ℕ → List ℕ
+  marksBy (Call.run c job m) marks = ranBy c job m marks .marks
+  marksBy (Call.settle c job s out) marks = settledBy c job s out marks .marks
+
+  unfoldable pub handedBy : Call → List ℕ → List ℕ
+  handedBy (Call.run c job m) marks = handed (jobOf job) (shareOf c marks) (from main (m .source)) (ranBy c job m marks .reply .answered)
+  handedBy (Call.settle c job s out) marks = handed (jobOf job) (shareOf c marks) (from main s) (settledBy c job s out marks .reply .answered)
+
+  -- a sequence of calls, each with the marks that the last one left
+  unfoldable pub marksThrough : List Call → List ℕ → List ℕ
+  marksThrough [] marks = marks
+  marksThrough (c ∷ cs) marks = marksThrough cs (marksBy c marks)
+
+  unfoldable pub handedThrough : List Call → List ℕ → List ℕ
+  handedThrough [] marks = []
+  handedThrough (c ∷ cs) marks = handedBy c marks ++ handedThrough cs (marksBy c marks)
+
+  -- a call whose job stays within the caller's own stretch
+  unfoldable pub StaysOwn : Call → List ℕ → Type 0
+  StaysOwn (Call.run c job m) marks = StaysWithin (lentOf (jobOf job .header) (m .source)) (jobOf job .instructions) (ownLeft shares marks c main)
+  StaysOwn (Call.settle c job s out) marks = StaysWithin (lentOf (jobOf job .header) s) (jobOf job .instructions) (ownLeft shares marks c main)
+
+  -- one that does, or that is a run. A run takes words wherever it reads them; settling takes none where its text finds no room, and how long the text is
+  -- hangs on the words of the common part, if the job gets that far.
+  unfoldable pub RunOrStays : Call → List ℕ → Type 0
+  RunOrStays (Call.run c job m) marks = Unit {0}
+  RunOrStays (Call.settle c job s out) marks = StaysOwn (Call.settle c job s out) marks
+
+  -- each of a sequence of calls
+  unfoldable pub AllRunOrStay : List Call → List ℕ → Type 0
+  AllRunOrStay [] marks = Unit {0}
+  AllRunOrStay (c ∷ cs) marks = RunOrStays c marks × AllRunOrStay cs (marksBy c marks)
+
+-- a caller's calls among those of all
+unfoldable pub callsOf : ℕ → List Call → List Call
+callsOf caller [] = []
+callsOf caller (c ∷ cs) = cond (eqb (callerOf c) caller) (c ∷ callsOf caller cs) (callsOf caller cs)
+
+-- nothing taken: a mark of zero for each caller, and for the common part
+abbrev pub nothingTaken : List ℕ → List ℕ
+nothingTaken shares = replicate (suc (length shares)) 0
+
+-- what is left of all stretches
+unfoldable pub leftInStretches : List ℕ → List ℕ → ℕ
+leftInStretches [] marks = 0
+leftInStretches (n ∷ shares) [] = n + leftInStretches shares []
+leftInStretches (n ∷ shares) (k ∷ marks) = (n - k) + leftInStretches shares marks
+
+-- and of the common part
+abbrev pub leftInCommon : List ℕ → List ℕ → List ℕ → ℕ
+leftInCommon main shares marks = length main - sum shares - getD marks (length shares) 0

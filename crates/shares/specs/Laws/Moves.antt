@@ -1,0 +1,179 @@
+-- Laws: what a call with a share does to the marks, and the places that it is handed. Assumes nothing.
+use mathlib.Core.Path.{_≡_, refl, sym, ap, ap₂, subst, _∙_}
+use mathlib.Core.Bool.{Bool, true, false, true≢false, cond, _&&_, _||_}
+use mathlib.Core.List.{List, [], _∷_, _++_}
+use Prim.Native.Nat.{ℕ, zero, suc, _+_, _-_, _≤_, _<_, min}
+use native.Mathlib.Omega.{arith}
+use native.Mathlib.Decide.{decLt}
+use borrow.Author.Tests.{eqb-true, eqb-false, eq-eqb, ne-eqb, ltb-true, leb-true}
+use lib.Dec.{eqb, leb, ltb}
+use lib.ListN.{length, getD, set, take, drop, length-append, length-take, length-drop, length-set}
+use Rattle.text.specs.Laws.Values.{both}
+use Rattle.job.specs.declared.Answer.{Answer}
+use Rattle.job.specs.Job.{answer, Job, jobOf, checkJob}
+use Rattle.job.specs.Reply.{ofCall}
+use Rattle.job.specs.Laws.Numbers.{check-of-job}
+use Rattle.draws.specs.Left.{leftAfter}
+use Rattle.run.specs.Run.{Source, lentOf}
+use Rattle.shares.specs.Shares.{Share, sum, stretchFrom, ownLeft, commonLeft, available, marksFit, mostCallers, eachWithin, sharesFit, callerFits, moved, marksAfter}
+use Rattle.shares.specs.Replies.{shared, takenBy, takesWords, marksFor, Shared, tested, sharedReply}
+use Rattle.shares.specs.Account.{places, availablePlaces, handed}
+use Rattle.shares.specs.Laws.Places.{length-places, take-places}
+
+-- ---- what passes the tests
+
+pub record Fits (s : Share) (main : List ℕ) : Type 0 where
+  pub marked : length (s .shares) < length (s .marks)
+  pub total : sum (s .shares) ≤ length main
+  pub within : eachWithin (s .shares) (s .marks) ≡ true
+  pub common : getD (s .marks) (length (s .shares)) 0 ≤ length main - sum (s .shares)
+  pub caller : s .caller < length (s .shares)
+
+fits : (s : Share) (main : List ℕ) → marksFit s ≡ true → sharesFit s main ≡ true → callerFits s ≡ true → Fits s main
+unfolding sharesFit
+fits s main m f c =
+    let common = both _ (leb (getD (s .marks) (length (s .shares)) 0) (length main - sum (s .shares))) f in
+    let within = both _ (eachWithin (s .shares) (s .marks)) (common .0) in
+    let total = both (leb 1 (length (s .shares)) && leb (length (s .shares)) mostCallers) (leb (sum (s .shares)) (length main)) (within .0) in
+    record {
+      marked = ltb-true _ _ m;
+      total = leb-true _ _ (total .1);
+      within = within .1;
+      common = leb-true _ _ (common .1);
+      caller = ltb-true _ _ c;
+    }
+
+-- ---- the parts in number
+
+pub own-length : (shares marks : List ℕ) (c : ℕ) (main : List ℕ) → length (ownLeft shares marks c main) ≤ getD shares c 0 - getD marks c 0
+unfolding ownLeft
+own-length shares marks c main =
+    let e : length (drop (getD marks c 0) (take (getD shares c 0) (drop (stretchFrom shares c) main)))
+    ≡ min (getD shares c 0) (length (drop (stretchFrom shares c) main)) - getD marks c 0 =
+    length-drop (getD marks c 0) (take (getD shares c 0) (drop (stretchFrom shares c) main))
+    ∙ ap (λ (n : ℕ). n - getD marks c 0) (length-take (getD shares c 0) (drop (stretchFrom shares c) main)) in
+    omega (arith, e)
+
+pub common-length : (shares marks main : List ℕ) → length (commonLeft shares marks main) ≡ length main - sum shares - getD marks (length shares) 0
+unfolding commonLeft
+common-length shares marks main =
+    length-drop (getD marks (length shares) 0) (drop (sum shares) main) ∙ ap (λ (n : ℕ). n - getD marks (length shares) 0) (length-drop (sum shares) main)
+
+pub available-length : (s : Share) (main : List ℕ)
+    → length (available s main) ≡ length (ownLeft (s .shares) (s .marks) (s .caller) main) + length (commonLeft (s .shares) (s .marks) main)
+unfolding available
+available-length s main = length-append (ownLeft (s .shares) (s .marks) (s .caller) main) (commonLeft (s .shares) (s .marks) main)
+
+-- ---- a call
+
+-- so many words of the own stretch, and of the common part
+pub record Moves (s : Share) (main marks : List ℕ) (places-handed : List ℕ) : Type 0 where
+  pub fit : Fits s main
+  pub own : ℕ
+  pub common : ℕ
+  pub own-within : own ≤ length (ownLeft (s .shares) (s .marks) (s .caller) main)
+  pub common-within : common ≤ length (commonLeft (s .shares) (s .marks) main)
+  -- common words only where the own stretch is used up
+  pub own-first : 0 < common → own ≡ length (ownLeft (s .shares) (s .marks) (s .caller) main)
+  pub marks-are : marks ≡ moved (moved (s .marks) (s .caller) own) (length (s .shares)) common
+  pub handed-are : places-handed
+      ≡ places (stretchFrom (s .shares) (s .caller) + getD (s .marks) (s .caller) 0) own ++ places (sum (s .shares) + getD (s .marks) (length (s .shares)) 0) common
+
+pub data Called (s : Share) (main marks handed-places : List ℕ) : Type 0 where
+  took : Moves s main marks handed-places → Called s main marks handed-places
+  none : marks ≡ s .marks → handed-places ≡ [] → Called s main marks handed-places
+
+-- the first of two lists of places
+first-places : (n at a to b : ℕ) → n ≤ a + b → take n (places at a ++ places to b) ≡ places at (min n a) ++ places to (n - min n a)
+unfolding places
+first-places zero at a to b h =
+    let here : min 0 a ≡ 0 = omega arith in
+    let there : 0 - min 0 a ≡ 0 = omega arith in
+    rw (there, here) refl
+first-places (suc n) at zero to b h =
+    let here : min (suc n) 0 ≡ 0 = omega arith in
+    let there : suc n - min (suc n) 0 ≡ suc n = omega arith in
+    rw (there, here) (take-places to (suc n) b (omega (arith, h)))
+first-places (suc n) at (suc a) to b h =
+    let here : min (suc n) (suc a) ≡ suc (min n a) = omega arith in
+    let there : suc n - min (suc n) (suc a) ≡ n - min n a = omega arith in
+    rw (there, here) (ap (λ (l : List ℕ). at ∷ l) (first-places n (suc at) a to b (omega (arith, h))))
+
+module _ (j : Job) (s : Share) (from : Source) (f : Fits s (from .main)) where
+  abbrev own : List ℕ
+  own = ownLeft (s .shares) (s .marks) (s .caller) (from .main)
+
+  abbrev common : List ℕ
+  common = commonLeft (s .shares) (s .marks) (from .main)
+
+  abbrev taken : ℕ
+  taken = takenBy j (shared s from)
+
+  taken-few : taken ≤ length own + length common
+  unfolding takenBy
+  taken-few = omega (arith, available-length s (from .main))
+
+  abbrev of-own : ℕ
+  of-own = min taken (length own)
+
+  pub takes : Moves s (from .main) (marksAfter s (from .main) taken) (take taken (availablePlaces s (from .main)))
+  unfolding marksAfter availablePlaces
+  takes =
+      record {
+        fit = f;
+        own = of-own;
+        common = taken - of-own;
+        own-within = omega arith;
+        common-within = omega (arith, taken-few);
+        own-first = λ h. omega (arith, h);
+        marks-are = refl;
+        handed-are = first-places taken _ (length own) _ (length common) taken-few;
+      }
+
+-- no other refusal takes a word
+own-number : (job : List ℕ) → (checkJob job .number ≡ 0 → ⊥) → takesWords (checkJob job) ≡ false
+unfolding takesWords
+own-number job refused = rw (ne-eqb (checkJob job .number) 0 refused) (ne-eqb (checkJob job .number) 14 not-spent)
+  where
+    not-spent : checkJob job .number ≡ 14 → ⊥
+    not-spent e = let clash : true ≡ false = ap ofCall (sym e) ∙ check-of-job job in absurd (true≢false clash)
+
+-- Whatever the call is, and whatever it answers:
+module _ {A : Type 0} (answered : A → Answer) (refuse : Answer → A) (refuses : (a : Answer) → answered (refuse a) ≡ a)
+    (job : List ℕ) (enough : Bool) (s : Share) (from : Source) (plain : A) where
+  abbrev r : Shared A
+  r = sharedReply job enough s from refuse plain (answered plain)
+
+  refused-none : (a : Answer) → takesWords a ≡ false → r .reply ≡ refuse a → r .marks ≡ s .marks
+      → Called s (from .main) (r .marks) (handed (jobOf job) s from (answered (r .reply)))
+  unfolding handed
+  refused-none a t e m = Called.none m (ap (λ (b : Bool). cond b (take (takenBy (jobOf job) (shared s from)) (availablePlaces s (from .main))) []) (ap takesWords (ap answered e ∙ refuses a) ∙ t))
+
+  pub called : Called s (from .main) (r .marks) (handed (jobOf job) s from (answered (r .reply)))
+  unfolding sharedReply tested takesWords
+  called = passes (eqb (checkJob job .number) 0) refl
+    where
+      went : Fits s (from .main) → (b : Bool) → takesWords (answered plain) ≡ b
+          → Called s (from .main) (marksFor (jobOf job) s from (answered plain)) (handed (jobOf job) s from (answered plain))
+      went f true t = unfold marksFor handed in rw t (Called.took (takes (jobOf job) s from f))
+      went f false t = unfold marksFor handed in rw t (Called.none refl refl)
+
+      caller : eqb (checkJob job .number) 0 ≡ true → (enough && marksFit s) ≡ true → sharesFit s (from .main) ≡ true → (b : Bool) → callerFits s ≡ b
+          → Called s (from .main) (r .marks) (handed (jobOf job) s from (answered (r .reply)))
+      caller p l f true c = rw (p, l, f, c) (went (fits s (from .main) (both enough (marksFit s) l .1) f c) (takesWords (answered plain)) refl)
+      caller p l f false c = refused-none (answer 26 0) refl (rw (p, l, f, c) refl) (rw (p, l, f, c) refl)
+
+      shares : eqb (checkJob job .number) 0 ≡ true → (enough && marksFit s) ≡ true → (b : Bool) → sharesFit s (from .main) ≡ b
+          → Called s (from .main) (r .marks) (handed (jobOf job) s from (answered (r .reply)))
+      shares p l true f = caller p l f (callerFits s) refl
+      shares p l false f = refused-none (answer 25 0) refl (rw (p, l, f) refl) (rw (p, l, f) refl)
+
+      lent : eqb (checkJob job .number) 0 ≡ true → (b : Bool) → (enough && marksFit s) ≡ b
+          → Called s (from .main) (r .marks) (handed (jobOf job) s from (answered (r .reply)))
+      lent p true l = shares p l (sharesFit s (from .main)) refl
+      lent p false l = refused-none (answer 13 0) refl (rw (p, l) refl) (rw (p, l) refl)
+
+      passes : (b : Bool) → eqb (checkJob job .number) 0 ≡ b
+          → Called s (from .main) (r .marks) (handed (jobOf job) s from (answered (r .reply)))
+      passes true p = lent p (enough && marksFit s) refl
+      passes false p = refused-none (checkJob job) (own-number job (eqb-false _ 0 p)) (rw p refl) (rw p refl)
