@@ -1,4 +1,5 @@
 -- `totals::flip_counted` meets its contract. Assumes nothing.
+use native.Mathlib.Omega.{arith}
 use borrow.Author.Needs.{needs}
 use Rattle.totals.specs.Laws.Held.{flip-enough, flip-fits, held-flipped}
 use Rattle.totals.proofs.flip_counted.Statement.{statement}
@@ -26,13 +27,19 @@ slice-read-totals : tie.Need-slice-read-totals
 slice-read-totals c = search needs
 
 add-totals : tie.Need-add-totals
-add-totals c = let p = c .before .before .before .before .before .pre in record { fits = flip-fits (p .3) _ (p .1) (p .0) _ (p .2) }
+add-totals c =
+    let p = c .before .before .before .before .before .pre in
+    let fits = flip-fits (p .3) _ (p .1) (p .0) _ (p .2) in
+    record { fits = omega (arith, fits) }
 
 mul-totals-2 : tie.Need-mul-totals-2
 mul-totals-2 c = search needs
 
 sub-totals : tie.Need-sub-totals
-sub-totals c = let p = c .before .before .before .before .before .pre in flip-enough (p .3) _ (p .1) (p .0) _ (p .2)
+sub-totals c =
+    let p = c .before .before .before .before .before .pre in
+    let enough = flip-enough (p .3) _ (p .1) (p .0) _ (p .2) in
+    omega (arith, enough)
 
 mul-totals-3 : tie.Need-mul-totals-3
 mul-totals-3 c = search needs
