@@ -5,7 +5,7 @@ use Prim.Native.Nat.{ℕ, _<_, _≤_}
 use lib.ListN.{length, getD}
 use Rattle.job.specs.declared.Header.{Header}
 use Rattle.job.specs.Line.{Placed}
-use Rattle.job.specs.Job.{jobOf}
+use Rattle.job.specs.Job.{recordedIn, jobOf}
 use Rattle.job.specs.Reply.{writtenBy}
 use Rattle.draws.specs.Draws.{Lent}
 use Rattle.draws.specs.Settle.{SettledLine, Settled, settle, settledList}
@@ -19,12 +19,17 @@ use Rattle.backward.specs.Settling.{settleReply}
 use Rattle.backward.specs.Calls.{withSource}
 use Rattle.backward.specs.CallTheorems.{written-run}
 use Rattle.backward.specs.Laws.Replies.{run-ends}
-use Rattle.backward.specs.Laws.Totals.{reply-total}
+use Rattle.backward.specs.Laws.Totals.{reply-total, reply-unrecorded}
 
 -- After a run that answers 0, the total of each of the header's outcomes is the number of ones in its delta row, over the job's shots.
 pub totals-deltas : (job : List ℕ) (m : Memory) → runReply job m .answered .number ≡ 0 → (id : ℕ) → id < jobOf job .header .outcomes
     → getD (runReply job m .totals) id 0 ≡ onesTo (jobOf job .header .shots) (bitIn (wordsPerRow (jobOf job .header .shots)) (runReply job m .deltas) id)
 totals-deltas job m ran id below = reply-total job m (run-ends job m ran) id below
+
+-- The total of an outcome that no line of the job records is 0.
+pub totals-unrecorded : (job : List ℕ) (m : Memory) → runReply job m .answered .number ≡ 0 → (id : ℕ) → recordedIn (jobOf job .instructions) ≤ id
+    → id < jobOf job .header .outcomes → getD (runReply job m .totals) id 0 ≡ 0
+totals-unrecorded job m ran id unrecorded below = reply-unrecorded job m (run-ends job m ran) id unrecorded below
 
 -- The settled list, with the same words, base and bits, gives the same totals: on lists, and from whatever states execution begins,
 pub totals-settled : (h : Header) (lent : Lent) (is : List Placed) (main : List ℕ) (states ends : States) (ls : List SettledLine)

@@ -15,6 +15,8 @@ use Rattle.draws.specs.Execute.{States, Ended, execute}
 use Rattle.rows.specs.declared.Shape.{Shape}
 use Rattle.rows.specs.Words.{bitIn}
 use Rattle.noise.specs.declared.Place.{Place}
+use Rattle.template.specs.Values.{Whole}
+use Rattle.faults.specs.Elements.{AllInside}
 use Rattle.faults.specs.Prepared.{NoiseLines, noiseIn}
 use Rattle.injection.specs.Holds.{Holds}
 use Rattle.execution.specs.declared.Moved.{Moved}
@@ -60,35 +62,35 @@ pub record Went (job : List ℕ) (shape : Shape) (lent : Lent) (main : List ℕ)
   pub by : WentBy job shape lent main all count k x z d r
 
 -- a noise line at a place was read; its element lines begin behind it
-pub record NoiseReady (job : List ℕ) (place : Place) (line : Next) (fields noiseless : List ℕ) (shape : Shape) : Type 0 where
-  pub lines : NoiseLines job (line .end + 1) (line .form) fields noiseless (shape .width)
+pub record NoiseReady (job : List ℕ) (place : Place) (line : Next) (values noiseless : List ℕ) (shape : Shape) : Type 0 where
+  pub lines : NoiseLines job (line .end + 1) (line .form) values noiseless (shape .width)
   pub header : lines .header ≡ headerOf job shape
   pub number : lines .line ≡ place .line + 1
 
 -- with room for its elements, and rows for the frames
-pub record NoiseRoom (shape : Shape) (fields elements x z : List ℕ) : Type 0 where
-  pub of-fields : 136 ≤ length fields
-  pub of-elements : 4096 ≤ length elements
+pub record NoiseRoom (shape : Shape) (values elements x z : List ℕ) : Type 0 where
+  pub of-values : Whole values
+  pub of-elements : AllInside elements
   pub narrow : shape .width ≤ 64
   pub in-words : shape .shots ≤ 64 * shape .width
   pub of-x : length x ≡ shape .qubits * shape .width
   pub of-z : length z ≡ shape .qubits * shape .width
 
-pub record NoiseDone (job : List ℕ) (place : Place) (line : Next) (fields : List ℕ) (shape : Shape) (noiseless main second : List ℕ) (base : ℕ)
+pub record NoiseDone (job : List ℕ) (place : Place) (line : Next) (values : List ℕ) (shape : Shape) (noiseless main second : List ℕ) (base : ℕ)
     (x z x′ z′ : List ℕ) (r : Moved) : Type 0 where
-  pub by : (q : NoiseLines job (line .end + 1) (line .form) fields noiseless (shape .width)) → q .header ≡ headerOf job shape → q .line ≡ place .line + 1
+  pub by : (q : NoiseLines job (line .end + 1) (line .form) values noiseless (shape .width)) → q .header ≡ headerOf job shape → q .line ≡ place .line + 1
       → (text deltas : List ℕ) (states : States) → Holds (shape .width) x z deltas states
       → Went job shape (lentBy shape noiseless second base) main
       (execute (headerOf job shape) (lentBy shape noiseless second base) (placedAt (place .line) text (Instruction.noise (noiseIn q)) ∷ q .rest) (drop (place .position) main) states)
       (suc (length (q .rest))) (place .line) x′ z′ deltas r
 
 -- an instruction begins at the place
-pub record StepReady (job : List ℕ) (shape : Shape) (place : Place) (fields elements main : List ℕ) : Type 0 where
+pub record StepReady (job : List ℕ) (shape : Shape) (place : Place) (values elements main : List ℕ) : Type 0 where
   pub recorded : ℕ
   pub ahead : Ahead job (headerOf job shape) recorded (place .line) (place .byte)
   pub inside : place .byte < length job
-  pub of-fields : 136 ≤ length fields
-  pub of-elements : 4096 ≤ length elements
+  pub of-values : Whole values
+  pub of-elements : AllInside elements
   pub within : place .position ≤ length main
 
 pub record Stepped (job : List ℕ) (shape : Shape) (noiseless main second : List ℕ) (base : ℕ) (place : Place) (x z d x′ z′ d′ : List ℕ) (r : Moved) : Type 0

@@ -1,4 +1,5 @@
 // Execution of an accepted job: its instructions one after the other on rows of words.
+use faults::elements::ALL_WORDS;
 use faults::prepare;
 use injection::Drawn;
 use injection::inject_faults;
@@ -11,11 +12,15 @@ use noise::Place;
 use noise::words::part;
 use noise::words::position_after;
 use rows::Shape;
+use template::values::WORDS;
 ghost use Prim.Native.Nat.{ℕ, _*_, _≤_};
 ghost use lib.ListN.{length};
 ghost use Rattle.instructions.specs.Ahead.{Ahead};
 ghost use Rattle.totals.specs.Held.{TotalsHeld};
 ghost use Rattle.execution.specs.Went.{headerOf, RowsFor, NoiseReady, NoiseRoom, NoiseDone, StepReady, Stepped, Executes};
+
+// 31 rows of at most 64 words.
+const SCRATCH_WORDS: usize = 1984;
 
 // The place of the next instruction; or the draws were spent.
 pub enum Moved {
@@ -28,7 +33,7 @@ fn apply_noise<'a>(
     job: &[u8],
     place: Place,
     line: Next,
-    f: &[u64],
+    values: &[u64],
     elements: &mut [u64],
     x: &mut [u64],
     z: &mut [u64],
@@ -38,15 +43,15 @@ fn apply_noise<'a>(
     second: &'a [u64],
     base: u64,
 ) -> Moved
-    requires { ⌜ NoiseReady (now job) place line (now f) (now noiseless) shape × NoiseRoom shape (now f) (now elements) (now x) (now z) × (place .position ≤ length (now main)) ⌝ }
-    ensures { λ r. ⌜ NoiseDone (now (job .entry)) place line (now (f .entry)) shape (now (noiseless .entry)) (now (main .entry)) (now (second .entry)) base (now (x .entry)) (now (z .entry)) (now (x .exit)) (now (z .exit)) r ⌝ }
+    requires { ⌜ NoiseReady (now job) place line (now values) (now noiseless) shape × NoiseRoom shape (now values) (now elements) (now x) (now z) × (place .position ≤ length (now main)) ⌝ }
+    ensures { λ r. ⌜ NoiseDone (now (job .entry)) place line (now (values .entry)) shape (now (noiseless .entry)) (now (main .entry)) (now (second .entry)) base (now (x .entry)) (now (z .entry)) (now (x .exit)) (now (z .exit)) r ⌝ }
 {
     let mut sums = [0.0; 64];
     let mut mask = [0u64; 64];
     let r = prepare(
         job,
         line,
-        f,
+        values,
         noiseless,
         shape.width,
         &mut *elements,
@@ -80,7 +85,7 @@ fn apply_noise<'a>(
 fn step<'a>(
     job: &[u8],
     place: Place,
-    f: &mut [u64],
+    values: &mut [u64],
     elements: &mut [u64],
     scratch: &mut [u64],
     x: &mut [u64],
@@ -93,17 +98,17 @@ fn step<'a>(
     second: &'a [u64],
     base: u64,
 ) -> Moved
-    requires { ⌜ StepReady (now job) shape place (now f) (now elements) (now main) × RowsFor shape (now x) (now z) (now deltas) (now noiseless) × (31 * shape .width ≤ length (now scratch)) × TotalsHeld (shape .width) (shape .outcomes) (now deltas) (now totals) ⌝ }
+    requires { ⌜ StepReady (now job) shape place (now values) (now elements) (now main) × RowsFor shape (now x) (now z) (now deltas) (now noiseless) × (31 * shape .width ≤ length (now scratch)) × TotalsHeld (shape .width) (shape .outcomes) (now deltas) (now totals) ⌝ }
     ensures { λ r. ⌜ Stepped (now (job .entry)) shape (now (noiseless .entry)) (now (main .entry)) (now (second .entry)) base place (now (x .entry)) (now (z .entry)) (now (deltas .entry)) (now (x .exit)) (now (z .exit)) (now (deltas .exit)) r × TotalsHeld (shape .width) (shape .outcomes) (now (deltas .exit)) (now (totals .exit)) ⌝ }
 {
-    let line = next_line(job, place.byte, &mut *f);
+    let line = next_line(job, place.byte, &mut *values);
     let form = line.form;
     if is_noise(form) {
         return apply_noise(
             job,
             place,
             line,
-            f,
+            values,
             elements,
             x,
             z,
@@ -114,7 +119,7 @@ fn step<'a>(
             base,
         );
     }
-    apply_line(form, f, x, z, deltas, totals, scratch, shape);
+    apply_line(form, values, x, z, deltas, totals, scratch, shape);
     Moved::To(Place {
         byte: line.end + 1,
         line: place.line + 1,
@@ -139,9 +144,9 @@ pub fn execute<'a>(
     requires { ⌜ ((recorded : ℕ) × Ahead (now job) (headerOf (now job) shape) recorded 2 from) × RowsFor shape (now x) (now z) (now deltas) (now noiseless) × TotalsHeld (shape .width) (shape .outcomes) (now deltas) (now totals) ⌝ }
     ensures { λ r. ⌜ Executes (now (job .entry)) shape (now (noiseless .entry)) (now (main .entry)) (now (second .entry)) base from (now (x .entry)) (now (z .entry)) (now (deltas .entry)) (now (x .exit)) (now (z .exit)) (now (deltas .exit)) r × TotalsHeld (shape .width) (shape .outcomes) (now (deltas .exit)) (now (totals .exit)) ⌝ }
 {
-    let mut f = [0u64; 136];
-    let mut elements = [0u64; 4096];
-    let mut scratch = [0u64; 1984];
+    let mut values = [0u64; WORDS];
+    let mut elements = [0u64; ALL_WORDS];
+    let mut scratch = [0u64; SCRATCH_WORDS];
     let mut place = Place {
         byte: from,
         line: 2,
@@ -151,7 +156,7 @@ pub fn execute<'a>(
         let moved = step(
             job,
             place,
-            &mut f,
+            &mut values,
             &mut elements,
             &mut scratch,
             &mut *x,

@@ -3,28 +3,74 @@ use Prim.Native.Nat.{ℕ, _+_, _*_, _≤_, _<_}
 use mathlib.Core.Path.{_≡_}
 use mathlib.Core.List.{List}
 use lib.ListN.{length, getD, take, drop, set}
+use Rattle.template.specs.Values.{heldCount, keptMembers}
 use Rattle.job.specs.Line.{SparsePauli, Distribution}
 use Rattle.draws.specs.Draws.{noPauli}
 use Rattle.rows.specs.Overwrite.{copied}
 
--- The words l with two lists of a line's fields f, the one in slot `first` and the next, kept as element e: the counts, then 31 words for each list.
-unfoldable pub kept : ℕ → ℕ → List ℕ → List ℕ → List ℕ
-kept e first f l =
-    copied (e * 64 + 33) (43 + first * 31) 31 f
-    (copied (e * 64 + 2) (12 + first * 31) 31 f (set (set l (e * 64) (getD f (4 + first) 0)) (e * 64 + 1) (getD f (5 + first) 0)))
+-- ---- where they lie: element e in 64 words, the counts of its two lists, then 31 words for each
 
--- the words hold a Pauli as element e
+-- there are as many words as 64 elements take, and as element e takes
+abbrev pub AllInside : List ℕ → Type 0
+AllInside words = 4096 ≤ length words
+
+abbrev pub Inside : List ℕ → ℕ → Type 0
+Inside words e = e * 64 + 64 ≤ length words
+
+-- how many members each list has
+abbrev pub xCount : List ℕ → ℕ → ℕ
+xCount words e = getD words (e * 64) 0
+
+abbrev pub zCount : List ℕ → ℕ → ℕ
+zCount words e = getD words (e * 64 + 1) 0
+
+-- the words from its first member on
+abbrev pub xMembers : List ℕ → ℕ → List ℕ
+xMembers words e = drop (e * 64 + 2) words
+
+abbrev pub zMembers : List ℕ → ℕ → List ℕ
+zMembers words e = drop (e * 64 + 33) words
+
+-- the two lists
+abbrev pub elementX : List ℕ → ℕ → List ℕ
+elementX words e = take (xCount words e) (xMembers words e)
+
+abbrev pub elementZ : List ℕ → ℕ → List ℕ
+elementZ words e = take (zCount words e) (zMembers words e)
+
+-- both counts, and the 62 words for both lists
+abbrev pub elementCounts : List ℕ → ℕ → List ℕ
+elementCounts words e = take 2 (drop (e * 64) words)
+
+abbrev pub elementMembers : List ℕ → ℕ → List ℕ
+elementMembers words e = take 62 (xMembers words e)
+
+-- the words with two lists of a line's values, the one in slot `first` and the next, kept as element e
+unfoldable pub kept : ℕ → ℕ → List ℕ → List ℕ → List ℕ
+kept e first values words =
+    copied (e * 64 + 33) 0 31 (keptMembers values (first + 1))
+    (copied (e * 64 + 2) 0 31 (keptMembers values first) (set (set words (e * 64) (heldCount values first)) (e * 64 + 1) (heldCount values (first + 1))))
+
+-- ---- what they hold
+
+-- a Pauli as element e
 pub record ElementHeld (elements : List ℕ) (e : ℕ) (P : SparsePauli) : Type 0 where
   pub x-few : length (P .x) ≤ 31
   pub z-few : length (P .z) ≤ 31
-  pub x-count : getD elements (e * 64) 0 ≡ length (P .x)
-  pub z-count : getD elements (e * 64 + 1) 0 ≡ length (P .z)
-  pub x : take (length (P .x)) (drop (e * 64 + 2) elements) ≡ P .x
-  pub z : take (length (P .z)) (drop (e * 64 + 33) elements) ≡ P .z
+  pub x-count : xCount elements e ≡ length (P .x)
+  pub z-count : zCount elements e ≡ length (P .z)
+  pub x : elementX elements e ≡ P .x
+  pub z : elementZ elements e ≡ P .z
 
--- the words hold the elements of a distribution; of a depolarizing one its qubits, as the first list of element 0
+-- qubits as the first list of element 0
+pub record QubitsHeld (elements qubits : List ℕ) : Type 0 where
+  pub few : length qubits ≤ 31
+  pub count : xCount elements 0 ≡ length qubits
+  pub is : elementX elements 0 ≡ qubits
+
+-- the elements of a distribution; of a depolarizing one its qubits
 unfoldable pub DistributionHeld : Distribution → List ℕ → Type 0
 DistributionHeld (Distribution.single P) l = ElementHeld l 0 P
-DistributionHeld (Distribution.depolarizing qs) l = take (length qs) (drop 2 l) ≡ qs
+DistributionHeld (Distribution.depolarizing qs) l = QubitsHeld l qs
 DistributionHeld (Distribution.uniform Ps) l = (e : ℕ) → e < length Ps → ElementHeld l e (getD Ps e noPauli)
 DistributionHeld (Distribution.weighted es) l = (e : ℕ) → e < length es → ElementHeld l e (getD es e (record { weight = 0; pauli = noPauli }) .pauli)

@@ -1,4 +1,4 @@
--- A noise line by value, as its fields hold it. Definitions. Assumes nothing.
+-- A noise line by value, as lent words hold its values. Definitions. Assumes nothing.
 use Prim.Native.Nat.{ℕ, _≤_, _<_}
 use mathlib.Core.Path.{_≡_}
 use mathlib.Core.List.{List}
@@ -25,8 +25,8 @@ kindBy (Kind.uniform n) t = Uniform n
 kindBy (Kind.weighted n) t = Weighted t
 
 -- corr is the first list of a noise line
-pub record CorrelationHeld (f : List ℕ) (r : Correlation) : Type 0 where
-  pub is : (a b : ℕ) (vs : List Value) → Held f a b vs → 0 < b → correlationOf r ≡ optional (listAt 0 vs)
+pub record CorrelationHeld (words : List ℕ) (r : Correlation) : Type 0 where
+  pub is : (a b : ℕ) (vs : List Value) → Held words a b vs → 0 < b → correlationOf r ≡ optional (listAt 0 vs)
 
 -- cond is the second list, and parity the second number
 pub record ConditionIs (outcomes : List ℕ) (parity : ℕ) (r : OutcomeCondition) : Type 0 where
@@ -34,8 +34,8 @@ pub record ConditionIs (outcomes : List ℕ) (parity : ℕ) (r : OutcomeConditio
   pub outcomes-are : take (r .count) (r .outcomes) ≡ outcomes
   pub parity-is : r .parity ≡ parity
 
-pub record ConditionHeld (f : List ℕ) (r : OutcomeCondition) : Type 0 where
-  pub is : (a b : ℕ) (vs : List Value) → Held f a b vs → 1 < a → 1 < b → length (listAt 1 vs) ≤ 31 → ConditionIs (listAt 1 vs) (numberAt 1 vs) r
+pub record ConditionHeld (words : List ℕ) (r : OutcomeCondition) : Type 0 where
+  pub is : (a b : ℕ) (vs : List Value) → Held words a b vs → 1 < a → 1 < b → length (listAt 1 vs) ≤ 31 → ConditionIs (listAt 1 vs) (numberAt 1 vs) r
 
 -- what the struct says of a noise line
 pub record FaultOf (n : NoiseLine) (total : Float) (r : PauliFault) : Type 0 where
@@ -46,5 +46,5 @@ pub record FaultOf (n : NoiseLine) (total : Float) (r : PauliFault) : Type 0 whe
   pub outcomes : take (r .condition .count) (r .condition .outcomes) ≡ n .condition .outcomes
   pub parity : isOne (r .condition .parity) ≡ n .condition .parity
 
-pub record FaultHeld (form : Form) (f : List ℕ) (total : Float) (r : PauliFault) : Type 0 where
-  pub is : (vs : List Value) (n : NoiseLine) → Said form f vs (Written.noise n) → length (n .condition .outcomes) ≤ 31 → FaultOf n total r
+pub record FaultHeld (form : Form) (words : List ℕ) (total : Float) (r : PauliFault) : Type 0 where
+  pub is : (vs : List Value) (n : NoiseLine) → Said form words vs (Written.noise n) → length (n .condition .outcomes) ≤ 31 → FaultOf n total r

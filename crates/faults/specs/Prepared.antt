@@ -6,6 +6,7 @@ use mathlib.Core.List.{List}
 use lib.ListN.{length, getD, take}
 use lib.Ieee.{Float}
 use Rattle.text.specs.Template.{Value}
+use Rattle.template.specs.Values.{Whole}
 use Rattle.job.specs.declared.Header.{Header}
 use Rattle.job.specs.Line.{WeightedPauli, Noise, Placed}
 use Rattle.job.specs.Grammar.{NoiseLine, Written}
@@ -21,7 +22,7 @@ use Rattle.rows.specs.Words.{bitIn}
 use Rattle.noise.specs.Kinds.{correlationOf, Small, Represents}
 use Rattle.noise.specs.Condition.{Masks}
 use Rattle.faults.specs.declared.Prepared.{Prepared}
-use Rattle.faults.specs.Elements.{ElementHeld, DistributionHeld}
+use Rattle.faults.specs.Elements.{AllInside, ElementHeld, DistributionHeld}
 use Rattle.faults.specs.Line.{FaultOf}
 
 -- ---- element lines
@@ -45,14 +46,14 @@ pub record Gathered {job : List ℕ} {at n : ℕ} {weighted : Bool} (q : Element
 
 -- ---- a noise line
 
--- The fields hold a noise line of an accepted job. Its element lines begin at `at`, with the line of that number, and behind them stand the instructions
--- `rest`. The noiseless bits lie w words a row.
-pub record NoiseLines (job : List ℕ) (at : ℕ) (form : Form) (fields noiseless : List ℕ) (w : ℕ) : Type 0 where
+-- The words hold the values of a noise line of an accepted job. Its element lines begin at `at`, with the line of that number, and behind them stand the
+-- instructions `rest`. The noiseless bits lie w words a row.
+pub record NoiseLines (job : List ℕ) (at : ℕ) (form : Form) (words noiseless : List ℕ) (w : ℕ) : Type 0 where
   pub header : Header
   pub recorded : ℕ
   pub noise : NoiseLine
   pub values : List Value
-  pub said : Said form fields values (Written.noise noise)
+  pub said : Said form words values (Written.noise noise)
   pub elements : List WeightedPauli
   pub count : length elements ≡ elementLines (noise .kind)
   pub few : length elements ≤ 64
@@ -63,27 +64,27 @@ pub record NoiseLines (job : List ℕ) (at : ℕ) (form : Form) (fields noiseles
   pub rows : header .outcomes * w ≤ length noiseless
 
 -- a noise line of an accepted job was read, with so many element lines behind it
-pub record SomeNoise (job : List ℕ) (line : Next) (fields : List ℕ) (n : ℕ) : Type 0 where
+pub record SomeNoise (job : List ℕ) (line : Next) (words : List ℕ) (n : ℕ) : Type 0 where
   pub noiseless : List ℕ
   pub width : ℕ
-  pub lines : NoiseLines job (line .end + 1) (line .form) fields noiseless width
-  pub count : (vs : List Value) (k : NoiseLine) → Said (line .form) fields vs (Written.noise k) → n ≡ elementLines (k .kind)
+  pub lines : NoiseLines job (line .end + 1) (line .form) words noiseless width
+  pub count : (vs : List Value) (k : NoiseLine) → Said (line .form) words vs (Written.noise k) → n ≡ elementLines (k .kind)
 
 -- the lent words and floats suffice for n elements
-pub record FaultRoom (n : ℕ) (fields elements : List ℕ) (sums weights : List Float) : Type 0 where
-  pub of-fields : 136 ≤ length fields
-  pub of-elements : 4096 ≤ length elements
+pub record FaultRoom (n : ℕ) (words elements : List ℕ) (sums weights : List Float) : Type 0 where
+  pub of-values : Whole words
+  pub of-elements : AllInside elements
   pub of-sums : length sums ≡ n
   pub of-weights : length weights ≡ n
 
 -- and for any noise line and its mask
-pub record Room (fields elements : List ℕ) (sums : List Float) (mask : List ℕ) (w : ℕ) : Type 0 where
-  pub of-fields : 136 ≤ length fields
-  pub of-elements : 4096 ≤ length elements
+pub record Room (words elements : List ℕ) (sums : List Float) (mask : List ℕ) (w : ℕ) : Type 0 where
+  pub of-values : Whole words
+  pub of-elements : AllInside elements
   pub of-sums : 64 ≤ length sums
   pub of-mask : w ≤ length mask
 
-module _ {job : List ℕ} {at : ℕ} {form : Form} {fields noiseless : List ℕ} {w : ℕ} (q : NoiseLines job at form fields noiseless w) where
+module _ {job : List ℕ} {at : ℕ} {form : Form} {words noiseless : List ℕ} {w : ℕ} (q : NoiseLines job at form words noiseless w) where
   -- the noise instruction
   abbrev pub noiseIn : Noise
   noiseIn = noiseOf (q .noise) (q .elements)

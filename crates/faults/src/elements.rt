@@ -1,25 +1,101 @@
-// The elements of a distribution in lent words. Element e lies in 64 words: the counts of its two lists, then 31 words for each. The qubits of a
+// The elements of a distribution in lent words. Each begins with the counts of its two lists, and has 31 words for the members of each. The qubits of a
 // depolarizing distribution stand as the first list of element 0.
 ghost use mathlib.Core.Path.{_≡_};
 ghost use mathlib.Core.Bool.{Bool, true, cond};
-ghost use Prim.Native.Nat.{_+_, _*_, _≤_, _<_};
+ghost use Prim.Native.Nat.{_*_, _≤_, _<_};
 ghost use lib.ListN.{length};
+ghost use Rattle.template.specs.Values.{Whole};
 ghost use Rattle.job.specs.Float.{float, zeroFloat, isWeight};
-ghost use Rattle.faults.specs.Elements.{kept};
+ghost use Rattle.faults.specs.Elements.{Inside, xCount, zCount, elementX, elementZ, elementCounts, elementMembers, kept};
 ghost use Rattle.faults.specs.Prepared.{ElementLines, Gathered};
 use instructions::next_line;
+use template::values::KEPT;
+use template::values::WORDS;
+use template::values::count;
+use template::values::number;
+
+// ---- Where they lie
+
+// The words of all elements, at most 64, and of one.
+pub const ALL_WORDS: usize = 4096;
+
+pub const ELEMENT_WORDS: usize = 64;
+
+// In an element, behind the count of its first list: the count of its second, and the members of both.
+const Z_COUNT: usize = 1;
+
+const X_MEMBERS: usize = 2;
+
+const Z_MEMBERS: usize = 33;
+
+// The first list of element e.
+pub fn element_x<'a>(elements: &'a [u64], e: usize) -> &'a [u64]
+    requires { ⌜ Inside (now elements) e × (xCount (now elements) e ≤ 31) ⌝ }
+    ensures { λ r. ⌜ now r ≡ elementX (now (elements .entry)) e ⌝ }
+{
+    let a = e * ELEMENT_WORDS;
+    let from = a + X_MEMBERS;
+    let to = from + elements[a] as usize;
+    &elements[from..to]
+}
+
+// The second list.
+pub fn element_z<'a>(elements: &'a [u64], e: usize) -> &'a [u64]
+    requires { ⌜ Inside (now elements) e × (zCount (now elements) e ≤ 31) ⌝ }
+    ensures { λ r. ⌜ now r ≡ elementZ (now (elements .entry)) e ⌝ }
+{
+    let a = e * ELEMENT_WORDS;
+    let from = a + Z_MEMBERS;
+    let to = from + elements[a + Z_COUNT] as usize;
+    &elements[from..to]
+}
+
+// Both counts.
+pub fn element_counts<'a>(elements: &'a [u64], e: usize) -> &'a [u64]
+    requires { ⌜ Inside (now elements) e ⌝ }
+    ensures { λ r. ⌜ now r ≡ elementCounts (now (elements .entry)) e ⌝ }
+{
+    let from = e * ELEMENT_WORDS;
+    let to = from + X_MEMBERS;
+    &elements[from..to]
+}
+
+// The words for the members of both lists.
+pub fn element_members<'a>(elements: &'a [u64], e: usize) -> &'a [u64]
+    requires { ⌜ Inside (now elements) e ⌝ }
+    ensures { λ r. ⌜ now r ≡ elementMembers (now (elements .entry)) e ⌝ }
+{
+    let from = e * ELEMENT_WORDS + X_MEMBERS;
+    let to = from + 2 * KEPT;
+    &elements[from..to]
+}
 
 // Keeps two lists of a line, the one in slot `first` and the next, as element e.
-pub fn keep_element(elements: &mut [u64], e: usize, f: &[u64], first: usize)
-    requires { ⌜ (e * 64 + 64 ≤ length (now elements)) × (136 ≤ length (now f)) × (first ≤ 2) ⌝ }
-    ensures { λ _. ⌜ now (elements .exit) ≡ kept e first (now (f .entry)) (now (elements .entry)) ⌝ }
+pub fn keep_element(elements: &mut [u64], e: usize, values: &[u64], first: usize)
+    requires { ⌜ Inside (now elements) e × Whole (now values) × (first ≤ 2) ⌝ }
+    ensures { λ _. ⌜ now (elements .exit) ≡ kept e first (now (values .entry)) (now (elements .entry)) ⌝ }
 {
-    let a = e * 64;
-    elements[a] = f[4 + first];
-    elements[a + 1] = f[5 + first];
-    rows::copy(&mut *elements, a + 2, f, 12 + first * 31, 31);
-    rows::copy(elements, a + 33, f, 43 + first * 31, 31);
+    let a = e * ELEMENT_WORDS;
+    let second = first + 1;
+    elements[a] = count(values, first);
+    elements[a + Z_COUNT] = count(values, second);
+    rows::copy(
+        &mut *elements,
+        a + X_MEMBERS,
+        template::values::kept(values, first),
+        0,
+        KEPT,
+    );
+    rows::copy(
+        elements,
+        a + Z_MEMBERS,
+        template::values::kept(values, second),
+        0,
+        KEPT,
+    );
 }
+
+// ---- Element lines
 
 // The weight of an element by its bits: 0 where elements have none.
 fn weight_of(weighted: bool, bits: u64) -> f64
@@ -44,13 +120,13 @@ pub fn gather(
     requires { ⌜ ElementLines (now job) from n weighted × (n * 64 ≤ length (now elements)) × (length (now weights) ≡ n) ⌝ }
     ensures { λ r. ⌜ (n ≡ 0 → now (elements .exit) ≡ now (elements .entry)) × ((q : ElementLines (now (job .entry)) from n weighted) → Gathered q (now (elements .exit)) (now (weights .exit)) r n) ⌝ }
 {
-    let mut f = [0u64; 136];
+    let mut values = [0u64; WORDS];
     let mut at = from;
     let mut e = 0;
     while e < n {
-        let line = next_line(job, at, &mut f);
-        keep_element(&mut *elements, e, &f, 0);
-        weights[e] = weight_of(weighted, f[0]);
+        let line = next_line(job, at, &mut values);
+        keep_element(&mut *elements, e, &values, 0);
+        weights[e] = weight_of(weighted, number(&values, 0));
         at = line.end + 1;
         e += 1;
     }

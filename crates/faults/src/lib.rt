@@ -35,20 +35,20 @@ fn read_fault(
     job: &[u8],
     line: Next,
     n: usize,
-    f: &[u64],
+    values: &[u64],
     elements: &mut [u64],
     sums: &mut [f64],
     weights: &mut [f64],
 ) -> Prepared
-    requires { ⌜ SomeNoise (now job) line (now f) n × FaultRoom n (now f) (now elements) (now sums) (now weights) ⌝ }
-    ensures { λ r. ⌜ ((noiseless : List ℕ) (w : ℕ) (q : NoiseLines (now (job .entry)) (line .end + 1) (line .form) (now (f .entry)) noiseless w) → FaultRead q (now (elements .exit)) (now (sums .exit)) r) ⌝ }
+    requires { ⌜ SomeNoise (now job) line (now values) n × FaultRoom n (now values) (now elements) (now sums) (now weights) ⌝ }
+    ensures { λ r. ⌜ ((noiseless : List ℕ) (w : ℕ) (q : NoiseLines (now (job .entry)) (line .end + 1) (line .form) (now (values .entry)) noiseless w) → FaultRead q (now (elements .exit)) (now (sums .exit)) r) ⌝ }
 {
     let form = line.form;
     let from = line.end + 1;
     let weighted = has_weights(form);
-    keep_element(&mut *elements, 0, f, 2);
+    keep_element(&mut *elements, 0, values, 2);
     let next = gather(job, from, n, weighted, elements, &mut *weights);
-    let fault = fault_of(form, f, total(weights));
+    let fault = fault_of(form, values, total(weights));
     let distribution = fault.distribution;
     fill_sums(distribution, sums, weights);
     Prepared {
@@ -68,24 +68,32 @@ fn satisfied_shots(condition: OutcomeCondition, noiseless: &[u64], w: usize, mas
     condition_mask(mask, &outcomes[..count], condition.parity, noiseless, w);
 }
 
-// Makes ready the noise line that was read, whose values the fields hold. Its element lines begin behind it.
+// Makes ready the noise line that was read, by its values. Its element lines begin behind it.
 pub fn prepare(
     job: &[u8],
     line: Next,
-    f: &[u64],
+    values: &[u64],
     noiseless: &[u64],
     width: usize,
     elements: &mut [u64],
     sums: &mut [f64],
     mask: &mut [u64],
 ) -> Prepared
-    requires { ⌜ NoiseLines (now job) (line .end + 1) (line .form) (now f) (now noiseless) width × Room (now f) (now elements) (now sums) (now mask) width ⌝ }
-    ensures { λ r. ⌜ ((q : NoiseLines (now (job .entry)) (line .end + 1) (line .form) (now (f .entry)) (now (noiseless .entry)) width) → PreparedAs q (now (elements .exit)) (now (sums .exit)) (now (mask .exit)) r) ⌝ }
+    requires { ⌜ NoiseLines (now job) (line .end + 1) (line .form) (now values) (now noiseless) width × Room (now values) (now elements) (now sums) (now mask) width ⌝ }
+    ensures { λ r. ⌜ ((q : NoiseLines (now (job .entry)) (line .end + 1) (line .form) (now (values .entry)) (now (noiseless .entry)) width) → PreparedAs q (now (elements .exit)) (now (sums .exit)) (now (mask .exit)) r) ⌝ }
 {
     let form = line.form;
-    let n = element_lines(form, f);
+    let n = element_lines(form, values);
     let mut weights = [0.0; 64];
-    let r = read_fault(job, line, n, f, elements, &mut sums[..n], &mut weights[..n]);
+    let r = read_fault(
+        job,
+        line,
+        n,
+        values,
+        elements,
+        &mut sums[..n],
+        &mut weights[..n],
+    );
     let fault = r.fault;
     let condition = fault.condition;
     satisfied_shots(condition, noiseless, width, mask);

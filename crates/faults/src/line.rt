@@ -1,10 +1,9 @@
-// A noise line by value, from its fields.
+// A noise line by value, from its values in lent words. p and the parity of its condition are its first numbers, corr and cond its first lists.
 ghost use mathlib.Core.Path.{_≡_};
 ghost use mathlib.Core.Bool.{true};
 ghost use mathlib.Core.List.{List};
-ghost use Prim.Native.Nat.{_≤_};
-ghost use lib.ListN.{length, getD};
 ghost use Rattle.text.specs.Template.{Value};
+ghost use Rattle.template.specs.Values.{Whole, heldNumber};
 ghost use Rattle.job.specs.Float.{float, isProbability};
 ghost use Rattle.job.specs.Grammar.{NoiseLine, Written};
 ghost use Rattle.reader.specs.Parsed.{Said};
@@ -14,53 +13,58 @@ use noise::OutcomeCondition;
 use noise::PauliDistribution;
 use noise::PauliFault;
 use reader::Form;
+use template::values::KEPT;
+use template::values::count;
+use template::values::kept;
+use template::values::member;
+use template::values::number;
 
 // The kind of a noise line. The weighted one has this total.
-fn distribution_of(form: Form, f: &[u64], total: f64) -> PauliDistribution
-    requires { ⌜ 136 ≤ length (now f) ⌝ }
-    ensures { λ r. ⌜ ((vs : List Value) (n : NoiseLine) → Said form (now (f .entry)) vs (Written.noise n) → r ≡ kindBy (n .kind) total) ⌝ }
+fn distribution_of(form: Form, values: &[u64], total: f64) -> PauliDistribution
+    requires { ⌜ Whole (now values) ⌝ }
+    ensures { λ r. ⌜ ((vs : List Value) (n : NoiseLine) → Said form (now (values .entry)) vs (Written.noise n) → r ≡ kindBy (n .kind) total) ⌝ }
 {
     match form {
-        Form::Depolarizing => PauliDistribution::Depolarizing(f[6]),
-        Form::Uniform => PauliDistribution::Uniform(f[2]),
+        Form::Depolarizing => PauliDistribution::Depolarizing(count(values, 2)),
+        Form::Uniform => PauliDistribution::Uniform(number(values, 2)),
         Form::Weighted => PauliDistribution::Weighted(total),
         _ => PauliDistribution::Single,
     }
 }
 
-fn correlation_of(f: &[u64]) -> Correlation
-    requires { ⌜ 136 ≤ length (now f) ⌝ }
-    ensures { λ r. ⌜ CorrelationHeld (now (f .entry)) r ⌝ }
+fn correlation_of(values: &[u64]) -> Correlation
+    requires { ⌜ Whole (now values) ⌝ }
+    ensures { λ r. ⌜ CorrelationHeld (now (values .entry)) r ⌝ }
 {
-    if f[4] == 0 {
+    if count(values, 0) == 0 {
         return Correlation::Uncorrelated;
     }
-    Correlation::Shared(f[12])
+    Correlation::Shared(member(values, 0, 0))
 }
 
-fn condition_of(f: &[u64]) -> OutcomeCondition
-    requires { ⌜ 136 ≤ length (now f) ⌝ }
-    ensures { λ r. ⌜ ConditionHeld (now (f .entry)) r ⌝ }
+fn condition_of(values: &[u64]) -> OutcomeCondition
+    requires { ⌜ Whole (now values) ⌝ }
+    ensures { λ r. ⌜ ConditionHeld (now (values .entry)) r ⌝ }
 {
-    let mut outcomes = [0u64; 31];
-    rows::copy(&mut outcomes, 0, f, 43, 31);
+    let mut outcomes = [0u64; KEPT];
+    rows::copy(&mut outcomes, 0, kept(values, 1), 0, KEPT);
     OutcomeCondition {
         outcomes,
-        count: f[5] as usize,
-        parity: f[1],
+        count: count(values, 1) as usize,
+        parity: number(values, 1),
     }
 }
 
-// The noise line that the fields hold. The total of its elements' weights is known once they are read.
-pub fn fault_of(form: Form, f: &[u64], total: f64) -> PauliFault
-    requires { ⌜ (136 ≤ length (now f)) × (isProbability (float (getD (now f) 0 0)) ≡ true) ⌝ }
-    ensures { λ r. ⌜ FaultHeld form (now (f .entry)) total r ⌝ }
+// The noise line that the values say. The total of its elements' weights is known once they are read.
+pub fn fault_of(form: Form, values: &[u64], total: f64) -> PauliFault
+    requires { ⌜ Whole (now values) × (isProbability (float (heldNumber (now values) 0)) ≡ true) ⌝ }
+    ensures { λ r. ⌜ FaultHeld form (now (values .entry)) total r ⌝ }
 {
-    let condition = condition_of(f);
+    let condition = condition_of(values);
     PauliFault {
-        probability: f64::from_bits(f[0]),
-        distribution: distribution_of(form, f, total),
-        correlation: correlation_of(f),
+        probability: f64::from_bits(number(values, 0)),
+        distribution: distribution_of(form, values, total),
+        correlation: correlation_of(values),
         condition,
     }
 }

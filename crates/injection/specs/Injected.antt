@@ -13,7 +13,7 @@ use Rattle.propagator.specs.Acts.{Acts, lineRule}
 use Rattle.noise.specs.declared.PauliDistribution.{PauliDistribution}
 use Rattle.noise.specs.Kinds.{Small, Chooses, Represents}
 use Rattle.noise.specs.Condition.{Masks}
-use Rattle.faults.specs.Elements.{ElementHeld, DistributionHeld}
+use Rattle.faults.specs.Elements.{AllInside, ElementHeld, DistributionHeld}
 use Rattle.injection.specs.declared.Drawn.{Drawn}
 use Rattle.injection.specs.declared.Drawn.the-variants.{Done, Spent}
 use Rattle.injection.specs.Holds.{Holds}
@@ -22,7 +22,7 @@ use Rattle.injection.specs.Holds.{Holds}
 
 -- the words hold an element on n qubits by its two lists
 pub record ListedHeld (n : ℕ) (elements : List ℕ) (e : ℕ) : Type 0 where
-  pub room : 4096 ≤ length elements
+  pub room : AllInside elements
   pub few : e < 64
   pub pauli : SparsePauli
   pub sound : PauliSound n pauli
@@ -30,7 +30,7 @@ pub record ListedHeld (n : ℕ) (elements : List ℕ) (e : ℕ) : Type 0 where
 
 -- the words hold the elements of a distribution on n qubits, of which e is one
 pub record ElementReady (n : ℕ) (d : PauliDistribution) (elements : List ℕ) (e : ℕ) : Type 0 where
-  pub room : 4096 ≤ length elements
+  pub room : AllInside elements
   pub distribution : Distribution
   pub sums : List Float
   pub chooses : Chooses distribution d sums
@@ -57,7 +57,7 @@ pub record FaultsReady (qubits shots w : ℕ) (p : Float) (d : PauliDistribution
   pub noise : Noise
   pub lent : Lent
   pub line : LineReady noise lent w qubits p d sums elements mask
-  pub room : 4096 ≤ length elements
+  pub room : AllInside elements
   pub in-words : shots ≤ 64 * w
   pub in-mask : w ≤ length mask
   pub of-x : length x ≡ qubits * w

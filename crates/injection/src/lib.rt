@@ -1,5 +1,7 @@
 // The faults of a noise line, injected in their shots.
 use choice::chooser_of;
+use faults::elements::element_x;
+use faults::elements::element_z;
 use noise::PauliDistribution;
 use noise::PauliFault;
 use pauli::Shot;
@@ -67,17 +69,19 @@ pub fn inject_depolarizing(
 
 // ---- Any element
 
-// Element e of a distribution, by its two lists: the counts lie in its first two of 64 words, the lists behind them.
-fn inject_listed(x: &mut [u64], z: &mut [u64], shape: Shape, shot: Shot, elements: &[u64], e: u64)
+// Element e of a distribution, by its two lists.
+fn inject_listed(x: &mut [u64], z: &mut [u64], shape: Shape, shot: Shot, elements: &[u64], e: usize)
     requires { ⌜ ListedHeld (shape .qubits) (now elements) e × (length (now x) ≡ shape .qubits * shape .width) × (length (now z) ≡ shape .qubits * shape .width) × (shot .0 < 64 * shape .width) ⌝ }
     ensures { λ _. ⌜ ((P : SparsePauli) → ElementHeld (now (elements .entry)) e P → (m : ℕ) (d : List ℕ) → Acts (shape .width) (lineRule (shape .qubits) m (Line.inject (shot .0) P)) (now (x .entry)) (now (z .entry)) d (now (x .exit)) (now (z .exit)) d) ⌝ }
 {
-    let a = e as usize * 64;
-    let xs = a + 2;
-    let xe = xs + elements[a] as usize;
-    let zs = a + 33;
-    let ze = zs + elements[a + 1] as usize;
-    propagator::paulis::inject_pauli(x, z, shape, shot, &elements[xs..xe], &elements[zs..ze]);
+    propagator::paulis::inject_pauli(
+        x,
+        z,
+        shape,
+        shot,
+        element_x(elements, e),
+        element_z(elements, e),
+    );
 }
 
 // Element e of a distribution. The qubits of d=2 stand as the first list of element 0.
@@ -94,11 +98,10 @@ pub fn inject_element(
     ensures { λ _. ⌜ ElementInjected (shape .width) (shape .qubits) (shot .0) d (now (elements .entry)) e (now (x .entry)) (now (z .entry)) (now (x .exit)) (now (z .exit)) ⌝ }
 {
     match d {
-        PauliDistribution::Depolarizing(k) => {
-            let end = 2 + k as usize;
-            inject_depolarizing(x, z, shape, shot, &elements[2..end], e)
+        PauliDistribution::Depolarizing(_) => {
+            inject_depolarizing(x, z, shape, shot, element_x(elements, 0), e)
         }
-        _ => inject_listed(x, z, shape, shot, elements, e),
+        _ => inject_listed(x, z, shape, shot, elements, e as usize),
     }
 }
 

@@ -5,6 +5,7 @@ ghost use Prim.Native.Nat.{_+_, _*_, _^_, _<_, _≤_};
 ghost use lib.ListN.{length};
 ghost use Rattle.template.specs.Values.{Whole};
 ghost use Rattle.instructions.specs.Reading.{NextLine, noiseForm};
+ghost use Rattle.faults.specs.Elements.{AllInside};
 ghost use Rattle.instruction_text.specs.Pass.{passOf, Between, InstructionPut};
 use faults::prepare;
 use instructions::Next;
@@ -34,7 +35,7 @@ fn put_noise_line<'a>(
     from: Reached,
     line: Next,
     job: &[u8],
-    fields: &[u64],
+    values: &[u64],
     elements: &mut [u64],
     shape: Shape,
     noiseless: &[u64],
@@ -42,7 +43,7 @@ fn put_noise_line<'a>(
     second: &'a [u64],
     base: u64,
 ) -> Moved
-    requires { ⌜ Between (passOf (now job) shape (now noiseless) (now main) (now second) base) from × (from .text + 5496832 < 2 ^ 64) × NextLine (now job) (from .place .byte) line (now fields) × (noiseForm (line .form) ≡ true) × Whole (now fields) × (4096 ≤ length (now elements)) ⌝ }
+    requires { ⌜ Between (passOf (now job) shape (now noiseless) (now main) (now second) base) from × (from .text + 5496832 < 2 ^ 64) × NextLine (now job) (from .place .byte) line (now values) × (noiseForm (line .form) ≡ true) × Whole (now values) × AllInside (now elements) ⌝ }
     ensures { λ r. ⌜ InstructionPut (passOf (now (job .entry)) shape (now (noiseless .entry)) (now (main .entry)) (now (second .entry)) base) (now (out .entry)) from (now (out .exit)) r ⌝ }
 {
     let place = from.place;
@@ -51,7 +52,7 @@ fn put_noise_line<'a>(
     let ready = prepare(
         job,
         line,
-        fields,
+        values,
         noiseless,
         shape.width,
         &mut *elements,
@@ -90,7 +91,7 @@ pub fn put_instruction<'a>(
     out: &mut [u8],
     from: Reached,
     job: &[u8],
-    fields: &mut [u64],
+    values: &mut [u64],
     elements: &mut [u64],
     shape: Shape,
     noiseless: &[u64],
@@ -98,12 +99,12 @@ pub fn put_instruction<'a>(
     second: &'a [u64],
     base: u64,
 ) -> Moved
-    requires { ⌜ Between (passOf (now job) shape (now noiseless) (now main) (now second) base) from × (from .place .byte < length (now job)) × (from .text ≤ 8388608 * from .place .line) × Whole (now fields) × (4096 ≤ length (now elements)) ⌝ }
+    requires { ⌜ Between (passOf (now job) shape (now noiseless) (now main) (now second) base) from × (from .place .byte < length (now job)) × (from .text ≤ 8388608 * from .place .line) × Whole (now values) × AllInside (now elements) ⌝ }
     ensures { λ r. ⌜ InstructionPut (passOf (now (job .entry)) shape (now (noiseless .entry)) (now (main .entry)) (now (second .entry)) base) (now (out .entry)) from (now (out .exit)) r ⌝ }
 {
     let place = from.place;
     let at = place.byte;
-    let line = next_line(job, at, &mut *fields);
+    let line = next_line(job, at, &mut *values);
     let form = line.form;
     if is_noise(form) {
         return put_noise_line(
@@ -111,7 +112,7 @@ pub fn put_instruction<'a>(
             from,
             line,
             job,
-            fields,
+            values,
             elements,
             shape,
             noiseless,

@@ -14,6 +14,9 @@ pub mod lists;
 
 use crate::lists::select;
 use choice::chooser_of;
+use faults::elements::element_counts;
+use faults::elements::element_members;
+use faults::elements::element_x;
 use noise::PauliDistribution;
 use noise::PauliFault;
 use noise::words::part;
@@ -21,6 +24,7 @@ use noise::words::position_after;
 use pauli::Shot;
 use shots::NextFault;
 use shots::next_fault;
+use template::values::KEPT;
 use writer::noise_lines::put_inject;
 
 // ---- An element
@@ -32,8 +36,8 @@ fn put_depolarizing(out: &mut [u8], place: usize, shot: Shot, qubits: &[u64], e:
 {
     let v = e + 1;
     let mut members = [0u64; 62];
-    let x = select(&mut members[..31], qubits, v);
-    let z = select(&mut members[31..], qubits, v / 2);
+    let x = select(&mut members[..KEPT], qubits, v);
+    let z = select(&mut members[KEPT..], qubits, v / 2);
     let counts = [x as u64, z as u64];
     put_inject(out, place, shot, &counts, &members)
 }
@@ -43,15 +47,12 @@ fn put_kept(out: &mut [u8], place: usize, shot: Shot, elements: &[u64], e: usize
     requires { ⌜ (place + 1342 < 2 ^ 64) × Kept (now elements) e ⌝ }
     ensures { λ r. ⌜ Puts place (injectText (shot .0) (keptElement (now (elements .entry)) e) ++ LF ∷ []) (now (out .entry)) (now (out .exit)) r ⌝ }
 {
-    let counts = e * 64;
-    let members = counts + 2;
-    let end = counts + 64;
     put_inject(
         out,
         place,
         shot,
-        &elements[counts..members],
-        &elements[members..end],
+        element_counts(elements, e),
+        element_members(elements, e),
     )
 }
 
@@ -67,9 +68,8 @@ fn put_element(
     ensures { λ r. ⌜ Puts place (injectText (shot .0) (elementIn d (now (elements .entry)) e) ++ LF ∷ []) (now (out .entry)) (now (out .exit)) r ⌝ }
 {
     match d {
-        PauliDistribution::Depolarizing(k) => {
-            let end = k as usize + 2;
-            put_depolarizing(out, place, shot, &elements[2..end], e)
+        PauliDistribution::Depolarizing(_) => {
+            put_depolarizing(out, place, shot, element_x(elements, 0), e)
         }
         _ => put_kept(out, place, shot, elements, e as usize),
     }

@@ -2,3 +2,4 @@
 pub mod Pieces
 pub mod Read
 pub mod Lists
+pub mod Hex

@@ -1,4 +1,5 @@
 -- Definitions that contracts cite: what the readers of numbers and lists say.
 pub mod Read
+pub mod Hex
 -- Laws of these definitions.
 pub mod Laws

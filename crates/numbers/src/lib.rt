@@ -3,10 +3,13 @@ pub mod lists;
 pub mod pieces;
 
 ghost use mathlib.Core.Path.{_≡_};
+ghost use mathlib.Core.Bool.{cond};
 ghost use Prim.Native.Nat.{_+_, _*_, _^_, _≤_};
 ghost use lib.Dec.{ltb};
-ghost use Rattle.text.specs.Number.{proper as Number·proper, numberOf, hexDigit, hexOf, bitOf};
+ghost use lib.ListN.{length};
+ghost use Rattle.text.specs.Number.{proper as Number·proper, numberOf, hexDigit, allHex, hexOf, bitOf};
 ghost use Rattle.numbers.specs.Read.{read};
+ghost use Rattle.numbers.specs.Hex.{hexValue};
 
 // What some bytes are, or that they are no such value.
 pub enum Value {
@@ -68,23 +71,34 @@ pub fn number(s: &[u8]) -> Value
     Value::Of(v)
 }
 
-// The value of a lower-case hexadecimal digit, and 16 for any other byte.
-fn hex_digit(b: u8) -> u64
-    ensures { λ r. ⌜ r ≡ hexDigit b ⌝ }
+// The lower-case hexadecimal digit that a byte is, if it is one.
+fn hex_value(b: u8) -> u8
+    ensures { λ r. ⌜ r ≡ hexValue b ⌝ }
 {
-    if b < 48 {
-        return 16;
+    (b % 16 + 9 * (b / 64)) % 16
+}
+
+// 0 for a lower-case hexadecimal digit, 1 for any other byte: whether it is the byte of its digit. Digits follow no pattern, so that a branch would often be
+// foretold wrongly; this has none.
+fn not_hex(b: u8) -> u8
+    ensures { λ r. ⌜ r ≡ cond (ltb (hexDigit b) 16) 0 1 ⌝ }
+{
+    let d = hex_value(b);
+    (48 + d + 39 * ((d + 6) / 16) != b) as u8
+}
+
+// Whether 16 bytes are lower-case hexadecimal digits. None is looked for, so that all are tested at once.
+fn all_hex(s: &[u8]) -> bool
+    requires { ⌜ length (now s) ≡ 16 ⌝ }
+    ensures { λ r. ⌜ r ≡ allHex (now (s .entry)) ⌝ }
+{
+    let mut wrong = 0u8;
+    let mut i = 0;
+    while i < 16 {
+        wrong |= not_hex(s[i]);
+        i += 1;
     }
-    if b < 58 {
-        return (b - 48) as u64;
-    }
-    if b < 97 {
-        return 16;
-    }
-    if b < 103 {
-        return (b - 87) as u64;
-    }
-    16
+    wrong == 0
 }
 
 // H: 16 lower-case hexadecimal digits, and no other bytes.
@@ -94,14 +108,13 @@ pub fn hex16(s: &[u8]) -> Value
     if s.len() != 16 {
         return Value::Bad;
     }
+    if !all_hex(s) {
+        return Value::Bad;
+    }
     let mut v: u64 = 0;
     let mut i = 0;
     while i < 16 {
-        let d = hex_digit(s[i]);
-        if 15 < d {
-            return Value::Bad;
-        }
-        v = v * 16 + d;
+        v = v * 16 + hex_value(s[i]) as u64;
         i += 1;
     }
     Value::Of(v)

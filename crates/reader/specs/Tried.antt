@@ -1,7 +1,7 @@
 -- What the functions that try one form, or some forms, say to the functions that chose them. Definitions. Assumes nothing.
 use Prim.Native.Nat.{ℕ}
 use mathlib.Core.Path.{_≡_}
-use mathlib.Core.Bool.{Bool, false, cond, _&&_}
+use mathlib.Core.Bool.{Bool, true, false, cond, _&&_}
 use mathlib.Core.List.{List, [], _∷_}
 use lib.Dec.{eqb}
 use lib.ListN.{length}
@@ -46,6 +46,11 @@ pub record KindBy (line rest : List ℕ) (p : Progress) (f r : Form) (before aft
   pub result : r ≡ formIf (on .ok && eqb (on .at) (length line)) f
   pub reads : ReadOn line rest (p .at) (p .numbers) (p .lists) on before after
 
+-- the part of a template that is a Pauli's two lists
+unfoldable pub pauliPart : List ℕ
+unfolding bytes
+pauliPart = bytes "x=L z=L"
+
 -- ---- noise lines
 
 -- what the templates of all noise lines begin with
@@ -59,6 +64,7 @@ parityAlone v = eqb (length (listAt 1 v)) 0 && isOne (numberAt 1 v)
 
 -- a line begins as noise lines do, and was read up to its digit of d
 pub record NoiseBegun (line : List ℕ) (p : Progress) (fields : List ℕ) : Type 0 where
+  pub ok : p .ok ≡ true
   pub before : List ℕ
   pub begins : Begins line noiseBegin 0 0 0 p before fields
   pub parity : parityAlone (begins .values) ≡ false

@@ -6,15 +6,19 @@ ghost use lib.Dec.{eqb};
 ghost use lib.ListN.{length, getD};
 ghost use Rattle.job.specs.Grammar.{isOne};
 ghost use Rattle.template.specs.Values.{Whole};
+ghost use Rattle.template.specs.Fields.{ReadOn, ReadNext, ReadAs};
 ghost use Rattle.reader.specs.declared.Form.the-variants as Forms;
-ghost use Rattle.reader.specs.Parsed.{Parsed};
-ghost use Rattle.reader.specs.Tried.{Tried, FormBy, KindBy, NoiseBegun, only, noiseForms, headerForms};
+ghost use Rattle.reader.specs.Parsed.{formOf, Parsed};
+ghost use Rattle.reader.specs.Tried.{Tried, FormBy, NoiseBegun, only, formIf, noiseForms, headerForms, pauliPart, noiseBegin};
 use tables::words_fit;
 use template::Progress;
+use template::literal;
 use template::read_all;
-use template::read_on;
+use template::start;
+use template::value;
 use template::values::count;
 use template::values::number;
+use template::whole;
 
 // The forms of lines, in the order of document 01, then those of the second edition; `Unread` where a line has none.
 pub enum Form {
@@ -53,19 +57,34 @@ fn form_by(line: &[u8], template: &[u8], form: Form, fields: &mut [u64]) -> Form
     Form::Unread
 }
 
-// The same of a line that was read up to its d.
-fn kind_by(line: &[u8], template: &[u8], p: Progress, form: Form, fields: &mut [u64]) -> Form
-    requires { ⌜ (p .at ≤ length (now line)) × Whole (now fields) ⌝ }
-    ensures { λ r. ⌜ KindBy (now (line .entry)) (now (template .entry)) p form r (now (fields .entry)) (now (fields .exit)) ⌝ }
+// The form of a line that was read to its end, and else none.
+fn ended(line: &[u8], p: Progress, form: Form) -> Form
+    ensures { λ r. ⌜ r ≡ formIf (p .ok && eqb (p .at) (length (now (line .entry)))) form ⌝ }
 {
-    let r = read_on(line, template, p.at, p.numbers, p.lists, fields);
-    if !r.ok {
-        return Form::Unread;
+    if whole(line, p) {
+        return form;
     }
-    if r.at != line.len() {
-        return Form::Unread;
-    }
-    form
+    Form::Unread
+}
+
+// A line read on by the two lists of a Pauli.
+fn pauli_lists(line: &[u8], p: Progress, fields: &mut [u64]) -> Progress
+    requires { ⌜ (p .at ≤ length (now line)) × Whole (now fields) ⌝ }
+    ensures { λ r. ⌜ ReadNext (now (line .entry)) pauliPart p r (now (fields .entry)) (now (fields .exit)) ⌝ }
+    ensures { λ r. ⌜ r .at ≤ length (now (line .entry)) ⌝ }
+{
+    let x = value(line, literal(line, p, b"x="), b'L', &mut *fields);
+    value(line, literal(line, x, b" z="), b'L', fields)
+}
+
+// Whether a line has a gate's form.
+fn gate_form(line: &[u8], fields: &mut [u64]) -> bool
+    requires { ⌜ Whole (now fields) ⌝ }
+    ensures { λ r. ⌜ ReadAs (now (line .entry)) (formOf Forms.Unitary .template) r (now (fields .exit)) ⌝ }
+{
+    let g = value(line, literal(line, start(), b"op=u g="), b'N', &mut *fields);
+    let q = value(line, literal(line, g, b" q="), b'Q', fields);
+    whole(line, q)
 }
 
 // A gate code above 15 is no gate.
@@ -73,7 +92,7 @@ fn unitary(line: &[u8], fields: &mut [u64]) -> Form
     requires { ⌜ Whole (now fields) ⌝ }
     ensures { λ r. ⌜ Tried (only Forms.Unitary) (now (line .entry)) r (now (fields .exit)) ⌝ }
 {
-    if !read_all(line, b"op=u g=N q=Q", &mut *fields) {
+    if !gate_form(line, &mut *fields) {
         return Form::Unread;
     }
     if 15 < number(fields, 0) {
@@ -86,28 +105,36 @@ fn single(line: &[u8], p: Progress, fields: &mut [u64]) -> Form
     requires { ⌜ NoiseBegun (now line) p (now fields) × Whole (now fields) ⌝ }
     ensures { λ r. ⌜ Tried (only Forms.Single) (now (line .entry)) r (now (fields .exit)) ⌝ }
 {
-    kind_by(line, b"1 x=L z=L size=N", p, Form::Single, fields)
+    let pauli = pauli_lists(line, literal(line, p, b"1 "), &mut *fields);
+    let size = value(line, literal(line, pauli, b" size="), b'N', fields);
+    ended(line, size, Form::Single)
 }
 
 fn depolarizing(line: &[u8], p: Progress, fields: &mut [u64]) -> Form
     requires { ⌜ NoiseBegun (now line) p (now fields) × Whole (now fields) ⌝ }
     ensures { λ r. ⌜ Tried (only Forms.Depolarizing) (now (line .entry)) r (now (fields .exit)) ⌝ }
 {
-    kind_by(line, b"2 q=Q size=N", p, Form::Depolarizing, fields)
+    let q = value(line, literal(line, p, b"2 q="), b'Q', &mut *fields);
+    let size = value(line, literal(line, q, b" size="), b'N', fields);
+    ended(line, size, Form::Depolarizing)
 }
 
 fn uniform(line: &[u8], p: Progress, fields: &mut [u64]) -> Form
     requires { ⌜ NoiseBegun (now line) p (now fields) × Whole (now fields) ⌝ }
     ensures { λ r. ⌜ Tried (only Forms.Uniform) (now (line .entry)) r (now (fields .exit)) ⌝ }
 {
-    kind_by(line, b"3 n=N size=N", p, Form::Uniform, fields)
+    let n = value(line, literal(line, p, b"3 n="), b'N', &mut *fields);
+    let size = value(line, literal(line, n, b" size="), b'N', fields);
+    ended(line, size, Form::Uniform)
 }
 
 fn weighted(line: &[u8], p: Progress, fields: &mut [u64]) -> Form
     requires { ⌜ NoiseBegun (now line) p (now fields) × Whole (now fields) ⌝ }
     ensures { λ r. ⌜ Tried (only Forms.Weighted) (now (line .entry)) r (now (fields .exit)) ⌝ }
 {
-    kind_by(line, b"4 n=N size=N", p, Form::Weighted, fields)
+    let n = value(line, literal(line, p, b"4 n="), b'N', &mut *fields);
+    let size = value(line, literal(line, n, b" size="), b'N', fields);
+    ended(line, size, Form::Weighted)
 }
 
 // The last fields of a noise line, by its digit of d.
@@ -134,19 +161,24 @@ fn parity_alone(count: u64, parity: u64) -> bool
     parity == 1
 }
 
+// What all noise lines begin with.
+fn noise_begin(line: &[u8], fields: &mut [u64]) -> Progress
+    requires { ⌜ Whole (now fields) ⌝ }
+    ensures { λ r. ⌜ ReadOn (now (line .entry)) noiseBegin 0 0 0 r (now (fields .entry)) (now (fields .exit)) ⌝ }
+{
+    let p = value(line, literal(line, start(), b"op=n p="), b'H', &mut *fields);
+    let corr = value(line, literal(line, p, b" corr="), b'C', &mut *fields);
+    let cond = value(line, literal(line, corr, b" cond="), b'L', &mut *fields);
+    let parity = value(line, literal(line, cond, b" parity="), b'B', fields);
+    literal(line, parity, b" d=")
+}
+
 // A noise line: what all of them begin with, and then by its digit of d.
 fn noise(line: &[u8], fields: &mut [u64]) -> Form
     requires { ⌜ Whole (now fields) ⌝ }
     ensures { λ r. ⌜ Tried noiseForms (now (line .entry)) r (now (fields .exit)) ⌝ }
 {
-    let p = read_on(
-        line,
-        b"op=n p=H corr=C cond=L parity=B d=",
-        0,
-        0,
-        0,
-        &mut *fields,
-    );
+    let p = noise_begin(line, &mut *fields);
     if !p.ok {
         return Form::Unread;
     }
@@ -183,12 +215,22 @@ fn header(line: &[u8], fields: &mut [u64]) -> Form
     edition_header(line, fields)
 }
 
+// Whether a line has a Clifford's form, whatever number of words its table has.
+fn table_form(line: &[u8], fields: &mut [u64]) -> bool
+    requires { ⌜ Whole (now fields) ⌝ }
+    ensures { λ r. ⌜ ReadAs (now (line .entry)) (formOf Forms.Clifford .template) r (now (fields .exit)) ⌝ }
+{
+    let q = value(line, literal(line, start(), b"op=c q="), b'Q', &mut *fields);
+    let t = value(line, literal(line, q, b" t="), b'T', fields);
+    whole(line, t)
+}
+
 // A table of a wrong number of words is none.
 fn clifford(line: &[u8], fields: &mut [u64]) -> Form
     requires { ⌜ Whole (now fields) ⌝ }
     ensures { λ r. ⌜ Tried (only Forms.Clifford) (now (line .entry)) r (now (fields .exit)) ⌝ }
 {
-    if !read_all(line, b"op=c q=Q t=T", &mut *fields) {
+    if !table_form(line, &mut *fields) {
         return Form::Unread;
     }
     if !words_fit(count(fields, 0), count(fields, 1)) {
@@ -201,96 +243,131 @@ fn pauli(line: &[u8], fields: &mut [u64]) -> Form
     requires { ⌜ Whole (now fields) ⌝ }
     ensures { λ r. ⌜ Tried (only Forms.Pauli) (now (line .entry)) r (now (fields .exit)) ⌝ }
 {
-    form_by(line, b"op=p x=L z=L", Form::Pauli, fields)
+    let pauli = pauli_lists(line, literal(line, start(), b"op=p "), fields);
+    ended(line, pauli, Form::Pauli)
 }
 
 fn exponential(line: &[u8], fields: &mut [u64]) -> Form
     requires { ⌜ Whole (now fields) ⌝ }
     ensures { λ r. ⌜ Tried (only Forms.Exponential) (now (line .entry)) r (now (fields .exit)) ⌝ }
 {
-    form_by(line, b"op=e x=L z=L", Form::Exponential, fields)
+    let pauli = pauli_lists(line, literal(line, start(), b"op=e "), fields);
+    ended(line, pauli, Form::Exponential)
 }
 
 fn controlled(line: &[u8], fields: &mut [u64]) -> Form
     requires { ⌜ Whole (now fields) ⌝ }
     ensures { λ r. ⌜ Tried (only Forms.Controlled) (now (line .entry)) r (now (fields .exit)) ⌝ }
 {
-    form_by(line, b"op=k x=L z=L u=L v=L", Form::Controlled, fields)
+    let pauli = pauli_lists(line, literal(line, start(), b"op=k "), &mut *fields);
+    let u = value(line, literal(line, pauli, b" u="), b'L', &mut *fields);
+    let v = value(line, literal(line, u, b" v="), b'L', fields);
+    ended(line, v, Form::Controlled)
 }
 
 fn permute(line: &[u8], fields: &mut [u64]) -> Form
     requires { ⌜ Whole (now fields) ⌝ }
     ensures { λ r. ⌜ Tried (only Forms.Permute) (now (line .entry)) r (now (fields .exit)) ⌝ }
 {
-    form_by(line, b"op=m s=Q q=Q", Form::Permute, fields)
+    let s = value(line, literal(line, start(), b"op=m s="), b'Q', &mut *fields);
+    let q = value(line, literal(line, s, b" q="), b'Q', fields);
+    ended(line, q, Form::Permute)
 }
 
+// Its two lists are read here, without a call, since jobs have many measurements.
 fn measure(line: &[u8], fields: &mut [u64]) -> Form
     requires { ⌜ Whole (now fields) ⌝ }
     ensures { λ r. ⌜ Tried (only Forms.Measure) (now (line .entry)) r (now (fields .exit)) ⌝ }
 {
-    form_by(line, b"op=o x=L z=L id=N", Form::Measure, fields)
+    let x = value(line, literal(line, start(), b"op=o x="), b'L', &mut *fields);
+    let z = value(line, literal(line, x, b" z="), b'L', &mut *fields);
+    let id = value(line, literal(line, z, b" id="), b'N', fields);
+    ended(line, id, Form::Measure)
 }
 
 fn allocate(line: &[u8], fields: &mut [u64]) -> Form
     requires { ⌜ Whole (now fields) ⌝ }
     ensures { λ r. ⌜ Tried (only Forms.Allocate) (now (line .entry)) r (now (fields .exit)) ⌝ }
 {
-    form_by(line, b"op=r id=N angle=B", Form::Allocate, fields)
+    let id = value(
+        line,
+        literal(line, start(), b"op=r id="),
+        b'N',
+        &mut *fields,
+    );
+    let angle = value(line, literal(line, id, b" angle="), b'B', fields);
+    ended(line, angle, Form::Allocate)
 }
 
 fn conditional(line: &[u8], fields: &mut [u64]) -> Form
     requires { ⌜ Whole (now fields) ⌝ }
     ensures { λ r. ⌜ Tried (only Forms.Conditional) (now (line .entry)) r (now (fields .exit)) ⌝ }
 {
-    form_by(
-        line,
-        b"op=f x=L z=L id=L parity=B",
-        Form::Conditional,
-        fields,
-    )
+    let pauli = pauli_lists(line, literal(line, start(), b"op=f "), &mut *fields);
+    let id = value(line, literal(line, pauli, b" id="), b'L', &mut *fields);
+    let parity = value(line, literal(line, id, b" parity="), b'B', fields);
+    ended(line, parity, Form::Conditional)
 }
 
 fn reset(line: &[u8], fields: &mut [u64]) -> Form
     requires { ⌜ Whole (now fields) ⌝ }
     ensures { λ r. ⌜ Tried (only Forms.Reset) (now (line .entry)) r (now (fields .exit)) ⌝ }
 {
-    form_by(line, b"op=z q=Q", Form::Reset, fields)
+    let q = value(line, literal(line, start(), b"op=z q="), b'Q', fields);
+    ended(line, q, Form::Reset)
 }
 
 fn barrier(line: &[u8], fields: &mut [u64]) -> Form
     requires { ⌜ Whole (now fields) ⌝ }
     ensures { λ r. ⌜ Tried (only Forms.Barrier) (now (line .entry)) r (now (fields .exit)) ⌝ }
 {
-    form_by(line, b"op=b q=Q", Form::Barrier, fields)
+    let q = value(line, literal(line, start(), b"op=b q="), b'Q', fields);
+    ended(line, q, Form::Barrier)
 }
 
 fn inject(line: &[u8], fields: &mut [u64]) -> Form
     requires { ⌜ Whole (now fields) ⌝ }
     ensures { λ r. ⌜ Tried (only Forms.Inject) (now (line .entry)) r (now (fields .exit)) ⌝ }
 {
-    form_by(line, b"op=i shot=N x=L z=L", Form::Inject, fields)
+    let shot = value(
+        line,
+        literal(line, start(), b"op=i shot="),
+        b'N',
+        &mut *fields,
+    );
+    let pauli = pauli_lists(line, literal(line, shot, b" "), fields);
+    ended(line, pauli, Form::Inject)
 }
 
 fn flip(line: &[u8], fields: &mut [u64]) -> Form
     requires { ⌜ Whole (now fields) ⌝ }
     ensures { λ r. ⌜ Tried (only Forms.Flip) (now (line .entry)) r (now (fields .exit)) ⌝ }
 {
-    form_by(line, b"op=t shot=N id=N", Form::Flip, fields)
+    let shot = value(
+        line,
+        literal(line, start(), b"op=t shot="),
+        b'N',
+        &mut *fields,
+    );
+    let id = value(line, literal(line, shot, b" id="), b'N', fields);
+    ended(line, id, Form::Flip)
 }
 
 fn element(line: &[u8], fields: &mut [u64]) -> Form
     requires { ⌜ Whole (now fields) ⌝ }
     ensures { λ r. ⌜ Tried (only Forms.Element) (now (line .entry)) r (now (fields .exit)) ⌝ }
 {
-    form_by(line, b"x=L z=L", Form::Element, fields)
+    let pauli = pauli_lists(line, start(), fields);
+    ended(line, pauli, Form::Element)
 }
 
 fn weighted_element(line: &[u8], fields: &mut [u64]) -> Form
     requires { ⌜ Whole (now fields) ⌝ }
     ensures { λ r. ⌜ Tried (only Forms.WeightedElement) (now (line .entry)) r (now (fields .exit)) ⌝ }
 {
-    form_by(line, b"w=H x=L z=L", Form::WeightedElement, fields)
+    let w = value(line, literal(line, start(), b"w="), b'H', &mut *fields);
+    let pauli = pauli_lists(line, literal(line, w, b" "), fields);
+    ended(line, pauli, Form::WeightedElement)
 }
 
 // A line that begins with `op=`, by the letter after that.

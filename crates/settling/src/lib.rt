@@ -8,6 +8,7 @@ ghost use Rattle.backward.specs.Settling.{settleReply};
 ghost use Rattle.instruction_text.specs.Pass.{passOf};
 ghost use Rattle.settling.specs.Whole.{Fits, SettledPut};
 use checker::examine;
+use faults::elements::ALL_WORDS;
 use instruction_text::Moved;
 use instruction_text::Reached;
 use instruction_text::put_instruction;
@@ -42,8 +43,8 @@ fn put_settled<'a>(
     requires { ⌜ Fits (passOf (now job) shape (now noiseless) (now main) (now second) base) ⌝ }
     ensures { λ r. ⌜ SettledPut (passOf (now (job .entry)) shape (now (noiseless .entry)) (now (main .entry)) (now (second .entry)) base) (now (out .entry)) (now (out .exit)) r ⌝ }
 {
-    let mut fields = [0u64; WORDS];
-    let mut elements = [0u64; 4096];
+    let mut values = [0u64; WORDS];
+    let mut elements = [0u64; ALL_WORDS];
     let end = find(job, 0, 10) + 1;
     let text = put_bytes(&mut *out, 0, &job[..end]);
     let mut here = Reached {
@@ -59,7 +60,7 @@ fn put_settled<'a>(
             &mut *out,
             here,
             job,
-            &mut fields,
+            &mut values,
             &mut elements,
             shape,
             noiseless,

@@ -1,13 +1,13 @@
 -- How lent words hold the values of a line, and what reading a line by its template says. Definitions. Assumes nothing.
 use Prim.Native.Nat.{ℕ, _+_, _≤_, _<_}
 use mathlib.Core.Path.{_≡_}
-use mathlib.Core.Bool.{Bool, true, false, cond, _||_}
+use mathlib.Core.Bool.{Bool, true, false, cond, not, _&&_, _||_}
 use mathlib.Core.List.{List, [], _∷_, _++_}
 use mathlib.Core.Option.{Option, none, some}
 use lib.Dec.{eqb}
 use lib.ListN.{length, getD, drop}
 use Rattle.text.specs.List.{listL, listQ, listT, listC}
-use Rattle.text.specs.Template.{Value, valuesOf, numbersIn, listsIn, numberAt, listAt}
+use Rattle.text.specs.Template.{Value, isLetter, valuesOf, numbersIn, listsIn, numberAt, listAt}
 use Rattle.numbers.specs.Read.{largestOf, inFront}
 use Rattle.template.specs.Values.{heldNumber, heldCount, heldLargest, heldMember}
 use Rattle.template.specs.declared.Progress.{Progress}
@@ -67,6 +67,20 @@ pub record Begins (line template : List ℕ) (from numbers lists : ℕ) (p : Pro
 pub record ReadOn (line template : List ℕ) (from numbers lists : ℕ) (p : Progress) (before after : List ℕ) : Type 0 where
   pub refused : p .ok ≡ false → Room numbers lists template → (rest : List ℕ) → valuesOf (template ++ rest) (drop from line) ≡ none
   pub read : p .ok ≡ true → Begins line template from numbers lists p before after
+
+-- nothing of a line was read
+abbrev pub started : Progress
+started = record { ok = true; at = 0; numbers = 0; lists = 0 }
+
+-- a part of a template whose bytes stand for themselves
+abbrev pub isPlain : List ℕ → Bool
+isPlain [] = true
+isPlain (t ∷ ts) = not (isLetter t) && isPlain ts
+
+-- A line that was read up to p, read on by the next part of its template; one that was refused stays so.
+pub record ReadNext (line part : List ℕ) (p r : Progress) (before after : List ℕ) : Type 0 where
+  pub stays : p .ok ≡ false → r .ok ≡ false
+  pub goes : p .ok ≡ true → ReadOn line part (p .at) (p .numbers) (p .lists) r before after
 
 -- ---- a whole line
 

@@ -1,12 +1,14 @@
 // A line by its template: `op=i shot=N x=L z=L`. What is read goes into lent words (module `values`).
 ghost use mathlib.Core.Path.{_≡_};
-ghost use mathlib.Core.Bool.{false};
-ghost use Prim.Native.Nat.{_≤_};
+ghost use mathlib.Core.Bool.{true, false, _&&_};
+ghost use mathlib.Core.List.{List, [], _∷_};
+ghost use Prim.Native.Nat.{ℕ, _≤_};
+ghost use lib.Dec.{eqb};
 ghost use lib.ListN.{length};
 ghost use Rattle.text.specs.Template.{aNumber, aList, valueOf, isLetter};
 ghost use Rattle.numbers.specs.Read.{read, ListRead};
 ghost use Rattle.template.specs.Values.{Whole};
-ghost use Rattle.template.specs.Fields.{listBy, numberLetter, listLetter, PutAs, ReadOn, ReadAs};
+ghost use Rattle.template.specs.Fields.{listBy, numberLetter, listLetter, PutAs, started, isPlain, ReadNext, ReadOn, ReadAs};
 
 pub mod values;
 
@@ -34,7 +36,7 @@ pub struct Progress {
 }
 
 fn refused() -> Progress
-    ensures { λ r. ⌜ r .ok ≡ false ⌝ }
+    ensures { λ r. ⌜ (r .ok ≡ false) × (r .at ≡ 0) ⌝ }
 {
     Progress {
         ok: false,
@@ -139,6 +141,80 @@ pub fn is_letter(t: u8) -> bool
     }
     t <= 90
 }
+
+// ---- A line by the parts of its template
+
+// Nothing of a line was read.
+pub fn start() -> Progress
+    ensures { λ r. ⌜ r ≡ started ⌝ }
+{
+    Progress {
+        ok: true,
+        at: 0,
+        numbers: 0,
+        lists: 0,
+    }
+}
+
+// The line read on by bytes that stand for themselves. Where they are written out in a call, they are compared without a loop.
+pub fn literal(line: &[u8], p: Progress, text: &[u8]) -> Progress
+    requires { ⌜ (p .at ≤ length (now line)) × (isPlain (now text) ≡ true) ⌝ }
+    ensures { λ r. ⌜ ((fields : List ℕ) → ReadNext (now (line .entry)) (now (text .entry)) p r fields fields) ⌝ }
+    ensures { λ r. ⌜ r .at ≤ length (now (line .entry)) ⌝ }
+{
+    if !p.ok {
+        return p;
+    }
+    let at = p.at;
+    if line.len() - at < text.len() {
+        return refused();
+    }
+    let mut i = 0;
+    while i < text.len() {
+        if line[at + i] != text[i] {
+            return refused();
+        }
+        i += 1;
+    }
+    Progress {
+        ok: true,
+        at: at + i,
+        numbers: p.numbers,
+        lists: p.lists,
+    }
+}
+
+// The line read on by a letter for a value.
+pub fn value(line: &[u8], p: Progress, t: u8, fields: &mut [u64]) -> Progress
+    requires { ⌜ (p .at ≤ length (now line)) × (isLetter t ≡ true) × Whole (now fields) ⌝ }
+    ensures { λ r. ⌜ ReadNext (now (line .entry)) (t ∷ []) p r (now (fields .entry)) (now (fields .exit)) ⌝ }
+    ensures { λ r. ⌜ r .at ≤ length (now (line .entry)) ⌝ }
+{
+    if !p.ok {
+        return p;
+    }
+    let at = p.at;
+    let e = find(line, at, 32);
+    let q = put_value(t, &line[at..e], p.numbers, p.lists, fields);
+    Progress {
+        ok: q.ok,
+        at: e,
+        numbers: q.numbers,
+        lists: q.lists,
+    }
+}
+
+// Whether a line was read to its end.
+pub fn whole(line: &[u8], p: Progress) -> bool
+    ensures { λ r. ⌜ r ≡ (p .ok && eqb (p .at) (length (now (line .entry)))) ⌝ }
+{
+    if !p.ok {
+        return false;
+    }
+    p.at == line.len()
+}
+
+// ---- A line by its template
 
 // A line read on by a template, from a place up to which it had so many numbers and lists.
 pub fn read_on(

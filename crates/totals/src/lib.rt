@@ -2,14 +2,54 @@
 // more or one less.
 use rows::Shape;
 ghost use mathlib.Core.Path.{_≡_};
-ghost use Prim.Native.Nat.{_+_, _*_, _^_, _<_, _≤_};
-ghost use lib.ListN.{length, set};
+ghost use mathlib.Core.Bool.{false};
+ghost use Prim.Native.Nat.{ℕ, _+_, _*_, _^_, _<_, _≤_};
+ghost use lib.ListN.{length, getD, set};
 ghost use Rattle.rows.specs.Words.{bitIn};
 ghost use Rattle.rows.specs.Overwrite.{flipped};
 ghost use Rattle.totals.specs.Ones.{onesTo};
 ghost use Rattle.totals.specs.Held.{TotalsHeld};
 
-// How many bits of row r are 1.
+// Whether a bit is 1 in n words from a place on.
+fn any_set(rows: &[u64], from: usize, n: usize) -> bool
+    requires { ⌜ from + n ≤ length (now rows) ⌝ }
+    ensures { λ r. ⌜ (r ≡ false → (i : ℕ) → i < n → getD (now (rows .entry)) (from + i) 0 ≡ 0) ⌝ }
+{
+    let mut sum = 0u64;
+    let mut i = 0;
+    while i < n {
+        sum |= rows[from + i];
+        i += 1;
+    }
+    sum != 0
+}
+
+// How many bits of n words are 1, from a place on.
+fn count_words(rows: &[u64], from: usize, n: usize) -> u64
+    requires { ⌜ (from + n ≤ length (now rows)) × (64 * n < 2 ^ 64) ⌝ }
+    ensures { λ k. ⌜ k ≡ onesTo (64 * n) (bitIn 1 (now (rows .entry)) from) ⌝ }
+{
+    let mut ones = 0u64;
+    let mut j = 0;
+    while j < n {
+        ones += u64::count_ones(rows[from + j]) as u64;
+        j += 1;
+    }
+    ones
+}
+
+// The same, where often none is 1: then the words are not counted one by one.
+fn count_few(rows: &[u64], from: usize, n: usize) -> u64
+    requires { ⌜ (from + n ≤ length (now rows)) × (64 * n < 2 ^ 64) ⌝ }
+    ensures { λ k. ⌜ k ≡ onesTo (64 * n) (bitIn 1 (now (rows .entry)) from) ⌝ }
+{
+    if !any_set(rows, from, n) {
+        return 0;
+    }
+    count_words(rows, from, n)
+}
+
+// How many bits of row r are 1, by eight words at a time.
 fn count_row(rows: &[u64], w: usize, r: usize) -> u64
     requires { ⌜ (r * w + w ≤ length (now rows)) × (64 * w < 2 ^ 64) ⌝ }
     ensures { λ n. ⌜ n ≡ onesTo (64 * w) (bitIn w (now (rows .entry)) r) ⌝ }
@@ -17,11 +57,11 @@ fn count_row(rows: &[u64], w: usize, r: usize) -> u64
     let at = r * w;
     let mut ones = 0u64;
     let mut j = 0;
-    while j < w {
-        ones += u64::count_ones(rows[at + j]) as u64;
-        j += 1;
+    while 8 <= w - j {
+        ones += count_few(rows, at + j, 8);
+        j += 8;
     }
-    ones
+    ones + count_words(rows, at + j, w - j)
 }
 
 // Puts the ones of row r for its total, after the row changed.

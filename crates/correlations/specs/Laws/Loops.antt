@@ -12,6 +12,7 @@ use lib.ListN.{length, getD, set, take, drop, length-set}
 use Rattle.text.specs.Bytes.{until, lines}
 use Rattle.text.specs.Laws.Values.{both}
 use Rattle.text.specs.Template.{Value}
+use Rattle.template.specs.Values.{heldMember}
 use Rattle.job.specs.Line.{Placed}
 use Rattle.job.specs.Grammar.{NoiseLine, Written, readLine}
 use Rattle.job.specs.declared.Answer.{Answer}
@@ -100,20 +101,20 @@ module _ {f : Form} {fields : List ℕ} {vs : List Value} {w : Written} (s : Sai
   look-absent seen h = rw (absent (correlationIn w) h)
 
   module _ (seen sizes : List ℕ) {i size : ℕ} (h : present (correlationIn w) ≡ true)
-      (e : (vs : List Value) (n : NoiseLine) → Said f fields vs (Written.noise n) → size ≡ n .size) (p : i ≡ until (getD fields 12 0) seen) where
-    corr : NoiseWith (getD fields 12 0) w
+      (e : (vs : List Value) (n : NoiseLine) → Said f fields vs (Written.noise n) → size ≡ n .size) (p : i ≡ until (heldMember fields 0 0) seen) where
+    corr : NoiseWith (heldMember fields 0 0) w
     corr = correlated s h
 
     pub look-new : i ≡ length seen
-        → record { fits = true; fresh = true; correlation = getD fields 12 0; size = size } ≡ lookOf (tableOf seen sizes) (correlationIn w) (sizeIn w)
+        → record { fits = true; fresh = true; correlation = heldMember fields 0 0; size = size } ≡ lookOf (tableOf seen sizes) (correlationIn w) (sizeIn w)
     unfolding lookOf lookFor
-    look-new q = rw (corr .correlation, ← noise-size s corr e, size-unseen (getD fields 12 0) seen sizes (sym p ∙ q))
+    look-new q = rw (corr .correlation, ← noise-size s corr e, size-unseen (heldMember fields 0 0) seen sizes (sym p ∙ q))
 
     pub look-old : length seen ≡ length sizes → (i ≡ length seen → ⊥)
-        → record { fits = eqb (getD sizes i 0) size; fresh = false; correlation = getD fields 12 0; size = size }
+        → record { fits = eqb (getD sizes i 0) size; fresh = false; correlation = heldMember fields 0 0; size = size }
         ≡ lookOf (tableOf seen sizes) (correlationIn w) (sizeIn w)
     unfolding lookOf lookFor
-    look-old l q = rw (corr .correlation, ← noise-size s corr e, size-seen (getD fields 12 0) seen sizes l (λ z. q (p ∙ z)), ← p)
+    look-old l q = rw (corr .correlation, ← noise-size s corr e, size-seen (heldMember fields 0 0) seen sizes l (λ z. q (p ∙ z)), ← p)
 
 pub full : (b : Bool) (n room : ℕ) → (b && eqb n room) ≡ true → n ≡ room
 full b n room e = eqb-true n room (both b (eqb n room) e .1)

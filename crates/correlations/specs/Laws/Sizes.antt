@@ -11,6 +11,7 @@ use lib.ListN.{length, getD}
 use Rattle.text.specs.Bytes.{bytes}
 use Rattle.text.specs.Template.{Value, numberAt, listAt}
 use Rattle.template.specs.Fields.{Held}
+use Rattle.template.specs.Values.{heldNumber, heldCount, heldMember}
 use Rattle.job.specs.Grammar.{Kind, NoiseLine, Written, optional, noiseLine, forms}
 use Rattle.reader.specs.declared.Form.{Form}
 use Rattle.reader.specs.declared.Form.the-variants as form
@@ -30,15 +31,15 @@ unfolding noiseBy
 size-by kind size vs n e = ap (λ (m : NoiseLine). m .size) (noise-same (noise-said kind size vs (Written.noise n) e))
 
 module _ {fields : List ℕ} {vs : List Value} {n : NoiseLine} where
-  pub size-uniform : Said form.Uniform fields vs (Written.noise n) → getD fields 3 0 ≡ n .size
+  pub size-uniform : Said form.Uniform fields vs (Written.noise n) → heldNumber fields 3 ≡ n .size
   unfolding forms placeOf bytes
   size-uniform s = s .held .number 3 (omega arith) ∙ size-by _ (numberAt 3 vs) vs n (s .says)
 
-  pub size-weighted : Said form.Weighted fields vs (Written.noise n) → getD fields 3 0 ≡ n .size
+  pub size-weighted : Said form.Weighted fields vs (Written.noise n) → heldNumber fields 3 ≡ n .size
   unfolding forms placeOf bytes
   size-weighted s = s .held .number 3 (omega arith) ∙ size-by _ (numberAt 3 vs) vs n (s .says)
 
-  other-size : (f : Form) → (f ≡ form.Uniform → ⊥) → (f ≡ form.Weighted → ⊥) → noiseForm f ≡ true → Said f fields vs (Written.noise n) → getD fields 2 0 ≡ n .size
+  other-size : (f : Form) → (f ≡ form.Uniform → ⊥) → (f ≡ form.Weighted → ⊥) → noiseForm f ≡ true → Said f fields vs (Written.noise n) → heldNumber fields 2 ≡ n .size
   unfolding forms placeOf bytes noiseForm
   other-size form.Unread a b t s = absurd (true≢false (sym t))
   other-size form.Header a b t s = absurd (true≢false (sym t))
@@ -64,7 +65,7 @@ module _ {fields : List ℕ} {vs : List Value} {n : NoiseLine} where
   other-size form.Barrier a b t s = absurd (true≢false (sym t))
 
   -- of a noise line without n
-  pub size-other : (f : Form) → (f ≡ form.Uniform → ⊥) → (f ≡ form.Weighted → ⊥) → Said f fields vs (Written.noise n) → getD fields 2 0 ≡ n .size
+  pub size-other : (f : Form) → (f ≡ form.Uniform → ⊥) → (f ≡ form.Weighted → ⊥) → Said f fields vs (Written.noise n) → heldNumber fields 2 ≡ n .size
   size-other f a b s = other-size f a b (noise-is-noise (meaning f vs (Written.noise n) (s .says))) s
 
 -- ---- the correlation
@@ -89,8 +90,8 @@ quiet-none f vs w q s = meaning-none q (meaning f vs w s)
 -- a noise line's corr is the first of its lists, with at most one member
 record CorrIn (fields : List ℕ) (vs : List Value) (w : Written) : Type 0 where
   is : correlationIn w ≡ optional (listAt 0 vs)
-  count : getD fields 4 0 ≡ length (listAt 0 vs)
-  member : 0 < length (listAt 0 vs) → getD fields 12 0 ≡ getD (listAt 0 vs) 0 0
+  count : heldCount fields 0 ≡ length (listAt 0 vs)
+  member : 0 < length (listAt 0 vs) → heldMember fields 0 0 ≡ getD (listAt 0 vs) 0 0
 
 corr-held : {fields : List ℕ} {n m : ℕ} (kind : Kind) (size : ℕ) (vs : List Value) (w : Written) → Held fields n m vs → 0 < m
     → Written.noise (noiseBy kind size vs) ≡ w → CorrIn fields vs w
@@ -129,7 +130,7 @@ present-optional (c ∷ l) = rw (ne-eqb (suc (length l)) 0 (λ (e : suc (length 
 
 -- whether there is one, by the count of that list
 pub present-noise : {f : Form} {fields : List ℕ} {vs : List Value} {w : Written} → noiseForm f ≡ true → Said f fields vs w
-    → not (eqb (getD fields 4 0) 0) ≡ present (correlationIn w)
+    → not (eqb (heldCount fields 0) 0) ≡ present (correlationIn w)
 present-noise {f} {fields} {vs} t s = let c = corr-in f t s in sym (ap present (c .is) ∙ present-optional (listAt 0 vs) ∙ rw (c .count))
 
 first-of : (l : List ℕ) → present (optional l) ≡ true → (0 < length l) × (optional l ≡ some (getD l 0 0))
@@ -150,16 +151,16 @@ with-corr c (Written.line i) e = let z : _≡_ {A = ℕ} 0 1 = cc in absurd (ome
 with-corr c (Written.noise n) e = record { noise = n; is = refl; correlation = e }
 with-corr c (Written.element v P) e = let z : _≡_ {A = ℕ} 0 1 = cc in absurd (omega arith)
 
-pub correlated : {f : Form} {fields : List ℕ} {vs : List Value} {w : Written} → Said f fields vs w → present (correlationIn w) ≡ true → NoiseWith (getD fields 12 0) w
+pub correlated : {f : Form} {fields : List ℕ} {vs : List Value} {w : Written} → Said f fields vs w → present (correlationIn w) ≡ true → NoiseWith (heldMember fields 0 0) w
 unfolding present
 correlated {f} {fields} {vs} {w} s h = go (noiseForm f) refl
   where
-    go : (b : Bool) → noiseForm f ≡ b → NoiseWith (getD fields 12 0) w
+    go : (b : Bool) → noiseForm f ≡ b → NoiseWith (heldMember fields 0 0) w
     go false q = absurd (true≢false (sym h ∙ ap present (quiet-none f vs w q (s .says))))
     go true t =
         let c = corr-in f t s in
         let (some-there, first) = first-of (listAt 0 vs) (sym (ap present (c .is)) ∙ h) in
-        with-corr (getD fields 12 0) w (c .is ∙ first ∙ ap some (sym (c .member some-there)))
+        with-corr (heldMember fields 0 0) w (c .is ∙ first ∙ ap some (sym (c .member some-there)))
 
 pub absent : (o : Option ℕ) → present o ≡ false → o ≡ none
 unfolding present

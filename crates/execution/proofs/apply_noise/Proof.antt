@@ -20,7 +20,7 @@ prepare-requires c κs =
     let room = c .before .before .before .before .before .before .before .before .before .before .before .pre .1 in
     let narrow = room .narrow in (
       c .before .before .before .before .before .before .before .before .before .before .before .pre .0 .lines,
-      record { of-fields = room .of-fields; of-elements = room .of-elements; of-sums = omega arith; of-mask = omega arith },
+      record { of-values = room .of-values; of-elements = room .of-elements; of-sums = omega arith; of-mask = omega arith },
     )
 
 add-t29 : tie.Need-add-t29

@@ -11,13 +11,13 @@ use Rattle.execution.proofs.execute.Statement.{statement}
 use Rattle.execution.proofs.execute.Tie as tie
 
 abbrev Inv-loop : tie.InvT-loop
-Inv-loop job from x₀ z₀ deltas₀ totals₀ shape noiseless main second base f₀ elements₀ scratch₀ place₀ x z deltas totals f elements scratch place =
-    (length f ≡ 136) × (length elements ≡ 4096) × (length scratch ≡ 1984) × (length x ≡ length x₀) × (length z ≡ length z₀) × (length deltas ≡ length deltas₀)
+Inv-loop job from x₀ z₀ deltas₀ totals₀ shape noiseless main second base values₀ elements₀ scratch₀ place₀ x z deltas totals values elements scratch place =
+    (length values ≡ 136) × (length elements ≡ 4096) × (length scratch ≡ 1984) × (length x ≡ length x₀) × (length z ≡ length z₀) × (length deltas ≡ length deltas₀)
     × GoingFrom job shape (lentBy shape noiseless second base) main from x₀ z₀ deltas₀ x z deltas place
     × TotalsHeld (shape .width) (shape .outcomes) deltas totals
 
 abbrev μ-loop : tie.MeasureT-loop
-μ-loop job from x₀ z₀ deltas₀ totals₀ shape noiseless main second base f₀ elements₀ scratch₀ place₀ x z deltas totals f elements scratch place =
+μ-loop job from x₀ z₀ deltas₀ totals₀ shape noiseless main second base values₀ elements₀ scratch₀ place₀ x z deltas totals values elements scratch place =
     length (instructionsAt job (place .line) (place .byte))
 
 loop-holds : tie.Need-loop-holds Inv-loop μ-loop
@@ -41,7 +41,7 @@ step-requires c κs =
         recorded = g .recorded;
         ahead = g .ahead;
         inside = c .before .before .before .before .before .before .before .if1 .taken;
-        of-fields = omega (arith, i .0);
+        of-values = omega (arith, i .0);
         of-elements = omega (arith, i .1);
         within = g .within;
       },

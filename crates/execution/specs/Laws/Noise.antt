@@ -22,6 +22,7 @@ use Rattle.noise.specs.declared.Correlation.{Correlation}
 use Rattle.noise.specs.Kinds.{correlationOf}
 use Rattle.noise.specs.Words.{positionAfter}
 use Rattle.noise.specs.Laws.Position.{main-after, main-stays, position-within, position-fits}
+use Rattle.faults.specs.Elements.{AllInside}
 use Rattle.faults.specs.declared.Prepared.{Prepared}
 use Rattle.faults.specs.Prepared.{NoiseLines, noiseIn, PreparedAs}
 use Rattle.injection.specs.declared.Drawn.{Drawn}
@@ -73,8 +74,8 @@ module _ (h : Header) (lent : Lent) (main : List ℕ) (n : Noise) (text : List �
   unfolding execute executeThen
   head-spent e = rw e
 
-module _ {job : List ℕ} (place : Place) (next : Next) {fields noiseless : List ℕ} (shape : Shape)
-    (q : NoiseLines job (next .end + 1) (next .form) fields noiseless (shape .width)) (same : q .header ≡ headerOf job shape) (lent : Lent) (main : List ℕ)
+module _ {job : List ℕ} (place : Place) (next : Next) {values noiseless : List ℕ} (shape : Shape)
+    (q : NoiseLines job (next .end + 1) (next .form) values noiseless (shape .width)) (same : q .header ≡ headerOf job shape) (lent : Lent) (main : List ℕ)
     (line : q .line ≡ place .line + 1) (text deltas : List ℕ) (states : States)
   where
     abbrev comes : Ended
@@ -107,10 +108,10 @@ module _ {job : List ℕ} (place : Place) (next : Next) {fields noiseless : List
 
 -- ---- what the code does
 
-module _ {job : List ℕ} (next : Next) {fields noiseless : List ℕ} (shape : Shape) {elements : List ℕ} {sums : List Float} {mask : List ℕ} {r : Prepared}
-    (prepared : (q : NoiseLines job (next .end + 1) (next .form) fields noiseless (shape .width)) → PreparedAs q elements sums mask r)
+module _ {job : List ℕ} (next : Next) {values noiseless : List ℕ} (shape : Shape) {elements : List ℕ} {sums : List Float} {mask : List ℕ} {r : Prepared}
+    (prepared : (q : NoiseLines job (next .end + 1) (next .form) values noiseless (shape .width)) → PreparedAs q elements sums mask r)
   where
-    line-ready : (second : List ℕ) (base : ℕ) (q : NoiseLines job (next .end + 1) (next .form) fields noiseless (shape .width)) → q .header ≡ headerOf job shape
+    line-ready : (second : List ℕ) (base : ℕ) (q : NoiseLines job (next .end + 1) (next .form) values noiseless (shape .width)) → q .header ≡ headerOf job shape
         → LineReady (noiseIn q) (lentBy shape noiseless second base) (shape .width) (shape .qubits) (r .fault .probability) (r .fault .distribution)
         (take (r .lines) sums) elements mask
     unfolding noiseOf
@@ -124,7 +125,7 @@ module _ {job : List ℕ} (next : Next) {fields noiseless : List ℕ} (shape : S
           masks = p .satisfied;
         }
 
-    module _ {place : Place} (ready : NoiseReady job place next fields noiseless shape) where
+    module _ {place : Place} (ready : NoiseReady job place next values noiseless shape) where
       pub few-lines : r .lines ≤ 64
       few-lines = rw (prepared (ready .lines) .lines) (ready .lines .few)
 
@@ -136,7 +137,7 @@ module _ {job : List ℕ} (next : Next) {fields noiseless : List ℕ} (shape : S
           let within = ahead .within in
           omega (arith, ready .number)
 
-      pub faults-ready : {e x z : List ℕ} → NoiseRoom shape fields e x z → 4096 ≤ length elements → 64 ≤ length mask
+      pub faults-ready : {e x z : List ℕ} → NoiseRoom shape values e x z → AllInside elements → 64 ≤ length mask
           → FaultsReady (shape .qubits) (shape .shots) (shape .width) (r .fault .probability) (r .fault .distribution) (take (r .lines) sums) elements mask x z
       faults-ready room long wide =
           let narrow = room .narrow in
@@ -151,9 +152,9 @@ module _ {job : List ℕ} (next : Next) {fields noiseless : List ℕ} (shape : S
             of-z = room .of-z;
           }
 
-module _ {job : List ℕ} (place : Place) (next : Next) {fields noiseless : List ℕ} (shape : Shape) (main second : List ℕ) (base : ℕ)
+module _ {job : List ℕ} (place : Place) (next : Next) {values noiseless : List ℕ} (shape : Shape) (main second : List ℕ) (base : ℕ)
     {elements : List ℕ} {sums : List Float} {mask : List ℕ} {r : Prepared}
-    (prepared : (q : NoiseLines job (next .end + 1) (next .form) fields noiseless (shape .width)) → PreparedAs q elements sums mask r)
+    (prepared : (q : NoiseLines job (next .end + 1) (next .form) values noiseless (shape .width)) → PreparedAs q elements sums mask r)
     (within : place .position ≤ length main)
   where
     abbrev lent : Lent
@@ -161,7 +162,7 @@ module _ {job : List ℕ} (place : Place) (next : Next) {fields noiseless : List
 
     -- what is left after the noise line
     abbrev Done : List ℕ → List ℕ → List ℕ → List ℕ → Moved → Type 0
-    Done x z x′ z′ moved = NoiseDone job place next fields shape noiseless main second base x z x′ z′ moved
+    Done x z x′ z′ moved = NoiseDone job place next values shape noiseless main second base x z x′ z′ moved
 
     -- the place behind it, with this position
     abbrev behind : ℕ → Place
@@ -180,16 +181,16 @@ module _ {job : List ℕ} (place : Place) (next : Next) {fields noiseless : List
         (some-words : le (r .fault .probability) zeroFloat ≡ false) (x z x′ z′ : List ℕ) {d : Drawn}
         (injected : FaultsInjected (shape .qubits) (shape .shots) (shape .width) (r .fault .probability) (r .fault .distribution) (take (r .lines) sums) elements mask words x z x′ z′ d)
       where
-        left : (q : NoiseLines job (next .end + 1) (next .form) fields noiseless (shape .width)) → q .header ≡ headerOf job shape → (deltas : List ℕ) (states : States)
+        left : (q : NoiseLines job (next .end + 1) (next .form) values noiseless (shape .width)) → q .header ≡ headerOf job shape → (deltas : List ℕ) (states : States)
             → Holds (shape .width) x z deltas states
             → Injected (injectShots (headerOf job shape) lent (noiseIn q) (shape .shots) 0 words states) words (shape .width) x′ z′ deltas d
         left q same deltas states holds = injected .by _ (shape .outcomes) (noiseIn q) lent (line-ready next shape prepared second base q same) deltas states holds
 
-        read-within : NoiseReady job place next fields noiseless shape → (read : ℕ) → d ≡ drawn.Done read → read ≤ length words
+        read-within : NoiseReady job place next values noiseless shape → (read : ℕ) → d ≡ drawn.Done read → read ≤ length words
         unfolding placeOf
         read-within ready read e = rw e at (left (ready .lines) (ready .header) [] (stateOf (shape .width) x z []) (holds-some (shape .width) x z []) .within)
 
-        pub read-fits : NoiseReady job place next fields noiseless shape → length main < 2 ^ 64 → (read : ℕ) → d ≡ drawn.Done read
+        pub read-fits : NoiseReady job place next values noiseless shape → length main < 2 ^ 64 → (read : ℕ) → d ≡ drawn.Done read
             → correlationOf (r .fault .correlation) ≡ none → place .position + read < 2 ^ 64
         read-fits ready small read e = position-fits (r .fault .correlation) lent main (place .position) read within small (rw part at (read-within ready read e))
 

@@ -13,6 +13,7 @@ use Rattle.draws.specs.Execute.{States, forwardAll, executeOne, Ended, executeT
 use Rattle.rows.specs.declared.Shape.{Shape}
 use Rattle.propagator.specs.Acts.{stateOf}
 use Rattle.noise.specs.declared.Place.{Place}
+use Rattle.template.specs.Values.{Whole}
 use Rattle.faults.specs.Laws.Prepared.{noise-lines}
 use Rattle.instructions.specs.Plain.{Plain}
 use Rattle.lines.specs.Plain.{Ready, Obeyed}
@@ -24,12 +25,12 @@ use Rattle.execution.specs.Went.{headerOf, lentBy, RowsFor, WentBy, Went
 
 -- ---- a line
 
-module _ {job : List ℕ} (shape : Shape) {recorded : ℕ} (place : Place) {next : Next} {fields : List ℕ}
-    (read : PlainRead job (headerOf job shape) recorded (place .line) (place .byte) next fields) (ahead : Ahead job (headerOf job shape) recorded (place .line) (place .byte))
-    {x z d noiseless : List ℕ} (rows : RowsFor shape x z d noiseless) (wide : 136 ≤ length fields)
+module _ {job : List ℕ} (shape : Shape) {recorded : ℕ} (place : Place) {next : Next} {values : List ℕ}
+    (read : PlainRead job (headerOf job shape) recorded (place .line) (place .byte) next values) (ahead : Ahead job (headerOf job shape) recorded (place .line) (place .byte))
+    {x z d noiseless : List ℕ} (rows : RowsFor shape x z d noiseless) (wide : Whole values)
   where
     -- it is as the crate lines wants it
-    plain-said : Plain (next .form) fields (shape .width) (shape .qubits) (shape .outcomes) (read .line)
+    plain-said : Plain (next .form) values (shape .width) (shape .qubits) (shape .outcomes) (read .line)
     plain-said =
         record {
           edition = jobOf job .header .edition;
@@ -43,7 +44,7 @@ module _ {job : List ℕ} (shape : Shape) {recorded : ℕ} (place : Place) {next
           in-rows = ahead .recorded;
         }
 
-    pub plain-ready : Ready (next .form) fields (shape .width) (shape .qubits) (shape .outcomes) x z d
+    pub plain-ready : Ready (next .form) values (shape .width) (shape .qubits) (shape .outcomes) x z d
     plain-ready =
         record {
           line = read .line;
@@ -54,7 +55,7 @@ module _ {job : List ℕ} (shape : Shape) {recorded : ℕ} (place : Place) {next
         }
 
     pub plain-went : (lent : Lent) (main : List ℕ) → place .position ≤ length main → (x′ z′ d′ : List ℕ)
-        → Obeyed (next .form) fields (shape .width) (shape .qubits) (shape .outcomes) x z d x′ z′ d′ → (states : States) → Holds (shape .width) x z d states
+        → Obeyed (next .form) values (shape .width) (shape .qubits) (shape .outcomes) x z d x′ z′ d′ → (states : States) → Holds (shape .width) x z d states
         → Went job shape lent main (execute (headerOf job shape) lent (instructionsAt job (place .line) (place .byte)) (drop (place .position) main) states)
         (length (instructionsAt job (place .line) (place .byte))) (place .line) x′ z′ d′
         (To (record { byte = next .end + 1; line = place .line + 1; position = place .position }))
@@ -81,16 +82,16 @@ module _ {job : List ℕ} (shape : Shape) {recorded : ℕ} (place : Place) {next
 
 -- ---- a noise line
 
-module _ {job : List ℕ} (shape : Shape) {recorded : ℕ} (place : Place) {next : Next} {fields : List ℕ}
-    (read : NoiseRead job (headerOf job shape) recorded (place .line) (place .byte) next fields) {noiseless : List ℕ}
+module _ {job : List ℕ} (shape : Shape) {recorded : ℕ} (place : Place) {next : Next} {values : List ℕ}
+    (read : NoiseRead job (headerOf job shape) recorded (place .line) (place .byte) next values) {noiseless : List ℕ}
     (rows : shape .outcomes * shape .width ≤ length noiseless)
   where
-    pub noise-ready : NoiseReady job place next fields noiseless shape
+    pub noise-ready : NoiseReady job place next values noiseless shape
     unfolding noise-lines
     noise-ready = record { lines = noise-lines read noiseless (shape .width) rows; header = refl; number = refl }
 
     pub noise-done : {main second : List ℕ} {base : ℕ} {x z x′ z′ : List ℕ} {r : Moved}
-        → NoiseDone job place next fields shape noiseless main second base x z x′ z′ r → (d : List ℕ) (states : States) → Holds (shape .width) x z d states
+        → NoiseDone job place next values shape noiseless main second base x z x′ z′ r → (d : List ℕ) (states : States) → Holds (shape .width) x z d states
         → Went job shape (lentBy shape noiseless second base) main
         (execute (headerOf job shape) (lentBy shape noiseless second base) (instructionsAt job (place .line) (place .byte)) (drop (place .position) main) states)
         (length (instructionsAt job (place .line) (place .byte))) (place .line) x′ z′ d r

@@ -30,7 +30,7 @@ read-fault-requires c κs =
     let few = few-lines q _ (c .before .before .before .element-lines .ensures _ _ (q .said)) in (
       record { noiseless = _; width = _; lines = q; count = c .before .before .before .element-lines .ensures },
       record {
-        of-fields = c .before .before .before .before .before .before .before .before .before .before .pre .1 .of-fields;
+        of-values = c .before .before .before .before .before .before .before .before .before .before .pre .1 .of-values;
         of-elements = c .before .before .before .before .before .before .before .before .before .before .pre .1 .of-elements;
         of-sums = length-take-le _ _ (omega (arith, few, c .before .before .before .before .before .before .before .before .before .before .pre .1 .of-sums));
         of-weights = length-take-le _ _ few;

@@ -13,7 +13,7 @@ has-weights-requires : tie.Need-has-weights-requires
 has-weights-requires c κs = search needs
 
 keep-element-requires : tie.Need-keep-element-requires
-keep-element-requires c κs = omega (arith, c .before .before .before .before .before .before .before .before .pre .1 .of-elements, c .before .before .before .before .before .before .before .before .pre .1 .of-fields)
+keep-element-requires c κs = omega (arith, c .before .before .before .before .before .before .before .before .pre .1 .of-elements, c .before .before .before .before .before .before .before .before .pre .1 .of-values)
 
 gather-requires : tie.Need-gather-requires
 gather-requires c κs =
@@ -28,7 +28,7 @@ total-requires : tie.Need-total-requires
 total-requires c κs = search needs
 
 fault-of-requires : tie.Need-fault-of-requires
-fault-of-requires c κs = (c .before .before .before .before .before .before .before .before .before .before .before .before .before .before .before .before .before .before .before .before .pre .1 .of-fields, probability-sound (c .before .before .before .before .before .before .before .before .before .before .before .before .before .before .before .before .before .before .before .before .pre .0 .lines))
+fault-of-requires c κs = (c .before .before .before .before .before .before .before .before .before .before .before .before .before .before .before .before .before .before .before .before .pre .1 .of-values, probability-sound (c .before .before .before .before .before .before .before .before .before .before .before .before .before .before .before .before .before .before .before .before .pre .0 .lines))
 
 fill-sums-requires : tie.Need-fill-sums-requires
 fill-sums-requires c κs =

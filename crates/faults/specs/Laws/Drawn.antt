@@ -4,7 +4,7 @@ use native.Mathlib.Omega.{arith}
 use mathlib.Core.Path.{_≡_, refl, sym, _∙_}
 use mathlib.Core.List.{List}
 use lib.Dec.{lit<}
-use lib.ListN.{length, getD, take, drop, List·getD-map}
+use lib.ListN.{length, getD, List·getD-map}
 use lib.Ieee.{Float}
 use Rattle.job.specs.Line.{WeightedPauli, Distribution, sizeOf}
 use Rattle.job.specs.Sound.{PauliSound, ElementSound, DistributionSound}
@@ -15,7 +15,7 @@ use Rattle.draws.specs.Laws.Faults.{depolarizing-size}
 use Rattle.noise.specs.declared.PauliDistribution.{PauliDistribution}
 use Rattle.noise.specs.declared.PauliDistribution.the-variants.{Depolarizing}
 use Rattle.noise.specs.Kinds.{kindOf, Chooses}
-use Rattle.faults.specs.Elements.{ElementHeld, DistributionHeld}
+use Rattle.faults.specs.Elements.{ElementHeld, QubitsHeld, DistributionHeld}
 
 -- no element
 abbrev noElement : WeightedPauli
@@ -79,24 +79,19 @@ module _ {D : Distribution} {d : PauliDistribution} {sums : List Float} (c : Cho
 
 -- ---- the qubits of a depolarizing distribution
 
-pub record QubitsHeld (D : Distribution) (k : ℕ) (l : List ℕ) : Type 0 where
+-- it is of these qubits
+pub record OfQubits (D : Distribution) (l : List ℕ) : Type 0 where
   pub qubits : List ℕ
   pub is : D ≡ Distribution.depolarizing qubits
-  pub count : length qubits ≡ k
-  pub held : take k (drop 2 l) ≡ qubits
+  pub held : QubitsHeld l qubits
 
-same-number : {j k : ℕ} → Depolarizing j ≡ Depolarizing k → j ≡ k
-same-number e = cc
-
-qubits-held : (E : Distribution) (k : ℕ) (l : List ℕ) → Depolarizing k ≡ kindOf E → DistributionHeld E l → QubitsHeld E k l
+qubits-held : (E : Distribution) (k : ℕ) (l : List ℕ) → Depolarizing k ≡ kindOf E → DistributionHeld E l → OfQubits E l
 unfolding kindOf DistributionHeld
 qubits-held (Distribution.single P) k l q t = let z : _≡_ {A = ℕ} 0 1 = cc in absurd (omega arith)
-qubits-held (Distribution.depolarizing qs) k l q t =
-    let count : length qs ≡ k = sym (same-number q) in
-    record { qubits = qs; is = refl; count = count; held = rw (← count) t }
+qubits-held (Distribution.depolarizing qs) k l q t = record { qubits = qs; is = refl; held = t }
 qubits-held (Distribution.uniform Ps) k l q t = let z : _≡_ {A = ℕ} 0 1 = cc in absurd (omega arith)
 qubits-held (Distribution.weighted es) k l q t = let z : _≡_ {A = ℕ} 0 1 = cc in absurd (omega arith)
 
 pub held-qubits : {D : Distribution} {d : PauliDistribution} {sums : List Float} → Chooses D d sums → (k : ℕ) → d ≡ Depolarizing k → (l : List ℕ)
-    → DistributionHeld D l → QubitsHeld D k l
+    → DistributionHeld D l → OfQubits D l
 held-qubits {D} c k e l held = qubits-held D k l (sym e ∙ c .kind) held

@@ -11,6 +11,7 @@ use lib.ListN.{length, getD, drop, set}
 use lib.Seq.{take-all, take-suc, take-suc-set, getD-drop}
 use lib.Ieee.{Float}
 use Rattle.text.specs.Template.{Value}
+use Rattle.template.specs.Values.{heldNumber}
 use Rattle.template.specs.Fields.{Held}
 use Rattle.job.specs.Line.{WeightedPauli}
 use Rattle.job.specs.Float.{float, zeroFloat, isWeight}
@@ -37,9 +38,9 @@ element-at : (es : List WeightedPauli) (i : ℕ) (x : WeightedPauli) (later : Li
 element-at es i x later e =
     ap (λ (k : ℕ). getD es k noElement) (sym (add-zero i)) ∙ sym (getD-drop i es 0 noElement) ∙ ap (λ (l : List WeightedPauli). getD l 0 noElement) e
 
--- the weight that its fields give
+-- the weight that its values give
 weight-given : (weighted : Bool) {f : List ℕ} {vs : List Value} → Held f (cond weighted 1 0) 2 vs
-    → cond weighted (float (getD f 0 0)) zeroFloat ≡ float (elementBy weighted vs .weight)
+    → cond weighted (float (heldNumber f 0)) zeroFloat ≡ float (elementBy weighted vs .weight)
 weight-given true h = ap float (h .number 0 (omega arith))
 weight-given false h = refl
 
@@ -51,14 +52,14 @@ module _ {job : List ℕ} {at n : ℕ} {weighted : Bool} (q : ElementLines job a
     read : ElementRead job (q .header) (q .recorded) weighted (q .elements) (q .rest) (q .line) i next f
     read = element-read (g .among) (omega (arith, q .count)) l
 
-    pub weight-sound : weighted ≡ true → isWeight (float (getD f 0 0)) ≡ true
-    weight-sound e =
+    pub weight-sound : {bits : ℕ} → bits ≡ heldNumber f 0 → weighted ≡ true → isWeight (float bits) ≡ true
+    weight-sound b e =
         let held : Held f 1 2 (read .values) = subst (λ (b : Bool). Held f (cond b 1 0) 2 (read .values)) e (read .held) in
-        rw (held .number 0 (omega arith)) (read .weight e .weight)
+        rw (b, held .number 0 (omega arith)) (read .weight e .weight)
 
-    pub gathered-more : n * 64 ≤ length elements → length weights ≡ n → (w : Float) → w ≡ cond weighted (float (getD f 0 0)) zeroFloat
+    pub gathered-more : n * 64 ≤ length elements → length weights ≡ n → {bits : ℕ} → bits ≡ heldNumber f 0 → (w : Float) → w ≡ cond weighted (float bits) zeroFloat
         → Gathered q (kept i 0 f elements) (set weights i w) (next .end + 1) (i + 1)
-    gathered-more fits size w e =
+    gathered-more fits size b w e =
         let is : getD (q .elements) i noElement ≡ elementBy weighted (read .values) = element-at (q .elements) i _ _ (read .element) in
         let few = read .pauli in
         let new : ElementHeld (kept i 0 f elements) i (getD (q .elements) i noElement .pauli) =
@@ -67,7 +68,7 @@ module _ {job : List ℕ} {at n : ℕ} {weighted : Bool} (q : ElementLines job a
           among = read .among;
           weighed =
               rw (add-one, take-suc-set weights i w (omega arith), take-suc (q .elements) i noElement (omega (arith, q .count)), weights-append)
-              (ap₂ (λ (a : List Float) (b : Float). a ++ (b ∷ [])) (g .weighed) (e ∙ weight-given weighted (read .held) ∙ ap (λ (x : WeightedPauli). float (x .weight)) (sym is)));
+              (ap₂ (λ (a : List Float) (b : Float). a ++ (b ∷ [])) (g .weighed) (e ∙ ap (λ (k : ℕ). cond weighted (float k) zeroFloat) b ∙ weight-given weighted (read .held) ∙ ap (λ (x : WeightedPauli). float (x .weight)) (sym is)));
           held = λ k m. either k m new (ℕ-discrete k i);
         }
       where

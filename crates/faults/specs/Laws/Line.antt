@@ -10,6 +10,7 @@ use lib.Ieee.{Float, nan, inf, fin, binary64, isNan, nanBits, lt}
 use lib.Ieee.Bits.{nanBits-is}
 use Rattle.text.specs.Bytes.{bytes}
 use Rattle.text.specs.Template.{Value, numberAt, listAt}
+use Rattle.template.specs.Values.{heldNumber, heldCount, heldMember, keptMembers}
 use Rattle.template.specs.Fields.{Held}
 use Rattle.job.specs.Float.{float, one, isProbability, isWeight}
 use Rattle.job.specs.Grammar.{Kind, NoiseLine, Written, pauliAt, isOne, optional, forms}
@@ -25,7 +26,7 @@ use Rattle.noise.specs.declared.PauliFault.{PauliFault}
 use Rattle.noise.specs.Kinds.{correlationOf}
 use Rattle.faults.specs.Line.{kindBy, CorrelationHeld, ConditionHeld, FaultOf, FaultHeld}
 use Rattle.rows.specs.Laws.Overwrite.{length-copied}
-use Rattle.faults.specs.Laws.Elements.{copied-in, list-held}
+use Rattle.faults.specs.Laws.Elements.{copied-in, member-kept, list-held}
 
 -- ---- bits that are no NaN's
 
@@ -99,14 +100,14 @@ noise-view form.Barrier vs n e = let z : _≡_ {A = ℕ} 0 1 = cc in absurd (ome
 -- ---- the kind
 
 module _ {f : List ℕ} {vs : List Value} {n : NoiseLine} (t : Float) where
-  pub kind-depolarizing : Said form.Depolarizing f vs (Written.noise n) → Depolarizing (getD f 6 0) ≡ kindBy (n .kind) t
+  pub kind-depolarizing : {k : ℕ} → k ≡ heldCount f 2 → Said form.Depolarizing f vs (Written.noise n) → Depolarizing k ≡ kindBy (n .kind) t
   unfolding forms placeOf bytes kindBy noiseBy
-  kind-depolarizing h =
-      ap Depolarizing (h .held .count 2 (omega arith)) ∙ ap (λ (m : NoiseLine). kindBy (m .kind) t) (noise-same (noise-said _ _ vs (Written.noise n) (h .says)))
+  kind-depolarizing e h =
+      ap Depolarizing (e ∙ h .held .count 2 (omega arith)) ∙ ap (λ (m : NoiseLine). kindBy (m .kind) t) (noise-same (noise-said _ _ vs (Written.noise n) (h .says)))
 
-  pub kind-uniform : Said form.Uniform f vs (Written.noise n) → Uniform (getD f 2 0) ≡ kindBy (n .kind) t
+  pub kind-uniform : {k : ℕ} → k ≡ heldNumber f 2 → Said form.Uniform f vs (Written.noise n) → Uniform k ≡ kindBy (n .kind) t
   unfolding forms placeOf bytes kindBy noiseBy
-  kind-uniform h = ap Uniform (h .held .number 2 (omega arith)) ∙ ap (λ (m : NoiseLine). kindBy (m .kind) t) (noise-same (noise-said _ _ vs (Written.noise n) (h .says)))
+  kind-uniform e h = ap Uniform (e ∙ h .held .number 2 (omega arith)) ∙ ap (λ (m : NoiseLine). kindBy (m .kind) t) (noise-same (noise-said _ _ vs (Written.noise n) (h .says)))
 
   pub kind-weighted : Said form.Weighted f vs (Written.noise n) → Weighted t ≡ kindBy (n .kind) t
   unfolding forms placeOf bytes kindBy noiseBy
@@ -134,31 +135,31 @@ unfolding optional
 first-listed [] ne = absurd (ne refl)
 first-listed (c ∷ l) ne = refl
 
-pub correlation-none : (f : List ℕ) → getD f 4 0 ≡ 0 → CorrelationHeld f Uncorrelated
+pub correlation-none : (f : List ℕ) → heldCount f 0 ≡ 0 → CorrelationHeld f Uncorrelated
 unfolding correlationOf
 correlation-none f e = record { is = λ a b vs h k. none-listed (listAt 0 vs) (sym (h .count 0 k) ∙ e) }
 
-pub correlation-some : (f : List ℕ) → (getD f 4 0 ≡ 0 → ⊥) → CorrelationHeld f (Shared (getD f 12 0))
+pub correlation-some : (f : List ℕ) {k : ℕ} → (heldCount f 0 ≡ 0 → ⊥) → k ≡ heldMember f 0 0 → CorrelationHeld f (Shared k)
 unfolding correlationOf
-correlation-some f ne =
+correlation-some f ne e =
     record {
       is = λ a b vs h k.
-          let listed : (length (listAt 0 vs) ≡ 0 → ⊥) = λ e. ne (h .count 0 k ∙ e) in
-          ap some (h .member 0 0 k (omega arith) (omega (arith, listed))) ∙ first-listed (listAt 0 vs) listed;
+          let listed : (length (listAt 0 vs) ≡ 0 → ⊥) = λ z. ne (h .count 0 k ∙ z) in
+          ap some (e ∙ h .member 0 0 k (omega arith) (omega (arith, listed))) ∙ first-listed (listAt 0 vs) listed;
     }
 
-pub condition-held : (f l : List ℕ) (r : OutcomeCondition) → length l ≡ 31 → r .outcomes ≡ copied 0 43 31 f l → r .count ≡ getD f 5 0 → r .parity ≡ getD f 1 0
+pub condition-held : (f l ms : List ℕ) (r : OutcomeCondition) → length l ≡ 31 → ms ≡ keptMembers f 1 → r .outcomes ≡ copied 0 0 31 ms l → r .count ≡ heldCount f 1 → r .parity ≡ heldNumber f 1
     → ConditionHeld f r
-condition-held f l r size o c p =
+condition-held f l ms r size k o c p =
     record {
       is = λ a b vs h numbers lists few.
           let count : r .count ≡ length (listAt 1 vs) = c ∙ h .count 1 lists in
           record {
             count = count;
             outcomes-are =
-                rw (count, o)
-                (list-held (copied 0 43 31 f l) 0 (listAt 1 vs) (omega (arith, length-copied 0 43 31 f l))
-                (λ j m. copied-in 0 43 31 f l j (omega arith) (omega arith) ∙ h .member 1 j lists (omega arith) m));
+                rw (count, o, k)
+                (list-held (copied 0 0 31 (keptMembers f 1) l) 0 (listAt 1 vs) (omega (arith, length-copied 0 0 31 (keptMembers f 1) l))
+                (λ j m. copied-in 0 0 31 (keptMembers f 1) l j (omega arith) (omega arith) ∙ member-kept f 1 j (omega arith) ∙ h .member 1 j lists (omega arith) m));
             parity-is = p ∙ h .number 1 numbers;
           };
     }
@@ -196,12 +197,12 @@ noise-values {g} {f} {vs} {n} s = go s (noise-view g vs n (s .says))
         unfold forms placeOf bytes in
         record { kind = _; size = _; is = refl; numbers = _; lists = _; held = by form.Weighted e t .held; two-numbers = omega arith; two-lists = omega arith }
 
-pub probability-held : {g : Form} {f : List ℕ} {vs : List Value} {n : NoiseLine} → Said g f vs (Written.noise n) → getD f 0 0 ≡ n .probability
+pub probability-held : {g : Form} {f : List ℕ} {vs : List Value} {n : NoiseLine} → Said g f vs (Written.noise n) → heldNumber f 0 ≡ n .probability
 unfolding noiseBy
 probability-held s = let v = noise-values s in v .held .number 0 (omega (arith, v .two-numbers)) ∙ ap (λ (m : NoiseLine). m .probability) (v .is)
 
 fault-by : {f : List ℕ} {vs : List Value} {n : NoiseLine} {total : Float} {r : PauliFault} (v : NoiseValues f vs n) → length (n .condition .outcomes) ≤ 31
-    → r .probability ≡ float (getD f 0 0) → r .distribution ≡ kindBy (n .kind) total → CorrelationHeld f (r .correlation) → ConditionHeld f (r .condition)
+    → r .probability ≡ float (heldNumber f 0) → r .distribution ≡ kindBy (n .kind) total → CorrelationHeld f (r .correlation) → ConditionHeld f (r .condition)
     → FaultOf n total r
 unfolding noiseBy
 fault-by {f} {vs} {n} v few p d k c =
@@ -217,7 +218,7 @@ fault-by {f} {vs} {n} v few p d k c =
       parity = ap isOne (condition .parity-is) ∙ ap (λ (m : NoiseLine). m .condition .parity) (v .is);
     }
 
-pub fault-held : {g : Form} {f : List ℕ} {total : Float} {r : PauliFault} → r .probability ≡ float (getD f 0 0)
+pub fault-held : {g : Form} {f : List ℕ} {total : Float} {r : PauliFault} → r .probability ≡ float (heldNumber f 0)
     → ((vs : List Value) (n : NoiseLine) → Said g f vs (Written.noise n) → r .distribution ≡ kindBy (n .kind) total)
     → CorrelationHeld f (r .correlation) → ConditionHeld f (r .condition) → FaultHeld g f total r
 fault-held p d k c = record { is = λ vs n s few. fault-by (noise-values s) few p (d vs n s) k c }

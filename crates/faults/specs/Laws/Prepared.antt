@@ -8,6 +8,7 @@ use lib.ListN.{length, getD, take, length-map, List·getD-map}
 use lib.Ieee.{Float}
 use Rattle.text.specs.Bytes.{bytes}
 use Rattle.text.specs.Template.{Value}
+use Rattle.template.specs.Values.{heldNumber}
 use Rattle.job.specs.declared.Header.{Header}
 use Rattle.job.specs.Line.{WeightedPauli, Distribution, OutcomeCondition}
 use Rattle.job.specs.Float.{float, zeroFloat, isProbability, totalFrom}
@@ -36,7 +37,7 @@ use Rattle.noise.specs.Condition.{conditionOf, Masks}
 use Rattle.choice.specs.Choice.{Totals, SumsOf}
 use Rattle.choice.specs.Laws.Marks.{marked-places}
 use Rattle.faults.specs.declared.Prepared.{Prepared}
-use Rattle.faults.specs.Elements.{kept, ElementHeld, DistributionHeld}
+use Rattle.faults.specs.Elements.{Inside, kept, ElementHeld, DistributionHeld}
 use Rattle.faults.specs.Line.{kindBy, FaultOf, FaultHeld}
 use Rattle.faults.specs.Prepared.{ElementLines, Gathered, NoiseLines, noiseIn, FaultRead, PreparedAs}
 use Rattle.faults.specs.Laws.Elements.{kept-held, kept-qubits}
@@ -44,8 +45,8 @@ use Rattle.faults.specs.Laws.Gather.{weighed-all}
 use Rattle.faults.specs.Laws.Line.{NoiseView, noise-view, probability-held}
 
 -- a noise line that was read
-unfoldable pub noise-lines : {job : List ℕ} {h : Header} {r k at : ℕ} {next : Next} {fields : List ℕ} → NoiseRead job h r k at next fields
-    → (noiseless : List ℕ) (w : ℕ) → h .outcomes * w ≤ length noiseless → NoiseLines job (next .end + 1) (next .form) fields noiseless w
+unfoldable pub noise-lines : {job : List ℕ} {h : Header} {r k at : ℕ} {next : Next} {words : List ℕ} → NoiseRead job h r k at next words
+    → (noiseless : List ℕ) (w : ℕ) → h .outcomes * w ≤ length noiseless → NoiseLines job (next .end + 1) (next .form) words noiseless w
 noise-lines {job} {h} {r} {k} {at} {next} m noiseless w fits =
     record {
       header = h;
@@ -125,12 +126,12 @@ noElement = record { weight = 0; pauli = noPauli }
 -- the elements that stand on lines of their own, and the element or the qubits that stand on the noise line
 elements-held : {g : Form} {f : List ℕ} {vs : List Value} {n : NoiseLine} (qubits : ℕ) (es : List WeightedPauli) → NoiseView g vs n
     → Said g f vs (Written.noise n) → DistributionSound qubits (distributionOf (n .kind) es) → length es ≡ elementLines (n .kind)
-    → (l₀ l : List ℕ) → 64 ≤ length l₀ → (length es ≡ 0 → l ≡ kept 0 2 f l₀)
+    → (l₀ l : List ℕ) → Inside l₀ 0 → (length es ≡ 0 → l ≡ kept 0 2 f l₀)
     → ((e : ℕ) → e < length es → ElementHeld l e (getD es e noElement .pauli)) → DistributionHeld (distributionOf (n .kind) es) l
 unfolding forms placeOf bytes noiseBy elementLines distributionOf DistributionHeld DistributionSound
 elements-held {g} {f} {vs} {n} qubits es (NoiseView.single e) said sound count l₀ l fits own each =
     let t : Said form.Single f vs (Written.noise n) = rw e at said in
-    rw (own count) (kept-held (t .held) 0 2 l₀ (omega arith) (omega arith) (sound .x .few) (sound .z .few))
+    rw (own count) (kept-held (t .held) 0 2 l₀ fits (omega arith) (sound .x .few) (sound .z .few))
 elements-held {g} {f} {vs} {n} qubits es (NoiseView.depolarizing e) said sound count l₀ l fits own each =
     let t : Said form.Depolarizing f vs (Written.noise n) = rw e at said in
     rw (own count) (kept-qubits (t .held) 2 l₀ fits (omega arith) (sound .few))
@@ -147,7 +148,7 @@ module _ {job : List ℕ} {at : ℕ} {g : Form} {f noiseless : List ℕ} {w : �
   unfolding noiseOf
   few-outcomes = q .sound .outcomes .few
 
-  pub probability-sound : isProbability (float (getD f 0 0)) ≡ true
+  pub probability-sound : isProbability (float (heldNumber f 0)) ≡ true
   unfolding noiseOf
   probability-sound = rw (probability-held (q .said)) (q .sound .probability)
 
@@ -220,7 +221,7 @@ module _ {job : List ℕ} {at : ℕ} {g : Form} {f noiseless : List ℕ} {w : �
 
   -- what the steps of the code come to
   pub fault-read : (n : ℕ) (b : Bool) (lines : n ≡ elementLines (q .noise .kind)) (weighted : b ≡ hasWeights (q .noise .kind)) (elements₀ elements₁ elements : List ℕ)
-      → 64 ≤ length elements₀ → elements₁ ≡ kept 0 2 f elements₀ → (n ≡ 0 → elements ≡ elements₁) → (weights : List Float) → length weights ≡ n → (next : ℕ)
+      → Inside elements₀ 0 → elements₁ ≡ kept 0 2 f elements₀ → (n ≡ 0 → elements ≡ elements₁) → (weights : List Float) → length weights ≡ n → (next : ℕ)
       → Gathered (element-lines n b lines weighted) elements weights next n → (t : Float) → t ≡ totalFrom zeroFloat weights → (r : PauliFault) → FaultHeld g f t r
       → (sums : List Float) → SumsOf (r .distribution) weights sums → FaultRead q elements sums (record { fault = r; lines = n; next = next })
   unfolding element-lines
@@ -239,7 +240,7 @@ module _ {job : List ℕ} {at : ℕ} {g : Form} {f noiseless : List ℕ} {w : �
         held = distribution n lines elements₀ elements₁ elements fits own none (λ e m. gathered .held e (omega (arith, count)));
       }
     where
-      distribution : (n : ℕ) → n ≡ elementLines (q .noise .kind) → (l₀ l₁ l : List ℕ) → 64 ≤ length l₀ → l₁ ≡ kept 0 2 f l₀ → (n ≡ 0 → l ≡ l₁)
+      distribution : (n : ℕ) → n ≡ elementLines (q .noise .kind) → (l₀ l₁ l : List ℕ) → Inside l₀ 0 → l₁ ≡ kept 0 2 f l₀ → (n ≡ 0 → l ≡ l₁)
           → ((e : ℕ) → e < length (q .elements) → ElementHeld l e (getD (q .elements) e noElement .pauli)) → DistributionHeld (noiseIn q .distribution) l
       distribution n e l₀ l₁ l fits own none each =
           unfold noiseOf in

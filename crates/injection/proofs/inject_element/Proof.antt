@@ -1,6 +1,5 @@
 -- `injection::inject_element` meets its contract. Assumes nothing.
 use Rattle.faults.specs.Laws.Drawn.{held-element}
--- `injection::inject_element` meets its contract. Assumes nothing.
 use Rattle.injection.specs.Laws.Elements.{element-depolarizing, depolarizing-ready, listed-ready}
 use mathlib.Core.List.{[], _∷_}
 use native.Mathlib.Omega.{arith}
@@ -9,34 +8,20 @@ use borrow.Author.Needs.{needs}
 use Rattle.injection.proofs.inject_element.Statement.{statement}
 use Rattle.injection.proofs.inject_element.Tie as tie
 
-enum-known-d : tie.Need-enum-known-d
-enum-known-d c = search needs
+enum-told : tie.Need-enum-told
+enum-told c = search needs
 
-add-end : tie.Need-add-end
-add-end c = let r = depolarizing-ready (c .before .before .before .before .before .before .pre .0) _ (c .before .d .given .1) in let few = r .few in record { fits = omega arith }
-
-sub-inject-depolarizing : tie.Need-sub-inject-depolarizing
-sub-inject-depolarizing c = search needs
-
-part-inject-depolarizing-start : tie.Need-part-inject-depolarizing-start
-part-inject-depolarizing-start c = search needs
-
-part-inject-depolarizing-end : tie.Need-part-inject-depolarizing-end
-part-inject-depolarizing-end c =
-    let p = c .before .before .before .before .before .before .before .before .pre .0 in
-    let r = depolarizing-ready p _ (c .before .before .before .d .given .1) in
-    let few = r .few in
-    let room = p .room in
-    omega arith
+element-x-requires : tie.Need-element-x-requires
+element-x-requires c κs = let r = depolarizing-ready (c .before .before .before .before .before .before .before .pre .0) _ (c .before .before .enum-told .given .1) in (omega (arith, c .before .before .before .before .before .before .before .pre .0 .room), r .few)
 
 inject-depolarizing-requires : tie.Need-inject-depolarizing-requires
 inject-depolarizing-requires c κs =
-    let r = depolarizing-ready (c .before .before .before .before .before .before .before .before .before .pre .0) _ (c .before .before .before .before .d .given .1) in
-    (c .before .before .before .before .before .before .before .before .before .pre .1, c .before .before .before .before .before .before .before .before .before .pre .2, r .operands .below, r .operands .apart, r .small, c .before .before .before .before .before .before .before .before .before .pre .3)
+    let r = depolarizing-ready (c .before .before .before .before .before .before .before .before .pre .0) _ (c .before .before .before .enum-told .given .1) in
+    let qubits = c .element-x .ensures in
+    (c .before .before .before .before .before .before .before .before .pre .1, c .before .before .before .before .before .before .before .before .pre .2, rw qubits (r .operands .below), rw qubits (r .operands .apart), r .small, c .before .before .before .before .before .before .before .before .pre .3)
 
 inject-listed-requires : tie.Need-inject-listed-requires
-inject-listed-requires c κs =
-    (listed-ready (c .before .before .before .before .before .before .pre .0) (λ k e. miss (0 ∷ 2 ∷ 3 ∷ []) 1 tt (rw e at (c .before .before .match .keys2))), c .before .before .before .before .before .before .pre .1, c .before .before .before .before .before .before .pre .2, c .before .before .before .before .before .before .pre .3)
+inject-listed-requires c κs = (listed-ready (c .before .before .before .before .before .before .pre .0) (λ k e. miss (0 ∷ 2 ∷ 3 ∷ []) 1 tt (rw e at (c .before .before .match .keys2))), c .before .before .before .before .before .before .pre .1, c .before .before .before .before .before .before .pre .2, c .before .before .before .before .before .before .pre .3)
 
 same-length : tie.Need-same-length
 same-length c = search needs
@@ -48,7 +33,7 @@ returns : tie.Need-returns
 returns c =
     record {
       acts = λ D sums chooses held below m deltas.
-          rw (element-depolarizing chooses _ (c .before .before .before .before .before .before .before .before .before .d .given .1) _ held _) (c .before .before .before .before .inject-depolarizing .ensures m deltas);
+          rw (element-depolarizing chooses _ (c .before .before .before .before .before .before .before .before .enum-told .given .1) _ held _, ← (c .before .before .before .before .before .element-x .ensures)) (c .before .before .before .before .inject-depolarizing .ensures m deltas);
     }
 
 same-length-3 : tie.Need-same-length-3
@@ -68,11 +53,8 @@ pub inject-element-spec : {M : Type 1} → statement M
 inject-element-spec =
     tie.close
     (tie.spec
-    enum-known-d
-    add-end
-    sub-inject-depolarizing
-    part-inject-depolarizing-start
-    part-inject-depolarizing-end
+    enum-told
+    element-x-requires
     inject-depolarizing-requires
     inject-listed-requires
     same-length

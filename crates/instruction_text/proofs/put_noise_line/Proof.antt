@@ -3,6 +3,7 @@ use lib.ListN.{length}
 use Prim.Native.Nat.{_≤_}
 use mathlib.Core.Path.{_≡_, sym}
 use lib.Dec.{lit≤}
+use Rattle.faults.specs.Elements.{AllInside}
 use Rattle.instruction_text.specs.Laws.Pass.{few-shots, few-lines, noise-is, noise-here, ready-here, noise-spent, noise-done}
 use lib.Seq.{length-take-le}
 use native.Mathlib.Omega.{arith}
@@ -19,7 +20,7 @@ slice-aggregate-prepare-2 c = search needs
 prepare-requires : tie.Need-prepare-requires
 prepare-requires c κs = (
   noise-here (c .before .before .before .before .before .before .before .before .before .before .before .pre .0) (c .before .before .before .before .before .before .before .before .before .before .before .pre .2) (c .before .before .before .before .before .before .before .before .before .before .before .pre .3),
-  record { of-fields = c .before .before .before .before .before .before .before .before .before .before .before .pre .4; of-elements = c .before .before .before .before .before .before .before .before .before .before .before .pre .5; of-sums = lit≤ tt; of-mask = omega (arith, few-shots (c .before .before .before .before .before .before .before .before .before .before .before .pre .0), c .before .before .before .before .before .before .before .before .before .before .before .pre .0 .words-are) },
+  record { of-values = c .before .before .before .before .before .before .before .before .before .before .before .pre .4; of-elements = c .before .before .before .before .before .before .before .before .before .before .before .pre .5; of-sums = lit≤ tt; of-mask = omega (arith, few-shots (c .before .before .before .before .before .before .before .before .before .before .before .pre .0), c .before .before .before .before .before .before .before .before .before .before .before .pre .0 .words-are) },
 )
 
 array-share-prefix-sums : tie.Need-array-share-prefix-sums
@@ -63,7 +64,7 @@ returns c =
     let n = c .before .before .before .before .before .before .before .before .before .before .before .before .before .before .before .before .before .before .before .before .before .before .before .before .before .before .pre .2 in
     let noisy = c .before .before .before .before .before .before .before .before .before .before .before .before .before .before .before .before .before .before .before .before .before .before .before .before .before .before .pre .3 in
     let ready = c .before .before .before .before .before .before .before .before .before .before .before .before .before .before .prepare .ensures (noise-here b n noisy) in
-    let room : 4096 ≤ length (c .before .before .before .before .before .before .before .before .before .before .before .before .before .before .prepare .last .1 .1 .1 .1 .1 .0) = omega (arith, c .before .before .before .before .before .before .before .before .before .before .before .before .before .before .before .before .before .before .before .before .before .before .before .before .before .before .pre .5, c .before .before .before .before .before .before .before .before .before .before .before .before .before .before .prepare .kept) in
+    let room : AllInside (c .before .before .before .before .before .before .before .before .before .before .before .before .before .before .prepare .last .1 .1 .1 .1 .1 .0) = omega (arith, c .before .before .before .before .before .before .before .before .before .before .before .before .before .before .before .before .before .before .before .before .before .before .before .before .before .before .pre .5, c .before .before .before .before .before .before .before .before .before .before .before .before .before .before .prepare .kept) in
     let masked : length (c .before .before .before .before .before .before .before .before .before .before .before .before .before .before .prepare .last .1 .1 .1 .1 .1 .1 .1 .0) ≡ 64 = omega (arith, c .before .before .before .before .before .before .before .before .before .before .before .before .before .before .prepare .kept) in
     noise-spent b n noisy ready room masked {out = c .before .before .before .before .before .before .before .before .before .before .before .before .before .before .before .before .before .before .before .before .before .before .before .before .before .before .args .out .now} {after = c .before .before .before .before .put-noise .last .0} (c .before .before .before .before .put-noise .ensures (ready-here b n noisy ready room masked) _) (c .enum-told .given .1)
 
@@ -79,7 +80,7 @@ returns-2 c =
     let n = c .before .before .before .before .before .before .before .before .before .before .before .before .before .before .before .before .before .before .before .before .before .before .before .before .before .before .before .before .pre .2 in
     let noisy = c .before .before .before .before .before .before .before .before .before .before .before .before .before .before .before .before .before .before .before .before .before .before .before .before .before .before .before .before .pre .3 in
     let ready = c .before .before .before .before .before .before .before .before .before .before .before .before .before .before .before .before .prepare .ensures (noise-here b n noisy) in
-    let room : 4096 ≤ length (c .before .before .before .before .before .before .before .before .before .before .before .before .before .before .before .before .prepare .last .1 .1 .1 .1 .1 .0) = omega (arith, c .before .before .before .before .before .before .before .before .before .before .before .before .before .before .before .before .before .before .before .before .before .before .before .before .before .before .before .before .pre .5, c .before .before .before .before .before .before .before .before .before .before .before .before .before .before .before .before .prepare .kept) in
+    let room : AllInside (c .before .before .before .before .before .before .before .before .before .before .before .before .before .before .before .before .prepare .last .1 .1 .1 .1 .1 .0) = omega (arith, c .before .before .before .before .before .before .before .before .before .before .before .before .before .before .before .before .before .before .before .before .before .before .before .before .before .before .before .before .pre .5, c .before .before .before .before .before .before .before .before .before .before .before .before .before .before .before .before .prepare .kept) in
     let masked : length (c .before .before .before .before .before .before .before .before .before .before .before .before .before .before .before .before .prepare .last .1 .1 .1 .1 .1 .1 .1 .0) ≡ 64 = omega (arith, c .before .before .before .before .before .before .before .before .before .before .before .before .before .before .before .before .prepare .kept) in
     noise-done b n noisy ready room masked {out = c .before .before .before .before .before .before .before .before .before .before .before .before .before .before .before .before .before .before .before .before .before .before .before .before .before .before .before .before .args .out .now} {after = c .before .before .before .before .before .before .put-noise .last .0} (c .before .before .before .before .before .before .put-noise .ensures (ready-here b n noisy ready room masked) _) _ _ (c .before .before .position .given .1)
 

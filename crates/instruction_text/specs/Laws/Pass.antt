@@ -15,6 +15,7 @@ use Rattle.instructions.specs.Laws.Places.{whole-line}
 use Rattle.instructions.specs.Laws.Steps.{plain-read, noise-read}
 use Rattle.writer.specs.Placed.{Puts}
 use Rattle.draws.specs.Settle.{SettledLine, Step, stepOf, Settled, prefixed, settleThen, settle}
+use Rattle.faults.specs.Elements.{AllInside}
 use Rattle.faults.specs.declared.Prepared.{Prepared}
 use Rattle.faults.specs.Prepared.{NoiseLines, noiseIn, PreparedAs}
 use Rattle.noise_text.specs.declared.Drawn.{Drawn}
@@ -71,7 +72,7 @@ module _ {p : Pass} {here : Reached} (b : Between p here) where
   few-lines = omega (arith, b .ahead .number, b .ahead .within, ended-parts (p .job) (b .ahead .ended))
 
   -- a line that is no noise is copied
-  module _ {line : Next} {fields : List ℕ} (n : NextLine (p .job) (here .place .byte) line fields) (quiet : noiseForm (line .form) ≡ false) where
+  module _ {line : Next} {values : List ℕ} (n : NextLine (p .job) (here .place .byte) line values) (quiet : noiseForm (line .form) ≡ false) where
     pub plain-put : {out after : List ℕ} {byte : ℕ} → Puts (here .text) (take (line .end + 1 - here .place .byte) (drop (here .place .byte) (p .job))) out after byte
         → InstructionPut p out here after (moved.To (record { place = record { byte = line .end + 1; line = here .place .line + 1; position = here .place .position }; text = byte }))
     unfolding MovedTo settle settleThen stepOf
@@ -101,11 +102,11 @@ module _ {p : Pass} {here : Reached} (b : Between p here) where
         }
 
   -- noise is made ready for its draws
-  module _ {line : Next} {fields : List ℕ} (n : NextLine (p .job) (here .place .byte) line fields) (noisy : noiseForm (line .form) ≡ true) where
-    pub noise-is : NoiseRead (p .job) (b .header) (b .recorded) (here .place .line) (here .place .byte) line fields
+  module _ {line : Next} {values : List ℕ} (n : NextLine (p .job) (here .place .byte) line values) (noisy : noiseForm (line .form) ≡ true) where
+    pub noise-is : NoiseRead (p .job) (b .header) (b .recorded) (here .place .line) (here .place .byte) line values
     noise-is = noise-read (b .ahead) n noisy
 
-    abbrev pub noise-here : NoiseLines (p .job) (line .end + 1) (line .form) fields (p .noiseless) (p .shape .width)
+    abbrev pub noise-here : NoiseLines (p .job) (line .end + 1) (line .form) values (p .noiseless) (p .shape .width)
     noise-here =
         record {
           header = b .header;
@@ -123,7 +124,7 @@ module _ {p : Pass} {here : Reached} (b : Between p here) where
           rows = b .rows;
         }
 
-    module _ {elements : List ℕ} {sums : List Float} {mask : List ℕ} {r : Prepared} (ready : PreparedAs noise-here elements sums mask r) (room : 4096 ≤ length elements)
+    module _ {elements : List ℕ} {sums : List Float} {mask : List ℕ} {r : Prepared} (ready : PreparedAs noise-here elements sums mask r) (room : AllInside elements)
         (masked : length mask ≡ 64)
       where
         abbrev pub ready-here : ReadyOf (r .fault .probability) (r .fault .distribution) (take (r .lines) sums) mask elements (p .shape .shots) (r .fault .correlation) (p .second) (p .base)

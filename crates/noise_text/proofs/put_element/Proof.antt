@@ -3,30 +3,22 @@ use Rattle.noise_text.specs.Laws.Elements.{whole-in, whole-is, qubits-in
 use Rattle.noise_text.specs.Elements.{elementIn}
 use lib.ListN.{length-take}
 use mathlib.Core.List.{[], _∷_}
-use native.Mathlib.Nat.{add-sub-cancel}
 use native.Mathlib.Omega.{arith}
 use types.Run.{miss}
 use borrow.Author.Needs.{needs}
 use Rattle.noise_text.proofs.put_element.Statement.{statement}
 use Rattle.noise_text.proofs.put_element.Tie as tie
 
-enum-known-d : tie.Need-enum-known-d
-enum-known-d c = search needs
+enum-told : tie.Need-enum-told
+enum-told c = search needs
 
-add-end : tie.Need-add-end
-add-end c = record { fits = omega (arith, qubits-in (c .before .d .given .1) (c .before .before .before .before .before .pre .1) .few) }
-
-sub-put-depolarizing : tie.Need-sub-put-depolarizing
-sub-put-depolarizing c = search needs
-
-part-put-depolarizing-start : tie.Need-part-put-depolarizing-start
-part-put-depolarizing-start c = search needs
-
-part-put-depolarizing-end : tie.Need-part-put-depolarizing-end
-part-put-depolarizing-end c = omega (arith, qubits-in (c .before .before .d .given .1) (c .before .before .before .before .before .before .pre .1) .inside)
+element-x-requires : tie.Need-element-x-requires
+element-x-requires c κs = let r = qubits-in (c .before .enum-told .given .1) (c .before .before .before .before .before .pre .1) in (r .inside, r .few)
 
 put-depolarizing-requires : tie.Need-put-depolarizing-requires
-put-depolarizing-requires c κs = (c .before .before .before .before .before .before .before .pre .0, rw length-take (omega (arith, qubits-in (c .before .before .before .d .given .1) (c .before .before .before .before .before .before .before .pre .1) .few)), qubits-in (c .before .before .before .d .given .1) (c .before .before .before .before .before .before .before .pre .1) .small)
+put-depolarizing-requires c κs =
+    let r = qubits-in (c .before .before .enum-told .given .1) (c .before .before .before .before .before .before .pre .1) in
+    (c .before .before .before .before .before .before .pre .0, rw (c .element-x .ensures, length-take) (omega (arith, r .few)), r .small)
 
 put-kept-requires : tie.Need-put-kept-requires
 put-kept-requires c κs = (c .before .before .before .before .pre .0, whole-in (c .before .before .before .before .args .d) (λ k e. miss (0 ∷ 2 ∷ 3 ∷ []) 1 tt (rw e at (c .before .match .keys2))) (c .before .before .before .before .pre .1))
@@ -36,7 +28,7 @@ same-length c = search needs
 
 returns : tie.Need-returns
 unfolding elementIn
-returns c = rw (c .before .before .before .before .before .before .d .given .1) (simp add-sub-cancel at (c .before .before .put-depolarizing .ensures))
+returns c = rw (c .before .before .before .before .before .enum-told .given .1, ← (c .before .before .before .element-x .ensures)) (c .before .before .put-depolarizing .ensures)
 
 same-length-2 : tie.Need-same-length-2
 same-length-2 c = search needs
@@ -48,11 +40,8 @@ pub put-element-spec : {M : Type 1} → statement M
 put-element-spec =
     tie.close
     (tie.spec
-    enum-known-d
-    add-end
-    sub-put-depolarizing
-    part-put-depolarizing-start
-    part-put-depolarizing-end
+    enum-told
+    element-x-requires
     put-depolarizing-requires
     put-kept-requires
     same-length

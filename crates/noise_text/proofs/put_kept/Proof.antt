@@ -7,64 +7,28 @@ use borrow.Author.Needs.{needs}
 use Rattle.noise_text.proofs.put_kept.Statement.{statement}
 use Rattle.noise_text.proofs.put_kept.Tie as tie
 
-mul-counts : tie.Need-mul-counts
-mul-counts c = search needs
+element-counts-requires : tie.Need-element-counts-requires
+element-counts-requires c κs = search needs
 
-add-members : tie.Need-add-members
-add-members c = search needs
-
-add-end : tie.Need-add-end
-add-end c = search needs
-
-mul-put-inject : tie.Need-mul-put-inject
-mul-put-inject c = search needs
-
-sub-put-inject : tie.Need-sub-put-inject
-sub-put-inject c = search needs
-
-part-put-inject-start : tie.Need-part-put-inject-start
-part-put-inject-start c = search needs
-
-part-put-inject-end : tie.Need-part-put-inject-end
-part-put-inject-end c = search needs
-
-mul-put-inject-2 : tie.Need-mul-put-inject-2
-mul-put-inject-2 c = search needs
-
-sub-put-inject-2 : tie.Need-sub-put-inject-2
-sub-put-inject-2 c = search needs
-
-part-put-inject-start-2 : tie.Need-part-put-inject-start-2
-part-put-inject-start-2 c = search needs
-
-part-put-inject-end-2 : tie.Need-part-put-inject-end-2
-part-put-inject-end-2 c = search needs
+element-members-requires : tie.Need-element-members-requires
+element-members-requires c κs = search needs
 
 put-inject-requires : tie.Need-put-inject-requires
-put-inject-requires c κs = (kept-lent (c .before .before .before .before .before .pre .1), omega (arith, c .before .before .before .before .before .pre .0))
+put-inject-requires c κs = (rw (c .before .element-counts .ensures, c .element-members .ensures) (kept-lent (c .before .before .before .before .before .pre .1)), omega (arith, c .before .before .before .before .before .pre .0))
 
 same-length : tie.Need-same-length
 same-length c = search needs
 
 returns : tie.Need-returns
 unfolding injectText keptElement
-returns c = rw (kept-x (c .before .before .before .before .before .before .before .before .pre .1), kept-z (c .before .before .before .before .before .before .before .before .pre .1)) at (c .before .before .put-inject .ensures)
+returns c = rw (c .before .before .before .before .element-counts .ensures, c .before .before .before .element-members .ensures, kept-x (c .before .before .before .before .before .before .before .before .pre .1), kept-z (c .before .before .before .before .before .before .before .before .pre .1)) at (c .before .before .put-inject .ensures)
 
 pub put-kept-spec : {M : Type 1} → statement M
 put-kept-spec =
     tie.close
     (tie.spec
-    mul-counts
-    add-members
-    add-end
-    mul-put-inject
-    sub-put-inject
-    part-put-inject-start
-    part-put-inject-end
-    mul-put-inject-2
-    sub-put-inject-2
-    part-put-inject-start-2
-    part-put-inject-end-2
+    element-counts-requires
+    element-members-requires
     put-inject-requires
     same-length
     returns)

@@ -1,15 +1,14 @@
 -- The elements of a distribution in lent words. Laws. Assumes nothing.
-use mathlib.Core.Path.{_≡_, refl, sym, ap, subst, _∙_}
+use mathlib.Core.Path.{_≡_, refl, sym, ap}
 use mathlib.Core.List.{List}
-use Prim.Native.Nat.{ℕ, _+_, _*_, _≤_, _<_}
+use Prim.Native.Nat.{ℕ, _<_}
 use native.Mathlib.Omega.{arith}
 use lib.Ieee.{Float}
-use lib.ListN.{length, take, drop}
 use Rattle.job.specs.Line.{Distribution, sizeOf}
-use Rattle.job.specs.Sound.{Operands, DistributionSound}
+use Rattle.job.specs.Sound.{DistributionSound}
 use Rattle.draws.specs.Draws.{elementAt}
 use Rattle.noise.specs.Kinds.{Chooses}
-use Rattle.faults.specs.Elements.{DistributionHeld}
+use Rattle.faults.specs.Elements.{AllInside, DistributionHeld}
 use Rattle.faults.specs.Laws.Drawn.{size-fits, size-few, held-element, held-qubits}
 use Rattle.noise.specs.declared.PauliDistribution.{PauliDistribution}
 use Rattle.noise.specs.declared.PauliDistribution.the-variants.{Single, Depolarizing, Uniform, Weighted}
@@ -30,7 +29,7 @@ whole-is l e (Depolarizing k) ne = absurd (ne k refl)
 whole-is l e (Uniform n) ne = refl
 whole-is l e (Weighted t) ne = refl
 
-pub qubits-in : {d : PauliDistribution} {l : List ℕ} {e k : ℕ} → d ≡ Depolarizing k → ElementIn d l e → KeptQubits k l e
+pub qubits-in : {d : PauliDistribution} {l : List ℕ} {e k : ℕ} → d ≡ Depolarizing k → ElementIn d l e → KeptQubits l e
 unfolding ElementIn
 qubits-in same h = rw same at h
 
@@ -40,7 +39,7 @@ pub record ElementOf (D : Distribution) (d : PauliDistribution) (l : List ℕ) (
   pub inside : ElementIn d l e
   pub is : elementIn d l e ≡ elementAt D e
 
-module _ (n : ℕ) (D : Distribution) (sound : DistributionSound n D) (l : List ℕ) (held : DistributionHeld D l) (room : 4096 ≤ length l) (e : ℕ) (h : e < sizeOf D)
+module _ (n : ℕ) (D : Distribution) (sound : DistributionSound n D) (l : List ℕ) (held : DistributionHeld D l) (room : AllInside l) (e : ℕ) (h : e < sizeOf D)
   where
     whole-of : {d : PauliDistribution} {sums : List Float} → Chooses D d sums → ((k : ℕ) → d ≡ Depolarizing k → ⊥) → Kept l e × (keptElement l e ≡ elementAt D e)
     unfolding keptElement
@@ -48,11 +47,7 @@ module _ (n : ℕ) (D : Distribution) (sound : DistributionSound n D) (l : List 
         let t = held-element c listed e h l held in
         let few = size-few c listed n sound in (
           record { inside = omega arith; x-few = rw (t .x-count) (t .x-few); z-few = rw (t .z-count) (t .z-few) },
-          λ i.
-              record {
-                x = (ap (λ (k : ℕ). take k (drop (e * 64 + 2) l)) (t .x-count) ∙ t .x) i;
-                z = (ap (λ (k : ℕ). take k (drop (e * 64 + 33) l)) (t .z-count) ∙ t .z) i;
-              },
+          λ i. record { x = t .x i; z = t .z i },
         )
 
     pub element-of : (d : PauliDistribution) {sums : List Float} → Chooses D d sums → ElementOf D d l e
@@ -60,11 +55,9 @@ module _ (n : ℕ) (D : Distribution) (sound : DistributionSound n D) (l : List 
     element-of Single c = let w = whole-of c (λ k q. let z : _≡_ {A = ℕ} 0 1 = cc in omega arith) in record { inside = w .0; is = w .1 }
     element-of (Depolarizing k) c =
         let t = held-qubits c k refl l held in
-        let operands : Operands n (t .qubits) = subst (DistributionSound n) (t .is) sound in
-        let count = t .count in
         record {
-          inside = record { few = omega (arith, operands .few); inside = omega (arith, operands .few); small = omega (arith, size-fits n D sound) };
-          is = rw (t .held) (sym (ap (λ (E : Distribution). elementAt E e) (t .is)));
+          inside = record { inside = omega arith; few = omega (arith, t .held .count, t .held .few); small = omega (arith, size-fits n D sound) };
+          is = rw (t .held .is) (sym (ap (λ (E : Distribution). elementAt E e) (t .is)));
         }
     element-of (Uniform m) c = let w = whole-of c (λ k q. let z : _≡_ {A = ℕ} 0 1 = cc in omega arith) in record { inside = w .0; is = w .1 }
     element-of (Weighted t) c = let w = whole-of c (λ k q. let z : _≡_ {A = ℕ} 0 1 = cc in omega arith) in record { inside = w .0; is = w .1 }

@@ -1,12 +1,13 @@
 -- The lists of an element as an injection is put from them: two counts, and 31 words for the members of each. Laws. Assumes nothing.
-use mathlib.Core.Path.{_≡_, sym, ap, _∙_}
+use mathlib.Core.Path.{_≡_, ap, _∙_}
 use mathlib.Core.List.{List, [], _∷_, _++_}
-use Prim.Native.Nat.{ℕ, _+_, _-_, _*_, _≤_, _<_}
-use native.Mathlib.Nat.{add-sub-cancel-left, add-zero}
+use Prim.Native.Nat.{ℕ, _+_, _*_, _≤_}
+use native.Mathlib.Nat.{add-zero}
 use native.Mathlib.Omega.{arith}
 use lib.ListN.{length, getD, take, drop, length-append, length-drop}
 use lib.Seq.{take-at, drop-at, take-append-le, take-take, take-add, drop-drop, getD-take, getD-drop, length-take-le}
 use Rattle.writer.specs.Line.{PauliLent}
+use Rattle.faults.specs.Elements.{xCount, zCount, xMembers, zMembers, elementX, elementZ, elementCounts, elementMembers}
 use Rattle.noise_text.specs.Elements.{Kept}
 
 -- ---- two lists that were put into one array, the one after the other
@@ -40,28 +41,19 @@ module _ (x z words : List ℕ) (g : length words ≡ 31) (e : length x ≡ 31) 
 -- ---- an element that is kept whole
 
 module _ {l : List ℕ} {e : ℕ} (h : Kept l e) where
-  abbrev counts : List ℕ
-  counts = take (e * 64 + 2 - e * 64) (drop (e * 64) l)
+  count-x : getD (elementCounts l e) 0 0 ≡ xCount l e
+  count-x = getD-take 2 (drop (e * 64) l) 0 0 (omega arith) ∙ getD-drop (e * 64) l 0 0 ∙ ap (λ (k : ℕ). getD l k 0) (add-zero (e * 64))
 
-  abbrev members : List ℕ
-  members = take (e * 64 + 64 - (e * 64 + 2)) (drop (e * 64 + 2) l)
+  count-z : getD (elementCounts l e) 1 0 ≡ zCount l e
+  count-z = getD-take 2 (drop (e * 64) l) 1 0 (omega arith) ∙ getD-drop (e * 64) l 1 0
 
-  count-x : getD counts 0 0 ≡ getD l (e * 64) 0
-  count-x = let first : 0 < 2 = omega arith in rw (add-sub-cancel-left, getD-take, getD-drop, add-zero)
+  counts-length : length (elementCounts l e) ≡ 2
+  counts-length = length-take-le 2 (drop (e * 64) l) (rw length-drop (omega (arith, h .inside)))
 
-  count-z : getD counts 1 0 ≡ getD l (e * 64 + 1) 0
-  count-z = let second : 1 < 2 = omega arith in rw (add-sub-cancel-left, getD-take, getD-drop)
+  members-length : length (elementMembers l e) ≡ 62
+  members-length = length-take-le 62 (xMembers l e) (rw length-drop (omega (arith, h .inside)))
 
-  sizes : e * 64 + 64 - (e * 64 + 2) ≡ 31 + 31
-  sizes = omega arith
-
-  counts-length : length counts ≡ 2
-  counts-length = rw add-sub-cancel-left (length-take-le 2 (drop (e * 64) l) (rw length-drop (omega (arith, h .inside))))
-
-  members-length : length members ≡ 62
-  members-length = rw sizes (length-take-le 62 (drop (e * 64 + 2) l) (rw length-drop (omega (arith, h .inside))))
-
-  pub kept-lent : PauliLent counts members
+  pub kept-lent : PauliLent (elementCounts l e) (elementMembers l e)
   kept-lent =
       record {
         two = omega (arith, counts-length);
@@ -70,16 +62,13 @@ module _ {l : List ℕ} {e : ℕ} (h : Kept l e) where
         for-members = omega (arith, members-length);
       }
 
-  pub kept-x : take (getD counts 0 0) members ≡ take (getD l (e * 64) 0) (drop (e * 64 + 2) l)
-  kept-x =
-      let few : getD l (e * 64) 0 ≤ 31 + 31 = omega (arith, h .x-few) in
-      rw (count-x, sizes) (take-take (getD l (e * 64) 0) (31 + 31) (drop (e * 64 + 2) l) few)
+  pub kept-x : take (getD (elementCounts l e) 0 0) (elementMembers l e) ≡ elementX l e
+  kept-x = rw count-x (take-take (xCount l e) 62 (xMembers l e) (omega (arith, h .x-few)))
 
-  pub kept-z : take (getD counts 1 0) (drop 31 members) ≡ take (getD l (e * 64 + 1) 0) (drop (e * 64 + 33) l)
+  pub kept-z : take (getD (elementCounts l e) 1 0) (drop 31 (elementMembers l e)) ≡ elementZ l e
   kept-z =
-      let from : List ℕ = drop (e * 64 + 2) l in
-      let first : length (take 31 from) ≡ 31 = length-take-le 31 from (rw length-drop (omega (arith, h .inside))) in
+      let first : length (take 31 (xMembers l e)) ≡ 31 = length-take-le 31 (xMembers l e) (rw length-drop (omega (arith, h .inside))) in
       let place : e * 64 + 2 + 31 ≡ e * 64 + 33 = omega arith in
-      let second : drop 31 from ≡ drop (e * 64 + 33) l = drop-drop 31 (e * 64 + 2) l ∙ ap (λ (k : ℕ). drop k l) place in
-      let half : drop 31 (take (31 + 31) from) ≡ take 31 (drop (e * 64 + 33) l) = ap (drop 31) (take-add 31 31 from) ∙ drop-at (take 31 from) _ 31 first ∙ ap (take 31) second in
-      rw (count-z, sizes) (ap (take (getD l (e * 64 + 1) 0)) half ∙ take-take (getD l (e * 64 + 1) 0) 31 (drop (e * 64 + 33) l) (h .z-few))
+      let second : drop 31 (xMembers l e) ≡ zMembers l e = drop-drop 31 (e * 64 + 2) l ∙ ap (λ (k : ℕ). drop k l) place in
+      let half : drop 31 (elementMembers l e) ≡ take 31 (zMembers l e) = ap (drop 31) (take-add 31 31 (xMembers l e)) ∙ drop-at (take 31 (xMembers l e)) _ 31 first ∙ ap (take 31) second in
+      rw count-z (ap (take (zCount l e)) half ∙ take-take (zCount l e) 31 (zMembers l e) (h .z-few))

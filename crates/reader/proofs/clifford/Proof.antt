@@ -11,11 +11,8 @@ use Rattle.reader.specs.Laws.Tried.{form-room, says-nothing, words-wrong
 use Rattle.reader.proofs.clifford.Statement.{statement}
 use Rattle.reader.proofs.clifford.Tie as tie
 
-slice-aggregate-read-all : tie.Need-slice-aggregate-read-all
-slice-aggregate-read-all c = search needs
-
-read-all-requires : tie.Need-read-all-requires
-read-all-requires c κs = search needs
+table-form-requires : tie.Need-table-form-requires
+table-form-requires c κs = search needs
 
 same-length : tie.Need-same-length
 same-length c = search needs
@@ -23,7 +20,7 @@ same-length c = search needs
 returns : tie.Need-returns
 unfolding placeOf forms bytes
 returns c =
-    let refused = c .before .before .before .read-all .ensures .refused (not-true _ (c .if1 .taken)) (form-room form.Clifford) in
+    let refused = c .before .before .before .table-form .ensures .refused (not-true _ (c .if1 .taken)) (form-room form.Clifford) in
     says-nothing form.Clifford (no-values (formOf form.Clifford) _ refused)
 
 count-requires : tie.Need-count-requires
@@ -42,7 +39,7 @@ returns-2 : tie.Need-returns-2
 unfolding placeOf forms bytes
 returns-2 c =
     let fits = rw (c .before .before .before .before .count .ensures, c .before .before .count2 .ensures) at (c .before .words-fit .ensures) in
-    words-wrong (c .before .before .before .before .before .before .before .before .before .read-all .ensures .read (not-false _ (c .before .before .before .before .before .before .if1 .left))) (sym fits ∙ not-true _ (c .if2 .taken))
+    words-wrong (c .before .before .before .before .before .before .before .before .before .table-form .ensures .read (not-false _ (c .before .before .before .before .before .before .if1 .left))) (sym fits ∙ not-true _ (c .if2 .taken))
 
 same-length-3 : tie.Need-same-length-3
 same-length-3 c = search needs
@@ -51,14 +48,13 @@ returns-3 : tie.Need-returns-3
 unfolding placeOf forms bytes
 returns-3 c =
     let fits = rw (c .before .before .before .before .count .ensures, c .before .before .count2 .ensures) at (c .before .words-fit .ensures) in
-    words-right (c .before .before .before .before .before .before .before .before .before .read-all .ensures .read (not-false _ (c .before .before .before .before .before .before .if1 .left))) (sym fits ∙ not-false _ (c .if2 .left))
+    words-right (c .before .before .before .before .before .before .before .before .before .table-form .ensures .read (not-false _ (c .before .before .before .before .before .before .if1 .left))) (sym fits ∙ not-false _ (c .if2 .left))
 
 pub clifford-spec : {M : Type 1} → statement M
 clifford-spec =
     tie.close
     (tie.spec
-    slice-aggregate-read-all
-    read-all-requires
+    table-form-requires
     same-length
     returns
     count-requires

@@ -1,26 +1,58 @@
 -- `reader::permute` meets its contract. Assumes nothing.
-use borrow.Author.Needs.{needs}
 use mathlib.Core.Path.{refl}
+use native.Mathlib.Omega.{arith}
 use Rattle.text.specs.Bytes.{bytes}
+use Rattle.template.specs.Laws.Reading.{then-next}
 use Rattle.job.specs.Grammar.{forms}
 use Rattle.reader.specs.declared.Form.the-variants as form
 use Rattle.reader.specs.Parsed.{placeOf}
-use Rattle.reader.specs.Laws.Tried.{plain-tried}
+use Rattle.reader.specs.Laws.Tried.{plain-tried, parts-form}
+use borrow.Author.Needs.{needs}
 use Rattle.reader.proofs.permute.Statement.{statement}
 use Rattle.reader.proofs.permute.Tie as tie
 
-slice-aggregate-form-by : tie.Need-slice-aggregate-form-by
-slice-aggregate-form-by c = search needs
+start-requires : tie.Need-start-requires
+start-requires c κs = search needs
 
-form-by-requires : tie.Need-form-by-requires
-form-by-requires c κs = search needs
+slice-aggregate-literal : tie.Need-slice-aggregate-literal
+slice-aggregate-literal c = search needs
+
+literal-requires : tie.Need-literal-requires
+literal-requires c κs = rw (c .before .start .ensures) (omega arith, refl)
+
+value-requires : tie.Need-value-requires
+value-requires c κs = search needs
+
+slice-aggregate-literal-2 : tie.Need-slice-aggregate-literal-2
+slice-aggregate-literal-2 c = search needs
+
+literal-requires-2 : tie.Need-literal-requires-2
+literal-requires-2 c κs = search needs
+
+value-requires-2 : tie.Need-value-requires-2
+value-requires-2 c κs = search needs
+
+ended-requires : tie.Need-ended-requires
+ended-requires c κs = search needs
 
 same-length : tie.Need-same-length
 same-length c = search needs
 
 returns : tie.Need-returns
 unfolding placeOf forms bytes
-returns c = plain-tried form.Permute refl (λ vs. (_, refl)) (c .before .before .form-by .ensures)
+returns c = plain-tried form.Permute refl (λ vs. (_, refl)) (parts-form (c .before .before .before .before .before .before .before .before .before .before .before .before .before .start .ensures) (then-next (then-next (then-next (c .before .before .before .before .before .before .before .before .before .before .before .literal .ensures .0 _) (c .before .before .before .before .before .before .before .before .before .value .ensures .0)) (c .before .before .before .before .before .literal2 .ensures .0 _)) (c .before .before .before .value2 .ensures .0)) (c .ended .ensures))
 
 pub permute-spec : {M : Type 1} → statement M
-permute-spec = tie.close (tie.spec slice-aggregate-form-by form-by-requires same-length returns)
+permute-spec =
+    tie.close
+    (tie.spec
+    start-requires
+    slice-aggregate-literal
+    literal-requires
+    value-requires
+    slice-aggregate-literal-2
+    literal-requires-2
+    value-requires-2
+    ended-requires
+    same-length
+    returns)

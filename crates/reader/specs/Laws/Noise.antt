@@ -12,7 +12,7 @@ use Rattle.text.specs.Bytes.{bytes}
 use Rattle.text.specs.Template.{Value, isLetter, valuesOf, numbersIn, listsIn, numberAt, listAt}
 use Rattle.numbers.specs.Read.{inFront}
 use Rattle.template.specs.Values.{heldNumber, heldCount}
-use Rattle.template.specs.Fields.{Held, Begins}
+use Rattle.template.specs.Fields.{Held, Begins, ReadNext}
 use Rattle.text.specs.Laws.Values.{none-some}
 use Rattle.template.specs.Laws.Fields.{nothing-held, numbers-append, lists-append}
 use Rattle.template.specs.Laws.Reading.{byte-over, byte-other, parts-read}
@@ -22,7 +22,7 @@ use Rattle.job.specs.Marks.{readAs}
 use Rattle.reader.specs.declared.Form.{Form}
 use Rattle.reader.specs.declared.Form.the-variants as form
 use Rattle.reader.specs.Parsed.{placeOf, formOf, isUnread}
-use Rattle.reader.specs.Tried.{Tried, KindBy, noiseBegin, parityAlone, NoiseBegun, only, noiseForms}
+use Rattle.reader.specs.Tried.{Tried, formIf, KindBy, noiseBegin, parityAlone, NoiseBegun, only, noiseForms}
 use Rattle.reader.specs.Laws.Sift.{sift, formsOf, sifted, no-values}
 use Rattle.reader.specs.Laws.Tried.{not-parsed, read-tried, none-left}
 
@@ -172,3 +172,8 @@ kind-tried {line} {p} {r} {fields} {after} f k same known n b =
     let template : formOf f .template ≡ noiseBegin ++ (k .digit ∷ k .rest) = ap (λ (t : TableForm). t .template) same in
     read-tried f known (b .on .ok && eqb (b .on .at) (length line)) (b .result) (rw template (parts-read (n .begins) (b .reads)))
     (λ vs h. rw same (noise-some (k .kind vs) (numberAt (k .size) vs) vs (same-parity (n .begins) k vs (rw same at h) ∙ n .parity)))
+
+-- the rest of its template, read by parts to the end of the line
+pub kind-parts : {line rest : List ℕ} {p q : Progress} {before fields : List ℕ} {f r : Form} → p .ok ≡ true → ReadNext line rest p q before fields
+    → r ≡ formIf (q .ok && eqb (q .at) (length line)) f → KindBy line rest p f r before fields
+kind-parts ok n e = record { on = _; result = e; reads = n .goes ok }

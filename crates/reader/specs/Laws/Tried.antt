@@ -1,7 +1,7 @@
 -- A line that one form was tried on: laws. Assumes nothing.
 use Prim.Native.Nat.{ℕ, zero, suc, _≤_, _<_}
 use native.Mathlib.Omega.{arith}
-use mathlib.Core.Path.{_≡_, refl, sym, ap, _∙_}
+use mathlib.Core.Path.{_≡_, refl, sym, ap, _∙_, subst}
 use mathlib.Core.Bool.{Bool, true, false, not, _&&_, true≢false}
 use mathlib.Core.List.{List, [], _∷_}
 use mathlib.Core.Option.{none, some}
@@ -13,7 +13,9 @@ use Rattle.pauli.specs.Laws.Code.{gate-none}
 use Rattle.text.specs.Bytes.{bytes}
 use Rattle.text.specs.Template.{Value, valuesOf, numberAt, listAt}
 use Rattle.template.specs.Values.{heldNumber, heldCount}
-use Rattle.template.specs.Fields.{numberLetters, listLetters, Room, HasForm, ReadAs}
+use Rattle.template.specs.Fields.{numberLetters, listLetters, Room, started, ReadOn, ReadNext, HasForm, ReadAs}
+use Rattle.template.specs.Laws.Reading.{whole-read}
+use Rattle.template.specs.declared.Progress.{Progress}
 use Rattle.text.specs.Laws.Values.{both}
 use Rattle.job.specs.Clifford.{tableWords, tableOf}
 use Rattle.job.specs.Grammar.{Written, Form as TableForm, unitaryLine, cliffordLine, forms, said, orLater, readBy, readLine}
@@ -56,6 +58,21 @@ forms-room = refl
 
 pub form-room : (f : Form) → Room 0 0 (formOf f .template)
 form-room f = room-at forms forms-room (placeOf f)
+
+-- ---- read by parts
+
+pub from-start : {line template : List ℕ} {s p : Progress} {before fields : List ℕ} → s ≡ started → ReadNext line template s p before fields
+    → ReadOn line template 0 0 0 p before fields
+from-start {line} {template} {s} {p} {before} {fields} start n = subst (λ (q : Progress). ReadNext line template q p before fields) start n .goes refl
+
+-- a line read by the parts of a template to its end
+pub parts-read-as : {line template : List ℕ} {s p : Progress} {before fields : List ℕ} → s ≡ started → ReadNext line template s p before fields
+    → ReadAs line template (p .ok && eqb (p .at) (length line)) fields
+parts-read-as start n = whole-read (from-start start n)
+
+pub parts-form : {line template : List ℕ} {s p : Progress} {before fields : List ℕ} {f r : Form} → s ≡ started
+    → ReadNext line template s p before fields → r ≡ formIf (p .ok && eqb (p .at) (length line)) f → FormBy line template f r fields
+parts-form start n e = record { ok = _; result = e; reads = parts-read-as start n }
 
 -- ---- what was tried
 

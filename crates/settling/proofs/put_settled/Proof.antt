@@ -12,14 +12,14 @@ use Rattle.settling.proofs.put_settled.Statement.{statement}
 use Rattle.settling.proofs.put_settled.Tie as tie
 
 abbrev Inv-loop : tie.InvT-loop
-Inv-loop out₀ job shape noiseless main second base fields₀ elements₀ end text here₀ out fields elements here =
+Inv-loop out₀ job shape noiseless main second base values₀ elements₀ end text here₀ out values elements here =
     Going (passOf job shape noiseless main second base) text out₀ here out
     × (length out ≡ length out₀)
-    × (length fields ≡ 136)
+    × (length values ≡ 136)
     × (length elements ≡ 4096)
 
 abbrev μ-loop : tie.MeasureT-loop
-μ-loop out₀ job shape noiseless main second base fields₀ elements₀ end text here₀ out fields elements here = length job + 2 - here .place .line
+μ-loop out₀ job shape noiseless main second base values₀ elements₀ end text here₀ out values elements here = length job + 2 - here .place .line
 
 find-requires : tie.Need-find-requires Inv-loop μ-loop
 find-requires c κs = omega arith

@@ -38,7 +38,7 @@ returns : tie.Need-returns Inv-loop μ-loop
 returns c =
     let loop = c .before .before .before .before .before .before .loop in
     let plain = sym (c .before .before .before .is-letter .ensures) ∙ not-true _ (c .before .before .if1 .taken) in
-    refused-on (c .refused .ensures)
+    refused-on (c .refused .ensures .0)
     (λ _. plain-over (loop .inv .2) (omega arith) plain (c .before .if2 .taken))
 
 shared-slice-read-if3 : tie.Need-shared-slice-read-if3 Inv-loop μ-loop
@@ -55,7 +55,7 @@ returns-2 c =
     let loop = c .before .before .before .before .before .before .before .before .loop in
     let w = loop .inv .2 .within in
     let plain = sym (c .before .before .before .before .before .is-letter .ensures) ∙ not-true _ (c .before .before .before .before .if1 .taken) in
-    refused-on (c .refused2 .ensures)
+    refused-on (c .refused2 .ensures .0)
     (λ _. plain-other (loop .inv .2) (omega arith) plain (omega arith) (c .before .if3 .taken))
 
 add-at : tie.Need-add-at Inv-loop μ-loop
@@ -97,7 +97,7 @@ returns-3 c =
     let loop = c .before .before .before .before .before .before .before .before .before .before .before .before .before .loop in
     let found = c .before .before .before .before .before .before .before .before .find in
     let letter = sym (c .before .before .before .before .before .before .before .before .before .before .is-letter .ensures) ∙ not-false _ (c .before .before .before .before .before .before .before .before .before .if1 .left) in
-    refused-on (c .refused3 .ensures)
+    refused-on (c .refused3 .ensures .0)
     (letter-bad (loop .inv .2) (omega arith) letter (found .result) (found .ensures .0) (omega arith) (c .before .before .before .before .before .put-value .ensures) (not-true _ (c .before .if4 .taken)))
 
 loop-less-2 : tie.Need-loop-less-2 Inv-loop μ-loop

@@ -1,13 +1,13 @@
 -- Lines read by a template, value by value. Laws. Assumes nothing.
-use Prim.Native.Nat.{ℕ, _+_, _-_, _*_, _≤_, _<_}
+use Prim.Native.Nat.{ℕ, zero, suc, _+_, _-_, _*_, _≤_, _<_}
 use native.Mathlib.Omega.{arith}
-use mathlib.Core.Bool.{Bool, true, false, _&&_, true≢false}
+use mathlib.Core.Bool.{Bool, true, false, not, _&&_, true≢false}
 use mathlib.Core.Path.{_≡_, refl, sym, ap, _∙_}
 use mathlib.Core.List.{List, [], _∷_, _++_, append-assoc, append-nil}
 use mathlib.Core.Option.{Option, none, some}
-use borrow.Author.Tests.{eqb-true, eqb-false, eq-eqb, ne-eqb}
+use borrow.Author.Tests.{eqb-true, eqb-false, eq-eqb, ne-eqb, not-true}
 use lib.Dec.{eqb}
-use lib.ListN.{length, getD, take, drop, set, drop-of-length-le}
+use lib.ListN.{length, getD, take, drop, set, length-drop, drop-of-length-le}
 use lib.Seq.{drop-drop}
 use Rattle.numbers.specs.declared.lists.Listed.{Listed}
 use Rattle.template.specs.declared.Put.{Put}
@@ -15,8 +15,9 @@ use Rattle.template.specs.declared.Progress.{Progress}
 use Rattle.text.specs.Bytes.{space, until}
 use Rattle.text.specs.Template.{Value, number, list, aNumber, aList, isLetter, valueOf, andThen, sameByte, atEnd, valuesOf}
 use Rattle.numbers.specs.Read.{listedAs, ListRead, inFront}
-use Rattle.template.specs.Fields.{listBy, numberLetter, listLetter, numberLetters, listLetters, Held, Room, Begins, ReadOn, HasForm, ReadAs, PutOne, PutAs}
+use Rattle.template.specs.Fields.{listBy, numberLetter, listLetter, numberLetters, listLetters, Held, Room, Begins, ReadOn, isPlain, ReadNext, HasForm, ReadAs, PutOne, PutAs}
 use Rattle.text.specs.Laws.Pieces.{step}
+use Rattle.text.specs.Laws.Values.{both}
 use Rattle.template.specs.Laws.Fields.{nothing-held, held-number, held-list, list-put}
 use Rattle.numbers.specs.Laws.Lists.{listed-count, listed-largest, listed-bad, listed-good}
 
@@ -255,11 +256,107 @@ module _ {line template : List ℕ} {from numbers lists : ℕ} {before : List �
                 holds = λ vs g. rw (one .numbers-read, one .lists-read, ← append-assoc vs (r .values) (one .value ∷ [])) (one .holds (vs ++ r .values) (r .holds vs g));
               }
 
--- ---- to the end of the line
+-- ---- a line read on by one part of its template after the other
 
 pub letters-append : (s t : List ℕ) → (numberLetters (s ++ t) ≡ numberLetters s + numberLetters t) × (listLetters (s ++ t) ≡ listLetters s + listLetters t)
 letters-append [] t = (omega arith, omega arith)
 letters-append (b ∷ s) t = let ih = letters-append s t in (omega (arith, ih .0), omega (arith, ih .1))
+
+plain-byte : (t : ℕ) (ts : List ℕ) → isPlain (t ∷ ts) ≡ true → (isLetter t ≡ false) × (isPlain ts ≡ true)
+plain-byte t ts e = let b = both (not (isLetter t)) (isPlain ts) e in (not-true (isLetter t) (b .0), b .1)
+
+pub plain-at : (ts : List ℕ) (i : ℕ) → isPlain ts ≡ true → i < length ts → isLetter (getD ts i 0) ≡ false
+plain-at [] i e h = absurd (omega arith)
+plain-at (t ∷ ts) zero e h = plain-byte t ts e .0
+plain-at (t ∷ ts) (suc i) e h = plain-at ts i (plain-byte t ts e .1) (omega arith)
+
+-- the line is shorter than the part
+plain-short : (ts rest l : List ℕ) → isPlain ts ≡ true → length l < length ts → valuesOf (ts ++ rest) l ≡ none
+plain-short [] rest l e h = absurd (omega arith)
+plain-short (t ∷ ts) rest [] e h = unfold valuesOf sameByte in simp (plain-byte t ts e .0)
+plain-short (t ∷ ts) rest (b ∷ l) e h = go (eqb b t) refl (plain-short ts rest l (plain-byte t ts e .1) (omega arith))
+  where
+    go : (same : Bool) → eqb b t ≡ same → valuesOf (ts ++ rest) l ≡ none → valuesOf (t ∷ (ts ++ rest)) (b ∷ l) ≡ none
+    go true k ih = unfold valuesOf sameByte in simp (plain-byte t ts e .0, k) ih
+    go false k ih = unfold valuesOf sameByte in simp (plain-byte t ts e .0, k)
+
+pub short-refused : {line part : List ℕ} {at n l : ℕ} {r : Progress} {before after : List ℕ} → r .ok ≡ false → isPlain part ≡ true
+    → length line - at < length part → ReadOn line part at n l r before after
+short-refused {line} {part} {at} e plain h = refused-on e (λ _ rest. plain-short part rest (drop at line) plain (rw (length-drop at line) h))
+
+module _ {line part : List ℕ} {p r : Progress} {before after : List ℕ} where
+  pub next-stays : p .ok ≡ false → r .ok ≡ false → ReadNext line part p r before after
+  next-stays e f = record { stays = λ _. f; goes = λ h. absurd (true≢false (sym h ∙ e)) }
+
+  pub next-goes : p .ok ≡ true → ReadOn line part (p .at) (p .numbers) (p .lists) r before after → ReadNext line part p r before after
+  next-goes e f = record { stays = λ h. absurd (true≢false (sym e ∙ h)); goes = λ _. f }
+
+-- a value, which goes up to e
+pub value-read : {line : List ℕ} (t at n l e : ℕ) {p : Put} {before after : List ℕ} → at ≤ length line → isLetter t ≡ true → e ≡ at + until space (drop at line)
+    → e ≤ length line → PutAs (numberLetter t) (listLetter t) (valueOf t (take (e - at) (drop at line))) n l p before after
+    → ReadOn line (t ∷ []) at n l (record { ok = p .ok; at = e; numbers = p .numbers; lists = p .lists }) before after
+value-read {line} t at n l e {p} {before} {after} h letter found inside q = go (p .ok) refl
+  where
+    starts : Reading line (t ∷ []) at n l before 0 at n l before
+    starts = reading-starts h
+
+    go : (b : Bool) → p .ok ≡ b → ReadOn line (t ∷ []) at n l (record { ok = p .ok; at = e; numbers = p .numbers; lists = p .lists }) before after
+    go false k = refused-on k (letter-bad starts (omega arith) letter e found inside q k)
+    go true k = rw k (reading-ends (letter-good starts (omega arith) letter e found inside q k) (omega arith))
+
+front-front : (vs ws : List Value) (o : Option (List Value)) → inFront vs (inFront ws o) ≡ inFront (vs ++ ws) o
+unfolding inFront
+front-front vs ws none = refl
+front-front vs ws (some us) = ap some (sym (append-assoc vs ws us))
+
+is-true : (t : Bool) → (t ≡ false → ⊥) → t ≡ true
+is-true true h = refl
+is-true false h = absurd (h refl)
+
+-- two parts, one after the other
+module _ {line first second : List ℕ} {p q r : Progress} {before between after : List ℕ} (a : ReadNext line first p q before between)
+    (b : ReadNext line second q r between after) where
+  abbrev letters : (numberLetters (first ++ second) ≡ numberLetters first + numberLetters second) × (listLetters (first ++ second) ≡ listLetters first + listLetters second)
+  letters = letters-append first second
+
+  both-refused : p .ok ≡ true → r .ok ≡ false → Room (p .numbers) (p .lists) (first ++ second) → (rest : List ℕ)
+      → valuesOf ((first ++ second) ++ rest) (drop (p .at) line) ≡ none
+  both-refused e f room rest = rw (append-assoc first second rest) (go (q .ok) refl)
+    where
+      go : (t : Bool) → q .ok ≡ t → valuesOf (first ++ (second ++ rest)) (drop (p .at) line) ≡ none
+      go false k =
+          a .goes e .refused k
+          (record { for-numbers = omega (arith, letters .0, room .for-numbers); for-lists = omega (arith, letters .1, room .for-lists) }) (second ++ rest)
+      go true k =
+          let c = a .goes e .read k in
+          let left : Room (q .numbers) (q .lists) second = record {
+            for-numbers = omega (arith, letters .0, room .for-numbers, c .numbers-read);
+            for-lists = omega (arith, letters .1, room .for-lists, c .lists-read);
+          } in
+          c .reads (second ++ rest) ∙ (unfold inFront in rw (b .goes k .refused f left rest))
+
+  both-begin : p .ok ≡ true → r .ok ≡ true → Begins line (first ++ second) (p .at) (p .numbers) (p .lists) r before after
+  both-begin e f =
+      let k : q .ok ≡ true = is-true (q .ok) (λ h. true≢false (sym f ∙ b .stays h)) in
+      let c = a .goes e .read k in
+      let d = b .goes k .read f in
+      record {
+        values = c .values ++ d .values;
+        reads = λ rest. rw (append-assoc first second rest) (c .reads (second ++ rest) ∙ ap (inFront (c .values)) (d .reads rest) ∙ front-front (c .values) (d .values) _);
+        within = d .within;
+        numbers-read = omega (arith, letters .0, c .numbers-read, d .numbers-read);
+        lists-read = omega (arith, letters .1, c .lists-read, d .lists-read);
+        holds = λ vs h. rw (← append-assoc vs (c .values) (d .values)) (d .holds (vs ++ c .values) (c .holds vs h));
+      }
+
+  pub then-next : ReadNext line (first ++ second) p r before after
+  then-next =
+      record {
+        stays = λ e. b .stays (a .stays e);
+        goes = λ e. record { refused = both-refused e; read = both-begin e };
+      }
+
+-- ---- to the end of the line
 
 end-over : (line : List ℕ) (at : ℕ) → length line ≤ at → valuesOf [] (drop at line) ≡ some []
 unfolding valuesOf atEnd

@@ -1,8 +1,7 @@
--- `totals::count_row` meets its contract: after j turns the bits of the row's first j words are counted. Assumes nothing.
+-- `totals::count_row` meets its contract: before word j the bits of the row's first j words are counted. Assumes nothing.
 use mathlib.Core.Path.{_≡_, refl, sym}
 use Prim.Native.Nat.{_+_, _-_, _*_, _≤_}
 use native.Mathlib.Omega.{arith}
-use lib.Count.{ones-le}
 use borrow.Author.Needs.{needs}
 use Rattle.rows.specs.Words.{bitIn}
 use Rattle.totals.specs.Ones.{onesTo}
@@ -23,26 +22,21 @@ loop-holds : tie.Need-loop-holds Inv-loop μ-loop
 unfolding onesTo
 loop-holds c = (refl, omega arith)
 
+sub-loop : tie.Need-sub-loop Inv-loop μ-loop
+sub-loop c = search needs
+
+add-count-few : tie.Need-add-count-few Inv-loop μ-loop
+add-count-few c = search needs
+
+count-few-requires : tie.Need-count-few-requires Inv-loop μ-loop
+count-few-requires c κs = search needs
+
 add-ones : tie.Need-add-ones Inv-loop μ-loop
-add-ones c = search needs
-
-mul-ones : tie.Need-mul-ones Inv-loop μ-loop
-mul-ones c = search needs
-
-shared-slice-read-ones : tie.Need-shared-slice-read-ones Inv-loop μ-loop
-shared-slice-read-ones c = search needs
-
-cast-ones : tie.Need-cast-ones Inv-loop μ-loop
-cast-ones c =
-    let a = c .before .before .before .args in
-    record { fits = omega (arith, ones-le 64 _ (c .shared-slice-known .given (a .r * a .w + c .before .before .loop .j) .fits)) }
-
-add-ones-2 : tie.Need-add-ones-2 Inv-loop μ-loop
-add-ones-2 c =
-    let a = c .before .before .before .args in
+add-ones c =
+    let a = c .before .before .before .before .args in
     let j = c .before .before .loop .j in
-    let more = row-more (a .w) (a .rows .now) (a .r) j (c .shared-slice-known .given (a .r * a .w + j) .fits) in
-    record { fits = omega (arith, more, ones-few (64 * (j + 1)) (bitIn (a .w) (a .rows .now) (a .r))) }
+    let more = row-more (a .w) (a .rows .now) (a .r) j 8 in
+    record { fits = omega (arith, more, c .count-few .ensures, ones-few (64 * (j + 8)) (bitIn (a .w) (a .rows .now) (a .r))) }
 
 add-j : tie.Need-add-j Inv-loop μ-loop
 add-j c = search needs
@@ -52,13 +46,35 @@ loop-less c = search needs
 
 loop-again : tie.Need-loop-again Inv-loop μ-loop
 loop-again c =
-    let a = c .before .before .before .args in
+    let a = c .before .before .before .before .args in
     let j = c .before .before .loop .j in
-    let more = row-more (a .w) (a .rows .now) (a .r) j (c .shared-slice-known .given (a .r * a .w + j) .fits) in
-    (rw (c .before .before .loop .inv .0) (sym more), omega arith)
+    let more = row-more (a .w) (a .rows .now) (a .r) j 8 in
+    (rw (c .before .before .loop .inv .0, c .count-few .ensures) (sym more), omega arith)
+
+add-count-words : tie.Need-add-count-words Inv-loop μ-loop
+add-count-words c = search needs
+
+sub-count-words : tie.Need-sub-count-words Inv-loop μ-loop
+sub-count-words c = search needs
+
+count-words-requires : tie.Need-count-words-requires Inv-loop μ-loop
+count-words-requires c κs = search needs
+
+add-result : tie.Need-add-result Inv-loop μ-loop
+add-result c =
+    let a = c .before .before .before .before .args in
+    let j = c .before .before .loop .j in
+    let more = row-more (a .w) (a .rows .now) (a .r) j (a .w - j) in
+    let all : j + (a .w - j) ≡ a .w = omega arith in
+    record { fits = omega (arith, rw all at more, c .count-words .ensures, ones-few (64 * a .w) (bitIn (a .w) (a .rows .now) (a .r))) }
 
 returns : tie.Need-returns Inv-loop μ-loop
-returns c = let done : c .before .loop .j ≡ c .before .before .args .w = omega arith in cc
+returns c =
+    let a = c .before .before .before .before .args in
+    let j = c .before .before .loop .j in
+    let more = row-more (a .w) (a .rows .now) (a .r) j (a .w - j) in
+    let all : j + (a .w - j) ≡ a .w = omega arith in
+    rw (c .before .before .loop .inv .0, c .count-words .ensures) (sym (rw all at more))
 
 pub count-row-spec : {M : Type 1} → statement M
 count-row-spec =
@@ -68,12 +84,15 @@ count-row-spec =
     μ-loop
     mul-at
     loop-holds
+    sub-loop
+    add-count-few
+    count-few-requires
     add-ones
-    mul-ones
-    shared-slice-read-ones
-    cast-ones
-    add-ones-2
     add-j
     loop-less
     loop-again
+    add-count-words
+    sub-count-words
+    count-words-requires
+    add-result
     returns)

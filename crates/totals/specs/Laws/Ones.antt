@@ -10,10 +10,11 @@ use lib.Dec.{eqb}
 use lib.Count.{ones, ones-step}
 use lib.ListN.{getD}
 use lib.Pow.{shr-lt}
+use lib.Bits.{bitOr, or-add-and, and-le-l, and-le-r}
 use borrow.Author.Tests.{eq-eqb, ne-eqb}
 use Rattle.pauli.specs.Bits.{Bits, _⊕_, bit}
 use Rattle.pauli.specs.Laws.F2.{⊕-false}
-use Rattle.pauli.specs.Laws.Word.{bit-shr}
+use Rattle.pauli.specs.Laws.Word.{bit-zero, bit-shr}
 use Rattle.rows.specs.Words.{bitIn}
 use Rattle.totals.specs.Ones.{onesTo}
 
@@ -83,21 +84,56 @@ ones-word (suc n) v h =
     ∙ ap₂ _+_ (bit-one v 0 ∙ lowest) (ap (onesTo n) rest ∙ ones-word n (v / 2) (shr-lt n 1 (rw add-one h)))
     ∙ sym (ones-step v)
 
--- one word more of a row
-pub row-more : (w : ℕ) (rows : List ℕ) (r j : ℕ) → getD rows (r * w + j) 0 < 2 ^ 64
-    → onesTo (64 * (j + 1)) (bitIn w rows r) ≡ onesTo (64 * j) (bitIn w rows r) + ones (getD rows (r * w + j) 0)
+-- one word more, of words from a place on, which are a row of width 1
+pub word-more : (rows : List ℕ) (from j : ℕ) → getD rows (from + j) 0 < 2 ^ 64
+    → onesTo (64 * (j + 1)) (bitIn 1 rows from) ≡ onesTo (64 * j) (bitIn 1 rows from) + ones (getD rows (from + j) 0)
 unfolding bitIn
-row-more w rows r j fits =
+word-more rows from j fits =
     let n : 64 * (j + 1) ≡ 64 * j + 64 = omega arith in
     rw n
-    (ones-plus (64 * j) 64 (bitIn w rows r)
-    ∙ ap (λ (i : ℕ). onesTo (64 * j) (bitIn w rows r) + i) (ones-same 64 _ (bit (getD rows (r * w + j) 0)) word ∙ ones-word 64 _ fits))
+    (ones-plus (64 * j) 64 (bitIn 1 rows from)
+    ∙ ap (λ (i : ℕ). onesTo (64 * j) (bitIn 1 rows from) + i) (ones-same 64 _ (bit (getD rows (from + j) 0)) word ∙ ones-word 64 _ fits))
   where
-    word : (k : ℕ) → k < 64 → bitIn w rows r (64 * j + k) ≡ bit (getD rows (r * w + j) 0) k
+    word : (k : ℕ) → k < 64 → bitIn 1 rows from (64 * j + k) ≡ bit (getD rows (from + j) 0) k
     word k h =
-        let place : (64 * j + k) / 64 ≡ j = omega arith in
+        let place : from * 1 + (64 * j + k) / 64 ≡ from + j = omega arith in
         let here : (64 * j + k) % 64 ≡ k = omega arith in
         rw (place, here)
+
+-- n words more of a row
+pub row-more : (w : ℕ) (rows : List ℕ) (r j n : ℕ)
+    → onesTo (64 * (j + n)) (bitIn w rows r) ≡ onesTo (64 * j) (bitIn w rows r) + onesTo (64 * n) (bitIn 1 rows (r * w + j))
+unfolding bitIn
+row-more w rows r j n =
+    let parts : 64 * (j + n) ≡ 64 * j + 64 * n = omega arith in
+    rw parts
+    (ones-plus (64 * j) (64 * n) (bitIn w rows r)
+    ∙ ap (λ (i : ℕ). onesTo (64 * j) (bitIn w rows r) + i) (ones-same (64 * n) _ (bitIn 1 rows (r * w + j)) same))
+  where
+    same : (k : ℕ) → k < 64 * n → bitIn w rows r (64 * j + k) ≡ bitIn 1 rows (r * w + j) k
+    same k h =
+        let place : r * w + (64 * j + k) / 64 ≡ (r * w + j) * 1 + k / 64 = omega arith in
+        let here : (64 * j + k) % 64 ≡ k % 64 = omega arith in
+        rw (place, here)
+
+-- words of which each is 0
+pub words-none : (rows : List ℕ) (from n : ℕ) → ((i : ℕ) → i < n → getD rows (from + i) 0 ≡ 0) → onesTo (64 * n) (bitIn 1 rows from) ≡ 0
+unfolding bitIn
+words-none rows from n none = ones-none (64 * n) (bitIn 1 rows from) off
+  where
+    off : (k : ℕ) → k < 64 * n → bitIn 1 rows from k ≡ false
+    off k h =
+        let place : from * 1 + k / 64 ≡ from + k / 64 = omega arith in
+        rw (place, none (k / 64) (omega arith)) (bit-zero (k % 64))
+
+-- one word more of which each bit is 0, where the first i are 0 if a number is
+pub none-more : (rows : List ℕ) (from i sum : ℕ) → (sum ≡ 0 → (k : ℕ) → k < i → getD rows (from + k) 0 ≡ 0)
+    → bitOr sum (getD rows (from + i) 0) ≡ 0 → (k : ℕ) → k < i + 1 → getD rows (from + k) 0 ≡ 0
+none-more rows from i sum before e k h = go (ℕ-discrete k i)
+  where
+    go : Dec (k ≡ i) → getD rows (from + k) 0 ≡ 0
+    go (yes last) = rw last (omega (arith, or-add-and sum (getD rows (from + i) 0), and-le-l sum (getD rows (from + i) 0)))
+    go (no other) = before (omega (arith, or-add-and sum (getD rows (from + i) 0), and-le-r sum (getD rows (from + i) 0))) k (omega arith)
 
 -- ---- after a change
 

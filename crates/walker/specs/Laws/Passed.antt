@@ -7,6 +7,7 @@ use mathlib.Core.List.{List, [], _∷_, _++_}
 use mathlib.Core.Option.{Option, none, some}
 use borrow.Author.Tests.{ne-eqb}
 use lib.ListN.{length, getD, List·getD-append}
+use Rattle.template.specs.Values.{heldNumber}
 use Rattle.template.specs.declared.Progress.{Progress}
 use Rattle.text.specs.Bytes.{bytes}
 use Rattle.text.specs.Template.{Value, valuesOf, numbersIn, numberAt}
@@ -92,7 +93,7 @@ module _ {l words before : List ℕ} {p : Progress} (b : Begins l injectBegin 0 
   one-number = rw (b .numbers-read, b .lists-read) at (b .holds [] (nothing-held before))
 
   -- the shot stands first
-  first-number : (vs ws : List Value) → vs ≡ b .values ++ ws → numberAt 0 vs ≡ getD words 0 0
+  first-number : (vs ws : List Value) → vs ≡ b .values ++ ws → numberAt 0 vs ≡ heldNumber words 0
   first-number vs ws e =
       let some-number : 0 < length (numbersIn (b .values)) = omega (arith, one-number .numbers-in) in
       ap (λ (us : List Value). getD (numbersIn us) 0 0) e
@@ -101,7 +102,7 @@ module _ {l words before : List ℕ} {p : Progress} (b : Begins l injectBegin 0 
       ∙ sym (one-number .number 0 (omega arith))
 
 pub shot-passed : (l : List ℕ) (shot : ℕ) (v : Written) {words before : List ℕ} {p : Progress} → getD l 0 0 ≡ 111 → getD l 3 0 ≡ 105 → readLine l ≡ some v
-    → Begins l injectBegin 0 0 0 p before words → (getD words 0 0 ≡ shot → ⊥) → PassedOver shot v
+    → Begins l injectBegin 0 0 0 p before words → (heldNumber words 0 ≡ shot → ⊥) → PassedOver shot v
 unfolding forms placeOf bytes sift opens literals injectBegin
 shot-passed l shot v first third reads b other =
     let (vs, have, says) = by-values (formOf form.Inject) l v (sym (one-form l 111 105 form.Inject refl first third) ∙ reads) in

@@ -10,16 +10,16 @@ use Rattle.faults.proofs.elements.gather.Statement.{statement}
 use Rattle.faults.proofs.elements.gather.Tie as tie
 
 abbrev Inv-loop : tie.InvT-loop
-Inv-loop job from n weighted elements₀ weights₀ f₀ at₀ e₀ elements weights f at e =
+Inv-loop job from n weighted elements₀ weights₀ values₀ at₀ e₀ elements weights values at e =
     (e ≤ n)
     × (length elements ≡ length elements₀)
     × (length weights ≡ n)
     × (n ≡ 0 → elements ≡ elements₀)
     × ((q : ElementLines job from n weighted) → Gathered q elements weights at e)
-    × (length f ≡ 136)
+    × (length values ≡ 136)
 
 abbrev μ-loop : tie.MeasureT-loop
-μ-loop job from n weighted elements₀ weights₀ f₀ at₀ e₀ elements weights f at e = n - e
+μ-loop job from n weighted elements₀ weights₀ values₀ at₀ e₀ elements weights values at e = n - e
 
 loop-holds : tie.Need-loop-holds Inv-loop μ-loop
 loop-holds c = (omega arith, refl, c .before .before .before .pre .2, λ z. refl, λ q. gathered-none q _ _, refl)
@@ -39,13 +39,16 @@ slice-aggregate-keep-element c = omega (arith, c .before .before .before .before
 keep-element-requires : tie.Need-keep-element-requires Inv-loop μ-loop
 keep-element-requires c κs = (omega (arith, c .before .before .before .before .before .before .before .before .before .before .pre .1), omega (arith, c .before .before .before .before .before .before .loop .inv .5, c .before .before .before .next-line .kept), omega arith)
 
-array-read-weight-of : tie.Need-array-read-weight-of Inv-loop μ-loop
-array-read-weight-of c = omega (arith, c .before .before .before .before .before .before .before .before .before .loop .inv .5, c .before .before .before .before .before .before .next-line .kept)
+slice-aggregate-number : tie.Need-slice-aggregate-number Inv-loop μ-loop
+slice-aggregate-number c = omega (arith, c .before .before .before .before .before .before .before .before .before .before .loop .inv .5, c .before .before .before .before .before .before .before .next-line .kept)
+
+number-requires : tie.Need-number-requires Inv-loop μ-loop
+number-requires c κs = (omega arith, omega (arith, c .before .before .before .before .before .before .before .before .before .before .loop .inv .5, c .before .before .before .before .before .before .before .next-line .kept))
 
 weight-of-requires : tie.Need-weight-of-requires Inv-loop μ-loop
 weight-of-requires c κs =
-    let q = c .before .before .before .before .before .before .before .before .before .before .before .before .before .pre .0 in
-    weight-sound q (c .before .before .before .before .before .before .before .before .before .loop .inv .4 q) (c .before .before .before .before .before .before .before .before .loop-test .taken) (c .before .before .before .before .before .before .next-line .ensures)
+    let q = c .before .before .before .before .before .before .before .before .before .before .before .before .before .before .before .pre .0 in
+    weight-sound q (c .before .before .before .before .before .before .before .before .before .before .before .loop .inv .4 q) (c .before .before .before .before .before .before .before .before .before .before .loop-test .taken) (c .before .before .before .before .before .before .before .before .next-line .ensures) (c .number .ensures)
 
 mul-weights : tie.Need-mul-weights Inv-loop μ-loop
 mul-weights c = omega arith
@@ -54,7 +57,7 @@ slice-write-weights : tie.Need-slice-write-weights Inv-loop μ-loop
 slice-write-weights c = omega arith
 
 add-at : tie.Need-add-at Inv-loop μ-loop
-add-at c = omega (arith, c .before .before .before .before .before .before .before .before .next-line .ensures .place .inside)
+add-at c = omega (arith, c .before .before .before .before .before .before .before .before .before .before .next-line .ensures .place .inside)
 
 add-e : tie.Need-add-e Inv-loop μ-loop
 add-e c = omega arith
@@ -64,15 +67,15 @@ loop-less c = omega arith
 
 loop-again : tie.Need-loop-again Inv-loop μ-loop
 loop-again c =
-    let inv = c .before .before .before .before .before .before .before .before .before .before .before .loop .inv in (
+    let inv = c .before .before .before .before .before .before .before .before .before .before .before .before .before .loop .inv in (
       omega arith,
-      kept-length _ _ _ _ _ (c .before .before .before .before .keep-element .ensures) ∙ inv .1,
+      kept-length _ _ _ _ _ (c .before .before .before .before .before .before .keep-element .ensures) ∙ inv .1,
       simp length-set (inv .2),
-      λ (z : c .before .before .before .before .before .before .before .before .before .before .before .before .before .before .before .args .n ≡ 0). absurd (omega arith),
+      λ (z : c .before .before .before .before .before .before .before .before .before .before .before .before .before .before .before .before .before .args .n ≡ 0). absurd (omega arith),
       λ q.
-          rw (c .before .before .before .before .keep-element .ensures)
-          (gathered-more q (inv .4 q) (c .before .before .before .before .before .before .before .before .before .before .loop-test .taken) (c .before .before .before .before .before .before .before .before .next-line .ensures) (omega (arith, c .before .before .before .before .before .before .before .before .before .before .before .before .before .before .before .pre .1)) (inv .2) _ (c .before .weight-of .ensures)),
-      omega (arith, inv .5, c .before .before .before .before .before .before .before .before .next-line .kept),
+          rw (c .before .before .before .before .before .before .keep-element .ensures)
+          (gathered-more q (inv .4 q) (c .before .before .before .before .before .before .before .before .before .before .before .before .loop-test .taken) (c .before .before .before .before .before .before .before .before .before .before .next-line .ensures) (omega (arith, c .before .before .before .before .before .before .before .before .before .before .before .before .before .before .before .before .before .pre .1)) (inv .2) (c .before .before .number .ensures) _ (c .before .weight-of .ensures)),
+      omega (arith, inv .5, c .before .before .before .before .before .before .before .before .before .before .next-line .kept),
     )
 
 same-length : tie.Need-same-length Inv-loop μ-loop
@@ -98,7 +101,8 @@ gather-spec =
     next-line-requires
     slice-aggregate-keep-element
     keep-element-requires
-    array-read-weight-of
+    slice-aggregate-number
+    number-requires
     weight-of-requires
     mul-weights
     slice-write-weights

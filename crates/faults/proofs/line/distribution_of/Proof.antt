@@ -10,23 +10,23 @@ use Rattle.faults.proofs.line.distribution_of.Tie as tie
 enum-told : tie.Need-enum-told
 enum-told c = search needs
 
-shared-slice-read-t6 : tie.Need-shared-slice-read-t6
-shared-slice-read-t6 c = search needs
+count-requires : tie.Need-count-requires
+count-requires c κs = search needs
 
 enum-told-2 : tie.Need-enum-told-2
 enum-told-2 c = search needs
 
-shared-slice-read-t8 : tie.Need-shared-slice-read-t8
-shared-slice-read-t8 c = search needs
+number-requires : tie.Need-number-requires
+number-requires c κs = search needs
 
 enum-told-3 : tie.Need-enum-told-3
 enum-told-3 c = search needs
 
 returns : tie.Need-returns
-returns c = λ vs n h. kind-depolarizing _ (rw (c .before .enum-told .given .1) at h)
+returns c = λ vs n h. kind-depolarizing _ (c .count .ensures) (rw (c .before .enum-told .given .1) at h)
 
 returns-2 : tie.Need-returns-2
-returns-2 c = λ vs n h. kind-uniform _ (rw (c .before .enum-told2 .given .1) at h)
+returns-2 c = λ vs n h. kind-uniform _ (c .number .ensures) (rw (c .before .enum-told2 .given .1) at h)
 
 returns-3 : tie.Need-returns-3
 returns-3 c = λ vs n h. kind-weighted _ (rw (c .enum-told3 .given .1) at h)
@@ -45,9 +45,9 @@ distribution-of-spec =
     tie.close
     (tie.spec
     enum-told
-    shared-slice-read-t6
+    count-requires
     enum-told-2
-    shared-slice-read-t8
+    number-requires
     enum-told-3
     returns
     returns-2

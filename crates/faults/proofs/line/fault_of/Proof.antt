@@ -1,5 +1,6 @@
 -- `faults::line::fault_of` meets its contract.
-use mathlib.Core.Path.{refl}
+use mathlib.Core.Path.{ap}
+use Rattle.job.specs.Float.{float}
 use Rattle.faults.specs.Laws.Line.{probability-bits, fault-held}
 use borrow.Author.Needs.{needs}
 use Rattle.faults.proofs.line.fault_of.Statement.{statement}
@@ -8,11 +9,11 @@ use Rattle.faults.proofs.line.fault_of.Tie as tie
 condition-of-requires : tie.Need-condition-of-requires
 condition-of-requires c κs = search needs
 
-shared-slice-read-t6 : tie.Need-shared-slice-read-t6
-shared-slice-read-t6 c = search needs
+number-requires : tie.Need-number-requires
+number-requires c κs = search needs
 
-float-from-bits-t7 : tie.Need-float-from-bits-t7
-float-from-bits-t7 c = rw (probability-bits _ (c .before .before .before .pre .1)) tt
+float-from-bits-t6 : tie.Need-float-from-bits-t6
+float-from-bits-t6 c = rw (c .number .ensures, probability-bits _ (c .before .before .before .pre .1)) tt
 
 distribution-of-requires : tie.Need-distribution-of-requires
 distribution-of-requires c κs = search needs
@@ -21,15 +22,15 @@ correlation-of-requires : tie.Need-correlation-of-requires
 correlation-of-requires c κs = search needs
 
 returns : tie.Need-returns
-returns c = fault-held refl (c .before .distribution-of .ensures) (c .correlation-of .ensures) (c .before .before .before .condition-of .ensures)
+returns c = fault-held (ap float (c .before .before .number .ensures)) (c .before .distribution-of .ensures) (c .correlation-of .ensures) (c .before .before .before .condition-of .ensures)
 
 pub fault-of-spec : {M : Type 1} → statement M
 fault-of-spec =
     tie.close
     (tie.spec
     condition-of-requires
-    shared-slice-read-t6
-    float-from-bits-t7
+    number-requires
+    float-from-bits-t6
     distribution-of-requires
     correlation-of-requires
     returns)

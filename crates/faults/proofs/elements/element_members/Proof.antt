@@ -1,0 +1,46 @@
+-- `faults::elements::element_members` meets its contract.
+use native.Mathlib.Nat.{add-sub-cancel-left}
+use borrow.Author.Needs.{needs}
+use Rattle.faults.proofs.elements.element_members.Statement.{statement}
+use Rattle.faults.proofs.elements.element_members.Tie as tie
+
+mul-from : tie.Need-mul-from
+mul-from c = search needs
+
+add-from : tie.Need-add-from
+add-from c = search needs
+
+mul-to : tie.Need-mul-to
+mul-to c = search needs
+
+add-to : tie.Need-add-to
+add-to c = search needs
+
+mul-result : tie.Need-mul-result
+mul-result c = search needs
+
+sub-result : tie.Need-sub-result
+sub-result c = search needs
+
+part-result-start : tie.Need-part-result-start
+part-result-start c = search needs
+
+part-result-end : tie.Need-part-result-end
+part-result-end c = search needs
+
+returns : tie.Need-returns
+returns c = rw add-sub-cancel-left
+
+pub element-members-spec : {M : Type 1} → statement M
+element-members-spec =
+    tie.close
+    (tie.spec
+    mul-from
+    add-from
+    mul-to
+    add-to
+    mul-result
+    sub-result
+    part-result-start
+    part-result-end
+    returns)
