@@ -50,6 +50,8 @@ extern "C" {
 #define KUNDATREZO_MAX_CLIFFORD_QUBITS 8 /* of a Clifford line */
 #define KUNDATREZO_MAX_TABLE_WORDS 4     /* of the table of a Clifford line: KUNDATREZO_TABLE_WORDS(KUNDATREZO_MAX_CLIFFORD_QUBITS) */
 #define KUNDATREZO_MAX_ELEMENTS 64       /* of a noise line with d=3 or d=4: 1 to this */
+#define KUNDATREZO_MAX_GROUPS 16         /* of outcomes, for the table of single faults: 1 to this */
+#define KUNDATREZO_MAX_FAULT_QUBITS 4    /* of a noise line with d=2, for the table of single faults */
 
 /* The words of the table of a Clifford line of k qubits, 4 k^2 bits: 1 up to 4 qubits, 2 for 5, 3 for 6, 4 for 7 and 8. A line has them in hexadecimal, the
  * least significant first, with commas between. */
@@ -112,6 +114,7 @@ struct kundatrezo_examination {
 #define KUNDATREZO_CONTROL 20     /* the bad line; a test of the job, after 12 */
 #define KUNDATREZO_SIZE 21        /* the noise line; a test of the job, after 12 */
 #define KUNDATREZO_EDITION 23     /* line 1; a test of the job, after 3 */
+#define KUNDATREZO_GROUPS 24      /* line 0 for the number of groups; else the first noise line with too many qubits */
 
 /* What a number means, in words. */
 static inline const char *kundatrezo_refusal_text(uint64_t number)
@@ -134,12 +137,13 @@ static inline const char *kundatrezo_refusal_text(uint64_t number)
     case KUNDATREZO_DRAWS: return "a needed draw lies past its list";
     case KUNDATREZO_ROOM: return "the text is longer than the lent bytes or 1,048,576";
     case KUNDATREZO_NOISE: return "noise in a walk";
-    case KUNDATREZO_WALK: return "the walk's shot not below the header's shots; its set not strictly rising, or with an outcome that is not recorded";
+    case KUNDATREZO_WALK: return "the walk's shot not below the header's shots; a set or group cut short, not strictly rising, or with an outcome that is not recorded";
     case KUNDATREZO_ANNOTATION: return "annotation over more than 31 qubits";
     case KUNDATREZO_SIZES: return "sizes of one correlation differ";
     case KUNDATREZO_CONTROL: return "control and target of a controlled Pauli anticommute";
     case KUNDATREZO_SIZE: return "the size written differs from the distribution's";
     case KUNDATREZO_EDITION: return "the header's edition is neither 1 nor 2";
+    case KUNDATREZO_GROUPS: return "no groups, more than 16, or noise with d=2 over more than 4 qubits in a table of single faults";
     default: return "a number that this header does not know";
     }
 }
@@ -157,6 +161,7 @@ static inline int kundatrezo_float_state_ok(void)
 #define KUNDATREZO_RUN_STACK 69632
 #define KUNDATREZO_SETTLE_STACK 45056
 #define KUNDATREZO_CORRELATION_STACK 12288
+#define KUNDATREZO_FAULT_TABLE_STACK 16384
 #define KUNDATREZO_OTHER_STACK 8192 /* every other call */
 
 /* Words of a row: bit s % 64 of word s / 64 is shot s. */
@@ -225,6 +230,26 @@ struct kundatrezo_text_answer kundatrezo_annotate(const uint8_t *job, size_t job
 /* How many fault locations the job has: twice the qubits of the lines to which annotation adds noise, summed. A qubit that control and target of a k line
  * share counts for both. It counts also where annotation refuses by KUNDATREZO_ANNOTATION or KUNDATREZO_ROOM. Nothing is written. */
 struct kundatrezo_count_answer kundatrezo_locations(const uint8_t *job, size_t job_len);
+
+/* The table of single faults: what each possible fault does to groups of outcomes. For each noise line, in the job's order, and each element of its
+ * distribution, in the distribution's order, it has a line
+ *
+ *     line=L el=I groups=G
+ *
+ * and LF: L is the noise line's number in the job, I counts the elements from 0, and G has a character for each group, the first group first: 1 where that
+ * element, as the only fault of a shot, makes the deltas of the group sum to 1 modulo 2, else 0. The job's own injections and flips and all other noise count
+ * as absent. Probabilities, weights, conditions and draws play no part: an element that is never drawn has its line, too. Element I of d=2 is the one that the
+ * choice I takes.
+ *
+ * groups is one list: a group's length, then its outcomes, then the next group's length, and so on to the list's end. The outcomes of a group rise strictly
+ * and are recorded by the job; a group may be empty. A group that is not so, or that the list's end cuts short, is refused by KUNDATREZO_WALK, whichever it
+ * is. After that KUNDATREZO_GROUPS refuses no groups or more than KUNDATREZO_MAX_GROUPS, with line 0, and then the first noise line with d=2 over more than
+ * KUNDATREZO_MAX_FAULT_QUBITS qubits.
+ *
+ * Bytes of out beyond the table stay, and a refusal writes nothing. The figure of KUNDATREZO_ROOM is 0: lend KUNDATREZO_MAX_BYTES, more than which no table
+ * has. */
+struct kundatrezo_text_answer kundatrezo_fault_table(const uint8_t *job, size_t job_len, const uint64_t *groups, size_t groups_len, uint8_t *out,
+                                                     size_t out_len);
 
 /* The correlation check: whether noise lines of one correlation all have one size, as their field size= says it. Nothing is written. */
 struct kundatrezo_answer kundatrezo_correlation(const uint8_t *job, size_t job_len);

@@ -292,6 +292,37 @@ static void annotate_wide(void)
     expect_figure("locations", 0, 0, 66, counted.answer, counted.count);
 }
 
+/* Depolarizing noise on a bit that is then copied: X and Y flip the first outcome and the second, and no element their sum. The flip that the job has of its
+ * own counts as absent, and for the number of the line. */
+static void fault_table(void)
+{
+    static const char job[] = "op=job qubits=2 outcomes=2 shots=1\n"
+                              "op=i shot=0 x=0 z=-\n"
+                              "op=n p=0000000000000000 corr=- cond=- parity=0 d=2 q=0 size=3\n"
+                              "op=u g=11 q=0,1\n"
+                              "op=o x=- z=0 id=0\n"
+                              "op=o x=- z=1 id=1\n";
+    static const char table[] = "line=3 el=0 groups=1010\nline=3 el=1 groups=0000\nline=3 el=2 groups=1010\n";
+    static const uint64_t groups[] = {1, 0, 2, 0, 1, 1, 1, 0, 2, 1, 0};
+    size_t length = sizeof job - 1, four = 8;
+    uint8_t out[sizeof table] = {0};
+    struct kundatrezo_text_answer got = kundatrezo_fault_table((const uint8_t *)job, length, groups, four, out, sizeof table - 2);
+    expect_figure("fault table", KUNDATREZO_ROOM, 0, 0, got.answer, got.figure);
+    got = kundatrezo_fault_table((const uint8_t *)job, length, groups, sizeof groups / sizeof *groups, out, sizeof out);
+    expect_figure("fault table, a group that falls", KUNDATREZO_WALK, 0, 0, got.answer, got.figure);
+    got = kundatrezo_fault_table((const uint8_t *)job, length, groups, four - 2, out, sizeof out);
+    expect_figure("fault table, a group cut short", KUNDATREZO_WALK, 0, 0, got.answer, got.figure);
+    got = kundatrezo_fault_table((const uint8_t *)job, length, groups, 0, out, sizeof out);
+    expect_figure("fault table, no groups", KUNDATREZO_GROUPS, 0, 0, got.answer, got.figure);
+    expect_figure("fault table, refused", KUNDATREZO_GROUPS, 0, 0, got.answer, out[0]);
+    got = kundatrezo_fault_table((const uint8_t *)job, length, groups, four, out, sizeof table - 1);
+    expect_figure("fault table", 0, 0, sizeof table - 1, got.answer, got.figure);
+    if (memcmp(out, table, sizeof table) != 0) {
+        printf("fault table wrote something else\n%s", (const char *)out);
+        failed = 1;
+    }
+}
+
 static void correlation(void)
 {
     static const char job[] = "op=job qubits=2 outcomes=0 shots=1\n"
@@ -338,6 +369,7 @@ int main(void)
     annotate_shared();
     annotate_wide();
     correlation();
+    fault_table();
     line();
     puts(failed ? "calls from C: differences" : "calls from C: 0 differences");
     return failed;

@@ -117,6 +117,21 @@ static void bytes(size_t length, uint64_t number)
     }
 }
 
+/* The table of single faults of noise over n qubits, with this many empty groups. */
+static void single_faults(unsigned qubits, size_t groups, uint64_t number, uint64_t line)
+{
+    static uint8_t out[KUNDATREZO_MAX_BYTES];
+    static const uint64_t empty[KUNDATREZO_MAX_GROUPS + 1] = {0};
+    char job[1000];
+    size_t at = put_list(job, (size_t)sprintf(job, "op=job qubits=40 outcomes=0 shots=1\n" NOISE), qubits);
+    at += (size_t)sprintf(job + at, " size=%llu\n", (1ull << 2 * qubits) - 1);
+    struct kundatrezo_answer got = kundatrezo_fault_table((const uint8_t *)job, at, empty, groups, out, sizeof out).answer;
+    if (got.number != number || got.line != line) {
+        printf("single faults of %u qubits, %zu groups: %llu at line %llu\n", qubits, groups, (unsigned long long)got.number, (unsigned long long)got.line);
+        failed = 1;
+    }
+}
+
 static void version(void)
 {
     char numbers[100];
@@ -132,7 +147,7 @@ int main(int count, char **arguments)
     (void)arguments;
     if (count > 1) {
         const char *unknown = kundatrezo_refusal_text(UINT64_MAX);
-        for (uint64_t number = KUNDATREZO_LENGTH; number <= KUNDATREZO_EDITION; number++) {
+        for (uint64_t number = KUNDATREZO_LENGTH; number <= KUNDATREZO_GROUPS; number++) {
             const char *text = kundatrezo_refusal_text(number);
             if (strcmp(text, unknown) != 0)
                 printf("%llu: %s\n", (unsigned long long)number, text);
@@ -158,6 +173,10 @@ int main(int count, char **arguments)
     gate(0, 0, KUNDATREZO_EDITION);
     elements(KUNDATREZO_MAX_ELEMENTS, 0);
     elements(KUNDATREZO_MAX_ELEMENTS + 1, KUNDATREZO_ELEMENTS);
+    single_faults(KUNDATREZO_MAX_FAULT_QUBITS, KUNDATREZO_MAX_GROUPS, 0, 0);
+    single_faults(KUNDATREZO_MAX_FAULT_QUBITS + 1, KUNDATREZO_MAX_GROUPS, KUNDATREZO_GROUPS, 2);
+    single_faults(KUNDATREZO_MAX_FAULT_QUBITS + 1, KUNDATREZO_MAX_GROUPS + 1, KUNDATREZO_GROUPS, 0);
+    single_faults(1, 0, KUNDATREZO_GROUPS, 0);
     bytes(KUNDATREZO_MAX_BYTES, 0);
     bytes(KUNDATREZO_MAX_BYTES + 1, KUNDATREZO_LENGTH);
     puts(failed ? "limits of the C header: differences" : "limits of the C header: 0 differences");

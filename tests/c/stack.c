@@ -31,9 +31,10 @@
     "op=t shot=64 id=1\n" \
     "op=o x=- z=0,1 id=2\n"
 
+#define PLAIN_END "op=f x=0 z=1 id=0,1 parity=1\nop=o x=- z=0,1 id=3\n"
+
 #define NOISE \
     "op=n p=3ff0000000000000 corr=- cond=- parity=0 d=1 x=0 z=1 size=1\n" \
-    "op=n p=3ff0000000000000 corr=- cond=0,1 parity=0 d=2 q=0,1,2,3,4,5,6,7,8,9,10,11,12,13,14,15,16,17,18,19,20,21,22,23,24,25,26,27,28,29,30 size=4611686018427387903\n" \
     "op=n p=3fe0000000000000 corr=3 cond=- parity=0 d=3 n=2 size=2\n" \
     "x=0 z=-\n" \
     "x=0,1 z=2\n" \
@@ -43,11 +44,18 @@
     "w=0000000000000001 x=2 z=3,4\n" \
     "op=n p=3fe0000000000000 corr=4 cond=- parity=0 d=2 q=5 size=3\n"
 
-static const char plain[] = PLAIN, noisy[] = PLAIN NOISE;
+#define WIDE \
+    "op=n p=3ff0000000000000 corr=- cond=0,1 parity=0 d=2 q=0,1,2,3,4,5,6,7,8,9,10,11,12,13,14,15,16,17,18,19,20,21,22,23,24,25,26,27,28,29,30 size=4611686018427387903\n"
+
+/* for the table of single faults */
+#define NARROW "op=n p=3ff0000000000000 corr=- cond=0,1 parity=0 d=2 q=7,4,0,1 size=255\n"
+
+static const char plain[] = PLAIN, noisy[] = PLAIN WIDE NOISE, narrow[] = PLAIN NARROW NOISE PLAIN_END;
 
 /* a job and its length */
 #define WITHOUT_NOISE (const uint8_t *)plain, sizeof plain - 1
 #define NOISY (const uint8_t *)noisy, sizeof noisy - 1
+#define WITH_NARROW_NOISE (const uint8_t *)narrow, sizeof narrow - 1
 
 static uint8_t out[KUNDATREZO_MAX_BYTES];
 static uint64_t x[200], z[200], deltas[40], totals[4], noiseless[40], main_words[5000], second[5000], set[] = {0, 2};
@@ -78,6 +86,11 @@ static void walk(void) { kundatrezo_walk(WITHOUT_NOISE, 129, set, 2); }
 static void annotate(void) { kundatrezo_annotate(NOISY, 0x3fe0000000000000, out, sizeof out); }
 
 static void locations(void) { kundatrezo_locations(NOISY); }
+
+/* sixteen groups */
+static uint64_t groups[] = {1, 0, 1, 1, 1, 2, 1, 3, 2, 0, 1, 2, 1, 2, 2, 2, 3, 3, 0, 1, 2, 3, 1, 2, 3, 4, 0, 1, 2, 3, 0, 1, 0, 1, 1, 1, 2, 1, 3, 2, 0, 3};
+
+static void fault_table(void) { kundatrezo_fault_table(WITH_NARROW_NOISE, groups, sizeof groups / sizeof *groups, out, sizeof out); }
 
 static void correlation(void) { kundatrezo_correlation(NOISY); }
 
@@ -120,6 +133,7 @@ static const struct {
     {"walk", walk, KUNDATREZO_OTHER_STACK},
     {"annotate", annotate, KUNDATREZO_OTHER_STACK},
     {"locations", locations, KUNDATREZO_OTHER_STACK},
+    {"fault_table", fault_table, KUNDATREZO_FAULT_TABLE_STACK},
     {"correlation", correlation, KUNDATREZO_CORRELATION_STACK},
     {"line", line, KUNDATREZO_OTHER_STACK},
     {"by_shot", by_shot, KUNDATREZO_OTHER_STACK},
@@ -153,9 +167,11 @@ static int accepted(void)
     struct kundatrezo_count_answer walked = kundatrezo_walk(WITHOUT_NOISE, 129, set, 2);
     struct kundatrezo_text_answer settled = kundatrezo_settle(NOISY, noiseless, 40, main_words, 5000, second, 5000, 0, out, sizeof out);
     struct kundatrezo_text_answer annotated = kundatrezo_annotate(NOISY, 0, out, sizeof out);
+    struct kundatrezo_text_answer tabled = kundatrezo_fault_table(WITH_NARROW_NOISE, groups, sizeof groups / sizeof *groups, out, sizeof out);
     struct kundatrezo_answer shots = kundatrezo_by_shot(130, 129, main_words, 390, second, 387);
     struct kundatrezo_answer outcomes = kundatrezo_by_outcome(130, 129, main_words, 387, second, 390);
-    return shots.number == 0 && outcomes.number == 0 && kundatrezo_correlation(NOISY).number == 0 && walked.answer.number == 0 && settled.answer.number == 0 && annotated.answer.number == 0;
+    return shots.number == 0 && outcomes.number == 0 && kundatrezo_correlation(NOISY).number == 0 && walked.answer.number == 0 && settled.answer.number == 0 && annotated.answer.number == 0 &&
+           tabled.answer.number == 0;
 }
 
 int main(void)

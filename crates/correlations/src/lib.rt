@@ -43,7 +43,7 @@ fn is_correlated(form: Form, f: &[u64]) -> bool
 }
 
 // The size that a noise line says: its third number, or the fourth where n stands before it.
-fn size(form: Form, f: &[u64]) -> u64
+pub fn size(form: Form, f: &[u64]) -> u64
     requires { ⌜ Whole (now f) ⌝ }
     ensures { λ r. ⌜ ((vs : List Value) (n : NoiseLine) → Said form (now (f .entry)) vs (Written.noise n) → r ≡ n .size) ⌝ }
 {

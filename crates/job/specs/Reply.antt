@@ -1,8 +1,8 @@
 -- Definitions: what the calls that write text, or that count, reply. Assumes nothing.
-use mathlib.Core.Bool.{Bool, _&&_}
+use mathlib.Core.Bool.{Bool, _&&_, _||_}
 use mathlib.Core.List.{List, _++_}
 use Prim.Native.Nat.{ℕ}
-use lib.Dec.{leb}
+use lib.Dec.{eqb, leb}
 use lib.ListN.{length, take, drop}
 use Rattle.job.specs.declared.Answer.{Answer}
 use Rattle.job.specs.declared.CountReply.{CountReply}
@@ -10,7 +10,7 @@ use Rattle.job.specs.Job.{maxBytes, accepted}
 
 -- whether a number is a call's own, and no test of a job
 abbrev pub ofCall : ℕ → Bool
-ofCall number = leb 13 number && leb number 19
+ofCall number = leb 13 number && leb number 19 || eqb number 22 || leb 24 number
 
 -- a lent list after its first words or bytes were written over
 abbrev pub over : List ℕ → List ℕ → List ℕ

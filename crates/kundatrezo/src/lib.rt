@@ -14,6 +14,7 @@ ghost use Rattle.backward.specs.Settling.{settleReply};
 ghost use Rattle.backward.specs.Walking.{walkReply};
 ghost use Rattle.circuit.specs.Replies.{annotateReply, locationsReply, correlationReply};
 ghost use Rattle.line_reader.specs.Reading.{partNumbered};
+ghost use Rattle.single_faults.specs.Table.{tableReply};
 ghost use Rattle.by_shot.specs.Reply.{byShotReply, byOutcomeReply};
 use examination::Examination;
 use job::Answer;
@@ -162,4 +163,12 @@ pub extern "C" fn kundatrezo_by_outcome(
     ensures { λ r. ⌜ byOutcomeReply outcomes shots (now (rows .entry)) (now (out .entry)) ≡ record { answered = r; words = now (out .exit) } ⌝ }
 {
     by_shot::by_outcome(outcomes, shots, rows, out)
+}
+
+// The table of single faults: what each element of each noise line, as the only injection, does to each group of outcomes.
+#[no_mangle]
+pub extern "C" fn kundatrezo_fault_table(job: &[u8], groups: &[u64], out: &mut [u8]) -> TextAnswer
+    ensures { λ r. ⌜ textReply r (now (out .exit)) ≡ tableReply (now (job .entry)) (now (groups .entry)) (now (out .entry)) ⌝ }
+{
+    fault_table::fault_table(job, groups, out)
 }

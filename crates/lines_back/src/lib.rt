@@ -18,7 +18,7 @@ use template::values::number;
 
 // ---- Lines that change the observable alone
 
-fn unitary(values: &[u64], b: Pauli) -> Pauli
+pub fn unitary(values: &[u64], b: Pauli) -> Pauli
     requires { ⌜ HeldLine Forms.Unitary (now values) ⌝ }
     ensures { λ r. ⌜ ((shot : ℕ) (set : Bits) → Back Forms.Unitary (now (values .entry)) shot b set r set false) ⌝ }
 {

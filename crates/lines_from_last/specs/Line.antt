@@ -2,13 +2,13 @@
 use Prim.Native.Nat.{ℕ, _+_, _-_, _≤_, _<_}
 use mathlib.Core.Path.{_≡_}
 use mathlib.Core.List.{List, [], _∷_, _++_}
-use mathlib.Core.Option.{some}
+use mathlib.Core.Option.{Option, some}
 use lib.ListN.{getD, take}
 use Rattle.text.specs.Bytes.{LF, lines}
 use Rattle.job.specs.declared.Header.{Header}
-use Rattle.job.specs.Line.{Line}
+use Rattle.job.specs.Line.{SparsePauli, Line}
 use Rattle.job.specs.Grammar.{Written, readLine}
-use Rattle.job.specs.Sound.{LineSound, HeaderSound}
+use Rattle.job.specs.Sound.{PauliSound, LineSound, HeaderSound}
 use Rattle.instructions.specs.Reading.{lineAt}
 
 -- a line starts at this place: it is 0, or LF stands before it
@@ -21,11 +21,12 @@ pub record LineBefore (job : List ℕ) (e r : ℕ) : Type 0 where
   pub starts : LineStart job r
   pub splits : lines (take (e + 1) job) ≡ lines (take r job) ++ lineAt job r e ∷ []
 
--- a line of a job with this header: it says something, and a plain line is sound
+-- a line of a job with this header: it says something, and a plain line is sound, as is the Pauli of an element
 pub record Known (h : Header) (text : List ℕ) : Type 0 where
   pub written : Written
   pub reads : readLine text ≡ some written
   pub sound : (l : Line) → written ≡ Written.line l → (r : ℕ) × (r ≤ h .outcomes) × LineSound h r l
+  pub element : (v : Option ℕ) (P : SparsePauli) → written ≡ Written.element v P → PauliSound (h .qubits) P
 
 -- a line of an accepted job
 pub record OfJob (text : List ℕ) : Type 0 where

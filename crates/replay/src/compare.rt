@@ -5,6 +5,7 @@ ghost use lib.ListN.{length};
 ghost use Rattle.template.specs.Values.{Whole};
 use libc::STDOUT_FILENO;
 use template::values;
+use writer::TextAnswer;
 
 // How many cases there were, and how many of them differ.
 pub struct Tally {
@@ -95,7 +96,7 @@ fn wide(b: u8) -> u64 {
 }
 
 // The same of bytes.
-pub fn same_bytes(at: usize, bytes: &[u8], must: &[u8]) -> bool
+fn same_bytes(at: usize, bytes: &[u8], must: &[u8]) -> bool
     requires { ⌜ length (now must) ≤ length (now bytes) ⌝ }
 {
     let mut i = 0;
@@ -108,4 +109,15 @@ pub fn same_bytes(at: usize, bytes: &[u8], must: &[u8]) -> bool
         i += 1;
     }
     true
+}
+
+// Whether a call that writes text answers and leaves what it must.
+pub fn same_text(at: usize, fields: &[u64], r: TextAnswer, out: &[u8], text: &[u8]) -> bool
+    requires { ⌜ Whole (now fields) × (length (now text) ≤ length (now out)) ⌝ }
+{
+    let a = r.answer;
+    if !same_answer(at, fields, a.number, a.line, r.figure) {
+        return false;
+    }
+    same_bytes(at, out, text)
 }

@@ -13,6 +13,27 @@ use template::values;
 
 pub mod compare;
 
+// Room for a list of cases.
+pub fn list_buffer() -> [u8; 786432]
+    ensures { λ r. ⌜ 786432 ≡ length r ⌝ }
+{
+    [0; 786432]
+}
+
+// Room for the bytes of a case; lent bytes, and what they hold before a call.
+pub fn bytes_buffer() -> [u8; 2162688]
+    ensures { λ r. ⌜ 2162688 ≡ length r ⌝ }
+{
+    [65; 2162688]
+}
+
+// Room for the words of a case; lent words, and what they hold before a call.
+pub fn words_buffer() -> [u64; 32768]
+    ensures { λ r. ⌜ 32768 ≡ length r ⌝ }
+{
+    [4702111234474983745; 32768]
+}
+
 // How far a list was read: the place of the next record, and how many bytes of a case are held.
 struct Gathered {
     at: usize,

@@ -9,36 +9,24 @@ use checker::check;
 use correlations::correlation;
 use job::Answer;
 use location_count::locations;
+use replay::bytes_buffer;
 use replay::compare::Tally;
 use replay::compare::counted;
 use replay::compare::print_tally;
 use replay::compare::same_answer;
-use replay::compare::same_bytes;
+use replay::compare::same_text;
 use replay::compare::same_words;
 use replay::compare::unreadable;
+use replay::list_buffer;
 use replay::next_case;
 use replay::part_end;
 use replay::words;
+use replay::words_buffer;
 use runner::run;
 use settling::settle;
 use template::read_all;
 use template::values;
 use walker::walk;
-use writer::TextAnswer;
-
-// Room for the bytes of a case; lent bytes, and what they hold before a call.
-fn bytes_buffer() -> [u8; 2162688]
-    ensures { λ r. ⌜ 2162688 ≡ length r ⌝ }
-{
-    [65; 2162688]
-}
-
-// Room for the words of a case; lent words, and what they hold before a call.
-fn words_buffer() -> [u64; 32768]
-    ensures { λ r. ⌜ 32768 ≡ length r ⌝ }
-{
-    [4702111234474983745; 32768]
-}
 
 // ---- Calls that write nothing.
 
@@ -100,17 +88,6 @@ fn replay_walk(at: usize, fields: &[u64], bytes: &[u8]) -> bool
 }
 
 // ---- Calls that write text.
-
-// Whether a call that writes text answers and leaves what it must.
-fn same_text(at: usize, fields: &[u64], r: TextAnswer, out: &[u8], text: &[u8]) -> bool
-    requires { ⌜ Whole (now fields) × (length (now text) ≤ length (now out)) ⌝ }
-{
-    let a = r.answer;
-    if !same_answer(at, fields, a.number, a.line, r.figure) {
-        return false;
-    }
-    same_bytes(at, out, text)
-}
 
 fn is_annotate(line: &[u8], fields: &mut [u64]) -> bool
     requires { ⌜ Whole (now fields) ⌝ }
@@ -392,13 +369,6 @@ fn replay(list: &[u8], bytes: &mut [u8]) -> Tally {
         at = c.next;
     }
     t
-}
-
-// Room for a list of cases.
-fn list_buffer() -> [u8; 786432]
-    ensures { λ r. ⌜ 786432 ≡ length r ⌝ }
-{
-    [0; 786432]
 }
 
 fn main() {

@@ -1,10 +1,11 @@
--- Theorems about the table of single faults: what a forward run with the one injection gives is what the group, carried back once to the noise line, says
+-- Theorems about the table of single faults: at most sixteen groups; what a forward run with the one injection gives is what the group, carried back once to the noise line, says
 -- of the element; any shot gives the same; and so does the call that runs a job with that one injection. Assumes nothing.
 use mathlib.Core.Path.{_≡_, refl, sym, ap, subst, _∙_}
 use mathlib.Core.Bool.{Bool, true, false, cond, _&&_}
 use mathlib.Core.List.{List, [], _∷_, _++_}
 use Prim.Native.Nat.{ℕ, _<_}
 use lib.Dec.{eqb}
+use lib.ListN.{replicate}
 use Rattle.pauli.specs.Bits.{Bits, none as noShots, only, members, sumOver, odd}
 use Rattle.pauli.specs.Pauli.{identity, anticommutes}
 use Rattle.pauli.specs.Laws.Parity.{only-here}
@@ -27,8 +28,15 @@ use Rattle.backward.specs.Laws.WalkShots.{walkBack-quiet, carried-restricted}
 use Rattle.backward.specs.Laws.ShotBits.{line-bits}
 use Rattle.backward.specs.Laws.Settled.{append-in-range}
 use Rattle.backward.specs.Laws.CallsAgree.{sum-same}
+use Rattle.single_faults.specs.Groups.{groupsFit}
 use Rattle.single_faults.specs.Table.{quietLines, faulted, flips}
 use Rattle.single_faults.specs.Laws.Quiet.{append-one, first-quiet, last-quiet, quiet-within, walk-append, carried-quiet}
+
+-- ---- how many groups
+
+-- sixteen are not too many, seventeen are
+pub sixteen-groups : (groupsFit (replicate 16 []) ≡ true) × (groupsFit (replicate 17 []) ≡ false)
+sixteen-groups = (refl, refl)
 
 -- ---- on lists
 

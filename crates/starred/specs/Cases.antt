@@ -1,7 +1,7 @@
 -- Definitions. The ten starred cases of document 01, "Printed session", as one table of inputs and values, from the bytes of a job to the bytes or
--- the count that comes of it. Assumes nothing.
+-- the count that comes of it; and cases of document 02's table of single faults. Assumes nothing.
 use mathlib.Core.Bool.{Bool, true, false, _&&_}
-use mathlib.Core.List.{List, [], _∷_}
+use mathlib.Core.List.{List, [], _∷_, _++_}
 use Prim.Native.Nat.{ℕ, _-_, _^_}
 use Prim.Native.String.{String, _++_ as append}
 use lib.Dec.{eqb}
@@ -14,6 +14,7 @@ use Rattle.job.specs.Reply.{TextReply}
 use Rattle.backward.specs.Settling.{settleReply}
 use Rattle.backward.specs.Walking.{walkReply}
 use Rattle.session.specs.Session.{printed}
+use Rattle.single_faults.specs.Table.{tableReply}
 
 pub data Case : Type 0 where
   -- a job, and what the printing program prints of it
@@ -26,6 +27,10 @@ pub data Case : Type 0 where
   stops : String → List ℕ → ℕ → ℕ → Case
   -- a job, and the number and line that refuse it, 0 and 0 where none does
   refuses : String → ℕ → ℕ → Case
+  -- a job and the lent list of groups, and the table of its single faults
+  tables : String → List ℕ → String → Case
+  -- a job and the lent list of groups, and the number and line that refuse the table
+  untabled : String → List ℕ → ℕ → ℕ → Case
 
 unfoldable pub sameBytes : List ℕ → List ℕ → Bool
 sameBytes [] [] = true
@@ -40,6 +45,10 @@ sameAnswer a number line = eqb (a .number) number && eqb (a .line) line
 unfoldable pub settledBy : String → List ℕ → TextReply
 settledBy job main = settleReply (bytes job) (record { noiseless = []; main = main; second = []; base = 0 }) (replicate 256 0)
 
+-- the reply of the table of single faults with 512 lent bytes
+unfoldable pub tableBy : String → List ℕ → TextReply
+tableBy job list = tableReply (bytes job) list (replicate 512 0)
+
 unfoldable pub wrote : TextReply → String → Bool
 wrote r text = sameAnswer (r .answered) 0 0 && sameBytes (take (r .figure) (r .out)) (bytes text)
 
@@ -52,6 +61,8 @@ holds (Case.walks job shot set n) = counted (walkReply (bytes job) shot set) n
 holds (Case.settles job main text) = wrote (settledBy job main) text
 holds (Case.stops job main number line) = sameAnswer (settledBy job main .answered) number line
 holds (Case.refuses job number line) = sameAnswer (checkJob (bytes job)) number line
+holds (Case.tables job list text) = wrote (tableBy job list) text
+holds (Case.untabled job list number line) = sameAnswer (tableBy job list .answered) number line
 
 unfoldable pub allHold : List Case → Bool
 allHold [] = true
@@ -146,4 +157,38 @@ cases =
     ∷ Case.refuses (noiseOn "1" "d=3 n=0 size=1") 12 2
     -- and over 31 qubits none refuses
     ∷ Case.refuses (noiseOn "31" "d=2 q=0,1,2,3,4,5,6,7,8,9,10,11,12,13,14,15,16,17,18,19,20,21,22,23,24,25,26,27,28,29,30 size=4611686018427387903") 0 0
+    ∷ []
+
+-- ---- single faults
+
+-- Noise of every kind but d=4, with element lines before a later noise line, and an injection and a flip of its own, which count as lines and are absent
+-- otherwise. Qubit 1 is the first operand of d=2, so it has the lower bits; a conditional carries outcome 0 into the second group.
+unfoldable pub faulty : String
+faulty =
+    "op=job qubits=2 outcomes=2 shots=2\nop=i shot=0 x=0 z=-\nop=n p=0000000000000000 corr=- cond=- parity=0 d=2 q=1,0 size=15\nop=u g=4 q=1\nop=n p=3ff0000000000000 corr=- cond=- parity=0 d=3 n=2 size=2\nx=0 z=-\nx=- z=1\nop=o x=- z=0 id=0\nop=f x=1 z=- id=0 parity=0\nop=n p=3ff0000000000000 corr=7 cond=0 parity=1 d=1 x=1 z=- size=1\nop=o x=- z=1 id=1\nop=t shot=1 id=1\n"
+
+-- d=2 over so many qubits, in line 2
+unfoldable pub spread : String → String
+spread fields =
+    append "op=job qubits=5 outcomes=0 shots=1\nop=n p=0000000000000000 corr=- cond=- parity=0 d=2 q=" (append fields "\n")
+
+unfoldable pub tableCases : List Case
+tableCases =
+    Case.tables faulty (1 ∷ 0 ∷ 2 ∷ 0 ∷ 1 ∷ [])
+    "line=3 el=0 groups=00\nline=3 el=1 groups=01\nline=3 el=2 groups=01\nline=3 el=3 groups=10\nline=3 el=4 groups=10\nline=3 el=5 groups=11\nline=3 el=6 groups=11\nline=3 el=7 groups=00\nline=3 el=8 groups=00\nline=3 el=9 groups=01\nline=3 el=10 groups=01\nline=3 el=11 groups=10\nline=3 el=12 groups=10\nline=3 el=13 groups=11\nline=3 el=14 groups=11\nline=5 el=0 groups=10\nline=5 el=1 groups=00\nline=10 el=0 groups=01\n"
+    -- an empty group, whose character is 0, and no noise
+    ∷ Case.tables session (0 ∷ []) ""
+    -- no groups; 17 groups; 17 of which the last is cut short, or has an unrecorded outcome; a length past every list; a group that does not rise
+    ∷ Case.untabled faulty [] 24 0
+    ∷ Case.untabled faulty (replicate 17 0) 24 0
+    ∷ Case.untabled faulty (replicate 16 0 ++ 1 ∷ []) 17 0
+    ∷ Case.untabled faulty (replicate 16 0 ++ 1 ∷ 2 ∷ []) 17 0
+    ∷ Case.untabled faulty ((2 ^ 64 - 1) ∷ []) 17 0
+    ∷ Case.untabled faulty (2 ∷ 1 ∷ 1 ∷ []) 17 0
+    -- over five qubits; the groups come first
+    ∷ Case.untabled (spread "0,1,2,3,4 size=1023") (0 ∷ []) 24 2
+    ∷ Case.untabled (spread "0,1,2,3,4 size=1023") [] 24 0
+    ∷ Case.untabled (spread "0,1,2,3,4 size=1023") (1 ∷ 0 ∷ []) 17 0
+    -- over four, whose table is longer than the lent bytes
+    ∷ Case.untabled (spread "0,1,2,3 size=255") (0 ∷ []) 15 0
     ∷ []

@@ -30,11 +30,19 @@ use Rattle.backward.specs.Settling.{settledAnswer, settleReply}
 use Rattle.backward.specs.Walk.{imagesBack, cliffordBack, fetched, permuteBack, carry, counts, backward, walkBack, walk}
 use Rattle.backward.specs.Walking.{noiseFirst, firstNoise, lineFirst, plainLines, walkable, walkAnswer, walkReply}
 use Rattle.session.specs.Session.{lentMemory, refusalLines, bitText, deltaLines, sessionLines, replyLines, printed}
-use Rattle.starred.specs.Cases.{sameBytes, sameAnswer, settledBy, wrote, counted, holds, allHold, session, onThree, noiseOn, noisy, undone, cases}
+use Rattle.frames.specs.Shots.{concerns, restricted}
+use Rattle.single_faults.specs.Groups.{withId, idBefore, emptyBefore, groupOf, groupsOf, allRecorded}
+use Rattle.single_faults.specs.Table.{quietLines, faulted, flips, marks, rowText, elementRows, rowsOf, rowsFrom, tableText, isWide, wideFirst, firstWide, tableAnswer, groupsAnswer, tableReply}
+use Rattle.starred.specs.Cases.{sameBytes, sameAnswer, settledBy, tableBy, wrote, counted, holds, allHold, session, onThree, noiseOn, noisy, undone, cases, faulty, spread, tableCases}
 
 pub cases-hold : allHold cases ≡ true
 unfolding ofBits isNan lt le add div ofInt bytes until extend pieces unlines withFirst piecesOf listQ listT risesFrom isRising onlyRising listL oneMember listC commasBy listTextBy allDecimal decimalFrom numberOf allHex hexFrom hexOf bitOf decimalDigits hexDigits aNumber aList valueOf andThen sameByte atEnd valuesOf numbersIn listsIn valueText firstText lineText _⊕_ none only _∩_ _△_ given replaced added outside members parity odd gates gateFrom gateOf operandsOf swapXZ addXtoZ addZtoX controlledX controlledZ controlledY exchanged swapRows prepareBell prepareBellBack gateWith identity X-at Z-at Y-at _∗_ when anticommutes cleared noContext elementLines kindSize firstTotal nextTotal records next allBelow eachBelow eachShort distinct isPermutation sameWeight expected isSecondGate isSecondLine isSecond headerFits lineTests kindQubits kindDistinct elementsFit noiseTests weightFits totalFits ownTests lowest refusalOf bit rowOver every generatorsAnticommute tableOf isClifford isProbability isWeight isTotal unitaryLine cliffordLine optional noiseLine forms said orLater readBy readLine wellEnded nextOf checkLines checkJob distributionOf noiseOf weightOf gather gathered headerOf jobOfLines recordedBy recordedIn pauliOf sizeOf exponentiate controlledPauli placed tableRow imagesFrom imagesOf placesOf imageSum transformed forward run start unitOf selected including rising depolarizingElement noPauli elementAt bounded totalFrom runningFrom isPositive firstFitting orElse lastPositive placeOf byWeight chooseFrom sumOver isSatisfied faultOf drawShot alsoFault thenShots drawShots drawLine partOf mainAfter forwardAll thenInPlace injectShots injectNoise onMain executeOne executeThen execute injectText injection noiseStep stepOf prefixed settleThen settle settledText enoughWords spentReply finishedReply endedReply runReply bitIn wordOf tabulated pack settledAnswer settleReply imagesBack cliffordBack fetched permuteBack carry counts backward walkBack walk noiseFirst firstNoise lineFirst plainLines walkable walkAnswer walkReply lentMemory refusalLines bitText deltaLines sessionLines replyLines printed sameBytes sameAnswer settledBy wrote counted holds allHold session onThree noiseOn noisy undone cases
 cases-hold = refl
+
+-- So do those of the table of single faults.
+pub table-cases-hold : allHold tableCases ≡ true
+unfolding ofBits isNan lt le add div ofInt bytes until extend pieces unlines withFirst piecesOf listQ listT risesFrom isRising onlyRising listL oneMember listC commasBy listTextBy allDecimal decimalFrom numberOf allHex hexFrom hexOf bitOf decimalDigits hexDigits aNumber aList valueOf andThen sameByte atEnd valuesOf numbersIn listsIn valueText firstText lineText _⊕_ none only _∩_ _△_ given replaced added outside members parity odd gates gateFrom gateOf operandsOf swapXZ addXtoZ addZtoX controlledX controlledZ controlledY exchanged swapRows prepareBell prepareBellBack gateWith identity X-at Z-at Y-at _∗_ when anticommutes cleared noContext elementLines kindSize firstTotal nextTotal records next allBelow eachBelow eachShort distinct isPermutation sameWeight expected isSecondGate isSecondLine isSecond headerFits lineTests kindQubits kindDistinct elementsFit noiseTests weightFits totalFits ownTests lowest refusalOf bit rowOver every generatorsAnticommute tableOf isClifford isProbability isWeight isTotal unitaryLine cliffordLine optional noiseLine forms said orLater readBy readLine wellEnded nextOf checkLines checkJob distributionOf noiseOf weightOf gather gathered headerOf jobOfLines recordedBy recordedIn pauliOf sizeOf exponentiate controlledPauli placed tableRow imagesFrom imagesOf placesOf imageSum transformed forward run start unitOf selected including rising depolarizingElement noPauli elementAt bounded totalFrom runningFrom isPositive firstFitting orElse lastPositive placeOf byWeight chooseFrom sumOver isSatisfied faultOf drawShot alsoFault thenShots drawShots drawLine partOf mainAfter forwardAll thenInPlace injectShots injectNoise onMain executeOne executeThen execute injectText injection noiseStep stepOf prefixed settleThen settle settledText enoughWords spentReply finishedReply endedReply runReply bitIn wordOf tabulated pack settledAnswer settleReply imagesBack cliffordBack fetched permuteBack carry counts backward walkBack walk noiseFirst firstNoise lineFirst plainLines walkable walkAnswer walkReply lentMemory refusalLines bitText deltaLines sessionLines replyLines printed sameBytes sameAnswer settledBy wrote counted holds allHold session onThree noiseOn noisy undone restricted concerns withId idBefore emptyBefore groupOf groupsOf allRecorded quietLines faulted flips marks rowText elementRows rowsOf rowsFrom tableText isWide wideFirst firstWide tableAnswer groupsAnswer tableReply tableBy faulty spread tableCases
+table-cases-hold = refl
 
 -- Also: a longer input is refused before any test, whatever it says.
 pub long-refused : (job : List ℕ) → 65536 < length job → printed job ≡ bytes "ok=0 refusal=13 line=0\n"

@@ -147,7 +147,7 @@ fn refused(number: u64, line: u64) -> CountReply
 }
 
 // Whether numbers rise strictly.
-fn is_rising(numbers: &[u64]) -> bool
+pub fn is_rising(numbers: &[u64]) -> bool
     ensures { λ r. ⌜ r ≡ isRising (now (numbers .entry)) ⌝ }
 {
     let mut i = 1;
@@ -161,7 +161,7 @@ fn is_rising(numbers: &[u64]) -> bool
 }
 
 // Whether all numbers are below n.
-fn all_below(numbers: &[u64], n: u64) -> bool
+pub fn all_below(numbers: &[u64], n: u64) -> bool
     ensures { λ r. ⌜ r ≡ allBelow n (now (numbers .entry)) ⌝ }
 {
     let mut i = 0;

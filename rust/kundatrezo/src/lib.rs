@@ -12,10 +12,11 @@
 //! | [`annotate`] | the job with depolarizing noise before each measurement and after each gate; [`annotated`] as a `Vec` |
 //! | [`locations`] | the number of fault locations |
 //! | [`correlation`] | whether correlated noise lines agree in size |
+//! | [`fault_table`] | which groups of outcomes each possible fault flips, as rows in memory of their own; [`write_fault_table`] in lent bytes |
 //! | [`by_shot`] | deltas as a row for each shot, and [`by_outcome`] the way back; [`Shots`] has memory of its own |
 //!
 //! Beside the calls, [`split`] shares the shots of a settled job among several benches, and `^=` on [`Frames`] adds what they leave; [`clifford_line`] writes
-//! a Clifford of up to eight qubits, such as a code's encoder, as a line.
+//! a Clifford of up to eight qubits, such as a code's encoder, as a line; [`error_model`] gives a job's noise to a decoder.
 //!
 //! # Rows
 //!
@@ -66,9 +67,10 @@
 //!
 //! # What a caller owes
 //!
-//! Nothing but stack: a run takes up to 68 KiB of it, settling 44 KiB, and every other call less than 8 KiB. The pages are touched one after the other, so
-//! that a thread with less ends the process at its guard page. What C callers owe besides is the crate's: each call is made in the default floating-point
-//! state, whatever the thread has set (subnormals off, another rounding, exceptions), and leaves that as it was.
+//! Nothing but stack: a run takes up to 68 KiB of it, settling 44 KiB, the table of single faults 16 KiB, the correlation check 12 KiB, and every other call
+//! less than 8 KiB. The pages are touched one after the other, so that a thread with less ends the process at its guard page. What C callers owe besides is
+//! the crate's: each call is made in the default floating-point state, whatever the thread has set (subnormals off, another rounding, exceptions), and leaves
+//! that as it was.
 //!
 //! # Linking
 //!
@@ -78,10 +80,13 @@
 mod by_shot;
 mod clifford;
 mod draws;
+mod error_model;
 mod examination;
 mod float_state;
 mod frames;
+mod noise;
 mod refusal;
+mod single_faults;
 mod split;
 mod sys;
 mod used;
@@ -90,9 +95,11 @@ mod xorshift;
 pub use by_shot::{Shots, by_outcome, by_shot};
 pub use clifford::{MAX_CLIFFORD_QUBITS, clifford_line};
 pub use draws::Draws;
+pub use error_model::{ErrorModel, Mechanism, error_model};
 pub use examination::{Examination, examine};
 pub use frames::{Frames, bit};
 pub use refusal::{Answer, Number, Refusal};
+pub use single_faults::{FaultTable, MAX_GROUPS, SingleFault, fault_table, write_fault_table};
 pub use split::{Part, restricted, split};
 pub use used::Used;
 pub use xorshift::Xorshift;

@@ -67,12 +67,13 @@ numbers! {
     14 DRAWS "a needed draw lies past its list"
     15 ROOM "the text is longer than the lent bytes or 1,048,576"
     16 NOISE "noise in a walk"
-    17 WALK "the walk's shot not below the header's shots; its set not strictly rising, or with an outcome that is not recorded"
+    17 WALK "the walk's shot not below the header's shots; a set or group cut short, not strictly rising, or with an outcome that is not recorded"
     18 ANNOTATION "annotation over more than 31 qubits"
     19 SIZES "sizes of one correlation differ"
     20 CONTROL "control and target of a controlled Pauli anticommute"
     21 SIZE "the size written differs from the distribution's"
     23 EDITION "the header's edition is neither 1 nor 2"
+    24 GROUPS "no groups, more than 16, or noise with d=2 over more than 4 qubits in a table of single faults"
 }
 
 impl Number {

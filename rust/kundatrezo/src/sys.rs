@@ -114,6 +114,15 @@ unsafe extern "C" {
 
     fn kundatrezo_locations(job: *const u8, job_len: usize) -> Count;
 
+    fn kundatrezo_fault_table(
+        job: *const u8,
+        job_len: usize,
+        groups: *const u64,
+        groups_len: usize,
+        out: *mut u8,
+        out_len: usize,
+    ) -> TextAnswer;
+
     fn kundatrezo_correlation(job: *const u8, job_len: usize) -> Answer;
 
     fn kundatrezo_by_shot(
@@ -223,6 +232,12 @@ pub fn annotate(job: &[u8], p_bits: u64, out: &mut [u8]) -> TextAnswer {
 
 pub fn locations(job: &[u8]) -> Count {
     in_default_state(|| unsafe { kundatrezo_locations(job.as_ptr(), job.len()) })
+}
+
+pub fn fault_table(job: &[u8], groups: &[u64], out: &mut [u8]) -> TextAnswer {
+    in_default_state(|| unsafe {
+        kundatrezo_fault_table(job.as_ptr(), job.len(), groups.as_ptr(), groups.len(), out.as_mut_ptr(), out.len())
+    })
 }
 
 pub fn line(job: &[u8], number: u64) -> LinePart {

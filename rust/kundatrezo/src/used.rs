@@ -1,5 +1,6 @@
 //! How many words of the lists are read.
 
+use crate::noise::{Kind, Noise};
 use crate::{Answer, Draws, Examination, Number, bit, examine, settle};
 
 /// How many words a run or settling reads.
@@ -68,11 +69,7 @@ fn least(most: usize, guess: usize, has: impl Fn(usize) -> bool) -> usize {
 fn guess(job: &[u8], numbers: Examination, noiseless: &[u64], draws: &Draws<'_>) -> Option<Used> {
     let text = std::str::from_utf8(job).ok()?;
     let mut used = Used::default();
-    for line in text.lines().filter(|line| line.starts_with("op=n ")) {
-        let noise = Noise::read(line)?;
-        if noise.p <= 0.0 {
-            continue;
-        }
+    for noise in text.lines().filter_map(Noise::read).filter(|noise| noise.p > 0.0) {
         let holds = |shot: usize| {
             let words = numbers.words_per_row();
             let sum = noise.condition.iter().fold(false, |sum, id| sum ^ bit(&noiseless[id * words..][..words], shot));
@@ -90,41 +87,7 @@ fn guess(job: &[u8], numbers: Examination, noiseless: &[u64], draws: &Draws<'_>)
     Some(used)
 }
 
-/// What says how many words a noise line reads.
-struct Noise {
-    p: f64,
-    correlation: Option<u64>,
-    condition: Vec<usize>,
-    parity: bool,
-    choice: Choice,
-}
-
-/// How an element is chosen: by no word, by one, or by the first word below a bound.
-enum Choice {
-    None,
-    One,
-    Below(u64),
-}
-
 impl Noise {
-    fn read(line: &str) -> Option<Self> {
-        let field = |key: &str| line.split(' ').find_map(|field| field.strip_prefix(key)?.strip_prefix('='));
-        let numbers = |list: &str| list.split(',').map(|number| number.parse().ok()).collect::<Option<Vec<usize>>>();
-        let among = |size: u64| Some(Choice::Below(u64::MAX - u64::MAX.checked_rem(size)?));
-        let choice = match field("d")? {
-            "1" => Choice::None,
-            "2" | "3" => among(field("size")?.parse().ok()?)?,
-            _ => Choice::One,
-        };
-        Some(Self {
-            p: f64::from_bits(u64::from_str_radix(field("p")?, 16).ok()?),
-            correlation: field("corr")?.parse().ok(),
-            condition: if field("cond")? == "-" { Vec::new() } else { numbers(field("cond")?)? },
-            parity: field("parity")? == "1",
-            choice,
-        })
-    }
-
     /// The words that this line reads from the front of a list, by the shots in which its condition holds.
     fn words(&self, list: &[u64], shots: usize, holds: impl Fn(usize) -> bool) -> Option<usize> {
         let mut next = 0;
@@ -134,10 +97,13 @@ impl Noise {
             #[allow(clippy::cast_precision_loss)]
             let falls = ((word >> 11) as f64) < self.p * (1_u64 << 53) as f64;
             if falls && holds(shot) {
-                next += match self.choice {
-                    Choice::None => 0,
-                    Choice::One => 1,
-                    Choice::Below(bound) => 1 + list.get(next..)?.iter().position(|word| *word < bound)?,
+                next += match self.kind {
+                    Kind::Single => 0,
+                    Kind::Weighted => 1,
+                    Kind::Depolarizing | Kind::Uniform => {
+                        let bound = u64::MAX - u64::MAX.checked_rem(self.size)?;
+                        1 + list.get(next..)?.iter().position(|word| *word < bound)?
+                    }
                 };
             }
         }

@@ -44,9 +44,15 @@ impl Operand {
 /// An option that takes a value.
 pub struct Flag {
     pub name: &'static str,
-    /// What the value is, for the help.
+    /// What the value is, for the help. One that ends in `..` may be given several times, each with a value of its own.
     pub value: &'static str,
     pub text: &'static str,
+}
+
+impl Flag {
+    pub fn repeats(&self) -> bool {
+        self.value.ends_with("..")
+    }
 }
 
 /// The value of an option, or an operand, that names a file.
@@ -112,7 +118,7 @@ impl Arguments {
         })?;
         let value = parts.next().map(|value| OsStr::from_bytes(value).to_owned()).or_else(|| rest.next().cloned());
         let value = value.ok_or_else(|| format!("the option {} wants a value: {}", flag.name, flag.value))?;
-        if self.value(flag.name).is_some() {
+        if self.value(flag.name).is_some() && !flag.repeats() {
             return Err(format!("the option {} is given twice", flag.name));
         }
         self.values.push((flag.name, value));
@@ -154,12 +160,16 @@ impl Arguments {
 
     /// The value of an option as something other than a file.
     pub fn parsed<T>(&self, name: &str, what: &str, parse: fn(&str) -> Option<T>) -> Result<Option<T>, Failure> {
-        let Some(value) = self.value(name) else {
-            return Ok(None);
+        Ok(self.all_parsed(name, what, parse)?.into_iter().next())
+    }
+
+    /// All values of an option that may be given several times, in their order.
+    pub fn all_parsed<T>(&self, name: &str, what: &str, parse: fn(&str) -> Option<T>) -> Result<Vec<T>, Failure> {
+        let parsed = |value: &OsString| {
+            let fault = || Failure::Other(format!("the value of {name} is to be {what}, not '{}'", value.display()));
+            value.to_str().and_then(parse).ok_or_else(fault)
         };
-        let parsed = value.to_str().and_then(parse);
-        let fault = || Failure::Other(format!("the value of {name} is to be {what}, not '{}'", value.display()));
-        parsed.ok_or_else(fault).map(Some)
+        self.values.iter().filter(|(given, _)| *given == name).map(|(_, value)| parsed(value)).collect()
     }
 
     /// The value of an option as a number.

@@ -3,7 +3,7 @@
 use crate::arguments::{Arguments, Command, FILE, Flag, Operand};
 use crate::completions::{self, SHELLS};
 use crate::words::{self, Lent};
-use crate::{Failure, files, manual, numbers, print, rates, shots, sizes};
+use crate::{Failure, faults, files, manual, numbers, print, rates, shots, sizes};
 use kundatrezo::{Examination, Frames, MAX_BYTES, Number, Refusal, Shots, bit};
 use std::fmt::Write;
 
@@ -123,6 +123,22 @@ job. A qubit that control and target share counts for both."],
         ],
         options: &[],
         obey: correlation,
+    },
+    Command {
+        name: "faults",
+        operand: Operand::Job,
+        summary: "the table of single faults: which groups of outcomes each flips",
+        details: &[faults::TABLE],
+        options: &[faults::TABLE_FLAGS, &[OUTPUT]],
+        obey: faults::table,
+    },
+    Command {
+        name: "dem",
+        operand: Operand::Job,
+        summary: "the job's noise as a detector error model, for a decoder",
+        details: &[faults::MODEL, faults::APPROXIMATION],
+        options: &[faults::MODEL_FLAGS, &[OUTPUT]],
+        obey: faults::model,
     },
     Command {
         name: "split",
@@ -328,7 +344,7 @@ fn add(arguments: &Arguments) -> Result<(), Failure> {
 // ---- what commands share
 
 /// The job that a command is called on, and its numbers.
-fn examined(arguments: &Arguments) -> Result<(Vec<u8>, Examination), Failure> {
+pub fn examined(arguments: &Arguments) -> Result<(Vec<u8>, Examination), Failure> {
     let job = files::job(arguments.operand())?;
     let examined = kundatrezo::examine(&job).map_err(refused(&job))?;
     Ok((job, examined))
@@ -371,14 +387,14 @@ fn room(arguments: &Arguments) -> Result<Vec<u8>, Failure> {
 }
 
 /// Write to the file that `--output` names, or to standard output.
-fn write_out(arguments: &Arguments, bytes: &[u8]) -> Result<(), Failure> {
+pub fn write_out(arguments: &Arguments, bytes: &[u8]) -> Result<(), Failure> {
     match arguments.value(OUTPUT.name) {
         Some(path) => files::write(path, bytes),
         None => print(bytes),
     }
 }
 
-/// Numbers with commas between, in any order; the walk judges them.
-fn list(text: &str) -> Option<Vec<u64>> {
+/// Numbers with commas between, in any order; the call judges them.
+pub fn list(text: &str) -> Option<Vec<u64>> {
     if text == "-" { Some(Vec::new()) } else { text.split(',').map(|number| number.parse().ok()).collect() }
 }

@@ -75,7 +75,8 @@ fn zsh() -> String {
         writeln!(commands, "        '{}:{}'", command.name, quoted(command.summary)).expect("a string takes all");
         let option = |flag: &Flag| {
             let action = if flag.value == FILE { "_files" } else { "" };
-            format!(" \\\n                '{}=[{}]:{}:{action}'", flag.name, quoted(flag.text), flag.value)
+            let again = if flag.repeats() { "*" } else { "" };
+            format!(" \\\n                '{again}{}=[{}]:{}:{action}'", flag.name, quoted(flag.text), flag.value)
         };
         let options: String = command.flags().map(option).collect();
         let operand = match command.operand {

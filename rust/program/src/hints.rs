@@ -109,6 +109,10 @@ impl Job<'_> {
                 Some("put noise lines around this line by hand, and annotate the job without it".into())
             }
             Number::SIZES => Some("give this line a corr= of its own".into()),
+            Number::GROUPS => Some(format!(
+                "q= has {} qubits: write noise over fewer of them, or its likeliest Paulis with d=4",
+                field(self.line, "q")?.split(',').count()
+            )),
             Number::SIZE => {
                 let (distribution, _) = self.line.rsplit_once(" size=")?;
                 Some(format!("the size of this distribution is {}", size(distribution)?))

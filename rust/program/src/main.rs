@@ -3,6 +3,7 @@
 mod arguments;
 mod commands;
 mod completions;
+mod faults;
 mod files;
 mod hints;
 mod manual;
@@ -102,7 +103,8 @@ const SUMMARY: &str = "Kundatrezo: a Pauli-frame noise engine. Calls on jobs tha
 const COMMON: [&str; 2] = [
     "\
 JOB is a file, or - for standard input; docs/JOBS.md has the language of jobs. A file of words holds 64-bit
-words, eight bytes each, the lowest byte first. What follows -- is no option.",
+words, eight bytes each, the lowest byte first. An option whose value is shown with .. may be given several
+times, others once. What follows -- is no option.",
     "\
 Exit status: 0, the work is done; 1, the call refused, and standard error says by which number, at which
 line, and what may help (docs/REFUSALS.md has more); 2, the arguments are at fault, or a file or standard

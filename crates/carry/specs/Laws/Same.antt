@@ -42,7 +42,7 @@ module _ (n : ℕ) (few : n ≤ 256) (B : Pauli) (P : SparsePauli) (s : PauliSou
       sym (ap (λ (k : ℕ). parity k (B .x ∩ members (P .z)) ⊕ parity k (B .z ∩ members (P .x))) all
       ∙ ap₂ _⊕_ (overlap n (256 - n) (B .x) (P .z) (s .z .below)) (overlap n (256 - n) (B .z) (P .x) (s .x .below)))
 
-  anti-left : anticommutes n (pauliOf P) B ≡ anticommutes 256 (pauliOf P) B
+  pub anti-left : anticommutes n (pauliOf P) B ≡ anticommutes 256 (pauliOf P) B
   anti-left = anti-comm n (pauliOf P) B ∙ anti-right ∙ anti-comm 256 B (pauliOf P)
 
 -- ---- lines

@@ -142,7 +142,7 @@ acted-as {k = k} {words = words} {shot = shot} {number = number} {w = w} {set = 
 
 -- ---- noise
 
-noise-written : {f : Form} {w : Written} → Meaning f w → noiseForm f ≡ true → (n : NoiseLine) × (w ≡ Written.noise n)
+pub noise-written : {f : Form} {w : Written} → Meaning f w → noiseForm f ≡ true → (n : NoiseLine) × (w ≡ Written.noise n)
 unfolding noiseForm
 noise-written (Meaning.header h e) n = absurd (true≢false (sym n ∙ rw e))
 noise-written (Meaning.edition-header h e) n = absurd (true≢false (sym n ∙ rw e))

@@ -32,7 +32,7 @@ placed-past at [] out h = refl
 placed-past at (b ∷ s) out h = ap (placed (suc at) s) (set-out out at b h) ∙ placed-past (suc at) s out (omega arith)
 
 -- a text that fits is written over the first bytes
-placed-sets : (at : ℕ) (s out : List ℕ) → placed at s out ≡ sets out at s
+pub placed-sets : (at : ℕ) (s out : List ℕ) → placed at s out ≡ sets out at s
 unfolding placed
 placed-sets at [] out = refl
 placed-sets at (b ∷ s) out = placed-sets (suc at) s (set out at b)

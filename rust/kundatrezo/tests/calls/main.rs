@@ -7,4 +7,5 @@ mod names;
 mod refusals;
 mod seeds;
 mod shots;
+mod single_faults;
 mod starred;

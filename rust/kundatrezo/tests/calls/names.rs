@@ -1,6 +1,6 @@
 //! That this crate and include/kundatrezo.h give the same names, words and limits.
 
-use kundatrezo::{MAX_BYTES, MAX_CLIFFORD_QUBITS, MAX_OUTCOMES, MAX_QUBITS, MAX_SHOTS, Number};
+use kundatrezo::{MAX_BYTES, MAX_CLIFFORD_QUBITS, MAX_GROUPS, MAX_OUTCOMES, MAX_QUBITS, MAX_SHOTS, Number};
 
 const HEADER: &str = include_str!("../../../../include/kundatrezo.h");
 
@@ -28,6 +28,7 @@ fn limits_and_version_are_those_of_the_c_header() {
         ("MAX_OUTCOMES", MAX_OUTCOMES),
         ("MAX_SHOTS", MAX_SHOTS),
         ("MAX_CLIFFORD_QUBITS", MAX_CLIFFORD_QUBITS),
+        ("MAX_GROUPS", MAX_GROUPS),
     ];
     for (name, limit) in limits {
         assert_eq!(defined(name), Some(limit.to_string().as_str()), "{name}");

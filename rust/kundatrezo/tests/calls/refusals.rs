@@ -1,8 +1,8 @@
 //! Every refusal number, what a refusal leaves in lent memory, and that each parameter of a call arrives where it belongs.
 
 use kundatrezo::{
-    Answer, Draws, Frames, MAX_BYTES, Number, Rows, annotate, annotated, check, correlation, examine, locations, run,
-    settle, settled, walk,
+    Answer, Draws, Frames, MAX_BYTES, Number, Rows, annotate, annotated, check, correlation, examine, fault_table,
+    locations, run, settle, settled, walk,
 };
 
 const HEADER: &str = "op=job qubits=2 outcomes=1 shots=1\n";
@@ -53,6 +53,7 @@ fn numbers_of_the_checks() {
         assert_eq!(refused(annotate(job, f64::NAN, &mut [])), *expected);
         assert_eq!(refused(locations(job)), *expected);
         assert_eq!(refused(correlation(job)), *expected);
+        assert_eq!(refused(fault_table(job, &[])), *expected);
     }
     let seen: Vec<u64> = cases.iter().map(|(_, (number, _))| *number).collect();
     assert!((1..=12).chain([20, 21, 23]).all(|number| seen.contains(&number)));
@@ -80,6 +81,8 @@ fn numbers_of_the_calls() {
     let sizes = format!("{}\n{}", fault("3", "d=1 x=- z=- size=1"), fault("3", "d=2 q=0 size=3"));
     assert_eq!(refused(correlation(&job(&sizes))), (19, 3));
     assert_eq!(correlation(&noisy), Ok(()));
+    assert_eq!(refused(fault_table(&noisy, &[vec![0]])), (17, 0));
+    assert_eq!(refused(fault_table(&noisy, &[])), (24, 0));
 }
 
 #[test]

@@ -216,13 +216,22 @@ fn refusals_are_said_in_words() {
     for arguments in ["check -", "run -", "settle -", "walk - --shot 0 --set -", "annotate - --p 0.5", "locations -"] {
         refused(arguments, &gate, text);
     }
-    refused("correlation -", &gate, text);
+    for arguments in ["correlation -", "faults - --group 0", "dem - --detector 0"] {
+        refused(arguments, &gate, text);
+    }
     let hint = refused("annotate - --p nan", header, "refused: 11 (p is NaN or above 1)");
     assert_eq!(hint, "the probability of --p or --p-bits is NaN");
     let walk = format!("refused: {}", kundatrezo::Number::WALK);
     let hint = refused("walk - --shot 0 --set 1,0", header, &walk);
     assert_eq!(hint, "the job records no outcome");
     assert_eq!(refused("walk - --shot 1 --set -", header, &walk), "the job's shots are 0 to 0");
+    assert_eq!(refused("faults - --group 0", header, &walk), "the job records no outcome");
+    let recorded = format!("{header}op=r id=0 angle=0\n");
+    let hint = refused("dem - --detector 0 --observable 1", &recorded, &walk);
+    assert_eq!(hint, "a group names recorded outcomes, 0 to 0, and rises strictly");
+    let many = format!("faults -{}", " --group 0".repeat(17));
+    let hint = refused(&many, &recorded, &format!("refused: {}", kundatrezo::Number::GROUPS));
+    assert_eq!(hint, "each --group is a group, and a table has 1 to 16 of them");
     let words = "refused: 13 (lent words too few)";
     let hint = refused("run - --noiseless /dev/null", header, words);
     assert!(hint.starts_with("--noiseless has 0 words, and needs 1: "), "{hint}");
@@ -297,6 +306,9 @@ fn arguments_at_fault() {
         ("man man", "no argument is wanted"),
         ("walk - --shot 0", "--shot and --set are wanted"),
         ("walk - --shot 0 --set 1,,2", "the value of --set is to be numbers with commas between"),
+        ("dem -", "--detector or --observable is wanted"),
+        ("faults - --group 1;2", "the value of --group is to be numbers with commas between, or -, not '1;2'"),
+        ("faults - --group 0 --output x --output y", "the option --output is given twice"),
         ("annotate -", "either --p or --p-bits is wanted"),
         ("annotate - --p 0 --p-bits 0000000000000000", "either --p or --p-bits is wanted"),
         ("annotate - --p-bits 3FF", "the value of --p-bits is to be 16 hexadecimal digits"),
@@ -370,6 +382,8 @@ fn help_names_every_command_and_option() {
         ("annotate", vec!["p", "p-bits", "output", "room"]),
         ("locations", vec![]),
         ("correlation", vec![]),
+        ("faults", vec!["group", "output"]),
+        ("dem", vec!["detector", "observable", "output"]),
         ("split", vec!["parts", "prefix"]),
         ("add", vec!["output"]),
         ("sizes", vec!["output"]),

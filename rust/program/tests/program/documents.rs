@@ -91,6 +91,20 @@ fn read_me() {
     }
 }
 
+/// The page on single faults, whose sessions all do their work, and which has its example whole.
+#[test]
+fn single_faults() {
+    let text = document("docs/FAULTS.md");
+    let folder = session_folder("single_faults");
+    let steps = steps(&text);
+    assert!(!steps.is_empty());
+    for step in &steps {
+        assert_eq!(run(step, &folder).status, 0, "{}", step.command);
+    }
+    let example: String = document("examples/repetition.job").lines().map(|line| format!("    {line}\n")).collect();
+    assert!(text.contains(&example));
+}
+
 /// The session that the printing program is tried on is the example.
 #[test]
 fn one_bell_example() {

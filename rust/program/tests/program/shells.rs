@@ -50,6 +50,7 @@ fn bash_completes() {
         ("kundatrezo check /dev/nul", "/dev/null\n"),
         ("kundatrezo add /dev/nul", "/dev/null\n"),
         ("kundatrezo siz", "sizes\n"),
+        ("kundatrezo faults job --group 0 --g", "--group\n"),
         ("kundatrezo sizes job --o", "--output\n"),
         ("kundatrezo completions z", "zsh\n"),
     ];

@@ -9,7 +9,7 @@ pub struct Answer {
     pub number: u64,
     /// The refusal's line from 1, or 0 where none fits.
     pub line: u64,
-    /// The walk's count, the locations, or the byte figure of settling and annotation; 0 for other calls.
+    /// The walk's count, the locations, or the byte figure of a call that writes text; 0 for other calls.
     pub figure: u64,
 }
 
@@ -76,6 +76,9 @@ pub trait Calls {
 
     /// Check that the sizes of each correlation agree.
     fn correlation(&self, job: &[u8]) -> Answer;
+
+    /// Write the table of single faults at the front of `out`; the figure is its bytes. `groups` has each group's length, then its ids.
+    fn fault_table(&self, job: &[u8], groups: &[u64], out: &mut [u8]) -> Answer;
 
     /// Write deltas, a row for each outcome, as rows by shot at the front of `rows`.
     fn by_shot(&self, outcomes: u64, shots: u64, deltas: &[u64], rows: &mut [u64]) -> Answer;

@@ -18,6 +18,10 @@ pub const MAX_LIST: usize = 31;
 pub const MAX_CLIFFORD_QUBITS: usize = 8;
 /// Most element lines of a noise line.
 pub const MAX_ELEMENTS: u64 = 64;
+/// Most groups of a table of single faults.
+pub const MAX_GROUPS: usize = 16;
+/// Most qubits of depolarizing noise in a table of single faults.
+pub const MAX_SPREAD: usize = 4;
 /// The editions that a header may name.
 pub const EDITIONS: std::ops::RangeInclusive<u64> = 1..=2;
 /// The highest code of a gate on one qubit.
@@ -35,7 +39,7 @@ pub type List = SmallVec<[u64; 2]>;
 /// The numbers of the tests of a job, which every call makes.
 pub const TESTS: [u64; 15] = [1, 2, 3, 4, 5, 6, 7, 8, 9, 10, 11, 12, 20, 21, 23];
 /// The numbers that are calls' own.
-pub const OF_CALLS: [u64; 7] = [13, 14, 15, 16, 17, 18, 19];
+pub const OF_CALLS: [u64; 8] = [13, 14, 15, 16, 17, 18, 19, 24];
 
 /// Why a call says no: the number of documents 01 and 02, and the line from 1 (0 where none fits).
 #[derive(Debug, Clone, Copy, PartialEq, Eq)]

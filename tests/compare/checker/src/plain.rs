@@ -3,6 +3,7 @@
 pub mod around;
 pub mod by_shot;
 mod draws;
+pub mod fault_table;
 mod frame;
 mod settling;
 mod walk;
@@ -58,6 +59,11 @@ impl Calls for Plain {
         Answer::of(read(job).and_then(|job| around::correlation(&job)))
     }
 
+    fn fault_table(&self, job: &[u8], groups: &[u64], out: &mut [u8]) -> Answer {
+        let text = read(job).and_then(|job| fault_table::fault_table(&job, groups));
+        text.map_or_else(Answer::from, |text| deliver(&text, out))
+    }
+
     fn by_shot(&self, outcomes: u64, shots: u64, deltas: &[u64], rows: &mut [u64]) -> Answer {
         Answer::of(Shape::of_counts(outcomes, shots).and_then(|shape| transpose(shape, deltas, rows)))
     }
@@ -92,7 +98,7 @@ pub fn need_probability(p: u64) -> Result<(), Refusal> {
     if is_probability(p) { Ok(()) } else { Err(Refusal::of_call(11)) }
 }
 
-/// Annotation's end: its text at the front of `out`, or 15.
+/// The end of a call that writes a text: the text at the front of `out`, or 15.
 pub fn deliver(text: &[u8], out: &mut [u8]) -> Answer {
     if text.len() > out.len().min(MAX_BYTES) {
         return Refusal::of_call(15).into();

@@ -8,7 +8,7 @@
 
 use crate::block;
 use checker::calls::{Calls, Draws, Rows};
-use checker::job::{Job, MAX_BYTES, usize_of};
+use checker::job::{Job, MAX_BYTES, MAX_GROUPS, usize_of};
 use checker::plain::by_shot::Shape;
 use checker::plain::{Plain, settled};
 use checker::read::read;
@@ -32,8 +32,14 @@ const LEAST_ROUNDS: usize = 7;
 
 /// Measure the loads of a part, or of all; whether there is such a part.
 pub fn run(part: &str) -> bool {
-    let parts: [(&str, fn()); 5] =
-        [("checks", checks), ("runs", runs), ("tables", tables), ("around", around), ("turns", turns)];
+    let parts: [(&str, fn()); 6] = [
+        ("checks", checks),
+        ("runs", runs),
+        ("tables", tables),
+        ("around", around),
+        ("faults", faults),
+        ("turns", turns),
+    ];
     let chosen: Vec<_> = parts.iter().filter(|(name, _)| part == "all" || part == *name).collect();
     let columns = ["published", "with reading", "engine", "/published", "/reading", "ns a byte"]
         .map(|name| format!("{name:>12}"));
@@ -280,6 +286,31 @@ fn around() {
         engine: engine(Call::Correlation).map(|engine| Box::new(|| _ = black_box(engine.correlation(&mixed))) as _),
     }
     .report("correlation, 10,000 mixed lines", mixed.len());
+}
+
+// ---- single faults
+
+/// The table of a long job beside its check, which is its first pass. The published Rust runs a shot for each element.
+fn faults() {
+    let header = loads::header(256, 4096);
+    let made = loads::measured(loads::cut(loads::seldom_noisy(header, 80_000, 50, 0.001), 1_000_000 - 256 * 22));
+    let bytes = &made.bytes();
+    check("check, 1,000,000 bytes of gates and seldom noise", bytes);
+    let group = |first: u64| std::iter::once(16).chain((0..16).map(move |place| first + 16 * place));
+    let groups = &(0..MAX_GROUPS as u64).flat_map(group).collect::<Vec<u64>>();
+    let job = read(bytes).expect("a job that the checks accept");
+    let (program, _) = Program::new(&job).single_faults();
+    let noiseless = lend(&job, &Draws { base: 0, main: &[], second: &[] }, &[]);
+    let table = |calls: &dyn Calls, out: &mut [u8]| {
+        assert_eq!(calls.fault_table(black_box(bytes), groups, out).number, 0);
+    };
+    let (mut out, mut engine_out) = (vec![0; MAX_BYTES], vec![0; MAX_BYTES]);
+    Timed {
+        published: Some(Box::new(|| _ = black_box(program.execute(0, &[], &noiseless).is_ok()))),
+        with_reading: Box::new(move || table(&Reference, &mut out)),
+        engine: engine(Call::FaultTable).map(|engine| Box::new(move || table(engine, &mut engine_out)) as _),
+    }
+    .report("fault table, the same with 16 groups", bytes.len());
 }
 
 // ---- outcomes by shot

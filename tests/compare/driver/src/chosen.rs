@@ -1,6 +1,10 @@
 //! Which inputs the stored cases of a call have: random ones, each of which shows something that few before it show.
 
-use checker::job::{Distribution, Header, Instruction, Job, MAX_BYTES, MAX_CLIFFORD_QUBITS, Noise, TESTS, usize_of};
+use checker::calls::Answer;
+use checker::job::{
+    Distribution, Header, Instruction, Job, MAX_BYTES, MAX_CLIFFORD_QUBITS, MAX_GROUPS, MAX_SPREAD, Noise, TESTS,
+    usize_of,
+};
 use checker::plain::settled;
 use checker::read::read;
 use generator::damage::damaged;
@@ -22,6 +26,7 @@ const MOST_SEEDS: u64 = 100_000;
 const MOST_REFUSED: usize = 1_000;
 const MOST_AT_MOST_SHOTS: usize = 16_000;
 const MOST: usize = 3_600;
+const MOST_OF_TABLE: usize = 9_000;
 
 /// Shots at which rows of words begin and end, and the most there may be.
 const SHOTS: [u64; 7] = [1, 63, 64, 65, 127, 128, 4096];
@@ -57,6 +62,7 @@ pub fn chosen(call: Call, case: impl Fn(&Input, &Output) -> Vec<u8>) -> Vec<Vec<
         let case = case(&input, &output);
         let most = match output.answer.number {
             0 if shown.contains(&format!("{} shots", SHOTS[6])) => MOST_AT_MOST_SHOTS,
+            0 if call == Call::FaultTable => MOST_OF_TABLE,
             0 => MOST,
             _ => MOST_REFUSED,
         };
@@ -76,7 +82,7 @@ pub fn chosen(call: Call, case: impl Fn(&Input, &Output) -> Vec<u8>) -> Vec<Vec<
 
 // ---- inputs
 
-/// Jobs as long as they may be and a byte longer; for calls that write text, also jobs whose text is so long.
+/// Jobs as long as they may be and a byte longer; for settling and annotation, also jobs whose text is so long.
 fn limits(call: Call) -> Vec<Input> {
     const HEADER: &str = "op=job qubits=11 outcomes=0 shots=8\n";
     const GATE: &str = "op=u g=4 q=0\n";
@@ -93,8 +99,17 @@ fn limits(call: Call) -> Vec<Input> {
         jobs.extend(lengths.map(|length| filled(&[HEADER, line].concat(), length + line.len() - text.len())));
     }
     let lent = |job| {
-        let (main, rows) = (vec![0; 8], vec![FRESH; 11]);
-        Input { job, p, main, frames_x: rows.clone(), frames_z: rows, out_len: MAX_BYTES + 2, ..Input::default() }
+        let (main, rows, groups) = (vec![0; 8], vec![FRESH; 11], vec![0]);
+        Input {
+            job,
+            p,
+            main,
+            frames_x: rows.clone(),
+            frames_z: rows,
+            groups,
+            out_len: MAX_BYTES + 2,
+            ..Input::default()
+        }
     };
     jobs.into_iter().map(lent).collect()
 }
@@ -118,7 +133,8 @@ fn at_shots(random: &mut Random, call: Call, most_lines: u64, noise: u64) -> Inp
         shots,
     };
     let lines = random.between(1, most_lines);
-    let made = job_of(random, header, lines, &Shape { noise, ..DENSE });
+    let spread = (call == Call::FaultTable).then_some(MAX_SPREAD + 1);
+    let made = job_of(random, header, lines, &Shape { noise, spread, ..DENSE });
     let mut input = lent(random, call, &made.bytes());
     if shots == SHOTS[6] && matches!(call, Call::Run | Call::Settle) {
         hold(random, &mut input);
@@ -161,6 +177,7 @@ fn wanted(call: Call) -> Vec<String> {
         Call::Settle => &[13, 14, 15],
         Call::Walk => &[16, 17],
         Call::Annotate => &[15, 18],
+        Call::FaultTable => &[15, 17, 24],
         Call::Correlation => &[19],
         Call::Check | Call::Locations | Call::ByShot | Call::ByOutcome | Call::Print => &[],
     };
@@ -174,6 +191,13 @@ fn wanted(call: Call) -> Vec<String> {
         all.extend(["correlated", "even condition", "odd condition"].map(String::from));
     }
     match call {
+        Call::FaultTable => {
+            all.extend(
+                ["24 of the groups", "24 of a line", "empty group", "cut short", "both characters"].map(String::from),
+            );
+            all.extend([0, 1, MAX_GROUPS, MAX_GROUPS + 1].map(|count| format!("{count} groups")));
+            all.extend((1..=MAX_SPREAD).map(|qubits| format!("depolarizing on {qubits}")));
+        }
         Call::Run | Call::Settle => {
             let at_shots = |shots| DISTRIBUTIONS.map(|kind| format!("{kind} at {shots} shots"));
             all.extend(SHOTS.into_iter().flat_map(at_shots));
@@ -188,7 +212,7 @@ fn wanted(call: Call) -> Vec<String> {
         _ => &[],
     };
     all.extend(lists.iter().flat_map(|list| ["short", "exact", "longer"].map(|length| format!("{length} {list}"))));
-    if matches!(call, Call::Settle | Call::Annotate) {
+    if call.writes_text() {
         all.extend(["exact text", "longer text"].map(String::from));
     }
     all
@@ -225,9 +249,10 @@ fn shown(call: Call, input: &Input, output: &Output) -> Vec<String> {
             all.push(length("noiseless", input.noiseless.len(), job.header.outcome_words()));
         }
         Call::Settle => all.push(length("noiseless", input.noiseless.len(), job.header.outcome_words())),
+        Call::FaultTable => all.extend(shown_by_groups(&input.groups, output)),
         _ => {}
     }
-    if matches!(call, Call::Settle | Call::Annotate) && number == 0 {
+    if call.writes_text() && number == 0 {
         all.push(length("text", input.out_len, usize_of(output.answer.figure)));
     }
     if number == 14 {
@@ -240,6 +265,9 @@ fn shown(call: Call, input: &Input, output: &Output) -> Vec<String> {
         all.push(format!("{} shots", job.header.shots));
         all.extend(job.lines.iter().map(|line| kind(&line.instruction)));
         for noise in job.lines.iter().filter_map(|line| noise(&line.instruction)) {
+            if let Distribution::Depolarizing(qubits) = &noise.distribution {
+                all.push(format!("depolarizing on {}", qubits.len()));
+            }
             all.extend(shown_by_noise(noise, job.header.shots, input.base));
         }
         if has_rejected(&job, input) {
@@ -248,6 +276,36 @@ fn shown(call: Call, input: &Input, output: &Output) -> Vec<String> {
     }
     all.sort();
     all.dedup();
+    all
+}
+
+/// How many groups there are, and what the table says of them.
+fn shown_by_groups(mut list: &[u64], output: &Output) -> Vec<String> {
+    let (mut count, mut all) = (0, Vec::new());
+    while let [length, rest @ ..] = list {
+        let Some(behind) = usize::try_from(*length).ok().and_then(|length| rest.get(length..)) else {
+            return vec!["cut short".into()];
+        };
+        if *length == 0 {
+            all.push("empty group".into());
+        }
+        count += 1;
+        list = behind;
+    }
+    all.push(format!("{count} groups"));
+    match output.answer {
+        Answer { number: 24, line: 0, .. } => all.push("24 of the groups".into()),
+        Answer { number: 24, .. } => all.push("24 of a line".into()),
+        Answer { number: 0, figure, .. } => {
+            let text = String::from_utf8_lossy(&output.bytes[..usize_of(figure)]);
+            let has =
+                |character| text.lines().any(|row| row.rsplit('=').next().is_some_and(|sums| sums.contains(character)));
+            if has('0') && has('1') {
+                all.push("both characters".into());
+            }
+        }
+        _ => {}
+    }
     all
 }
 

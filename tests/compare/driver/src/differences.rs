@@ -149,6 +149,10 @@ mod tests {
             self.check(job)
         }
 
+        fn fault_table(&self, job: &[u8], _: &[u64], _: &mut [u8]) -> Answer {
+            self.check(job)
+        }
+
         fn by_shot(&self, _: u64, _: u64, _: &[u64], _: &mut [u64]) -> Answer {
             self.check(&[])
         }

@@ -14,6 +14,7 @@ pub const CALLS: &[Call] = &[
     Call::Annotate,
     Call::Locations,
     Call::Correlation,
+    Call::FaultTable,
     Call::ByShot,
     Call::ByOutcome,
     Call::Print,
@@ -76,6 +77,10 @@ impl Calls for Linked {
 
     fn correlation(&self, job: &[u8]) -> Answer {
         plain(kundatrezo::correlation(job))
+    }
+
+    fn fault_table(&self, job: &[u8], groups: &[u64], out: &mut [u8]) -> Answer {
+        written(kundatrezo::write_fault_table(job, groups, out))
     }
 
     fn by_shot(&self, outcomes: u64, shots: u64, deltas: &[u64], rows: &mut [u64]) -> Answer {

@@ -24,8 +24,8 @@ use std::process::ExitCode;
 use std::time::{SystemTime, UNIX_EPOCH};
 
 const USAGE: &str = "\
-usage: compare CALL N [SEED]      N random inputs of a call: check, run, settle, walk, annotate, locations, correlation,
-                                  by_shot, by_outcome, print
+usage: compare CALL N [SEED]      N random inputs of a call: check, run, settle, walk, annotate,
+                                  locations, correlation, fault_table, by_shot, by_outcome, print
        compare settled N [SEED]   N jobs run with their draws, and as their settled text
        compare backward N [SEED]  N jobs: for sets and shots, all of a small job's, the sum of deltas is the walk's count modulo 2
        compare apart N [SEED]     N pairs of jobs without noise: where they differ in other shots alone, a shot's frames and deltas are the same
@@ -34,9 +34,9 @@ usage: compare CALL N [SEED]      N random inputs of a call: check, run, settle,
        compare vectors [CALL]     the stored vectors, or those of a call
        compare all N [SEED]       all of these
        compare write CALL N SEED  N vectors of a call, made by the reference, on standard output
-       compare replay             the list of the program replay_calls, on standard output
+       compare replay [more]      the list of the program replay_calls, or of replay_more, on standard output
        compare bench [PART]       times beside the published Rust's and document 01's by hand; PART is checks, runs, tables,
-                                  around or turns
+                                  around, faults or turns
 A difference is seen again by `compare CALL 1 SEED` with the seed that it prints.";
 
 /// The calls under test, and which of them are the library's; the others are document 01's plainest form.
@@ -70,6 +70,7 @@ fn main() -> ExitCode {
         ["bench", part] => bench::run(part) || usage(),
         ["write", call, count, seed] => write(call, count, seed),
         ["replay"] => replay::write(),
+        ["replay", "more"] => replay::write_more(),
         [command, count] => counted(command, count, None),
         [command, count, seed] => counted(command, count, Some(seed)),
         _ => usage(),

@@ -12,8 +12,9 @@ const MOST_RUNS: usize = 512;
 /// A lent list of an input.
 type List = fn(&mut Input) -> &mut Vec<u64>;
 
-const LISTS: [List; 9] = [
+const LISTS: [List; 10] = [
     |input| &mut input.set,
+    |input| &mut input.groups,
     |input| &mut input.main,
     |input| &mut input.second,
     |input| &mut input.noiseless,

@@ -1,4 +1,4 @@
-//! The list that the program `replay_calls` runs: crates/replay/README.md says how it is written.
+//! The lists that the programs `replay_calls` and `replay_more` run: crates/replay/README.md says how they are written.
 
 use crate::chosen::chosen;
 use checker::calls::Answer;
@@ -16,12 +16,27 @@ const MOST_BYTES: usize = 600;
 /// From how many times on a line that is repeated gets a record of its own.
 const REPEATED: usize = 4;
 
-/// Write the list to standard output.
+/// The calls of the program `replay_more`.
+pub const MORE: [Call; 1] = [Call::FaultTable];
+
+/// Write the list of `replay_calls` to standard output.
 pub fn write() -> bool {
-    let others = CALLS.into_iter().filter(|call| call.is_on_job() && !matches!(call, Call::Check | Call::Print));
-    let others = others.flat_map(|call| chosen(call, |input, output| case(call, input, output)));
-    let list: Vec<u8> = checks().into_iter().chain(others).flatten().collect();
-    std::io::stdout().write_all(&list).is_ok()
+    let is_other = |call: &Call| call.is_on_job() && !matches!(call, Call::Check | Call::Print) && !MORE.contains(call);
+    let others = CALLS.into_iter().filter(is_other).flat_map(chosen_cases);
+    written(checks().into_iter().chain(others))
+}
+
+/// Write the list of `replay_more`.
+pub fn write_more() -> bool {
+    written(MORE.into_iter().flat_map(chosen_cases))
+}
+
+fn written(cases: impl Iterator<Item = Vec<u8>>) -> bool {
+    std::io::stdout().write_all(&cases.flatten().collect::<Vec<u8>>()).is_ok()
+}
+
+fn chosen_cases(call: Call) -> Vec<Vec<u8>> {
+    chosen(call, |input, output| case(call, input, output))
 }
 
 /// Cases of `check`: the jobs of every limit, then random and damaged ones, answered by document 01's checks by hand.
@@ -44,6 +59,7 @@ fn case(call: Call, input: &Input, output: &Output) -> Vec<u8> {
     let after = [&output.frames_x, &output.frames_z, &output.deltas, &output.totals];
     let words: Vec<&Vec<u64>> = match call {
         Call::Walk => vec![&input.set],
+        Call::FaultTable => vec![&input.groups],
         Call::Settle => draws.to_vec(),
         Call::Run => draws.into_iter().chain(after).collect(),
         _ => Vec::new(),
@@ -58,6 +74,7 @@ fn case(call: Call, input: &Input, output: &Output) -> Vec<u8> {
         Call::Locations => format!(" count={figure}"),
         Call::Walk => format!(" count={figure} shot={} bytes={bytes}", input.shot),
         Call::Annotate => format!(" figure={figure} p={:016x} bytes={bytes}", input.p),
+        Call::FaultTable => format!(" figure={figure} bytes={bytes},{}", input.out_len),
         Call::Settle => {
             format!(" figure={figure} base={:016x} bytes={bytes},{} words={lengths}", input.base, input.out_len)
         }

@@ -223,6 +223,10 @@ mod tests {
             Plain.correlation(job)
         }
 
+        fn fault_table(&self, job: &[u8], groups: &[u64], out: &mut [u8]) -> Answer {
+            Plain.fault_table(job, groups, out)
+        }
+
         fn by_shot(&self, outcomes: u64, shots: u64, deltas: &[u64], rows: &mut [u64]) -> Answer {
             Plain.by_shot(outcomes, shots, deltas, rows)
         }

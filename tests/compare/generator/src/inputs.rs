@@ -6,8 +6,8 @@ use crate::random::Random;
 use checker::calls::{Calls, Draws};
 use checker::gaps::fault_shot;
 use checker::job::{
-    Distribution, Header, Instruction, Job, MAX_BYTES, MAX_LIST, MAX_OUTCOMES, MAX_PRINTED_BYTES, MAX_SHOTS, Noise,
-    Pauli, usize_of,
+    Distribution, Header, Instruction, Job, MAX_BYTES, MAX_GROUPS, MAX_LIST, MAX_OUTCOMES, MAX_PRINTED_BYTES,
+    MAX_SHOTS, MAX_SPREAD, Noise, Pauli, usize_of,
 };
 use checker::plain::{Plain, settled};
 use checker::read::read;
@@ -44,6 +44,10 @@ fn shape(random: &mut Random, call: Call) -> Shape {
         }
         Call::Check => Shape { noise: random.pick(&[2, 2, 30]), ..ANY },
         Call::Correlation => Shape { noise: 60, ..ANY },
+        Call::FaultTable => {
+            let spread = Some(if random.one_in(8) { MAX_SPREAD + 1 } else { MAX_SPREAD });
+            Shape { noise: random.pick(&[2, 6, 20]), spread, ..size }
+        }
         Call::Annotate | Call::Locations | Call::ByShot | Call::ByOutcome => ANY,
     }
 }
@@ -58,6 +62,7 @@ fn large(random: &mut Random, call: Call) -> Made {
     let (instruction, most) = match call {
         Call::Settle => (always(pauli), 8),
         Call::Annotate => (Instruction::Pauli(pauli), 10_000),
+        Call::FaultTable => (Instruction::Noise(Box::new(spread(random, MAX_SPREAD))), 300),
         Call::Run | Call::Print => (Instruction::Exponential(pauli), 60),
         _ => (Instruction::Exponential(pauli), 10_000),
     };
@@ -70,6 +75,12 @@ fn large(random: &mut Random, call: Call) -> Made {
 fn always(pauli: Pauli) -> Instruction {
     let noise = Noise::unconditional(1.0_f64.to_bits(), Distribution::Single(pauli));
     Instruction::Noise(Box::new(Noise { correlation: Some(0), ..noise }))
+}
+
+/// Depolarizing noise over so many qubits.
+fn spread(random: &mut Random, qubits: usize) -> Noise {
+    let qubits = random.distinct(256, qubits).into_iter().collect();
+    Noise::unconditional(0.0_f64.to_bits(), Distribution::Depolarizing(qubits))
 }
 
 /// A job as long as the call takes, or a byte less or more: lines of two lengths without a common divisor.
@@ -115,7 +126,12 @@ pub fn lent(random: &mut Random, call: Call, bytes: &[u8]) -> Input {
             input.shot = walk_shot(random, &job);
             input.set = walk_set(random, job.recorded);
         }
-        Call::Check | Call::Locations | Call::Correlation | Call::ByShot | Call::ByOutcome | Call::Print => {}
+        Call::FaultTable => {
+            input.groups = groups(random, job.recorded);
+            let need = Plain.fault_table(bytes, &input.groups, &mut vec![0; MAX_BYTES]).figure;
+            input.out_len = length_near(random, usize_of(need));
+        }
+        _ => {}
     }
     input
 }
@@ -174,17 +190,65 @@ fn walk_shot(random: &mut Random, job: &Job<'_>) -> u64 {
 
 /// A set of recorded outcomes, now and then with an unrecorded one, a repeat or out of order.
 fn walk_set(random: &mut Random, recorded: u64) -> Vec<u64> {
-    let most = if random.one_in(2) { recorded } else { recorded.min(3) };
-    let count = usize_of(random.between(0, most));
-    let mut set = random.subset(recorded, count);
+    let mut set = recorded_set(random, recorded);
     match random.below(30) {
-        0 => set.push(past(random, recorded)),
-        1 => set.extend(set.last().copied()),
-        2 => set.reverse(),
+        kind @ 0..3 => damage_set(random, kind, recorded, &mut set),
         3 => set = (0..recorded).collect(),
         _ => {}
     }
     set
+}
+
+/// A set of recorded outcomes.
+fn recorded_set(random: &mut Random, recorded: u64) -> Vec<u64> {
+    let most = if random.one_in(2) { recorded } else { recorded.min(3) };
+    let count = usize_of(random.between(0, most));
+    random.subset(recorded, count)
+}
+
+/// An unrecorded outcome, a repeat, or the other order.
+fn damage_set(random: &mut Random, kind: u64, recorded: u64, set: &mut Vec<u64>) {
+    match kind {
+        0 => set.push(past(random, recorded)),
+        1 => set.extend(set.last().copied()),
+        _ => set.reverse(),
+    }
+}
+
+/// Groups of outcomes in one list, each group's length before its ids: mostly a few; now and then none, as many as may be, or one more. Some have a group
+/// that is no set of recorded outcomes, or are damaged as a list.
+fn groups(random: &mut Random, recorded: u64) -> Vec<u64> {
+    let count = match random.below(20) {
+        0 => 0,
+        1 => MAX_GROUPS + 1,
+        2..5 => MAX_GROUPS,
+        _ => 1 + random.index(5),
+    };
+    let mut groups: Vec<Vec<u64>> = (0..count).map(|_| recorded_set(random, recorded)).collect();
+    if count > 0 && random.one_in(12) {
+        let place = if random.one_in(2) { count - 1 } else { random.index(count) };
+        let kind = random.below(3);
+        damage_set(random, kind, recorded, &mut groups[place]);
+    }
+    let with_length = |group: Vec<u64>| [vec![group.len() as u64], group].concat();
+    let mut list: Vec<u64> = groups.into_iter().flat_map(with_length).collect();
+    if random.one_in(10) {
+        damage_groups(random, &mut list);
+    }
+    list
+}
+
+/// A list of groups cut short, with a length that is too large, or with another number.
+fn damage_groups(random: &mut Random, list: &mut Vec<u64>) {
+    let place = random.index(list.len() + 1);
+    match random.below(5) {
+        0 => _ = list.pop(),
+        1 => list.truncate(place),
+        2 => list.push(past(random, 1)),
+        3 if place < list.len() => list[place] = past(random, 0),
+        _ if place < list.len() => list[place] = list[place].wrapping_add(random.pick(&[1, u64::MAX])),
+        _ => list.push(1),
+    }
 }
 
 /// Mostly what is needed; now and then a little more, or less.

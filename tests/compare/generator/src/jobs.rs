@@ -2,7 +2,8 @@
 
 use crate::random::Random;
 use checker::job::{
-    Distribution, Header, Instruction, List, MAX_CLIFFORD_QUBITS, MAX_LIST, Noise, Pauli, max_gate, table_of_rows, usize_of,
+    Distribution, Header, Instruction, List, MAX_CLIFFORD_QUBITS, MAX_LIST, Noise, Pauli, max_gate, table_of_rows,
+    usize_of,
 };
 use checker::write;
 
@@ -23,6 +24,8 @@ pub struct Shape {
     pub tables: u64,
     /// Whether noise lines need draws.
     pub draws: bool,
+    /// Most qubits of depolarizing noise, where all numbers up to it come alike.
+    pub spread: Option<usize>,
 }
 
 /// Any job of a header's limits.
@@ -34,6 +37,7 @@ pub const ANY: Shape = Shape {
     noise: 2,
     tables: 0,
     draws: true,
+    spread: None,
 };
 
 /// Jobs small enough to go through every set and shot.
@@ -45,6 +49,7 @@ pub const SMALL: Shape = Shape {
     noise: 2,
     tables: 0,
     draws: true,
+    spread: None,
 };
 
 /// Jobs with little room and many lines, so that what a line does is noticed by others.
@@ -56,6 +61,7 @@ pub const DENSE: Shape = Shape {
     noise: 2,
     tables: 0,
     draws: true,
+    spread: None,
 };
 
 /// A job as data.
@@ -228,6 +234,17 @@ impl Maker<'_> {
         self.qubits(count)
     }
 
+    /// The qubits of depolarizing noise.
+    fn spread(&mut self) -> List {
+        match self.shape.spread {
+            Some(most) => {
+                let count = 1 + self.random.index(most);
+                self.qubits(count)
+            }
+            None => self.operands(MAX_LIST),
+        }
+    }
+
     /// Qubits to permute: from three on, there and back can differ.
     fn places(&mut self) -> List {
         if self.random.one_in(3) {
@@ -358,7 +375,7 @@ impl Maker<'_> {
         match (kind, size) {
             (0, None | Some(1)) => Distribution::Single(self.pauli()),
             (1, Some(3)) => Distribution::Depolarizing(self.operands(1)),
-            (1, None) => Distribution::Depolarizing(self.operands(MAX_LIST)),
+            (1, None) => Distribution::Depolarizing(self.spread()),
             (0 | 2, _) => {
                 let count = self.elements(size);
                 Distribution::Uniform((0..count).map(|_| self.pauli()).collect())

@@ -55,6 +55,21 @@ pub fn noisy_gates(header: Header, gates: usize, p: f64) -> Made {
     measured(Made { header, instructions })
 }
 
+/// Gate lines, with depolarizing noise on the qubits of each so many.
+#[must_use]
+pub fn seldom_noisy(header: Header, gates: usize, every: usize, p: f64) -> Made {
+    let mut random = Random::new(7);
+    let mut instructions = Vec::new();
+    for place in 0..gates {
+        let gate = gate(&mut random, header.qubits);
+        let Instruction::Unitary { qubits, .. } = &gate else { unreachable!("a gate") };
+        let noise = (place % every == 0).then(|| depolarizing(qubits.clone(), p));
+        instructions.push(gate);
+        instructions.extend(noise);
+    }
+    Made { header, instructions }
+}
+
 /// Noise lines alone.
 #[must_use]
 pub fn noise(header: Header, lines: usize, p: f64) -> Made {

@@ -21,6 +21,7 @@ pub struct Program {
 }
 
 /// A line: an instruction of a circuit, one of the three things that `FramePropagator` is told directly, or one of the second edition.
+#[derive(Clone)]
 enum Step {
     Instruction(Published),
     ControlledY { control: usize, target: usize },
@@ -80,6 +81,34 @@ impl Program {
         };
         until_spent(run).ok_or(Refusal::at(14, at))?;
         Ok(Executed { propagator, header: self.header, recorded: self.recorded, words_read: rng.read() })
+    }
+
+    /// The header's numbers.
+    #[must_use]
+    pub fn header(&self) -> Header {
+        self.header
+    }
+
+    /// The program with the elements of its noise lines as its only injections, each in a shot of its own, in the order of the published `elements`; its own
+    /// injections, flips and noise are left out. Beside it, the number of each noise line and how many elements it has.
+    #[must_use]
+    pub fn single_faults(&self) -> (Self, Vec<(u64, usize)>) {
+        let (mut steps, mut sizes, mut shots) = (Vec::new(), Vec::new(), 0);
+        for (line, step) in &self.steps {
+            match step {
+                Step::Instruction(Published::Noise { fault }) => {
+                    let elements = fault.distribution.elements();
+                    sizes.push((*line, elements.len()));
+                    for (pauli, _) in elements {
+                        steps.push((*line, Step::Inject(shots, pauli)));
+                        shots += 1;
+                    }
+                }
+                Step::Inject(..) | Step::Flip(..) => {}
+                _ => steps.push((*line, step.clone())),
+            }
+        }
+        (Self { header: Header { shots: shots as u64, ..self.header }, recorded: self.recorded, steps }, sizes)
     }
 
     /// The job's instructions as a circuit, which has no resets, barriers, injections and flips.

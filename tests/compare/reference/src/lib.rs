@@ -11,6 +11,7 @@ use checker::calls::{Answer, Calls, Draws, Rows};
 use checker::job::{Header, Instruction, Job, Refusal, usize_of};
 use checker::plain::around::noise_list;
 use checker::plain::by_shot::Shape;
+use checker::plain::fault_table::{need_groups, row};
 use checker::plain::{bit, deliver, deliver_settled, need_probability, need_walkable, need_words, print_with};
 use checker::read::{check, read};
 use checker::write;
@@ -48,6 +49,11 @@ impl Calls for Reference {
 
     fn correlation(&self, job: &[u8]) -> Answer {
         Answer::of(read(job).and_then(|job| Program::new(&job).validate_correlated_faults()))
+    }
+
+    fn fault_table(&self, job: &[u8], groups: &[u64], out: &mut [u8]) -> Answer {
+        let text = read(job).and_then(|job| fault_table(&job, groups));
+        text.map_or_else(Answer::from, |text| deliver(&text, out))
     }
 
     fn by_shot(&self, outcomes: u64, shots: u64, deltas: &[u64], rows: &mut [u64]) -> Answer {
@@ -152,14 +158,48 @@ fn walk(job: &Job<'_>, shot: u64, set: &[u64]) -> Result<u64, Refusal> {
         }
         _ => true,
     });
-    if faults == 0 {
-        return Ok(0);
-    }
     apart.header.shots = faults;
-    let no_draws = Draws { base: 0, main: &[], second: &[] };
-    let deltas = all_deltas(&execute(&apart, no_draws, &[])?, &apart.header);
-    let sum = |fault: u64| set.iter().fold(false, |sum, &id| sum ^ bit(&deltas, &apart.header, id, fault));
-    Ok((0..faults).map(|fault| u64::from(sum(fault))).sum())
+    let sums = Sums::of(&apart, &Program::new(&apart))?;
+    Ok((0..faults).map(|fault| u64::from(sums.sum(set, fault))).sum())
+}
+
+/// The table of single faults, by runs: each element of a noise line is an injection in a shot of its own, and the published code runs them all at once.
+fn fault_table(job: &Job<'_>, list: &[u64]) -> Result<Vec<u8>, Refusal> {
+    let groups = need_groups(job, list)?;
+    let (program, sizes) = Program::new(job).single_faults();
+    let sums = Sums::of(job, &program)?;
+    let (mut text, mut fault) = (String::new(), 0);
+    for (line, size) in sizes {
+        for element in 0..size {
+            row(&mut text, line, element, groups.iter().map(|group| sums.sum(group, fault)));
+            fault += 1;
+        }
+    }
+    Ok(text.into_bytes())
+}
+
+/// The deltas of a program without noise that has a fault in each of its shots.
+struct Sums {
+    deltas: Vec<u64>,
+    header: Header,
+}
+
+impl Sums {
+    /// Run the program; without shots it has no deltas.
+    fn of(job: &Job<'_>, program: &Program) -> Result<Self, Refusal> {
+        let header = program.header();
+        let no_draws = Draws { base: 0, main: &[], second: &[] };
+        let deltas = match header.shots {
+            0 => Vec::new(),
+            _ => all_deltas(&program.execute(0, &[], &lend(job, &no_draws, &[]))?, &header),
+        };
+        Ok(Self { deltas, header })
+    }
+
+    /// What the deltas of some outcomes sum to in a shot.
+    fn sum(&self, ids: &[u64], shot: u64) -> bool {
+        ids.iter().fold(false, |sum, &id| sum ^ bit(&self.deltas, &self.header, id, shot))
+    }
 }
 
 fn annotated(bytes: &[u8], p: u64) -> Result<Vec<u8>, Refusal> {

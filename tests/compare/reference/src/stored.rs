@@ -243,6 +243,7 @@ fn case(call: Call, fields: &Fields) -> Case {
         p: u64::from_str_radix(&text("p"), 16).unwrap_or(0),
         shot: number("shot"),
         set: split(&text("set"), 10),
+        groups: split(&text("groups"), 10),
         outcomes: number("outcomes"),
         shots: number("shots"),
         rows: words("rows"),
@@ -258,7 +259,7 @@ fn case(call: Call, fields: &Fields) -> Case {
         rows: words("after_rows"),
         bytes: match call {
             Call::Print => bytes("stdout"),
-            Call::Settle | Call::Annotate => written_over(&bytes("text"), input.out_len),
+            _ if call.writes_text() => written_over(&bytes("text"), input.out_len),
             _ => Vec::new(),
         },
     };

@@ -7,7 +7,7 @@ use crate::stored::Case;
 use checker::calls::{Answer, Calls, Draws, Rows};
 
 /// The calls that have vectors: a file each.
-pub const CALLS: [Call; 10] = [
+pub const CALLS: [Call; 11] = [
     Call::Check,
     Call::Run,
     Call::Settle,
@@ -15,6 +15,7 @@ pub const CALLS: [Call; 10] = [
     Call::Annotate,
     Call::Locations,
     Call::Correlation,
+    Call::FaultTable,
     Call::ByShot,
     Call::ByOutcome,
     Call::Print,
@@ -31,6 +32,7 @@ pub enum Call {
     Annotate,
     Locations,
     Correlation,
+    FaultTable,
     ByShot,
     ByOutcome,
     Print,
@@ -41,6 +43,12 @@ impl Call {
     #[must_use]
     pub fn is_on_job(self) -> bool {
         !matches!(self, Call::ByShot | Call::ByOutcome)
+    }
+
+    /// Whether the call writes a text over lent bytes.
+    #[must_use]
+    pub fn writes_text(self) -> bool {
+        matches!(self, Call::Settle | Call::Annotate | Call::FaultTable)
     }
 
     /// The call's name, as of its subcommand and its file.
@@ -54,6 +62,7 @@ impl Call {
             Call::Annotate => "annotate",
             Call::Locations => "locations",
             Call::Correlation => "correlation",
+            Call::FaultTable => "fault_table",
             Call::ByShot => "by_shot",
             Call::ByOutcome => "by_outcome",
             Call::Print => "print",
@@ -80,6 +89,7 @@ pub struct Input {
     pub p: u64,
     pub shot: u64,
     pub set: Vec<u64>,
+    pub groups: Vec<u64>,
     pub outcomes: u64,
     pub shots: u64,
     pub rows: Vec<u64>,
@@ -143,6 +153,10 @@ impl Input {
             }
             Call::Locations => output.answer = calls.locations(job),
             Call::Correlation => output.answer = calls.correlation(job),
+            Call::FaultTable => {
+                output.bytes = fresh_bytes(self.out_len);
+                output.answer = calls.fault_table(job, &self.groups, &mut output.bytes);
+            }
             Call::ByShot => {
                 output.rows = self.rows.clone();
                 output.answer = calls.by_shot(self.outcomes, self.shots, &self.deltas, &mut output.rows);
@@ -192,6 +206,7 @@ pub fn input_bytes(call: Call, input: &Input) -> Vec<u8> {
         Call::Settle => [base(), out_len(), draws()].concat(),
         Call::Walk => vec![("shot", input.shot.to_string()), ("set", joined(&input.set, 10))],
         Call::Annotate => [out_len(), vec![("p", format!("{:016x}", input.p))]].concat(),
+        Call::FaultTable => [out_len(), vec![("groups", joined(&input.groups, 10))]].concat(),
         Call::ByShot => [counts(), deltas(), by_shot()].concat(),
         Call::ByOutcome => [counts(), by_shot(), deltas()].concat(),
         Call::Check | Call::Locations | Call::Correlation | Call::Print => Vec::new(),
@@ -210,13 +225,13 @@ fn output_bytes(call: Call, output: &Output) -> Vec<u8> {
     let mut bytes = format!("refusal {number}\nline {line}\n").into_bytes();
     let figure_key = match call {
         Call::Walk | Call::Locations => Some("count"),
-        Call::Settle | Call::Annotate => Some("figure"),
-        Call::Check | Call::Run | Call::Correlation | Call::ByShot | Call::ByOutcome | Call::Print => None,
+        _ if call.writes_text() => Some("figure"),
+        _ => None,
     };
     if let Some(key) = figure_key {
         bytes.extend(format!("{key} {figure}\n").into_bytes());
     }
-    if matches!(call, Call::Settle | Call::Annotate) {
+    if call.writes_text() {
         let written = if number == 0 { usize::try_from(figure).expect("within the lent bytes") } else { 0 };
         bytes.extend(with_length("text", &output.bytes[..written]));
     }

@@ -76,6 +76,18 @@ fn choose(distribution: &Distribution, words: &mut Words<'_>) -> Option<Pauli> {
     })
 }
 
+/// Every element, in the distribution's order.
+pub(super) fn elements(distribution: &Distribution) -> Vec<Pauli> {
+    match distribution {
+        Distribution::Single(pauli) => vec![pauli.clone()],
+        Distribution::Depolarizing(qubits) => {
+            (1..=distribution.size()).map(|bits| depolarizing(qubits, bits)).collect()
+        }
+        Distribution::Uniform(paulis) => paulis.clone(),
+        Distribution::Weighted(elements) => elements.iter().map(|(_, pauli)| pauli.clone()).collect(),
+    }
+}
+
 /// A number below `count`, by rejection.
 fn below(count: u64, words: &mut Words<'_>) -> Option<u64> {
     let bound = u64::MAX - u64::MAX % count;

@@ -1,0 +1,2 @@
+-- Laws: rows and their bytes.
+pub mod Putting

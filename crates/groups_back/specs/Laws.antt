@@ -1,0 +1,2 @@
+-- Laws: lines back for groups.
+pub mod Lines

@@ -1,0 +1,3 @@
+-- Laws: characters that are kept, and noise lines by their forms.
+pub mod Keeping
+pub mod Kinds

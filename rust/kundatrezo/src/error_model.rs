@@ -1,0 +1,236 @@
+//! A job's noise as a detector error model.
+
+use crate::noise::{Kind, Noise, weight};
+use crate::{Answer, MAX_GROUPS, Number, fault_table};
+use std::collections::HashMap;
+use std::fmt;
+use std::ops::RangeInclusive;
+
+/// The noise of a job as a detector error model, which decoders read: for each element of each noise line its probability, and which detectors and logical
+/// observables it flips. A detector or an observable is a group of recorded outcomes, rising strictly, whose sum is 0 modulo 2 where no fault falls, or is
+/// known by other means. There may be any number of them, and of elements: the engine is asked for several tables.
+///
+/// The probability of an element is p with d=1, p / (4^k - 1) with d=2 over k qubits, p / n with d=3, and p times its weight's part of all weights with d=4.
+/// An error model takes its mechanisms for independent, so it only approximates a noise line, of whose elements one falls at most; docs/FAULTS.md of the
+/// repository says by how much. Conditions are not looked at: probabilities are those of shots in which they hold. Lines of one correlation that also agree in
+/// p, condition, kind and size (with d=4, in weights) fall together, and so their elements are one mechanism, which flips what all of them flip.
+///
+/// # Errors
+///
+/// The refusal by a test of the job, 17 (a group that doesn't rise strictly, or has an outcome that is not recorded) or 24 (no groups at all, with line 0; else
+/// the first noise line with d=2 over more than four qubits).
+///
+/// ```
+/// use kundatrezo::error_model;
+///
+/// // the repetition code of three bits: two parities, and a bit for the logical one
+/// let flip = |qubit: usize| format!("op=n p=3fb999999999999a corr=- cond=- parity=0 d=1 x={qubit} z=- size=1\n");
+/// let noise: String = (0..3).map(flip).collect();
+/// let job = format!("op=job qubits=3 outcomes=3 shots=1\n{noise}op=o x=- z=0,1 id=0\nop=o x=- z=1,2 id=1\nop=o x=- z=0 id=2\n");
+/// let model = error_model(job.as_bytes(), &[vec![0], vec![1]], &[vec![2]])?;
+/// assert_eq!(model.to_string(), "error(0.1) D0 L0\nerror(0.1) D0 D1\nerror(0.1) D1\n");
+/// # Ok::<(), kundatrezo::Refusal>(())
+/// ```
+pub fn error_model(job: &[u8], detectors: &[Vec<u64>], observables: &[Vec<u64>]) -> Answer<ErrorModel> {
+    let lines = noise_lines(job);
+    let mut flips = all_flips(job, &lines, &[detectors, observables].concat())?.into_iter();
+    let mut mechanisms: Vec<Mechanism> = Vec::new();
+    let mut together: HashMap<String, usize> = HashMap::new();
+    for line in lines {
+        let first = match line.noise.correlation {
+            Some(_) => *together.entry(line.drawn()).or_insert(mechanisms.len()),
+            None => mechanisms.len(),
+        };
+        for (element, (p, flips)) in line.probabilities().into_iter().zip(&mut flips).enumerate() {
+            match mechanisms.get_mut(first + element) {
+                Some(earlier) => earlier.flip(&flips),
+                None => mechanisms.push(Mechanism {
+                    line: line.number,
+                    element,
+                    p,
+                    has_condition: !line.noise.condition.is_empty(),
+                    flips,
+                    detectors: detectors.len(),
+                }),
+            }
+        }
+    }
+    Ok(ErrorModel { detectors: detectors.len(), observables: observables.len(), mechanisms })
+}
+
+/// The groups that each element of some noise lines flips, line by line. Tables are made for sixteen groups at a time, and where one is too long, for each half
+/// of the lines by itself: noise in other lines counts as absent, so that a job without it has the same rows.
+fn all_flips(job: &[u8], lines: &[Line<'_>], groups: &[Vec<u64>]) -> Answer<Vec<Vec<usize>>> {
+    let mut all: Vec<Vec<usize>> = Vec::new();
+    // without groups there is a call all the same, which refuses them
+    for first in (0..groups.len().max(1)).step_by(MAX_GROUPS) {
+        let table = match fault_table(job, &groups[first..groups.len().min(first + MAX_GROUPS)]) {
+            Err(refusal) if refusal.number == Number::ROOM && lines.len() > 1 => {
+                let (one, other) = lines.split_at(lines.len() / 2);
+                let [one, other] = [without(job, other), without(job, one)];
+                let halves = [one, other].map(|job| all_flips(&job, &noise_lines(&job), groups));
+                return halves.into_iter().collect::<Answer<Vec<_>>>().map(|halves| halves.concat());
+            }
+            table => table?,
+        };
+        all.resize(table.iter().count(), Vec::new());
+        for (flips, fault) in all.iter_mut().zip(table.iter()) {
+            flips.extend(fault.flipped().map(|group| first + group));
+        }
+    }
+    Ok(all)
+}
+
+/// The job without some of its noise lines, and their elements.
+fn without(job: &[u8], lines: &[Line<'_>]) -> Vec<u8> {
+    let mut left_out = lines.iter().flat_map(Line::numbers).peekable();
+    let kept = |(place, _): &(usize, &[u8])| left_out.next_if_eq(&(place + 1)).is_none();
+    job.split_inclusive(|byte| *byte == b'\n').enumerate().filter(kept).flat_map(|(_, line)| line).copied().collect()
+}
+
+/// A noise line of an accepted job, with the weights of its elements.
+struct Line<'a> {
+    number: usize,
+    text: &'a str,
+    noise: Noise,
+    weights: Vec<f64>,
+}
+
+impl Line<'_> {
+    /// The numbers of the line and its element lines.
+    fn numbers(&self) -> RangeInclusive<usize> {
+        let elements = match self.noise.kind {
+            Kind::Single | Kind::Depolarizing => 0,
+            Kind::Uniform | Kind::Weighted => crate::size(self.noise.size),
+        };
+        self.number..=self.number + elements
+    }
+
+    /// The probability of each element.
+    #[allow(clippy::cast_precision_loss)]
+    fn probabilities(&self) -> Vec<f64> {
+        // no fault falls with a p below zero
+        let p = self.noise.p.max(0.0);
+        match self.noise.kind {
+            Kind::Weighted => {
+                let total = self.weights.iter().fold(0.0, |sum, weight| sum + weight);
+                self.weights.iter().map(|weight| p * (weight / total)).collect()
+            }
+            _ => vec![p / self.noise.size as f64; crate::size(self.noise.size)],
+        }
+    }
+
+    /// All that decides when its elements fall: what it has in common with the lines that fall together with it.
+    fn drawn(&self) -> String {
+        let (common, _) = self.text.split_once(" d=").expect("a noise line has its kind");
+        let weights: Vec<u64> = self.weights.iter().map(|weight| weight.to_bits()).collect();
+        format!("{common} {:?} {} {weights:?}", self.noise.kind, self.noise.size)
+    }
+}
+
+/// The noise lines of a job, which passed the checks.
+fn noise_lines(job: &[u8]) -> Vec<Line<'_>> {
+    let text = std::str::from_utf8(job).unwrap_or_default();
+    let mut lines: Vec<Line<'_>> = Vec::new();
+    for (place, text) in text.lines().enumerate() {
+        if let Some(noise) = Noise::read(text) {
+            lines.push(Line { number: place + 1, text, noise, weights: Vec::new() });
+        } else if let (Some(weight), Some(line)) = (weight(text), lines.last_mut()) {
+            line.weights.push(weight);
+        }
+    }
+    lines
+}
+
+/// A detector error model, by [`error_model`]. It is written, by `Display`, in the form of files that decoders read: a line `error(P) D0 D1 L0` for each
+/// mechanism that can fall and flips anything, P in the fewest digits that give the same binary64 back, and a line for each detector and each observable
+/// that none of them flips.
+#[derive(Debug, Clone, PartialEq)]
+pub struct ErrorModel {
+    detectors: usize,
+    observables: usize,
+    mechanisms: Vec<Mechanism>,
+}
+
+impl ErrorModel {
+    /// How many detectors there are.
+    #[must_use]
+    pub fn detectors(&self) -> usize {
+        self.detectors
+    }
+
+    /// How many logical observables there are.
+    #[must_use]
+    pub fn observables(&self) -> usize {
+        self.observables
+    }
+
+    /// Every mechanism, one for each element of each noise line, but for lines that fall together, which have theirs in common. Those that never fall and those
+    /// that flip nothing are among them.
+    #[must_use]
+    pub fn mechanisms(&self) -> &[Mechanism] {
+        &self.mechanisms
+    }
+}
+
+/// A way in which a fault may fall.
+#[derive(Debug, Clone, PartialEq)]
+#[non_exhaustive]
+pub struct Mechanism {
+    /// The noise line's number in the job, from 1; that of the first where several fall together.
+    pub line: usize,
+    /// The element of its distribution, from 0.
+    pub element: usize,
+    /// Its probability, in shots in which the condition of its noise line, if it has one, holds.
+    pub p: f64,
+    /// Whether there is such a condition.
+    pub has_condition: bool,
+    /// The groups that it flips, rising: detectors, then observables.
+    flips: Vec<usize>,
+    detectors: usize,
+}
+
+impl Mechanism {
+    /// The detectors that it flips, rising.
+    pub fn detectors(&self) -> impl Iterator<Item = usize> {
+        self.flips.iter().copied().take_while(|group| *group < self.detectors)
+    }
+
+    /// The observables that it flips, rising.
+    pub fn observables(&self) -> impl Iterator<Item = usize> {
+        self.flips.iter().filter_map(|group| group.checked_sub(self.detectors))
+    }
+
+    /// Add what a fault flips that falls together with it.
+    fn flip(&mut self, other: &[usize]) {
+        let own = std::mem::take(&mut self.flips);
+        self.flips = own.iter().filter(|group| !other.contains(group)).copied().collect();
+        self.flips.extend(other.iter().filter(|group| !own.contains(group)));
+        self.flips.sort_unstable();
+    }
+}
+
+impl fmt::Display for ErrorModel {
+    fn fmt(&self, f: &mut fmt::Formatter<'_>) -> fmt::Result {
+        let mut seen = vec![false; self.detectors + self.observables];
+        for mechanism in self.mechanisms.iter().filter(|mechanism| mechanism.p > 0.0 && !mechanism.flips.is_empty()) {
+            writeln!(f, "{mechanism}")?;
+            mechanism.flips.iter().for_each(|group| seen[*group] = true);
+        }
+        let (detectors, observables) = seen.split_at(self.detectors);
+        for (name, seen) in [("detector D", detectors), ("logical_observable L", observables)] {
+            for (place, _) in seen.iter().enumerate().filter(|(_, seen)| !**seen) {
+                writeln!(f, "{name}{place}")?;
+            }
+        }
+        Ok(())
+    }
+}
+
+impl fmt::Display for Mechanism {
+    fn fmt(&self, f: &mut fmt::Formatter<'_>) -> fmt::Result {
+        write!(f, "error({:?})", self.p)?;
+        self.detectors().try_for_each(|place| write!(f, " D{place}"))?;
+        self.observables().try_for_each(|place| write!(f, " L{place}"))
+    }
+}

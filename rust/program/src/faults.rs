@@ -1,0 +1,81 @@
+//! What each possible fault does, as a table and as a detector error model.
+
+use crate::Failure;
+use crate::arguments::{Arguments, Flag};
+use crate::commands::{examined, list, write_out};
+use kundatrezo::{Answer, MAX_BYTES, MAX_GROUPS, Number, Refusal};
+
+const GROUP: Flag = Flag {
+    name: "--group",
+    value: "L..",
+    text: "a group of outcomes, rising, with commas between; - for an empty one",
+};
+const DETECTOR: Flag =
+    Flag { name: "--detector", value: "L..", text: "the outcomes whose sum is the next detector: D0, D1, .." };
+const OBSERVABLE: Flag = Flag {
+    name: "--observable",
+    value: "L..",
+    text: "the outcomes whose sum is the next logical observable: L0, L1, ..",
+};
+
+pub const TABLE_FLAGS: &[Flag] = &[GROUP];
+pub const MODEL_FLAGS: &[Flag] = &[DETECTOR, OBSERVABLE];
+
+pub const TABLE: &str = "\
+Writes the table of single faults: for each noise line and each element of its distribution 'line=' with the
+line's number in the job, 'el=' with the element's, from 0, and 'groups=' with a digit for each --group, in
+their order: 1 where this fault alone changes the sum of the group's outcomes. The job's injections and flips
+and all other noise count as absent, and probabilities, conditions and words play no part. A table has 1 to
+16 groups, each with a --group of its own.";
+
+pub const MODEL: &str = "\
+Writes the noise of a job as a detector error model, which decoders read: a line 'error(P) D0 D1 L0' for each
+element of each noise line, with its probability and the detectors and logical observables that it flips,
+but for elements that never fall or flip nothing; then a line for each detector and each observable that
+none of them flips. --detector or --observable is wanted, each as often as there are such sums of outcomes.";
+
+pub const APPROXIMATION: &str = "\
+Decoders take the errors of a model for independent, while of a noise line's elements one falls at most: for
+small p the difference is of the order of p squared. Lines of one corr that draw alike are one error each.
+The p of a line with a condition is that of shots in which it holds. docs/FAULTS.md has more.";
+
+pub fn table(arguments: &Arguments) -> Result<(), Failure> {
+    let groups = groups(arguments, &GROUP)?;
+    let table = called(arguments, |job| kundatrezo::fault_table(job, &groups))?;
+    write_out(arguments, table.text().as_bytes())
+}
+
+pub fn model(arguments: &Arguments) -> Result<(), Failure> {
+    let [detectors, observables] = [groups(arguments, &DETECTOR)?, groups(arguments, &OBSERVABLE)?];
+    if detectors.is_empty() && observables.is_empty() {
+        return Err(Failure::Other(format!("{} or {} is wanted", DETECTOR.name, OBSERVABLE.name)));
+    }
+    let model = called(arguments, |job| kundatrezo::error_model(job, &detectors, &observables))?;
+    write_out(arguments, model.to_string().as_bytes())?;
+    if model.mechanisms().iter().any(|mechanism| mechanism.has_condition) {
+        eprintln!("note: noise with a condition has the probability of shots in which it holds");
+    }
+    Ok(())
+}
+
+/// The groups that an option names, in their order.
+fn groups(arguments: &Arguments, flag: &Flag) -> Result<Vec<Vec<u64>>, Failure> {
+    arguments.all_parsed(flag.name, "numbers with commas between, or -", list)
+}
+
+/// Make a call on the job, and say what to do where it refuses.
+fn called<T>(arguments: &Arguments, call: impl FnOnce(&[u8]) -> Answer<T>) -> Result<T, Failure> {
+    let (job, examined) = examined(arguments)?;
+    let remedy = |refusal: &Refusal| match (refusal.number, examined.recorded) {
+        (Number::WALK, 0) => Some("the job records no outcome".into()),
+        (Number::WALK, some) => Some(format!("a group names recorded outcomes, 0 to {}, and rises strictly", some - 1)),
+        (Number::GROUPS, _) if refusal.line == 0 => {
+            Some(format!("each {} is a group, and a table has 1 to {MAX_GROUPS} of them", GROUP.name))
+        }
+        (Number::ROOM, _) => {
+            Some(format!("the table has more than {MAX_BYTES} bytes: leave out noise lines, and make several tables"))
+        }
+        _ => None,
+    };
+    call(&job).map_err(|refusal| Failure::refused(&refusal, &job, remedy(&refusal)))
+}
