@@ -94,7 +94,7 @@ struct kundatrezo_examination {
 
 #define KUNDATREZO_LENGTH 1       /* line 0 */
 #define KUNDATREZO_FORM 2         /* the bad line; where element lines are missing, the last line */
-#define KUNDATREZO_HEADER 3       /* the bad line; 0 for the counts that kundatrezo_by_shot and kundatrezo_by_outcome are given */
+#define KUNDATREZO_HEADER 3       /* the bad line; 0 for the numbers that kundatrezo_by_shot, kundatrezo_by_outcome and kundatrezo_make are given */
 #define KUNDATREZO_QUBIT 4        /* the bad line */
 #define KUNDATREZO_OPERANDS 5     /* the bad line */
 #define KUNDATREZO_PERMUTATION 6  /* the bad line */
@@ -113,6 +113,7 @@ struct kundatrezo_examination {
 #define KUNDATREZO_SIZES 19       /* the later line */
 #define KUNDATREZO_CONTROL 20     /* the bad line; a test of the job, after 12 */
 #define KUNDATREZO_SIZE 21        /* the noise line; a test of the job, after 12 */
+#define KUNDATREZO_SEED 22        /* line 0 */
 #define KUNDATREZO_EDITION 23     /* line 1; a test of the job, after 3 */
 #define KUNDATREZO_GROUPS 24      /* line 0 for the number of groups; else the first noise line with too many qubits */
 
@@ -142,6 +143,7 @@ static inline const char *kundatrezo_refusal_text(uint64_t number)
     case KUNDATREZO_SIZES: return "sizes of one correlation differ";
     case KUNDATREZO_CONTROL: return "control and target of a controlled Pauli anticommute";
     case KUNDATREZO_SIZE: return "the size written differs from the distribution's";
+    case KUNDATREZO_SEED: return "the seed is zero";
     case KUNDATREZO_EDITION: return "the header's edition is neither 1 nor 2";
     case KUNDATREZO_GROUPS: return "no groups, more than 16, or noise with d=2 over more than 4 qubits in a table of single faults";
     default: return "a number that this header does not know";
@@ -162,6 +164,7 @@ static inline int kundatrezo_float_state_ok(void)
 #define KUNDATREZO_SETTLE_STACK 45056
 #define KUNDATREZO_CORRELATION_STACK 12288
 #define KUNDATREZO_FAULT_TABLE_STACK 16384
+#define KUNDATREZO_MAKE_STACK 16384
 #define KUNDATREZO_OTHER_STACK 8192 /* every other call */
 
 /* Words of a row: bit s % 64 of word s / 64 is shot s. */
@@ -253,6 +256,26 @@ struct kundatrezo_text_answer kundatrezo_fault_table(const uint8_t *job, size_t 
 
 /* The correlation check: whether noise lines of one correlation all have one size, as their field size= says it. Nothing is written. */
 struct kundatrezo_answer kundatrezo_correlation(const uint8_t *job, size_t job_len);
+
+/* ---- a reproducible load
+ *
+ * The same seed gives the same words, and the same parameters the same job, on every machine. */
+
+/* Words from a seed: Marsaglia's 64-bit xorshift. The state begins as the seed, and each step changes it by exclusive or with itself shifted left 13, then
+ * right 7, then left 17, all in 64 bits; the new state is the next word. Every word of the list is written. From 1 the first word is 1,082,269,761. The last
+ * word is the seed by which a further call goes on. A seed of 0 is refused by KUNDATREZO_SEED, also for an empty list, and nothing is written.
+ *
+ * The streams of small seeds begin alike: for a series of runs take one stream and go on in it, or seeds that are random themselves. */
+struct kundatrezo_answer kundatrezo_fill(uint64_t seed, uint64_t *words, size_t words_len);
+
+/* A job made from the same stream, by the rule of docs/MAKING.md: a header with these numbers, of an edition that the stream chooses, and as many lines behind
+ * it as are asked for, the element lines of noise not counted. Every made job is accepted by kundatrezo_check, and every kind of line comes up for some seed.
+ * Numbers that a header may not hold are refused by KUNDATREZO_HEADER with line 0, then a seed of 0 by KUNDATREZO_SEED, then a text that does not fit by
+ * KUNDATREZO_ROOM, whose figure is 0. Up to 1,000 lines always fit KUNDATREZO_MAX_BYTES. Bytes of out beyond the text stay, and a refusal writes nothing. */
+struct kundatrezo_text_answer kundatrezo_make(uint64_t qubits, uint64_t outcomes, uint64_t shots, uint64_t lines, uint64_t seed, uint8_t *out,
+                                              size_t out_len);
+
+/* ---- lines, and outcomes by shot */
 
 /* Where a line lies in the job's bytes. */
 struct kundatrezo_line_part {

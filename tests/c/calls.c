@@ -332,6 +332,39 @@ static void correlation(void)
     expect_figure("correlation", KUNDATREZO_SIZES, 3, 0, got, 0);
 }
 
+/* Words from a seed, and a job, which the check accepts and which is the same each time. */
+static void load(void)
+{
+    uint64_t words[3] = {7, 7, 7};
+    struct kundatrezo_answer filled = kundatrezo_fill(0, words, 2);
+    expect_figure("fill from zero", KUNDATREZO_SEED, 0, 7, filled, words[0]);
+    filled = kundatrezo_fill(1, words, 2);
+    expect_figure("fill", 0, 0, 1082269761u, filled, words[0]);
+    expect_figure("fill, words beyond", 0, 0, 7, filled, words[2]);
+    uint64_t second = words[1];
+    filled = kundatrezo_fill(words[0], words, 1);
+    expect_figure("fill goes on", 0, 0, second, filled, words[0]);
+
+    static uint8_t out[2][20000];
+    struct kundatrezo_text_answer made = kundatrezo_make(0, 4, 10, 100, 0, out[0], 0);
+    expect_figure("make without qubits", KUNDATREZO_HEADER, 0, 0, made.answer, made.figure);
+    made = kundatrezo_make(5, 4, 10, 100, 0, out[0], 0);
+    expect_figure("make from zero", KUNDATREZO_SEED, 0, 0, made.answer, made.figure);
+    made = kundatrezo_make(5, 4, 10, 100, 3, out[0], sizeof out[0]);
+    struct kundatrezo_examination found = kundatrezo_examine(out[0], made.figure);
+    expect_figure("make", 0, 0, 5, made.answer, found.qubits);
+    expect_figure("a made job", 0, 0, 4, found.answer, found.outcomes);
+    expect_figure("a made job", 0, 0, 10, found.answer, found.shots);
+    struct kundatrezo_text_answer again = kundatrezo_make(5, 4, 10, 100, 3, out[1], made.figure);
+    expect_figure("make again", 0, 0, made.figure, again.answer, again.figure);
+    if (memcmp(out[0], out[1], made.figure) != 0) {
+        printf("make wrote something else\n");
+        failed = 1;
+    }
+    again = kundatrezo_make(5, 4, 10, 100, 3, out[1], made.figure - 1);
+    expect_figure("make with a byte too few", KUNDATREZO_ROOM, 0, 0, again.answer, again.figure);
+}
+
 static void expect_part(const uint8_t *job, size_t length, uint64_t number, size_t start, size_t len)
 {
     struct kundatrezo_line_part got = kundatrezo_line(job, length, number);
@@ -370,6 +403,7 @@ int main(void)
     annotate_wide();
     correlation();
     fault_table();
+    load();
     line();
     puts(failed ? "calls from C: differences" : "calls from C: 0 differences");
     return failed;

@@ -132,6 +132,17 @@ static void single_faults(unsigned qubits, size_t groups, uint64_t number, uint6
     }
 }
 
+/* A job made with these numbers and no lines. */
+static void made(uint64_t qubits, uint64_t outcomes, uint64_t shots, uint64_t number)
+{
+    uint8_t out[100];
+    struct kundatrezo_text_answer got = kundatrezo_make(qubits, outcomes, shots, 0, 1, out, sizeof out);
+    if (got.answer.number != number || got.answer.line != 0) {
+        printf("make: %llu\n", (unsigned long long)got.answer.number);
+        failed = 1;
+    }
+}
+
 static void version(void)
 {
     char numbers[100];
@@ -177,6 +188,13 @@ int main(int count, char **arguments)
     single_faults(KUNDATREZO_MAX_FAULT_QUBITS + 1, KUNDATREZO_MAX_GROUPS, KUNDATREZO_GROUPS, 2);
     single_faults(KUNDATREZO_MAX_FAULT_QUBITS + 1, KUNDATREZO_MAX_GROUPS + 1, KUNDATREZO_GROUPS, 0);
     single_faults(1, 0, KUNDATREZO_GROUPS, 0);
+    made(KUNDATREZO_MAX_QUBITS, KUNDATREZO_MAX_OUTCOMES, KUNDATREZO_MAX_SHOTS, 0);
+    made(1, 0, 1, 0);
+    made(KUNDATREZO_MAX_QUBITS + 1, 0, 1, KUNDATREZO_HEADER);
+    made(1, KUNDATREZO_MAX_OUTCOMES + 1, 1, KUNDATREZO_HEADER);
+    made(1, 0, KUNDATREZO_MAX_SHOTS + 1, KUNDATREZO_HEADER);
+    made(0, 0, 1, KUNDATREZO_HEADER);
+    made(1, 0, 0, KUNDATREZO_HEADER);
     bytes(KUNDATREZO_MAX_BYTES, 0);
     bytes(KUNDATREZO_MAX_BYTES + 1, KUNDATREZO_LENGTH);
     puts(failed ? "limits of the C header: differences" : "limits of the C header: 0 differences");

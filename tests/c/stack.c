@@ -96,6 +96,10 @@ static void correlation(void) { kundatrezo_correlation(NOISY); }
 
 static void line(void) { kundatrezo_line(NOISY, 20); }
 
+static void fill(void) { kundatrezo_fill(1, main_words, 1000); }
+
+static void make(void) { kundatrezo_make(256, 1024, 4096, 1000, 1, out, sizeof out); }
+
 static void by_shot(void) { kundatrezo_by_shot(130, 129, main_words, 390, second, 387); }
 
 static void by_outcome(void) { kundatrezo_by_outcome(130, 129, main_words, 387, second, 390); }
@@ -136,6 +140,8 @@ static const struct {
     {"fault_table", fault_table, KUNDATREZO_FAULT_TABLE_STACK},
     {"correlation", correlation, KUNDATREZO_CORRELATION_STACK},
     {"line", line, KUNDATREZO_OTHER_STACK},
+    {"fill", fill, KUNDATREZO_OTHER_STACK},
+    {"make", make, KUNDATREZO_MAKE_STACK},
     {"by_shot", by_shot, KUNDATREZO_OTHER_STACK},
     {"by_outcome", by_outcome, KUNDATREZO_OTHER_STACK},
 };
@@ -171,7 +177,7 @@ static int accepted(void)
     struct kundatrezo_answer shots = kundatrezo_by_shot(130, 129, main_words, 390, second, 387);
     struct kundatrezo_answer outcomes = kundatrezo_by_outcome(130, 129, main_words, 387, second, 390);
     return shots.number == 0 && outcomes.number == 0 && kundatrezo_correlation(NOISY).number == 0 && walked.answer.number == 0 && settled.answer.number == 0 && annotated.answer.number == 0 &&
-           tabled.answer.number == 0;
+           tabled.answer.number == 0 && kundatrezo_make(256, 1024, 4096, 1000, 1, out, sizeof out).answer.number == 0;
 }
 
 int main(void)

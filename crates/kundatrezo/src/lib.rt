@@ -12,10 +12,12 @@ ghost use Rattle.writer.specs.Reply.{textReply};
 ghost use Rattle.run.specs.Run.{runReply};
 ghost use Rattle.backward.specs.Settling.{settleReply};
 ghost use Rattle.backward.specs.Walking.{walkReply};
+ghost use Rattle.made.specs.Made.{makeReply};
 ghost use Rattle.circuit.specs.Replies.{annotateReply, locationsReply, correlationReply};
 ghost use Rattle.line_reader.specs.Reading.{partNumbered};
 ghost use Rattle.single_faults.specs.Table.{tableReply};
 ghost use Rattle.by_shot.specs.Reply.{byShotReply, byOutcomeReply};
+ghost use Rattle.stream.specs.Stream.{fillReply};
 use examination::Examination;
 use job::Answer;
 use job::CountReply;
@@ -171,4 +173,27 @@ pub extern "C" fn kundatrezo_fault_table(job: &[u8], groups: &[u64], out: &mut [
     ensures { λ r. ⌜ textReply r (now (out .exit)) ≡ tableReply (now (job .entry)) (now (groups .entry)) (now (out .entry)) ⌝ }
 {
     fault_table::fault_table(job, groups, out)
+}
+
+// The words of the stream that a seed gives.
+#[no_mangle]
+pub extern "C" fn kundatrezo_fill(seed: u64, words: &mut [u64]) -> Answer
+    ensures { λ r. ⌜ fillReply seed (now (words .entry)) ≡ record { answered = r; words = now (words .exit) } ⌝ }
+{
+    stream::fill(seed, words)
+}
+
+// A whole job from a seed.
+#[no_mangle]
+pub extern "C" fn kundatrezo_make(
+    qubits: u64,
+    outcomes: u64,
+    shots: u64,
+    lines: u64,
+    seed: u64,
+    out: &mut [u8],
+) -> TextAnswer
+    ensures { λ r. ⌜ textReply r (now (out .exit)) ≡ makeReply qubits outcomes shots lines seed (now (out .entry)) ⌝ }
+{
+    job_maker::make(qubits, outcomes, shots, lines, seed, out)
 }

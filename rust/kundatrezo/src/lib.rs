@@ -13,6 +13,8 @@
 //! | [`locations`] | the number of fault locations |
 //! | [`correlation`] | whether correlated noise lines agree in size |
 //! | [`fault_table`] | which groups of outcomes each possible fault flips, as rows in memory of their own; [`write_fault_table`] in lent bytes |
+//! | [`fill`] | words from a seed; [`Xorshift`] has them as a stream |
+//! | [`make`] | a job from a seed, which passes the tests of a job; [`make_job`] as a `Vec` |
 //! | [`by_shot`] | deltas as a row for each shot, and [`by_outcome`] the way back; [`Shots`] has memory of its own |
 //!
 //! Beside the calls, [`split`] shares the shots of a settled job among several benches, and `^=` on [`Frames`] adds what they leave; [`clifford_line`] writes
@@ -84,6 +86,7 @@ mod error_model;
 mod examination;
 mod float_state;
 mod frames;
+mod make;
 mod noise;
 mod refusal;
 mod single_faults;
@@ -98,11 +101,12 @@ pub use draws::Draws;
 pub use error_model::{ErrorModel, Mechanism, error_model};
 pub use examination::{Examination, examine};
 pub use frames::{Frames, bit};
+pub use make::{JobParameters, make, make_job};
 pub use refusal::{Answer, Number, Refusal};
 pub use single_faults::{FaultTable, MAX_GROUPS, SingleFault, fault_table, write_fault_table};
 pub use split::{Part, restricted, split};
 pub use used::Used;
-pub use xorshift::Xorshift;
+pub use xorshift::{Xorshift, fill};
 
 use refusal::answer_of;
 

@@ -72,6 +72,7 @@ numbers! {
     19 SIZES "sizes of one correlation differ"
     20 CONTROL "control and target of a controlled Pauli anticommute"
     21 SIZE "the size written differs from the distribution's"
+    22 SEED "the seed is zero"
     23 EDITION "the header's edition is neither 1 nor 2"
     24 GROUPS "no groups, more than 16, or noise with d=2 over more than 4 qubits in a table of single faults"
 }

@@ -143,6 +143,18 @@ unsafe extern "C" {
         out_len: usize,
     ) -> Answer;
 
+    fn kundatrezo_fill(seed: u64, words: *mut u64, words_len: usize) -> Answer;
+
+    fn kundatrezo_make(
+        qubits: u64,
+        outcomes: u64,
+        shots: u64,
+        lines: u64,
+        seed: u64,
+        out: *mut u8,
+        out_len: usize,
+    ) -> TextAnswer;
+
     fn kundatrezo_line(job: *const u8, job_len: usize, number: u64) -> LinePart;
 }
 
@@ -254,6 +266,14 @@ pub fn by_outcome(outcomes: u64, shots: u64, rows: &[u64], out: &mut [u64]) -> A
     in_default_state(|| unsafe {
         kundatrezo_by_outcome(outcomes, shots, rows.as_ptr(), rows.len(), out.as_mut_ptr(), out.len())
     })
+}
+
+pub fn fill(seed: u64, words: &mut [u64]) -> Answer {
+    in_default_state(|| unsafe { kundatrezo_fill(seed, words.as_mut_ptr(), words.len()) })
+}
+
+pub fn make(qubits: u64, outcomes: u64, shots: u64, lines: u64, seed: u64, out: &mut [u8]) -> TextAnswer {
+    in_default_state(|| unsafe { kundatrezo_make(qubits, outcomes, shots, lines, seed, out.as_mut_ptr(), out.len()) })
 }
 
 pub fn correlation(job: &[u8]) -> Answer {

@@ -1,18 +1,42 @@
 //! Words made from a seed.
 
-/// Words for callers who have none of their own: Marsaglia's 64-bit xorshift ("Xorshift RNGs", Journal of Statistical Software 8(14), 2003). A step
-/// changes the state by exclusive or with itself shifted left 13, then right 7, then left 17, and the new state is the word.
+use crate::refusal::answer_of;
+use crate::{Answer, sys};
+
+/// Fill a list with the words of a seed, by Marsaglia's 64-bit xorshift: each step changes the state, at first the seed, by exclusive or with itself shifted
+/// left 13, then right 7, then left 17, and the new state is the word. [`Xorshift`] has these words as a stream.
+///
+/// # Errors
+///
+/// The refusal by 22: the seed is zero. Nothing is written then.
+///
+/// ```
+/// use kundatrezo::{Number, fill};
+///
+/// let mut words = [0; 2];
+/// fill(1, &mut words)?;
+/// assert_eq!(words, [1_082_269_761, 1_152_992_998_833_853_505]);
+/// assert_eq!(fill(0, &mut words).unwrap_err().number, Number::SEED);
+/// # Ok::<(), kundatrezo::Refusal>(())
+/// ```
+pub fn fill(seed: u64, words: &mut [u64]) -> Answer {
+    answer_of(&sys::fill(seed, words), 0).map(drop)
+}
+
+/// Words for callers who have none of their own: the stream of [`fill`], Marsaglia's 64-bit xorshift ("Xorshift RNGs", Journal of Statistical Software 8(14),
+/// 2003). The engine makes them.
 ///
 /// [`new`](Self::new) makes a first state from a seed, so that every seed is a good one, 0 and small ones too. [`from_state`](Self::from_state) takes the
-/// state itself. All states lie on one cycle of 2^64 - 1 words, and no word is zero. For the next run of a series read the same words on, by the number
-/// that [`Draws::used`](crate::Draws::used) says.
+/// state itself, which is the seed of [`fill`]. All states lie on one cycle of 2^64 - 1 words, and no word is zero. For the next run of a series read the same
+/// words on, by the number that [`Draws::used`](crate::Draws::used) says. To [`fill`](Self::fill) a list is faster than to take its words one by one.
 ///
 /// ```
 /// use kundatrezo::Xorshift;
 ///
 /// let mut lent = [0; 100];
 /// Xorshift::new(0).fill(&mut lent);
-/// assert_eq!(Xorshift::from_state(1).unwrap().next(), Some(1_082_269_761));
+/// assert_eq!(Xorshift::from_state(1)?.next(), Some(1_082_269_761));
+/// # Ok::<(), kundatrezo::Refusal>(())
 /// ```
 #[derive(Debug, Clone, PartialEq, Eq)]
 pub struct Xorshift {
@@ -34,18 +58,22 @@ impl Xorshift {
         Self { state }
     }
 
-    /// The words from a state on, none if it is zero, which every step leaves zero. The state itself is not among the first words.
+    /// The words from a state on; the state itself is not among the first of them.
+    ///
+    /// # Errors
+    ///
+    /// The refusal by 22: the state is zero, which every step leaves zero.
     ///
     /// Streams of small states begin alike: the first words from 1 are small, and those from 2 are their doubles. A series of runs from states 1, 2, 3
     /// and so on would fault far too often in its first shots; [`new`](Self::new) is free of this.
-    #[must_use]
-    pub fn from_state(state: u64) -> Option<Self> {
-        (state != 0).then_some(Self { state })
+    pub fn from_state(state: u64) -> Answer<Self> {
+        fill(state, &mut []).map(|()| Self { state })
     }
 
     /// The next words, in the place of what the list held.
     pub fn fill(&mut self, list: &mut [u64]) {
-        list.fill_with(|| self.step());
+        fill(self.state, list).expect("no state is zero");
+        self.state = list.last().copied().unwrap_or(self.state);
     }
 
     /// Leave out as many words as this, however many they are.
@@ -75,9 +103,7 @@ impl Xorshift {
     }
 
     fn step(&mut self) -> u64 {
-        self.state ^= self.state << 13;
-        self.state ^= self.state >> 7;
-        self.state ^= self.state << 17;
+        self.fill(&mut [0]);
         self.state
     }
 }
@@ -127,7 +153,29 @@ mod tests {
     fn states_are_marsaglias() {
         let words: Vec<u64> = Xorshift::from_state(1).expect("not zero").take(2).collect();
         assert_eq!(words, [1_082_269_761, 1_152_992_998_833_853_505]);
-        assert_eq!(Xorshift::from_state(0), None);
+        assert_eq!(Xorshift::from_state(0).expect_err("zero").number, crate::Number::SEED);
+        assert_eq!(fill(0, &mut []).expect_err("zero").number, crate::Number::SEED);
+    }
+
+    /// The rule, in the words of Marsaglia's paper, beside the engine's.
+    #[test]
+    fn words_are_those_of_the_rule() {
+        for seed in [1, 2, 3, 0x8000_0000_0000_0000, u64::MAX, 88_172_645_463_325_252] {
+            let mut state: u64 = seed;
+            let mut words = [0; 1000];
+            fill(seed, &mut words).expect("not zero");
+            for word in words {
+                state ^= state << 13;
+                state ^= state >> 7;
+                state ^= state << 17;
+                assert_eq!(word, state);
+            }
+            let (mut one_by_one, mut at_once) = (Xorshift { state: seed }, Xorshift { state: seed });
+            let mut parts = [[0; 500]; 2];
+            parts.iter_mut().for_each(|part| at_once.fill(part));
+            assert_eq!((parts.concat(), at_once), (words.to_vec(), Xorshift { state }));
+            assert!(words.iter().all(|word| one_by_one.next() == Some(*word)));
+        }
     }
 
     #[test]

@@ -3,7 +3,7 @@
 use crate::arguments::{Arguments, Command, FILE, Flag, Operand};
 use crate::completions::{self, SHELLS};
 use crate::words::{self, Lent};
-use crate::{Failure, faults, files, manual, numbers, print, rates, shots, sizes};
+use crate::{Failure, faults, files, load, manual, numbers, print, rates, shots, sizes};
 use kundatrezo::{Examination, Frames, MAX_BYTES, Number, Refusal, Shots, bit};
 use std::fmt::Write;
 
@@ -29,8 +29,6 @@ const SET: Flag = Flag { name: "--set", value: "L", text: "the outcomes, rising,
 const PARTS: Flag = Flag { name: "--parts", value: "N", text: "the number of parts, at most the job's shots" };
 const PREFIX: Flag =
     Flag { name: "--prefix", value: "NAME", text: "write the jobs to the files NAME0.job, NAME1.job, .." };
-const SUM: Flag =
-    Flag { name: OUTPUT.name, value: FILE, text: "write the words to this file; without it, to standard output" };
 const P: Flag = Flag { name: "--p", value: "P", text: "the probability in decimal" };
 const P_BITS: Flag =
     Flag { name: "--p-bits", value: "H", text: "the probability by the 16 hexadecimal digits of its binary64" };
@@ -161,8 +159,24 @@ write: the sum is what a run of the whole job writes. In its own shots each run 
 Adds files of rows, X, Z or deltas, by exclusive or. Where the jobs are without noise and have the same
 header and the same lines but for injections and flips, the sum is what a run of a job writes that holds
 the injections and flips of all, each among the same lines, and twice where two hold it there."],
-        options: &[&[SUM]],
+        options: &[&[load::OUTPUT_WORDS]],
         obey: add,
+    },
+    Command {
+        name: "make",
+        operand: Operand::None,
+        summary: "a job from a seed, the same on every machine",
+        details: &[load::JOB],
+        options: &[load::JOB_FLAGS, &[OUTPUT, ROOM]],
+        obey: load::write_job,
+    },
+    Command {
+        name: "fill",
+        operand: Operand::None,
+        summary: "words from a seed, the same on every machine",
+        details: &[load::WORDS],
+        options: &[words::MADE_FLAGS, &[load::OUTPUT_WORDS]],
+        obey: load::write_words,
     },
     Command {
         name: "sizes",
@@ -379,7 +393,7 @@ fn session(frames: &Frames, outcomes: usize) -> String {
 }
 
 /// The bytes that are lent for a text.
-fn room(arguments: &Arguments) -> Result<Vec<u8>, Failure> {
+pub fn room(arguments: &Arguments) -> Result<Vec<u8>, Failure> {
     // More than the longest text makes no difference.
     let most = MAX_BYTES as u64;
     let bytes = arguments.number(ROOM.name)?.map_or(most, |bytes| bytes.min(most));

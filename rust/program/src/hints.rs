@@ -58,8 +58,10 @@ fn named<T: Copy>(table: &[(&str, T)], name: &str) -> Option<T> {
 
 /// What a user may do about a refusal of this job, where that can be said.
 pub fn hint(refusal: &Refusal, job: &[u8]) -> Option<String> {
-    if refusal.number == Number::LENGTH {
-        return Some(length(job));
+    match refusal.number {
+        Number::LENGTH => return Some(length(job)),
+        Number::SEED => return Some("zero gives no words: take any other number below 2^64".into()),
+        _ => {}
     }
     let text = String::from_utf8_lossy(job);
     let lines: Vec<&str> = text.split_terminator('\n').collect();

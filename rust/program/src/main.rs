@@ -6,6 +6,7 @@ mod completions;
 mod faults;
 mod files;
 mod hints;
+mod load;
 mod manual;
 mod numbers;
 mod rates;

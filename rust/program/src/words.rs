@@ -24,6 +24,8 @@ const BASE: Flag = Flag { name: "--base", value: "N", text: "the base of the sec
 const NOISELESS: Flag =
     Flag { name: "--noiseless", value: FILE, text: "rows of the noiseless bits of the outcomes; without it, zeros" };
 
+/// The options of words that are made, and those of all that is lent.
+pub const MADE_FLAGS: &[Flag] = &[SEED, STATE, SKIP, WORDS];
 pub const FLAGS: &[Flag] = &[MAIN, SEED, STATE, SKIP, WORDS, SECOND, SECOND_SEED, SECOND_STATE, BASE, NOISELESS];
 
 /// What the help says of the options above.
@@ -56,8 +58,8 @@ enum Source {
 }
 
 /// A list of words, as long as it has been needed so far.
-struct List {
-    words: Vec<u64>,
+pub struct List {
+    pub words: Vec<u64>,
     source: Source,
     most: usize,
     /// The option that a user who has no words may give.
@@ -75,8 +77,7 @@ impl List {
             (Some(path), None, None) => Source::File(path.to_owned(), files::open(path)?),
             (None, Some(number), None) => Source::Made(Xorshift::new(number)),
             (None, None, Some(number)) => {
-                let zero = || Failure::Other(format!("the value of {} is to be above zero", state.name));
-                Source::Made(Xorshift::from_state(number).ok_or_else(zero)?)
+                Source::Made(Xorshift::from_state(number).map_err(|refusal| Failure::refused(&refusal, b"", None))?)
             }
             _ => {
                 let names = [file.name, seed.name, state.name].join(", ");
@@ -84,6 +85,28 @@ impl List {
             }
         };
         Ok(Self { words: Vec::new(), source, most: MOST, seed: seed.name })
+    }
+
+    /// The words that options make, as many as they say.
+    pub fn made(arguments: &Arguments) -> Result<Self, Failure> {
+        let mut list = Self::read(arguments, &MAIN, &SEED, &STATE)?;
+        if !list.is_given() {
+            return Err(Failure::Other(format!("{} or {} is wanted", SEED.name, STATE.name)));
+        }
+        if arguments.value(WORDS.name).is_none() {
+            return Err(Failure::Other(format!("{} is wanted for words that are made", WORDS.name)));
+        }
+        list.cut(arguments)?;
+        list.grow(list.most)?;
+        Ok(list)
+    }
+
+    /// Bound the main list and leave out its first words, as options say.
+    fn cut(&mut self, arguments: &Arguments) -> Result<(), Failure> {
+        if let Some(words) = arguments.number(WORDS.name)? {
+            self.most = usize::try_from(words).unwrap_or(MOST).min(MOST);
+        }
+        arguments.number(SKIP.name)?.map_or(Ok(()), |words| self.skip(words))
     }
 
     fn is_given(&self) -> bool {
@@ -109,7 +132,10 @@ impl List {
         let before = self.words.len();
         match &mut self.source {
             Source::None => {}
-            Source::Made(made) => self.words.extend(made.take(missing)),
+            Source::Made(made) => {
+                self.words.resize(before + missing, 0);
+                made.fill(&mut self.words[before..]);
+            }
             Source::File(path, file) => self.words.extend(files::words(path, file, missing)?),
         }
         Ok(self.words.len() > before)
@@ -162,13 +188,10 @@ impl<'a> Lent<'a> {
         {
             return Err(Failure::Other("the words of the two lists are to differ: give another seed".into()));
         }
-        if let Some(words) = arguments.number(WORDS.name)? {
-            main.most = usize::try_from(words).unwrap_or(MOST).min(MOST);
-        }
-        let skipped = arguments.number(SKIP.name)?;
-        skipped.map(|words| main.skip(words)).transpose()?;
-        let base = arguments.number(BASE.name)?.unwrap_or(0);
-        Ok(Self { job, examined, noiseless, main, second, base, skipped: skipped.unwrap_or(0) })
+        main.cut(arguments)?;
+        let [skipped, base] = [&SKIP, &BASE].map(|flag| arguments.number(flag.name));
+        let (skipped, base) = (skipped?.unwrap_or(0), base?.unwrap_or(0));
+        Ok(Self { job, examined, noiseless, main, second, base, skipped })
     }
 
     fn draws(&self) -> Draws<'_> {

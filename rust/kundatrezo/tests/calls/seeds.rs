@@ -60,6 +60,6 @@ fn small_seeds_fault_as_often_as_they_should() {
 /// Small states do not; else the test above would show nothing.
 #[test]
 fn small_states_fault_too_often() {
-    let (first, all) = faults((1..=SEEDS).filter_map(Xorshift::from_state));
+    let (first, all) = faults((1..=SEEDS).flat_map(Xorshift::from_state));
     assert_eq!((first, all), (1000, 5104));
 }

@@ -91,18 +91,22 @@ fn read_me() {
     }
 }
 
-/// The page on single faults, whose sessions all do their work, and which has its example whole.
+/// Pages whose sessions all do their work, and the example that a page has whole.
 #[test]
-fn single_faults() {
-    let text = document("docs/FAULTS.md");
-    let folder = session_folder("single_faults");
-    let steps = steps(&text);
-    assert!(!steps.is_empty());
-    for step in &steps {
-        assert_eq!(run(step, &folder).status, 0, "{}", step.command);
+fn pages() {
+    for (page, example) in [("docs/FAULTS.md", Some("examples/repetition.job")), ("docs/MAKING.md", None)] {
+        let text = document(page);
+        let folder = session_folder(&page.replace('/', "_"));
+        let steps = steps(&text);
+        assert!(!steps.is_empty(), "{page}");
+        for step in &steps {
+            assert_eq!(run(step, &folder).status, 0, "{}", step.command);
+        }
+        if let Some(example) = example {
+            let indented: String = document(example).lines().map(|line| format!("    {line}\n")).collect();
+            assert!(text.contains(&indented), "{example}");
+        }
     }
-    let example: String = document("examples/repetition.job").lines().map(|line| format!("    {line}\n")).collect();
-    assert!(text.contains(&example));
 }
 
 /// The session that the printing program is tried on is the example.

@@ -4,6 +4,7 @@ mod commands;
 mod common;
 mod documents;
 mod jobs;
+mod load;
 mod shells;
 mod shots;
 mod sizes;

@@ -54,6 +54,18 @@ pub struct Rows<'a> {
     pub totals: Option<&'a mut [u64]>,
 }
 
+/// What a made job is asked to have.
+#[derive(Debug, Clone, Copy, Default, PartialEq, Eq)]
+#[allow(missing_docs)]
+pub struct Asked {
+    pub qubits: u64,
+    pub outcomes: u64,
+    pub shots: u64,
+    /// Lines after the header, elements of noise lines not counted.
+    pub lines: u64,
+    pub seed: u64,
+}
+
 /// Every call, on lists of any length.
 pub trait Calls {
     /// The tests of a job.
@@ -85,6 +97,12 @@ pub trait Calls {
 
     /// Write rows by shot as deltas at the front of `deltas`.
     fn by_outcome(&self, outcomes: u64, shots: u64, rows: &[u64], deltas: &mut [u64]) -> Answer;
+
+    /// Write the words of a seed over a list.
+    fn fill(&self, seed: u64, words: &mut [u64]) -> Answer;
+
+    /// Write the made job at the front of `out`; the figure is its bytes.
+    fn make(&self, asked: Asked, out: &mut [u8]) -> Answer;
 
     /// What the printing program writes for a standard input; none where the program isn't at hand.
     fn print(&self, input: &[u8]) -> Option<Vec<u8>>;

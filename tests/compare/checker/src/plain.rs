@@ -5,10 +5,11 @@ pub mod by_shot;
 mod draws;
 pub mod fault_table;
 mod frame;
+mod making;
 mod settling;
 mod walk;
 
-use crate::calls::{Answer, Calls, Draws, Rows};
+use crate::calls::{Answer, Asked, Calls, Draws, Rows};
 use crate::job::{Header, Job, MAX_BYTES, MAX_PRINTED_BYTES, Refusal, usize_of};
 use crate::read::{self, is_probability, read};
 use by_shot::{Shape, transpose};
@@ -70,6 +71,14 @@ impl Calls for Plain {
 
     fn by_outcome(&self, outcomes: u64, shots: u64, rows: &[u64], deltas: &mut [u64]) -> Answer {
         Answer::of(Shape::of_counts(outcomes, shots).and_then(|shape| transpose(shape.turned(), rows, deltas)))
+    }
+
+    fn fill(&self, seed: u64, words: &mut [u64]) -> Answer {
+        Answer::of(making::fill(seed, words))
+    }
+
+    fn make(&self, asked: Asked, out: &mut [u8]) -> Answer {
+        making::made(asked).map_or_else(Answer::from, |text| deliver(&text, out))
     }
 
     fn print(&self, input: &[u8]) -> Option<Vec<u8>> {

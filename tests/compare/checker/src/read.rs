@@ -243,7 +243,7 @@ impl<'a> Reader<'a> {
 }
 
 /// 3: the limits of a header.
-fn in_range(header: &Header) -> bool {
+pub(crate) fn in_range(header: &Header) -> bool {
     (1..=MAX_QUBITS).contains(&header.qubits)
         && header.outcomes <= MAX_OUTCOMES
         && (1..=MAX_SHOTS).contains(&header.shots)

@@ -7,7 +7,7 @@
 //! For outcomes by shot, `published` is a block transposition in plain Rust, and `with reading` one bit at a time.
 
 use crate::block;
-use checker::calls::{Calls, Draws, Rows};
+use checker::calls::{Asked, Calls, Draws, Rows};
 use checker::job::{Job, MAX_BYTES, MAX_GROUPS, usize_of};
 use checker::plain::by_shot::Shape;
 use checker::plain::{Plain, settled};
@@ -32,12 +32,13 @@ const LEAST_ROUNDS: usize = 7;
 
 /// Measure the loads of a part, or of all; whether there is such a part.
 pub fn run(part: &str) -> bool {
-    let parts: [(&str, fn()); 6] = [
+    let parts: [(&str, fn()); 7] = [
         ("checks", checks),
         ("runs", runs),
         ("tables", tables),
         ("around", around),
         ("faults", faults),
+        ("seeds", seeds),
         ("turns", turns),
     ];
     let chosen: Vec<_> = parts.iter().filter(|(name, _)| part == "all" || part == *name).collect();
@@ -311,6 +312,41 @@ fn faults() {
         engine: engine(Call::FaultTable).map(|engine| Box::new(move || table(engine, &mut engine_out)) as _),
     }
     .report("fault table, the same with 16 groups", bytes.len());
+}
+
+// ---- seeds
+
+/// Words and jobs from a seed: `with reading` is the rule by hand; of words `published` is the loop in plain Rust.
+fn seeds() {
+    let count = 1_000_000;
+    let (mut words, mut by_hand, mut out) = (vec![0; count], vec![0; count], vec![0; count]);
+    Timed {
+        published: Some(Box::new(|| xorshift(black_box(1), &mut words))),
+        with_reading: Box::new(|| assert_eq!(Plain.fill(black_box(1), &mut by_hand).number, 0)),
+        engine: engine(Call::Fill)
+            .map(|engine| Box::new(|| assert_eq!(engine.fill(black_box(1), &mut out).number, 0)) as _),
+    }
+    .report("fill, 1,000,000 words", 8 * count);
+    let asked = Asked { qubits: 256, outcomes: 1_024, shots: 4_096, lines: 1_000, seed: 1 };
+    let (mut by_hand, mut out) = (vec![0; MAX_BYTES], vec![0; MAX_BYTES]);
+    let bytes = usize_of(Plain.make(asked, &mut by_hand).figure);
+    Timed {
+        published: None,
+        with_reading: Box::new(|| assert_eq!(Plain.make(black_box(asked), &mut by_hand).number, 0)),
+        engine: engine(Call::Make)
+            .map(|engine| Box::new(|| assert_eq!(engine.make(black_box(asked), &mut out).number, 0)) as _),
+    }
+    .report("make, 1,000 lines", bytes);
+}
+
+/// The words of a state, in plain Rust.
+fn xorshift(mut state: u64, words: &mut [u64]) {
+    for word in words {
+        state ^= state << 13;
+        state ^= state >> 7;
+        state ^= state << 17;
+        *word = state;
+    }
 }
 
 // ---- outcomes by shot

@@ -49,12 +49,14 @@ pub fn chosen(call: Call, case: impl Fn(&Input, &Output) -> Vec<u8>) -> Vec<Vec<
     for seed in 1..=MOST_SEEDS {
         let random = &mut Random::new(seed);
         let mut input = match seed % 3 {
+            _ if !call.is_on_job() => input(random, call),
             0 => input(random, call),
             1 => at_shots(random, call, 20, if call == Call::Walk { 0 } else { 6 }),
             _ => short_damaged(random, call),
         };
-        for rows in [&mut input.frames_x, &mut input.frames_z, &mut input.deltas, &mut input.totals] {
-            rows.fill(FRESH);
+        let Input { frames_x, frames_z, deltas, totals, words, .. } = &mut input;
+        for list in [frames_x, frames_z, deltas, totals, words] {
+            list.fill(FRESH);
         }
         input.with_totals = true;
         let output = answered(&input);
@@ -84,6 +86,9 @@ pub fn chosen(call: Call, case: impl Fn(&Input, &Output) -> Vec<u8>) -> Vec<Vec<
 
 /// Jobs as long as they may be and a byte longer; for settling and annotation, also jobs whose text is so long.
 fn limits(call: Call) -> Vec<Input> {
+    if !call.is_on_job() {
+        return Vec::new();
+    }
     const HEADER: &str = "op=job qubits=11 outcomes=0 shots=8\n";
     const GATE: &str = "op=u g=4 q=0\n";
     const NOISE: &str = "op=n p=3ff0000000000000 corr=- cond=- parity=0 d=1 x=0 z=- size=1\n";
@@ -179,10 +184,24 @@ fn wanted(call: Call) -> Vec<String> {
         Call::Annotate => &[15, 18],
         Call::FaultTable => &[15, 17, 24],
         Call::Correlation => &[19],
+        Call::Fill => &[22],
+        Call::Make => &[3, 15, 22],
         Call::Check | Call::Locations | Call::ByShot | Call::ByOutcome | Call::Print => &[],
     };
+    let tests: &[u64] = if call.is_on_job() { &TESTS } else { &[] };
     let mut all: Vec<String> =
-        [0].iter().chain(&TESTS).chain(own_numbers).map(|number| format!("number {number}")).collect();
+        [0].iter().chain(tests).chain(own_numbers).map(|number| format!("number {number}")).collect();
+    if call == Call::Fill {
+        all.extend(["no words", "one word", "more words"].map(String::from));
+        return all;
+    }
+    if call == Call::Make {
+        all.extend(["no lines", "one line", "1 qubits", "256 qubits"].map(String::from));
+        all.extend(["exact text", "longer text"].map(String::from));
+        all.extend(KINDS.map(String::from));
+        all.extend(DISTRIBUTIONS.map(String::from));
+        return all;
+    }
     all.extend((0..=15).map(|gate| format!("gate {gate}")));
     all.extend(KINDS.map(String::from));
     all.extend((1..=MAX_CLIFFORD_QUBITS).map(|qubits| format!("clifford on {qubits}")));
@@ -239,7 +258,25 @@ const DISTRIBUTIONS: [&str; 4] = ["single", "depolarizing", "uniform", "weighted
 fn shown(call: Call, input: &Input, output: &Output) -> Vec<String> {
     let number = output.answer.number;
     let mut all = vec![format!("number {number}")];
-    let Ok(job) = read(&input.job) else { return all };
+    if call == Call::Fill {
+        let words = match input.words.len() {
+            0 => "no words",
+            1 => "one word",
+            _ => "more words",
+        };
+        all.push(words.into());
+        return all;
+    }
+    let text = if call == Call::Make { &output.bytes[..usize_of(output.answer.figure)] } else { &input.job };
+    let Ok(job) = read(text) else { return all };
+    if call == Call::Make {
+        all.push(format!("{} qubits", job.header.qubits));
+        match job.lines.len() {
+            0 => all.push("no lines".into()),
+            1 => all.push("one line".into()),
+            _ => {}
+        }
+    }
     match call {
         Call::Run => {
             all.push(length("x", input.frames_x.len(), job.header.frame_words()));
@@ -270,7 +307,7 @@ fn shown(call: Call, input: &Input, output: &Output) -> Vec<String> {
             }
             all.extend(shown_by_noise(noise, job.header.shots, input.base));
         }
-        if has_rejected(&job, input) {
+        if call != Call::Make && has_rejected(&job, input) {
             all.push("rejected word".into());
         }
     }

@@ -87,6 +87,7 @@ pub fn report(under_test: &dyn Calls, call: Call, seed: u64, input: &Input) {
             ("deltas", &output.deltas),
             ("totals", &output.totals),
             ("rows", &output.rows),
+            ("words", &output.words),
         ];
         for (key, words) in words.into_iter().filter(|(_, words)| !words.is_empty()) {
             println!("{name} {key} {words:x?}");
@@ -100,7 +101,7 @@ pub fn report(under_test: &dyn Calls, call: Call, seed: u64, input: &Input) {
 #[cfg(test)]
 mod tests {
     use super::{Refusals, passes};
-    use checker::calls::{Answer, Calls, Draws, Rows};
+    use checker::calls::{Answer, Asked, Calls, Draws, Rows};
     use checker::job::{OF_CALLS, TESTS};
     use checker::plain::Plain;
     use reference::vectors::CALLS;
@@ -158,6 +159,14 @@ mod tests {
         }
 
         fn by_outcome(&self, _: u64, _: u64, _: &[u64], _: &mut [u64]) -> Answer {
+            self.check(&[])
+        }
+
+        fn fill(&self, _: u64, _: &mut [u64]) -> Answer {
+            self.check(&[])
+        }
+
+        fn make(&self, _: Asked, _: &mut [u8]) -> Answer {
             self.check(&[])
         }
 

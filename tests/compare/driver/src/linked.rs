@@ -1,6 +1,6 @@
 //! The engine's calls, through the crate that Rust programs use (rust/kundatrezo), so that the comparison tests that crate too.
 
-use checker::calls::{Answer, Calls, Draws, Rows};
+use checker::calls::{Answer, Asked, Calls, Draws, Rows};
 use reference::vectors::Call;
 use std::io::Write;
 use std::process::{Command, Stdio};
@@ -17,6 +17,8 @@ pub const CALLS: &[Call] = &[
     Call::FaultTable,
     Call::ByShot,
     Call::ByOutcome,
+    Call::Fill,
+    Call::Make,
     Call::Print,
 ];
 
@@ -89,6 +91,15 @@ impl Calls for Linked {
 
     fn by_outcome(&self, outcomes: u64, shots: u64, rows: &[u64], deltas: &mut [u64]) -> Answer {
         plain(kundatrezo::by_outcome(outcomes, shots, rows, deltas))
+    }
+
+    fn fill(&self, seed: u64, words: &mut [u64]) -> Answer {
+        plain(kundatrezo::fill(seed, words))
+    }
+
+    fn make(&self, asked: Asked, out: &mut [u8]) -> Answer {
+        let Asked { qubits, outcomes, shots, lines, seed } = asked;
+        written(kundatrezo::make(kundatrezo::JobParameters { qubits, outcomes, shots, lines, seed }, out))
     }
 
     /// The printing program is a program: its path is in `KUNDATREZO_PRINT`.

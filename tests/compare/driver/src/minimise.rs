@@ -12,7 +12,7 @@ const MOST_RUNS: usize = 512;
 /// A lent list of an input.
 type List = fn(&mut Input) -> &mut Vec<u64>;
 
-const LISTS: [List; 10] = [
+const LISTS: [List; 11] = [
     |input| &mut input.set,
     |input| &mut input.groups,
     |input| &mut input.main,
@@ -23,6 +23,7 @@ const LISTS: [List; 10] = [
     |input| &mut input.deltas,
     |input| &mut input.totals,
     |input| &mut input.rows,
+    |input| &mut input.words,
 ];
 
 /// Drop lines, bytes and lent words as long as `differs` holds.

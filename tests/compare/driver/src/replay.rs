@@ -17,7 +17,7 @@ const MOST_BYTES: usize = 600;
 const REPEATED: usize = 4;
 
 /// The calls of the program `replay_more`.
-pub const MORE: [Call; 1] = [Call::FaultTable];
+pub const MORE: [Call; 3] = [Call::FaultTable, Call::Fill, Call::Make];
 
 /// Write the list of `replay_calls` to standard output.
 pub fn write() -> bool {
@@ -60,6 +60,7 @@ fn case(call: Call, input: &Input, output: &Output) -> Vec<u8> {
     let words: Vec<&Vec<u64>> = match call {
         Call::Walk => vec![&input.set],
         Call::FaultTable => vec![&input.groups],
+        Call::Fill => vec![&output.words],
         Call::Settle => draws.to_vec(),
         Call::Run => draws.into_iter().chain(after).collect(),
         _ => Vec::new(),
@@ -75,6 +76,11 @@ fn case(call: Call, input: &Input, output: &Output) -> Vec<u8> {
         Call::Walk => format!(" count={figure} shot={} bytes={bytes}", input.shot),
         Call::Annotate => format!(" figure={figure} p={:016x} bytes={bytes}", input.p),
         Call::FaultTable => format!(" figure={figure} bytes={bytes},{}", input.out_len),
+        Call::Fill => format!(" figure={figure} seed={:016x}", input.seed),
+        Call::Make => {
+            let Input { qubits, outcomes, shots, lines, seed, .. } = input;
+            format!(" figure={figure} seed={seed:016x} asked={qubits},{outcomes},{shots},{lines}")
+        }
         Call::Settle => {
             format!(" figure={figure} base={:016x} bytes={bytes},{} words={lengths}", input.base, input.out_len)
         }

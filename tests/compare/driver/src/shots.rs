@@ -170,7 +170,7 @@ fn differs<const N: usize>(
 #[cfg(test)]
 mod tests {
     use super::{add_passes, apart_passes};
-    use checker::calls::{Answer, Calls, Draws, Rows};
+    use checker::calls::{Answer, Asked, Calls, Draws, Rows};
     use checker::gaps::Gaps;
     use checker::job::Instruction;
     use checker::plain::Plain;
@@ -233,6 +233,14 @@ mod tests {
 
         fn by_outcome(&self, outcomes: u64, shots: u64, rows: &[u64], deltas: &mut [u64]) -> Answer {
             Plain.by_outcome(outcomes, shots, rows, deltas)
+        }
+
+        fn fill(&self, seed: u64, words: &mut [u64]) -> Answer {
+            Plain.fill(seed, words)
+        }
+
+        fn make(&self, asked: Asked, out: &mut [u8]) -> Answer {
+            Plain.make(asked, out)
         }
 
         fn print(&self, input: &[u8]) -> Option<Vec<u8>> {

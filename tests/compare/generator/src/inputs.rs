@@ -7,7 +7,7 @@ use checker::calls::{Calls, Draws};
 use checker::gaps::fault_shot;
 use checker::job::{
     Distribution, Header, Instruction, Job, MAX_BYTES, MAX_GROUPS, MAX_LIST, MAX_OUTCOMES, MAX_PRINTED_BYTES,
-    MAX_SHOTS, MAX_SPREAD, Noise, Pauli, usize_of,
+    MAX_QUBITS, MAX_SHOTS, MAX_SPREAD, Noise, Pauli, usize_of,
 };
 use checker::plain::{Plain, settled};
 use checker::read::read;
@@ -16,8 +16,11 @@ use reference::vectors::{Call, Input};
 
 /// A random input of a call.
 pub fn input(random: &mut Random, call: Call) -> Input {
-    if !call.is_on_job() {
-        return counted(random);
+    match call {
+        Call::ByShot | Call::ByOutcome => return counted(random),
+        Call::Fill => return seeded_list(random),
+        Call::Make => return seeded_job(random),
+        _ => {}
     }
     let shape = shape(random, call);
     let made = if random.one_in(300) { large(random, call) } else { job(random, &shape) };
@@ -48,7 +51,7 @@ fn shape(random: &mut Random, call: Call) -> Shape {
             let spread = Some(if random.one_in(8) { MAX_SPREAD + 1 } else { MAX_SPREAD });
             Shape { noise: random.pick(&[2, 6, 20]), spread, ..size }
         }
-        Call::Annotate | Call::Locations | Call::ByShot | Call::ByOutcome => ANY,
+        Call::Annotate | Call::Locations | Call::ByShot | Call::ByOutcome | Call::Fill | Call::Make => ANY,
     }
 }
 
@@ -144,6 +147,43 @@ fn counted(random: &mut Random) -> Input {
     let deltas = words_near(random, need(outcomes, shots));
     let rows = words_near(random, need(shots, outcomes));
     Input { outcomes, shots, deltas, rows, ..Input::default() }
+}
+
+/// A list for the words of a seed.
+fn seeded_list(random: &mut Random) -> Input {
+    let most = random.pick(&[0, 1, 2, 5, 70]);
+    let length = random.index(most + 1);
+    Input { seed: seed(random), words: (0..length).map(|_| random.word()).collect(), ..Input::default() }
+}
+
+/// What a made job is asked to have, and bytes for it.
+fn seeded_job(random: &mut Random) -> Input {
+    let few = random.between(1, 9);
+    let qubits = if random.one_in(2) { few } else { count(random, 1, MAX_QUBITS) };
+    let outcomes = if random.one_in(4) { random.below(4) } else { count(random, 0, MAX_OUTCOMES) };
+    let shots = count(random, 1, MAX_SHOTS);
+    let lines = match random.below(40) {
+        0 => past(random, 20_000),
+        1 => random.between(1_001, 20_000),
+        2..5 => random.between(40, 1_000),
+        5..12 => random.below(3),
+        _ => random.between(0, 40),
+    };
+    let mut input = Input { qubits, outcomes, shots, lines, seed: seed(random), ..Input::default() };
+    let need = Plain.make(input.asked(), &mut vec![0; MAX_BYTES]).figure;
+    input.out_len = length_near(random, usize_of(need));
+    input
+}
+
+/// A seed, often a small one, now and then zero.
+fn seed(random: &mut Random) -> u64 {
+    match random.below(20) {
+        0 => 0,
+        1 => 1 << random.below(64),
+        2 => u64::MAX,
+        3..12 => random.between(1, 300),
+        _ => random.word(),
+    }
 }
 
 /// A count that a header may hold, `first` to `last`; now and then one that it may not.

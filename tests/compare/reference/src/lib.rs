@@ -7,12 +7,12 @@ pub mod landed;
 pub mod stored;
 pub mod vectors;
 
-use checker::calls::{Answer, Calls, Draws, Rows};
+use checker::calls::{Answer, Asked, Calls, Draws, Rows};
 use checker::job::{Header, Instruction, Job, Refusal, usize_of};
 use checker::plain::around::noise_list;
 use checker::plain::by_shot::Shape;
 use checker::plain::fault_table::{need_groups, row};
-use checker::plain::{bit, deliver, deliver_settled, need_probability, need_walkable, need_words, print_with};
+use checker::plain::{Plain, bit, deliver, deliver_settled, need_probability, need_walkable, need_words, print_with};
 use checker::read::{check, read};
 use checker::write;
 use pauliverse::bridge::{Executed, Program, lend, transposed};
@@ -62,6 +62,15 @@ impl Calls for Reference {
 
     fn by_outcome(&self, outcomes: u64, shots: u64, rows: &[u64], deltas: &mut [u64]) -> Answer {
         Answer::of(Shape::of_counts(outcomes, shots).and_then(|shape| transpose(shape.turned(), rows, deltas)))
+    }
+
+    // The published Rust has no reproducible load: docs/MAKING.md by hand.
+    fn fill(&self, seed: u64, words: &mut [u64]) -> Answer {
+        Plain.fill(seed, words)
+    }
+
+    fn make(&self, asked: Asked, out: &mut [u8]) -> Answer {
+        Plain.make(asked, out)
     }
 
     fn print(&self, input: &[u8]) -> Option<Vec<u8>> {

@@ -244,9 +244,13 @@ fn case(call: Call, fields: &Fields) -> Case {
         shot: number("shot"),
         set: split(&text("set"), 10),
         groups: split(&text("groups"), 10),
+        qubits: number("qubits"),
         outcomes: number("outcomes"),
         shots: number("shots"),
+        lines: number("lines"),
+        seed: number("seed"),
         rows: words("rows"),
+        words: words("words"),
     };
     // Cases made before note 10 call settling's figure with 15 a lower bound; it is the exact one.
     let figure = number("count") + number("figure") + number("at_least");
@@ -257,6 +261,7 @@ fn case(call: Call, fields: &Fields) -> Case {
         deltas: words("after_deltas"),
         totals: split(&text("after_totals"), 10),
         rows: words("after_rows"),
+        words: words("after_words"),
         bytes: match call {
             Call::Print => bytes("stdout"),
             _ if call.writes_text() => written_over(&bytes("text"), input.out_len),

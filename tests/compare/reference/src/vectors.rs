@@ -4,10 +4,10 @@
 //! are decimal numbers.
 
 use crate::stored::Case;
-use checker::calls::{Answer, Calls, Draws, Rows};
+use checker::calls::{Answer, Asked, Calls, Draws, Rows};
 
 /// The calls that have vectors: a file each.
-pub const CALLS: [Call; 11] = [
+pub const CALLS: [Call; 13] = [
     Call::Check,
     Call::Run,
     Call::Settle,
@@ -18,6 +18,8 @@ pub const CALLS: [Call; 11] = [
     Call::FaultTable,
     Call::ByShot,
     Call::ByOutcome,
+    Call::Fill,
+    Call::Make,
     Call::Print,
 ];
 
@@ -35,6 +37,8 @@ pub enum Call {
     FaultTable,
     ByShot,
     ByOutcome,
+    Fill,
+    Make,
     Print,
 }
 
@@ -42,13 +46,13 @@ impl Call {
     /// Whether the call is on a job.
     #[must_use]
     pub fn is_on_job(self) -> bool {
-        !matches!(self, Call::ByShot | Call::ByOutcome)
+        !matches!(self, Call::ByShot | Call::ByOutcome | Call::Fill | Call::Make)
     }
 
     /// Whether the call writes a text over lent bytes.
     #[must_use]
     pub fn writes_text(self) -> bool {
-        matches!(self, Call::Settle | Call::Annotate | Call::FaultTable)
+        matches!(self, Call::Settle | Call::Annotate | Call::FaultTable | Call::Make)
     }
 
     /// The call's name, as of its subcommand and its file.
@@ -65,6 +69,8 @@ impl Call {
             Call::FaultTable => "fault_table",
             Call::ByShot => "by_shot",
             Call::ByOutcome => "by_outcome",
+            Call::Fill => "fill",
+            Call::Make => "make",
             Call::Print => "print",
         }
     }
@@ -90,9 +96,13 @@ pub struct Input {
     pub shot: u64,
     pub set: Vec<u64>,
     pub groups: Vec<u64>,
+    pub qubits: u64,
     pub outcomes: u64,
     pub shots: u64,
+    pub lines: u64,
+    pub seed: u64,
     pub rows: Vec<u64>,
+    pub words: Vec<u64>,
 }
 
 /// What a call answers and leaves.
@@ -106,6 +116,7 @@ pub struct Output {
     pub deltas: Vec<u64>,
     pub totals: Vec<u64>,
     pub rows: Vec<u64>,
+    pub words: Vec<u64>,
     /// Every lent byte after the call, or what the program printed.
     pub bytes: Vec<u8>,
 }
@@ -121,6 +132,13 @@ impl Input {
     #[must_use]
     pub fn draws(&self) -> Draws<'_> {
         Draws { base: self.base, main: &self.main, second: &self.second }
+    }
+
+    /// What a made job is asked to have.
+    #[must_use]
+    pub fn asked(&self) -> Asked {
+        let Input { qubits, outcomes, shots, lines, seed, .. } = *self;
+        Asked { qubits, outcomes, shots, lines, seed }
     }
 
     /// Make a call and keep all it leaves; none where its program isn't at hand.
@@ -165,6 +183,14 @@ impl Input {
                 output.deltas = self.deltas.clone();
                 output.answer = calls.by_outcome(self.outcomes, self.shots, &self.rows, &mut output.deltas);
             }
+            Call::Fill => {
+                output.words = self.words.clone();
+                output.answer = calls.fill(self.seed, &mut output.words);
+            }
+            Call::Make => {
+                output.bytes = fresh_bytes(self.out_len);
+                output.answer = calls.make(self.asked(), &mut output.bytes);
+            }
             Call::Print => output.bytes = calls.print(job)?,
         }
         Some(output)
@@ -199,6 +225,7 @@ pub fn input_bytes(call: Call, input: &Input) -> Vec<u8> {
     };
     let totals = || if input.with_totals { vec![("totals", joined(&input.totals, 10))] } else { Vec::new() };
     let counts = || vec![("outcomes", input.outcomes.to_string()), ("shots", input.shots.to_string())];
+    let seed = || vec![("seed", input.seed.to_string())];
     let deltas = || vec![("deltas", joined(&input.deltas, 16))];
     let by_shot = || vec![("rows", joined(&input.rows, 16))];
     let fields = match call {
@@ -209,6 +236,11 @@ pub fn input_bytes(call: Call, input: &Input) -> Vec<u8> {
         Call::FaultTable => [out_len(), vec![("groups", joined(&input.groups, 10))]].concat(),
         Call::ByShot => [counts(), deltas(), by_shot()].concat(),
         Call::ByOutcome => [counts(), by_shot(), deltas()].concat(),
+        Call::Fill => [seed(), vec![("words", joined(&input.words, 16))]].concat(),
+        Call::Make => {
+            let lines = vec![("lines", input.lines.to_string())];
+            [vec![("qubits", input.qubits.to_string())], counts(), lines, seed(), out_len()].concat()
+        }
         Call::Check | Call::Locations | Call::Correlation | Call::Print => Vec::new(),
     };
     for (key, value) in fields {
@@ -241,6 +273,7 @@ fn output_bytes(call: Call, output: &Output) -> Vec<u8> {
         }
         Call::ByShot => vec![("rows", &output.rows)],
         Call::ByOutcome => vec![("deltas", &output.deltas)],
+        Call::Fill => vec![("words", &output.words)],
         _ => Vec::new(),
     };
     for (key, words) in written {

@@ -1,0 +1,2 @@
+-- Laws of lines of one instruction.
+pub mod Laws

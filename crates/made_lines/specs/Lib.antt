@@ -1,0 +1,3 @@
+-- Definitions: the kind that is made where one was chosen.
+pub mod Ring
+pub mod Laws

@@ -1,0 +1,54 @@
+//! A reproducible load: jobs and words from a seed.
+
+use crate::arguments::{Arguments, FILE, Flag};
+use crate::commands::{longer, room, write_out};
+use crate::words::List;
+use crate::{Failure, files};
+use kundatrezo::{JobParameters, MAX_OUTCOMES, MAX_QUBITS, MAX_SHOTS, Number};
+
+const QUBITS: Flag = Flag { name: "--qubits", value: "N", text: "the qubits of the header" };
+const OUTCOMES: Flag = Flag { name: "--outcomes", value: "N", text: "the outcomes of the header" };
+const SHOTS: Flag = Flag { name: "--shots", value: "N", text: "the shots of the header" };
+const LINES: Flag =
+    Flag { name: "--lines", value: "N", text: "the lines after the header, without the elements of noise" };
+const SEED: Flag = Flag { name: "--seed", value: "N", text: "the seed, any number but 0" };
+
+/// The parameters of a job, in the order of the call.
+const PARAMETERS: [&Flag; 5] = [&QUBITS, &OUTCOMES, &SHOTS, &LINES, &SEED];
+pub const JOB_FLAGS: &[Flag] = &[QUBITS, OUTCOMES, SHOTS, LINES, SEED];
+
+pub const OUTPUT_WORDS: Flag =
+    Flag { name: "--output", value: FILE, text: "write the words to this file; without it, to standard output" };
+
+pub const JOB: &str = "\
+Writes a job with this header and as many lines behind it, whose kinds and values a seed chooses, by the rule of
+docs/MAKING.md. The same numbers give the same job on every machine, and every made job passes the checks. All
+five are wanted. The seed is taken as it is, and not stretched as that of a run.";
+
+pub const WORDS: &str = "\
+Writes words from a seed, eight bytes each, the lowest first: those that a run makes by the same --seed or
+--state and --skip. --words is wanted.";
+
+/// The command `make`.
+pub fn write_job(arguments: &Arguments) -> Result<(), Failure> {
+    let mut numbers = [0; PARAMETERS.len()];
+    for (number, flag) in numbers.iter_mut().zip(PARAMETERS) {
+        let missing = || Failure::Other(format!("{} are wanted", PARAMETERS.map(|flag| flag.name).join(", ")));
+        *number = arguments.number(flag.name)?.ok_or_else(missing)?;
+    }
+    let [qubits, outcomes, shots, lines, seed] = numbers;
+    let mut out = room(arguments)?;
+    let asked = JobParameters { qubits, outcomes, shots, lines, seed };
+    let bytes = kundatrezo::make(asked, &mut out).map_err(|refusal| {
+        let limits =
+            format!("a header has 1 to {MAX_QUBITS} qubits, 0 to {MAX_OUTCOMES} outcomes, 1 to {MAX_SHOTS} shots");
+        let remedy = (refusal.number == Number::HEADER).then_some(limits);
+        Failure::refused(&refusal, b"", remedy.or_else(|| longer(&refusal)))
+    })?;
+    write_out(arguments, &out[..bytes])
+}
+
+/// The command `fill`.
+pub fn write_words(arguments: &Arguments) -> Result<(), Failure> {
+    write_out(arguments, &files::bytes_of(&List::made(arguments)?.words))
+}

@@ -1,0 +1,55 @@
+//! Jobs and words from a seed.
+
+use crate::common::{Done, folder, kundatrezo};
+use kundatrezo::{JobParameters, Number, Xorshift, fill, make_job};
+use std::fs;
+
+fn call(arguments: &str) -> Done {
+    kundatrezo(arguments.split(' '), b"")
+}
+
+fn bytes_of(words: &[u64]) -> Vec<u8> {
+    words.iter().flat_map(|word| word.to_le_bytes()).collect()
+}
+
+#[test]
+fn words_are_those_of_the_call() {
+    let mut words = [0; 50];
+    fill(12, &mut words).expect("not zero");
+    assert_eq!(call("fill --state 12 --words 50"), Done::printed(bytes_of(&words)));
+    assert_eq!(call("fill --state 12 --words 20 --skip 30"), Done::printed(bytes_of(&words[30..])));
+    let stretched: Vec<u64> = Xorshift::new(12).take(50).collect();
+    assert_eq!(call("fill --seed 12 --words 50"), Done::printed(bytes_of(&stretched)));
+    let path = folder("fill").join("words");
+    let name = path.to_str().expect("a path in plain text");
+    assert_eq!(call(&format!("fill --seed 12 --words 50 --output {name}")), Done::printed(""));
+    assert_eq!(fs::read(path).ok(), Some(bytes_of(&stretched)));
+}
+
+#[test]
+fn jobs_are_those_of_the_call() {
+    let asked = JobParameters { qubits: 9, outcomes: 12, shots: 70, lines: 40, seed: 5 };
+    let job = make_job(asked).expect("it fits");
+    let options = "make --qubits 9 --outcomes 12 --shots 70 --lines 40 --seed 5";
+    assert_eq!(call(options), Done::printed(job.clone()));
+    assert_eq!(call(&format!("{options} --room {}", job.len())), Done::printed(job.clone()));
+    assert_eq!(kundatrezo(["check", "-"], &job).status, 0);
+    let refused = [
+        (format!("{options} --room {}", job.len() - 1), Number::ROOM, "leave out --room"),
+        (options.replace("--seed 5", "--seed 0"), Number::SEED, "zero gives no words"),
+        (
+            options.replace("--shots 70", "--shots 0"),
+            Number::HEADER,
+            "a header has 1 to 256 qubits, 0 to 1024 outcomes",
+        ),
+        ("run /dev/null --state 0".into(), Number::LENGTH, "the job is empty"),
+        ("fill --state 0 --words 1".into(), Number::SEED, "zero gives no words"),
+    ];
+    for (arguments, number, hint) in refused {
+        let done = call(&arguments);
+        assert_eq!((done.status, done.stdout.len()), (1, 0), "{arguments}");
+        assert!(done.stderr.starts_with(&format!("refused: {number}\nhint: {hint}")), "{arguments}: {}", done.stderr);
+    }
+    let done = kundatrezo(["run", "-", "--state", "0"], &job);
+    assert!(done.status == 1 && done.stderr.starts_with("refused: 22 "), "{done:?}");
+}
