@@ -23,12 +23,15 @@ use Rattle.shared_runs.specs.Laws.Tests.{refused-by, goes-on}
 abbrev pub inParts : Source → List ℕ → List ℕ → Source
 inParts from words more = record { noiseless = from .noiseless; main = words ++ more; second = from .second; base = from .base }
 
+-- the marks, where of so many words of the own stretch and the common part behind them so many are taken
+abbrev pub markedBy : Share → ℕ → ℕ → List ℕ
+markedBy s own taken = moved (moved (s .marks) (s .caller) (min taken own)) (length (s .shares)) (taken - min taken own)
+
 module _ (s : Share) (main : List ℕ) {words : List ℕ} (own : words ≡ ownLeft (s .shares) (s .marks) (s .caller) main) where
   pub all-available : {more : List ℕ} → more ≡ commonLeft (s .shares) (s .marks) main → words ++ more ≡ available s main
   all-available common = ap₂ _++_ own common ∙ words-available s main
 
-  pub all-marked : (taken : ℕ) {marks : List ℕ} → marks ≡ moved (moved (s .marks) (s .caller) (min taken (length words))) (length (s .shares)) (taken - min taken (length words))
-      → marks ≡ marksAfter s main taken
+  pub all-marked : (taken : ℕ) {marks : List ℕ} → marks ≡ markedBy s (length words) taken → marks ≡ marksAfter s main taken
   all-marked taken moves = moves ∙ rw own (marks-after s main taken)
 
   -- no mark passes 2^64
@@ -53,7 +56,8 @@ module _ {job : List ℕ} {enough : Bool} {t : Tested} (tests : Tests job enough
   -- the call, which has taken so many of the words available
   pub went-reply : a .number ≡ 0 → (taken : ℕ) → taken ≤ length (available s (from .main))
       → drop taken (available s (from .main))
-      ≡ cond (takesWords answered) (leftAfter (lentOf (jobOf job .header) from) (jobOf job .instructions) (available s (from .main))) (available s (from .main))
+      ≡ cond (takesWords answered) (leftAfter (lentOf (jobOf job .header) from) (jobOf job .instructions) (available s (from .main)))
+      (available s (from .main))
       → sharedReply job enough s from refuse plain answered ≡ record { reply = plain; marks = marksAfter s (from .main) taken }
   unfolding sharedReply
   went-reply zero taken within leaves =
