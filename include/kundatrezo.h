@@ -52,6 +52,7 @@ extern "C" {
 #define KUNDATREZO_MAX_ELEMENTS 64       /* of a noise line with d=3 or d=4: 1 to this */
 #define KUNDATREZO_MAX_GROUPS 16         /* of outcomes, for the table of single faults: 1 to this */
 #define KUNDATREZO_MAX_FAULT_QUBITS 4    /* of a noise line with d=2, for the table of single faults */
+#define KUNDATREZO_MAX_CALLERS 8         /* with shares of a main list: 1 to this */
 
 /* The words of the table of a Clifford line of k qubits, 4 k^2 bits: 1 up to 4 qubits, 2 for 5, 3 for 6, 4 for 7 and 8. A line has them in hexadecimal, the
  * least significant first, with commas between. */
@@ -116,6 +117,8 @@ struct kundatrezo_examination {
 #define KUNDATREZO_SEED 22        /* line 0 */
 #define KUNDATREZO_EDITION 23     /* line 1; a test of the job, after 3 */
 #define KUNDATREZO_GROUPS 24      /* line 0 for the number of groups; else the first noise line with too many qubits */
+#define KUNDATREZO_SHARES 25      /* line 0 */
+#define KUNDATREZO_CALLER 26      /* line 0 */
 
 /* What a number means, in words. */
 static inline const char *kundatrezo_refusal_text(uint64_t number)
@@ -146,6 +149,8 @@ static inline const char *kundatrezo_refusal_text(uint64_t number)
     case KUNDATREZO_SEED: return "the seed is zero";
     case KUNDATREZO_EDITION: return "the header's edition is neither 1 nor 2";
     case KUNDATREZO_GROUPS: return "no groups, more than 16, or noise with d=2 over more than 4 qubits in a table of single faults";
+    case KUNDATREZO_SHARES: return "the shares total more than the list, there are no callers or more than 8, or more is marked taken than a part holds";
+    case KUNDATREZO_CALLER: return "the caller's number is not below the number of callers";
     default: return "a number that this header does not know";
     }
 }
@@ -160,8 +165,8 @@ static inline int kundatrezo_float_state_ok(void)
 }
 
 /* The bytes of stack that a call takes at most, those of memcpy and memset and of binding them included. The tests measure them. */
-#define KUNDATREZO_RUN_STACK 69632
-#define KUNDATREZO_SETTLE_STACK 45056
+#define KUNDATREZO_RUN_STACK 69632    /* with totals and with a share, too */
+#define KUNDATREZO_SETTLE_STACK 45056 /* with a share, too */
 #define KUNDATREZO_CORRELATION_STACK 12288
 #define KUNDATREZO_FAULT_TABLE_STACK 16384
 #define KUNDATREZO_MAKE_STACK 16384
@@ -218,6 +223,40 @@ struct kundatrezo_answer kundatrezo_run_totals(const uint8_t *job, size_t job_le
 struct kundatrezo_text_answer kundatrezo_settle(const uint8_t *job, size_t job_len, const uint64_t *noiseless, size_t noiseless_len,
                                                 const uint64_t *main_words, size_t main_len, const uint64_t *second, size_t second_len,
                                                 uint64_t base, uint8_t *out, size_t out_len);
+
+/* ---- callers with shares of a main list
+ *
+ * Up to KUNDATREZO_MAX_CALLERS callers run and settle jobs from one main list. shares has a number for each caller: so many words, a stretch at the front of
+ * main_words, in the order of callers. What lies behind all stretches is common. marks has a number for each caller, how many words were taken of the stretch,
+ * and behind them one more, how many were taken of the common part; each part is taken from its front on. Before the first job all marks are 0, and each call
+ * is lent those that the last one left. caller is the number of the one who calls, from 0.
+ *
+ * A job takes words of the caller's own stretch first and then common ones, and never another's; the draws of one noise line may lie in both. KUNDATREZO_DRAWS
+ * at a line that reads the main list means that both are used up at the word needed. With success, and with KUNDATREZO_DRAWS for either list, the words that
+ * the job took stay taken, and the caller's mark and that of the common part are written. A job that is refused by any other number takes none, and marks stay;
+ * so do numbers of marks behind those of the callers and the common part.
+ *
+ * So no word is handed out twice, and a caller whose jobs stay within the own stretch gets the same whatever the others do. This is so for the same list and
+ * shares, and for calls that are made one after the other: no two calls may be lent the same marks at the same time.
+ *
+ * After the tests of a job come KUNDATREZO_WORDS (fewer marks than one more than the callers, too), KUNDATREZO_SHARES, which looks at all shares and marks,
+ * KUNDATREZO_CALLER, KUNDATREZO_DRAWS and, with settling, KUNDATREZO_ROOM. */
+
+/* The run of kundatrezo_run_totals, with the words that are available to the caller in the place of main_words. What is lent, written and refused is as there,
+ * but for the marks. */
+struct kundatrezo_answer kundatrezo_run_shared(const uint8_t *job, size_t job_len, uint64_t *x, size_t x_len, uint64_t *z, size_t z_len, uint64_t *deltas,
+                                               size_t deltas_len, uint64_t *totals, size_t totals_len, const uint64_t *noiseless, size_t noiseless_len,
+                                               const uint64_t *main_words, size_t main_len, const uint64_t *second, size_t second_len, uint64_t base,
+                                               const uint64_t *shares, size_t shares_len, uint64_t *marks, size_t marks_len, uint64_t caller);
+
+/* Settling with the words that are available to the caller, which it takes as a run does: to settle a job and then run it takes words twice, so run the settled
+ * text. KUNDATREZO_ROOM takes none, so that a second call with as many bytes as its figure says draws the same. */
+struct kundatrezo_text_answer kundatrezo_settle_shared(const uint8_t *job, size_t job_len, const uint64_t *noiseless, size_t noiseless_len,
+                                                       const uint64_t *main_words, size_t main_len, const uint64_t *second, size_t second_len,
+                                                       uint64_t base, const uint64_t *shares, size_t shares_len, uint64_t *marks, size_t marks_len,
+                                                       uint64_t caller, uint8_t *out, size_t out_len);
+
+/* ---- the walk, and around the engine */
 
 /* The walk: how many of the job's injections and flips in the shot flip the sum of the outcomes in the set. The job has no noise (settle it first);
  * the set's outcomes rise strictly and are recorded by the job. Nothing is written. */

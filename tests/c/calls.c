@@ -238,6 +238,55 @@ static void settle(void)
     }
 }
 
+/* Two callers: the first has two words of its own, the second one, and there are three common ones. Each shot of a job reads a word. */
+static void shared(void)
+{
+    static const char job[] = "op=job qubits=1 outcomes=1 shots=2\n"
+                              "op=n p=3fe0000000000000 corr=- cond=- parity=0 d=1 x=0 z=- size=1\n"
+                              "op=o x=- z=0 id=0\n";
+    static const char settled[] = "op=job qubits=1 outcomes=1 shots=2\nop=i shot=0 x=0 z=-\nop=o x=- z=0 id=0\n";
+    static const uint64_t words[6] = {0, UINT64_MAX, UINT64_MAX, 0, 0, UINT64_MAX}, shares[2] = {2, 1};
+    uint64_t x[1] = {7}, z[1] = {7}, deltas[1] = {7}, totals[1] = {7}, noiseless[1] = {0}, marks[4] = {0, 0, 0, 7};
+    uint8_t out[sizeof settled] = {0};
+    const uint8_t *bytes = (const uint8_t *)job;
+    size_t length = sizeof job - 1;
+#define RUN(marks_len, caller) \
+    kundatrezo_run_shared(bytes, length, x, 1, z, 1, deltas, 1, totals, 1, noiseless, 1, words, 6, words, 0, 0, shares, 2, marks, marks_len, caller)
+#define SETTLE(caller, room) \
+    kundatrezo_settle_shared(bytes, length, noiseless, 1, words, 6, words, 0, 0, shares, 2, marks, 3, caller, out, room)
+    struct kundatrezo_answer ran = RUN(2, 2);
+    expect_figure("run with too few marks", KUNDATREZO_WORDS, 0, 7, ran, x[0]);
+    ran = RUN(3, 2);
+    expect_figure("run of no caller", KUNDATREZO_CALLER, 0, 7, ran, x[0]);
+    marks[1] = 2;
+    ran = RUN(3, 0);
+    expect_figure("run with another's mark past the share", KUNDATREZO_SHARES, 0, 7, ran, x[0]);
+    marks[1] = 0;
+    /* the second caller reads word 2, its own, and word 3, the first common one */
+    ran = RUN(3, 1);
+    expect_figure("run of a caller", 0, 0, 2, ran, deltas[0]);
+    ran = RUN(3, 0);
+    expect_figure("run of a caller", 0, 0, 1, ran, deltas[0]);
+    expect_figure("run of a caller, totals", 0, 0, 1, ran, totals[0]);
+    expect_figure("marks", 0, 0, 211, ran, 100 * marks[0] + 10 * marks[1] + marks[2]);
+    /* settling without room takes no word; with room it takes 4 and 5, and then there are none */
+    struct kundatrezo_text_answer got = SETTLE(0, 3);
+    expect_figure("settle of a caller", KUNDATREZO_ROOM, 0, sizeof settled - 1, got.answer, got.figure);
+    expect_figure("marks after 15", KUNDATREZO_ROOM, 0, 1, got.answer, marks[2]);
+    got = SETTLE(0, sizeof out);
+    expect_figure("settle of a caller", 0, 0, sizeof settled - 1, got.answer, got.figure);
+    if (memcmp(out, settled, sizeof settled) != 0) {
+        printf("settle of a caller wrote something else\n");
+        failed = 1;
+    }
+    expect_figure("marks after settling", 0, 0, 3, got.answer, marks[2]);
+    ran = RUN(4, 1);
+    expect_figure("run with both parts used up", KUNDATREZO_DRAWS, 2, 0, ran, x[0] | deltas[0] | totals[0]);
+    expect_figure("marks beyond", KUNDATREZO_DRAWS, 2, 7, ran, marks[3]);
+#undef RUN
+#undef SETTLE
+}
+
 static void annotate(void)
 {
     static const char measured[] = "op=job qubits=1 outcomes=1 shots=1\nop=o x=- z=0 id=0\n";
@@ -397,6 +446,7 @@ int main(void)
     padding();
     encode();
     settle();
+    shared();
     walk();
     annotate();
     annotate_shared();

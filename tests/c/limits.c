@@ -132,6 +132,21 @@ static void single_faults(unsigned qubits, size_t groups, uint64_t number, uint6
     }
 }
 
+/* Settling a job without noise for the last of so many callers. */
+static void callers(size_t count, uint64_t number)
+{
+    static const char job[] = "op=job qubits=1 outcomes=0 shots=1\n";
+    static const uint64_t shares[KUNDATREZO_MAX_CALLERS + 1] = {0};
+    uint64_t marks[KUNDATREZO_MAX_CALLERS + 2] = {0}, words[1] = {0};
+    uint8_t out[sizeof job];
+    struct kundatrezo_answer got = kundatrezo_settle_shared((const uint8_t *)job, sizeof job - 1, words, 0, words, 0, words, 0, 0, shares, count, marks,
+                                                            count + 1, count ? count - 1 : 0, out, sizeof out).answer;
+    if (got.number != number || got.line != 0) {
+        printf("%zu callers: %llu\n", count, (unsigned long long)got.number);
+        failed = 1;
+    }
+}
+
 /* A job made with these numbers and no lines. */
 static void made(uint64_t qubits, uint64_t outcomes, uint64_t shots, uint64_t number)
 {
@@ -158,7 +173,7 @@ int main(int count, char **arguments)
     (void)arguments;
     if (count > 1) {
         const char *unknown = kundatrezo_refusal_text(UINT64_MAX);
-        for (uint64_t number = KUNDATREZO_LENGTH; number <= KUNDATREZO_GROUPS; number++) {
+        for (uint64_t number = KUNDATREZO_LENGTH; number <= KUNDATREZO_CALLER; number++) {
             const char *text = kundatrezo_refusal_text(number);
             if (strcmp(text, unknown) != 0)
                 printf("%llu: %s\n", (unsigned long long)number, text);
@@ -195,6 +210,10 @@ int main(int count, char **arguments)
     made(1, 0, KUNDATREZO_MAX_SHOTS + 1, KUNDATREZO_HEADER);
     made(0, 0, 1, KUNDATREZO_HEADER);
     made(1, 0, 0, KUNDATREZO_HEADER);
+    callers(0, KUNDATREZO_SHARES);
+    callers(1, 0);
+    callers(KUNDATREZO_MAX_CALLERS, 0);
+    callers(KUNDATREZO_MAX_CALLERS + 1, KUNDATREZO_SHARES);
     bytes(KUNDATREZO_MAX_BYTES, 0);
     bytes(KUNDATREZO_MAX_BYTES + 1, KUNDATREZO_LENGTH);
     puts(failed ? "limits of the C header: differences" : "limits of the C header: 0 differences");

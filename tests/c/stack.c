@@ -81,6 +81,19 @@ static void settle(void)
     kundatrezo_settle(NOISY, noiseless, 40, main_words, 5000, second, 5000, 0, out, sizeof out);
 }
 
+static const uint64_t shares[] = {10, 100, 50};
+static uint64_t marks[4];
+
+static void run_shared(void)
+{
+    kundatrezo_run_shared(NOISY, x, 200, z, 200, deltas, 40, totals, 4, noiseless, 40, main_words, 5000, second, 5000, 0, shares, 3, marks, 4, 1);
+}
+
+static void settle_shared(void)
+{
+    kundatrezo_settle_shared(NOISY, noiseless, 40, main_words, 5000, second, 5000, 0, shares, 3, marks, 4, 1, out, sizeof out);
+}
+
 static void walk(void) { kundatrezo_walk(WITHOUT_NOISE, 129, set, 2); }
 
 static void annotate(void) { kundatrezo_annotate(NOISY, 0x3fe0000000000000, out, sizeof out); }
@@ -134,6 +147,8 @@ static const struct {
     {"run", run, KUNDATREZO_RUN_STACK},
     {"run_totals", run_totals, KUNDATREZO_RUN_STACK},
     {"settle", settle, KUNDATREZO_SETTLE_STACK},
+    {"run_shared", run_shared, KUNDATREZO_RUN_STACK},
+    {"settle_shared", settle_shared, KUNDATREZO_SETTLE_STACK},
     {"walk", walk, KUNDATREZO_OTHER_STACK},
     {"annotate", annotate, KUNDATREZO_OTHER_STACK},
     {"locations", locations, KUNDATREZO_OTHER_STACK},
@@ -172,12 +187,13 @@ static int accepted(void)
 {
     struct kundatrezo_count_answer walked = kundatrezo_walk(WITHOUT_NOISE, 129, set, 2);
     struct kundatrezo_text_answer settled = kundatrezo_settle(NOISY, noiseless, 40, main_words, 5000, second, 5000, 0, out, sizeof out);
+    struct kundatrezo_text_answer shared = kundatrezo_settle_shared(NOISY, noiseless, 40, main_words, 5000, second, 5000, 0, shares, 3, marks, 4, 1, out, sizeof out);
     struct kundatrezo_text_answer annotated = kundatrezo_annotate(NOISY, 0, out, sizeof out);
     struct kundatrezo_text_answer tabled = kundatrezo_fault_table(WITH_NARROW_NOISE, groups, sizeof groups / sizeof *groups, out, sizeof out);
     struct kundatrezo_answer shots = kundatrezo_by_shot(130, 129, main_words, 390, second, 387);
     struct kundatrezo_answer outcomes = kundatrezo_by_outcome(130, 129, main_words, 387, second, 390);
     return shots.number == 0 && outcomes.number == 0 && kundatrezo_correlation(NOISY).number == 0 && walked.answer.number == 0 && settled.answer.number == 0 && annotated.answer.number == 0 &&
-           tabled.answer.number == 0 && kundatrezo_make(256, 1024, 4096, 1000, 1, out, sizeof out).answer.number == 0;
+           tabled.answer.number == 0 && shared.answer.number == 0 && kundatrezo_make(256, 1024, 4096, 1000, 1, out, sizeof out).answer.number == 0;
 }
 
 int main(void)

@@ -1,10 +1,12 @@
 // The choice of an element. An element is known by its number, from 0.
 use job::depolarizing_size;
 use noise::PauliDistribution;
+use noise::words::count;
 use noise::words::unit;
+use noise::words::word_at;
 ghost use mathlib.Core.Path.{_≡_};
 ghost use mathlib.Core.Bool.{_||_};
-ghost use mathlib.Core.List.{List};
+ghost use mathlib.Core.List.{List, _++_};
 ghost use Prim.Native.Nat.{_-_, _<_, _≤_};
 ghost use lib.ListN.{length, drop};
 ghost use Rattle.job.specs.Float.{zeroFloat, totalFrom};
@@ -52,13 +54,14 @@ fn limit(c: u64) -> u64
 }
 
 // The first word that is not rejected, mod c. The limit is handed in, since it takes a division.
-pub fn choose(words: &[u64], at: usize, c: u64, limit: u64) -> Choice
+pub fn choose(words: &[u64], more: &[u64], at: usize, c: u64, limit: u64) -> Choice
     requires { ⌜ limit ≡ limitOf c ⌝ }
-    ensures { λ r. ⌜ Chose (now (words .entry)) (bounded c (drop at (now (words .entry)))) r ⌝ }
+    ensures { λ r. ⌜ Chose (now (words .entry) ++ now (more .entry)) (bounded c (drop at (now (words .entry) ++ now (more .entry)))) r ⌝ }
 {
+    let n = count(words, more);
     let mut i = at;
-    while i < words.len() {
-        let w = words[i];
+    while i < n {
+        let w = word_at(words, more, i);
         i += 1;
         if w < limit {
             return Choice::Chosen(w % c, i);
@@ -166,13 +169,13 @@ fn place(sums: &[f64], u: f64) -> usize
 }
 
 // One word chooses a place by its running sum.
-pub fn weigh(words: &[u64], at: usize, sums: &[f64]) -> Choice
-    ensures { λ r. ⌜ Weighed (now (words .entry)) at (now (sums .entry)) r ⌝ }
+pub fn weigh(words: &[u64], more: &[u64], at: usize, sums: &[f64]) -> Choice
+    ensures { λ r. ⌜ Weighed (now (words .entry) ++ now (more .entry)) at (now (sums .entry)) r ⌝ }
 {
-    if words.len() <= at {
+    if count(words, more) <= at {
         return Choice::Spent;
     }
-    let i = place(sums, unit(words[at]));
+    let i = place(sums, unit(word_at(words, more, at)));
     Choice::Chosen(i as u64, at + 1)
 }
 
@@ -192,15 +195,15 @@ pub fn chooser_of(d: PauliDistribution) -> Chooser
 }
 
 // The element that the words from a place on choose.
-pub fn element(words: &[u64], at: usize, chooser: Chooser, sums: &[f64]) -> Choice
-    requires { ⌜ (at ≤ length (now words)) × Sized chooser ⌝ }
-    ensures { λ r. ⌜ ElementChosen (now (words .entry)) at (chooser .kind) (now (sums .entry)) r ⌝ }
+pub fn element(words: &[u64], more: &[u64], at: usize, chooser: Chooser, sums: &[f64]) -> Choice
+    requires { ⌜ (at ≤ length (now words ++ now more)) × Sized chooser ⌝ }
+    ensures { λ r. ⌜ ElementChosen (now (words .entry) ++ now (more .entry)) at (chooser .kind) (now (sums .entry)) r ⌝ }
 {
     let d = chooser.kind;
     match d {
         PauliDistribution::Single => Choice::Chosen(0, at),
-        PauliDistribution::Depolarizing(_) => choose(words, at, chooser.size, chooser.limit),
-        PauliDistribution::Uniform(_) => choose(words, at, chooser.size, chooser.limit),
-        PauliDistribution::Weighted(_) => weigh(words, at, sums),
+        PauliDistribution::Depolarizing(_) => choose(words, more, at, chooser.size, chooser.limit),
+        PauliDistribution::Uniform(_) => choose(words, more, at, chooser.size, chooser.limit),
+        PauliDistribution::Weighted(_) => weigh(words, more, at, sums),
     }
 }

@@ -5,12 +5,13 @@ use Prim.Native.Nat.{ℕ, suc, _+_, _*_, _<_, _≤_}
 use lib.ListN.{length, drop}
 use Rattle.job.specs.declared.Header.{Header}
 use Rattle.job.specs.declared.Answer.{Answer}
-use Rattle.job.specs.Line.{Instruction}
+use Rattle.job.specs.Line.{Instruction, Placed}
 use Rattle.job.specs.Grammar.{headerWith}
 use Rattle.job.specs.Job.{answer, accepted, placedAt, jobOf}
 use Rattle.instructions.specs.declared.Next.{Next}
 use Rattle.instructions.specs.Ahead.{instructionsAt, Ahead}
 use Rattle.draws.specs.Draws.{Lent}
+use Rattle.draws.specs.Left.{leftAfter}
 use Rattle.draws.specs.Execute.{States, Ended, execute}
 use Rattle.rows.specs.declared.Shape.{Shape}
 use Rattle.rows.specs.Words.{bitIn}
@@ -19,6 +20,7 @@ use Rattle.template.specs.Values.{Whole}
 use Rattle.faults.specs.Elements.{AllInside}
 use Rattle.faults.specs.Prepared.{NoiseLines, noiseIn}
 use Rattle.injection.specs.Holds.{Holds}
+use Rattle.execution.specs.declared.Answered.{Answered}
 use Rattle.execution.specs.declared.Moved.{Moved}
 use Rattle.execution.specs.declared.Moved.the-variants.{To, Spent}
 
@@ -43,22 +45,35 @@ pub record RowsFor (shape : Shape) (x z d noiseless : List ℕ) : Type 0 where
 
 -- ---- one instruction
 
+-- how instructions end, and what they leave of the main list
+pub record Ending : Type 0 where
+  pub ends : Ended
+  pub left : List ℕ
+
+abbrev pub endingOf : Header → Lent → List Placed → List ℕ → States → Ending
+endingOf h lent is main states = record { ends = execute h lent is main states; left = leftAfter lent is main }
+
 -- Where execution of what is left comes to `all`, it goes on from another place, with fewer instructions than so many and the states that the words hold.
-pub record WentTo (job : List ℕ) (shape : Shape) (lent : Lent) (main : List ℕ) (all : Ended) (count : ℕ) (x z d : List ℕ) (next : Place) : Type 0 where
+pub record WentTo (job : List ℕ) (shape : Shape) (lent : Lent) (main : List ℕ) (all : Ending) (count : ℕ) (x z d : List ℕ) (next : Place) : Type 0 where
   pub recorded : ℕ
   pub ahead : Ahead job (headerOf job shape) recorded (next .line) (next .byte)
   pub fewer : length (instructionsAt job (next .line) (next .byte)) < count
   pub within : next .position ≤ length main
   pub states : States
   pub holds : Holds (shape .width) x z d states
-  pub is : execute (headerOf job shape) lent (instructionsAt job (next .line) (next .byte)) (drop (next .position) main) states ≡ all
+  pub is : endingOf (headerOf job shape) lent (instructionsAt job (next .line) (next .byte)) (drop (next .position) main) states ≡ all
 
--- or the draws were spent in line k
-unfoldable pub WentBy : List ℕ → Shape → Lent → List ℕ → Ended → ℕ → ℕ → List ℕ → List ℕ → List ℕ → Moved → Type 0
+-- or the draws were spent in line k, and the main list is left at a position
+pub record SpentIn (main : List ℕ) (all : Ending) (k position : ℕ) : Type 0 where
+  pub ends : all .ends ≡ Ended.spentAt k
+  pub within : position ≤ length main
+  pub leaves : drop position main ≡ all .left
+
+unfoldable pub WentBy : List ℕ → Shape → Lent → List ℕ → Ending → ℕ → ℕ → List ℕ → List ℕ → List ℕ → Moved → Type 0
 WentBy job shape lent main all count k x z d (To next) = WentTo job shape lent main all count x z d next
-WentBy job shape lent main all count k x z d Spent = all ≡ Ended.spentAt k
+WentBy job shape lent main all count k x z d (Spent position) = SpentIn main all k position
 
-pub record Went (job : List ℕ) (shape : Shape) (lent : Lent) (main : List ℕ) (all : Ended) (count k : ℕ) (x z d : List ℕ) (r : Moved) : Type 0 where
+pub record Went (job : List ℕ) (shape : Shape) (lent : Lent) (main : List ℕ) (all : Ending) (count k : ℕ) (x z d : List ℕ) (r : Moved) : Type 0 where
   pub by : WentBy job shape lent main all count k x z d r
 
 -- a noise line at a place was read; its element lines begin behind it
@@ -81,7 +96,7 @@ pub record NoiseDone (job : List ℕ) (place : Place) (line : Next) (values : Li
   pub by : (q : NoiseLines job (line .end + 1) (line .form) values noiseless (shape .width)) → q .header ≡ headerOf job shape → q .line ≡ place .line + 1
       → (text deltas : List ℕ) (states : States) → Holds (shape .width) x z deltas states
       → Went job shape (lentBy shape noiseless second base) main
-      (execute (headerOf job shape) (lentBy shape noiseless second base) (placedAt (place .line) text (Instruction.noise (noiseIn q)) ∷ q .rest) (drop (place .position) main) states)
+      (endingOf (headerOf job shape) (lentBy shape noiseless second base) (placedAt (place .line) text (Instruction.noise (noiseIn q)) ∷ q .rest) (drop (place .position) main) states)
       (suc (length (q .rest))) (place .line) x′ z′ deltas r
 
 -- an instruction begins at the place
@@ -97,7 +112,7 @@ pub record Stepped (job : List ℕ) (shape : Shape) (noiseless main second : Lis
   where
     pub by : (recorded : ℕ) → Ahead job (headerOf job shape) recorded (place .line) (place .byte) → (states : States) → Holds (shape .width) x z d states
         → Went job shape (lentBy shape noiseless second base) main
-        (execute (headerOf job shape) (lentBy shape noiseless second base) (instructionsAt job (place .line) (place .byte)) (drop (place .position) main) states)
+        (endingOf (headerOf job shape) (lentBy shape noiseless second base) (instructionsAt job (place .line) (place .byte)) (drop (place .position) main) states)
         (length (instructionsAt job (place .line) (place .byte))) (place .line) x′ z′ d′ r
 
 -- ---- a job to its end
@@ -107,6 +122,9 @@ pub data Finished (all : Ended) (w : ℕ) (x z d : List ℕ) (r : Answer) : Type
   finished : (states : States) → all ≡ Ended.ended states → r ≡ accepted → Holds w x z d states → Finished all w x z d r
   stopped : (k : ℕ) → all ≡ Ended.spentAt k → r ≡ answer 14 k → Finished all w x z d r
 
-pub record Executes (job : List ℕ) (shape : Shape) (noiseless main second : List ℕ) (base from : ℕ) (x z d x′ z′ d′ : List ℕ) (r : Answer) : Type 0 where
+-- and the main list is left at a position
+pub record Executes (job : List ℕ) (shape : Shape) (noiseless main second : List ℕ) (base from : ℕ) (x z d x′ z′ d′ : List ℕ) (r : Answered) : Type 0 where
   pub by : (states : States) → Holds (shape .width) x z d states
-      → Finished (execute (headerOf job shape) (lentBy shape noiseless second base) (instructionsAt job 2 from) main states) (shape .width) x′ z′ d′ r
+      → Finished (execute (headerOf job shape) (lentBy shape noiseless second base) (instructionsAt job 2 from) main states) (shape .width) x′ z′ d′ (r .answer)
+  pub within : r .taken ≤ length main
+  pub leaves : drop (r .taken) main ≡ leftAfter (lentBy shape noiseless second base) (instructionsAt job 2 from) main

@@ -9,10 +9,13 @@ use instructions::next_line;
 use job::Answer;
 use lines::apply_line;
 use noise::Place;
+use noise::words::count;
+use noise::words::more_part;
 use noise::words::part;
 use noise::words::position_after;
 use rows::Shape;
 use template::values::WORDS;
+ghost use mathlib.Core.List.{_++_};
 ghost use Prim.Native.Nat.{ℕ, _*_, _≤_};
 ghost use lib.ListN.{length};
 ghost use Rattle.instructions.specs.Ahead.{Ahead};
@@ -22,13 +25,19 @@ ghost use Rattle.execution.specs.Went.{headerOf, RowsFor, NoiseReady, No
 // 31 rows of at most 64 words.
 const SCRATCH_WORDS: usize = 1984;
 
-// The place of the next instruction; or the draws were spent.
+// The place of the next instruction; or the draws were spent, with the position in the main list where it leaves it.
 pub enum Moved {
     To(Place),
-    Spent,
+    Spent(usize),
 }
 
-// A noise line at a place, which was read: it is made ready with its element lines, and its faults are injected.
+// An answer, and how many words of the main list were taken for it.
+pub struct Answered {
+    pub answer: Answer,
+    pub taken: usize,
+}
+
+// A noise line at a place, which was read: it is made ready with its element lines, and its faults are injected. The main list lies in two parts.
 fn apply_noise<'a>(
     job: &[u8],
     place: Place,
@@ -40,11 +49,12 @@ fn apply_noise<'a>(
     shape: Shape,
     noiseless: &[u64],
     main: &'a [u64],
+    more: &'a [u64],
     second: &'a [u64],
     base: u64,
 ) -> Moved
-    requires { ⌜ NoiseReady (now job) place line (now values) (now noiseless) shape × NoiseRoom shape (now values) (now elements) (now x) (now z) × (place .position ≤ length (now main)) ⌝ }
-    ensures { λ r. ⌜ NoiseDone (now (job .entry)) place line (now (values .entry)) shape (now (noiseless .entry)) (now (main .entry)) (now (second .entry)) base (now (x .entry)) (now (z .entry)) (now (x .exit)) (now (z .exit)) r ⌝ }
+    requires { ⌜ NoiseReady (now job) place line (now values) (now noiseless) shape × NoiseRoom shape (now values) (now elements) (now x) (now z) × (place .position ≤ length (now main ++ now more)) ⌝ }
+    ensures { λ r. ⌜ NoiseDone (now (job .entry)) place line (now (values .entry)) shape (now (noiseless .entry)) (now (main .entry) ++ now (more .entry)) (now (second .entry)) base (now (x .entry)) (now (z .entry)) (now (x .exit)) (now (z .exit)) r ⌝ }
 {
     let mut sums = [0.0; 64];
     let mut mask = [0u64; 64];
@@ -70,9 +80,20 @@ fn apply_noise<'a>(
     }
     let correlation = fault.correlation;
     let words = part(main, second, correlation, base, place.position);
-    let drawn = inject_faults(words, &mask, fault, &sums[..lines], elements, x, z, shape);
+    let rest = more_part(more, correlation, place.position, main.len());
+    let drawn = inject_faults(
+        words,
+        rest,
+        &mask,
+        fault,
+        &sums[..lines],
+        elements,
+        x,
+        z,
+        shape,
+    );
     let Drawn::Done(read) = drawn else {
-        return Moved::Spent;
+        return Moved::Spent(position_after(correlation, place.position, count(words, rest)));
     };
     Moved::To(Place {
         byte: next.byte,
@@ -95,11 +116,12 @@ fn step<'a>(
     shape: Shape,
     noiseless: &[u64],
     main: &'a [u64],
+    more: &'a [u64],
     second: &'a [u64],
     base: u64,
 ) -> Moved
-    requires { ⌜ StepReady (now job) shape place (now values) (now elements) (now main) × RowsFor shape (now x) (now z) (now deltas) (now noiseless) × (31 * shape .width ≤ length (now scratch)) × TotalsHeld (shape .width) (shape .outcomes) (now deltas) (now totals) ⌝ }
-    ensures { λ r. ⌜ Stepped (now (job .entry)) shape (now (noiseless .entry)) (now (main .entry)) (now (second .entry)) base place (now (x .entry)) (now (z .entry)) (now (deltas .entry)) (now (x .exit)) (now (z .exit)) (now (deltas .exit)) r × TotalsHeld (shape .width) (shape .outcomes) (now (deltas .exit)) (now (totals .exit)) ⌝ }
+    requires { ⌜ StepReady (now job) shape place (now values) (now elements) (now main ++ now more) × RowsFor shape (now x) (now z) (now deltas) (now noiseless) × (31 * shape .width ≤ length (now scratch)) × TotalsHeld (shape .width) (shape .outcomes) (now deltas) (now totals) ⌝ }
+    ensures { λ r. ⌜ Stepped (now (job .entry)) shape (now (noiseless .entry)) (now (main .entry) ++ now (more .entry)) (now (second .entry)) base place (now (x .entry)) (now (z .entry)) (now (deltas .entry)) (now (x .exit)) (now (z .exit)) (now (deltas .exit)) r × TotalsHeld (shape .width) (shape .outcomes) (now (deltas .exit)) (now (totals .exit)) ⌝ }
 {
     let line = next_line(job, place.byte, &mut *values);
     let form = line.form;
@@ -115,6 +137,7 @@ fn step<'a>(
             shape,
             noiseless,
             main,
+            more,
             second,
             base,
         );
@@ -138,11 +161,12 @@ pub fn execute<'a>(
     shape: Shape,
     noiseless: &[u64],
     main: &'a [u64],
+    more: &'a [u64],
     second: &'a [u64],
     base: u64,
-) -> Answer
+) -> Answered
     requires { ⌜ ((recorded : ℕ) × Ahead (now job) (headerOf (now job) shape) recorded 2 from) × RowsFor shape (now x) (now z) (now deltas) (now noiseless) × TotalsHeld (shape .width) (shape .outcomes) (now deltas) (now totals) ⌝ }
-    ensures { λ r. ⌜ Executes (now (job .entry)) shape (now (noiseless .entry)) (now (main .entry)) (now (second .entry)) base from (now (x .entry)) (now (z .entry)) (now (deltas .entry)) (now (x .exit)) (now (z .exit)) (now (deltas .exit)) r × TotalsHeld (shape .width) (shape .outcomes) (now (deltas .exit)) (now (totals .exit)) ⌝ }
+    ensures { λ r. ⌜ Executes (now (job .entry)) shape (now (noiseless .entry)) (now (main .entry) ++ now (more .entry)) (now (second .entry)) base from (now (x .entry)) (now (z .entry)) (now (deltas .entry)) (now (x .exit)) (now (z .exit)) (now (deltas .exit)) r × TotalsHeld (shape .width) (shape .outcomes) (now (deltas .exit)) (now (totals .exit)) ⌝ }
 {
     let mut values = [0u64; WORDS];
     let mut elements = [0u64; ALL_WORDS];
@@ -166,16 +190,27 @@ pub fn execute<'a>(
             shape,
             noiseless,
             main,
+            more,
             second,
             base,
         );
-        let Moved::To(next) = moved else {
-            return Answer {
-                number: 14,
-                line: place.line,
-            };
-        };
-        place = next;
+        match moved {
+            Moved::Spent(position) => {
+                return Answered {
+                    answer: Answer {
+                        number: 14,
+                        line: place.line,
+                    },
+                    taken: position,
+                };
+            }
+            Moved::To(next) => {
+                place = next;
+            }
+        }
     }
-    Answer { number: 0, line: 0 }
+    Answered {
+        answer: Answer { number: 0, line: 0 },
+        taken: place.position,
+    }
 }

@@ -10,7 +10,7 @@ use shots::NextFault;
 use shots::next_fault;
 ghost use mathlib.Core.Path.{_≡_};
 ghost use mathlib.Core.Bool.{true, cond};
-ghost use mathlib.Core.List.{List};
+ghost use mathlib.Core.List.{List, _++_};
 ghost use Prim.Native.Nat.{ℕ, _+_, _*_, _^_, _<_, _≤_};
 ghost use lib.ListN.{length};
 ghost use Rattle.job.specs.Line.{SparsePauli, Line};
@@ -113,9 +113,10 @@ pub enum Drawn {
     Spent,
 }
 
-// Injects the faults of a noise line, from shot to shot. The words are its part of the draws; the mask has the shots whose condition is satisfied.
+// Injects the faults of a noise line, from shot to shot. The words are its part of the draws, in two pieces; the mask has the shots whose condition is satisfied.
 pub fn inject_faults(
     words: &[u64],
+    more: &[u64],
     mask: &[u64],
     fault: PauliFault,
     sums: &[f64],
@@ -125,7 +126,7 @@ pub fn inject_faults(
     shape: Shape,
 ) -> Drawn
     requires { ⌜ FaultsReady (shape .qubits) (shape .shots) (shape .width) (fault .probability) (fault .distribution) (now sums) (now elements) (now mask) (now x) (now z) ⌝ }
-    ensures { λ r. ⌜ FaultsInjected (shape .qubits) (shape .shots) (shape .width) (fault .probability) (fault .distribution) (now (sums .entry)) (now (elements .entry)) (now (mask .entry)) (now (words .entry)) (now (x .entry)) (now (z .entry)) (now (x .exit)) (now (z .exit)) r ⌝ }
+    ensures { λ r. ⌜ FaultsInjected (shape .qubits) (shape .shots) (shape .width) (fault .probability) (fault .distribution) (now (sums .entry)) (now (elements .entry)) (now (mask .entry)) (now (words .entry) ++ now (more .entry)) (now (x .entry)) (now (z .entry)) (now (x .exit)) (now (z .exit)) r ⌝ }
 {
     let p = fault.probability;
     let d = fault.distribution;
@@ -134,7 +135,7 @@ pub fn inject_faults(
     let mut at = 0;
     let mut shot = 0;
     loop {
-        match next_fault(words, at, mask, Shot(shot), shots, p, chooser, sums) {
+        match next_fault(words, more, at, mask, Shot(shot), shots, p, chooser, sums) {
             NextFault::Spent => {
                 return Drawn::Spent;
             }

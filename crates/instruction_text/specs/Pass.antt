@@ -7,6 +7,7 @@ use Rattle.job.specs.declared.Header.{Header}
 use Rattle.instructions.specs.Ahead.{instructionsAt, Ahead}
 use Rattle.writer.specs.Placed.{Puts}
 use Rattle.draws.specs.Draws.{Lent}
+use Rattle.draws.specs.Left.{leftAfter}
 use Rattle.draws.specs.Settle.{SettledLine, Settled, prefixed, settle}
 use Rattle.rows.specs.declared.Shape.{Shape}
 use Rattle.rows.specs.Words.{wordsPerRow, bitIn}
@@ -35,6 +36,10 @@ lentBy p = record { noiseless = bitIn (p .shape .width) (p .noiseless); second =
 abbrev pub settledFrom : Pass → Reached → Settled
 settledFrom p here = settle (lentBy p) (instructionsAt (p .job) (here .place .line) (here .place .byte)) (drop (here .place .position) (p .main))
 
+-- and what they leave of the main list
+abbrev pub leftFrom : Pass → Reached → List ℕ
+leftFrom p here = leftAfter (lentBy p) (instructionsAt (p .job) (here .place .line) (here .place .byte)) (drop (here .place .position) (p .main))
+
 -- ---- from instruction to instruction
 
 -- an instruction of an accepted job begins at a place, or the job ends there
@@ -51,14 +56,20 @@ pub record Between (p : Pass) (here : Reached) : Type 0 where
 pub record Onward (p : Pass) (out : List ℕ) (here : Reached) (after : List ℕ) (next : Reached) : Type 0 where
   pub lines : List SettledLine
   pub settles : settledFrom p here ≡ prefixed lines (settledFrom p next)
+  pub leaves : leftFrom p here ≡ leftFrom p next
   pub puts : Puts (here .text) (textOf lines) out after (next .text)
   pub onward : here .place .line < next .place .line
   pub few : next .text ≤ here .text + 8388608
   pub between : Between p next
 
--- or its draws were spent
+-- or its draws were spent, and the main list is left at a position
+pub record SpentHere (p : Pass) (here : Reached) (position : ℕ) : Type 0 where
+  pub settles : settledFrom p here ≡ Settled.spentAt (here .place .line)
+  pub within : position ≤ length (p .main)
+  pub leaves : drop position (p .main) ≡ leftFrom p here
+
 unfoldable pub MovedTo : Pass → List ℕ → Reached → List ℕ → Moved → Type 0
-MovedTo p out here after moved.Spent = settledFrom p here ≡ Settled.spentAt (here .place .line)
+MovedTo p out here after (moved.Spent position) = SpentHere p here position
 MovedTo p out here after (moved.To next) = Onward p out here after next
 
 pub record InstructionPut (p : Pass) (out : List ℕ) (here : Reached) (after : List ℕ) (r : Moved) : Type 0 where

@@ -1,6 +1,7 @@
 // The text that an instruction comes to when a job is settled: a line that is copied, or the injections that stand for noise.
 ghost use mathlib.Core.Path.{_≡_};
 ghost use mathlib.Core.Bool.{true};
+ghost use mathlib.Core.List.{_++_};
 ghost use Prim.Native.Nat.{_+_, _*_, _^_, _<_, _≤_};
 ghost use lib.ListN.{length};
 ghost use Rattle.template.specs.Values.{Whole};
@@ -23,13 +24,13 @@ pub struct Reached {
     pub text: usize,
 }
 
-// The instruction's draws were spent; or how far the pass came with it.
+// The instruction's draws were spent, with the position in the main list where it leaves it; or how far the pass came with it.
 pub enum Moved {
-    Spent,
+    Spent(usize),
     To(Reached),
 }
 
-// The injections that stand for the noise line that was read, with its element lines.
+// The injections that stand for the noise line that was read, with its element lines. The main list lies in two parts.
 fn put_noise_line<'a>(
     out: &mut [u8],
     from: Reached,
@@ -40,11 +41,12 @@ fn put_noise_line<'a>(
     shape: Shape,
     noiseless: &[u64],
     main: &'a [u64],
+    more: &'a [u64],
     second: &'a [u64],
     base: u64,
 ) -> Moved
-    requires { ⌜ Between (passOf (now job) shape (now noiseless) (now main) (now second) base) from × (from .text + 5496832 < 2 ^ 64) × NextLine (now job) (from .place .byte) line (now values) × (noiseForm (line .form) ≡ true) × Whole (now values) × AllInside (now elements) ⌝ }
-    ensures { λ r. ⌜ InstructionPut (passOf (now (job .entry)) shape (now (noiseless .entry)) (now (main .entry)) (now (second .entry)) base) (now (out .entry)) from (now (out .exit)) r ⌝ }
+    requires { ⌜ Between (passOf (now job) shape (now noiseless) (now main ++ now more) (now second) base) from × (from .text + 5496832 < 2 ^ 64) × NextLine (now job) (from .place .byte) line (now values) × (noiseForm (line .form) ≡ true) × Whole (now values) × AllInside (now elements) ⌝ }
+    ensures { λ r. ⌜ InstructionPut (passOf (now (job .entry)) shape (now (noiseless .entry)) (now (main .entry) ++ now (more .entry)) (now (second .entry)) base) (now (out .entry)) from (now (out .exit)) r ⌝ }
 {
     let place = from.place;
     let mut sums = [0.0; 64];
@@ -70,11 +72,12 @@ fn put_noise_line<'a>(
         elements,
         shape.shots,
         main,
+        more,
         second,
         base,
         place.position,
     ) {
-        Drawn::Spent => Moved::Spent,
+        Drawn::Spent(position) => Moved::Spent(position),
         Drawn::Done(position, text) => Moved::To(Reached {
             place: Place {
                 byte: ready.next,
@@ -96,11 +99,12 @@ pub fn put_instruction<'a>(
     shape: Shape,
     noiseless: &[u64],
     main: &'a [u64],
+    more: &'a [u64],
     second: &'a [u64],
     base: u64,
 ) -> Moved
-    requires { ⌜ Between (passOf (now job) shape (now noiseless) (now main) (now second) base) from × (from .place .byte < length (now job)) × (from .text ≤ 8388608 * from .place .line) × Whole (now values) × AllInside (now elements) ⌝ }
-    ensures { λ r. ⌜ InstructionPut (passOf (now (job .entry)) shape (now (noiseless .entry)) (now (main .entry)) (now (second .entry)) base) (now (out .entry)) from (now (out .exit)) r ⌝ }
+    requires { ⌜ Between (passOf (now job) shape (now noiseless) (now main ++ now more) (now second) base) from × (from .place .byte < length (now job)) × (from .text ≤ 8388608 * from .place .line) × Whole (now values) × AllInside (now elements) ⌝ }
+    ensures { λ r. ⌜ InstructionPut (passOf (now (job .entry)) shape (now (noiseless .entry)) (now (main .entry) ++ now (more .entry)) (now (second .entry)) base) (now (out .entry)) from (now (out .exit)) r ⌝ }
 {
     let place = from.place;
     let at = place.byte;
@@ -117,6 +121,7 @@ pub fn put_instruction<'a>(
             shape,
             noiseless,
             main,
+            more,
             second,
             base,
         );

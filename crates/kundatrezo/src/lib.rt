@@ -11,6 +11,7 @@ ghost use Rattle.examination.specs.Reply.{examineReply};
 ghost use Rattle.writer.specs.Reply.{textReply};
 ghost use Rattle.run.specs.Run.{runReply};
 ghost use Rattle.backward.specs.Settling.{settleReply};
+ghost use Rattle.shares.specs.Replies.{sharedRunReply, sharedSettleReply};
 ghost use Rattle.backward.specs.Walking.{walkReply};
 ghost use Rattle.made.specs.Made.{makeReply};
 ghost use Rattle.circuit.specs.Replies.{annotateReply, locationsReply, correlationReply};
@@ -99,6 +100,68 @@ pub extern "C" fn kundatrezo_settle<'a>(
     ensures { λ r. ⌜ textReply r (now (out .exit)) ≡ settleReply (now (job .entry)) (record { noiseless = now (noiseless .entry); main = now (main .entry); second = now (second .entry); base = base }) (now (out .entry)) ⌝ }
 {
     settling::settle(job, noiseless, main, second, base, out)
+}
+
+// A run of a job by a caller with a share of the main list, whose marks are moved.
+#[no_mangle]
+pub extern "C" fn kundatrezo_run_shared<'a>(
+    job: &[u8],
+    x: &mut [u64],
+    z: &mut [u64],
+    deltas: &mut [u64],
+    totals: &mut [u64],
+    noiseless: &[u64],
+    main: &'a [u64],
+    second: &'a [u64],
+    base: u64,
+    shares: &[u64],
+    marks: &mut [u64],
+    caller: u64,
+) -> Answer
+    ensures { λ r. ⌜ sharedRunReply (now (job .entry)) (record { x = now (x .entry); z = now (z .entry); deltas = now (deltas .entry); totals = now (totals .entry); source = record { noiseless = now (noiseless .entry); main = now (main .entry); second = now (second .entry); base = base } }) (record { shares = now (shares .entry); marks = now (marks .entry); caller = caller }) ≡ record { reply = record { answered = r; x = now (x .exit); z = now (z .exit); deltas = now (deltas .exit); totals = now (totals .exit) }; marks = now (marks .exit) } ⌝ }
+{
+    shared_runs::run_shared(
+        job,
+        x,
+        z,
+        deltas,
+        totals,
+        noiseless,
+        main,
+        second,
+        base,
+        shares,
+        marks,
+        caller,
+    )
+}
+
+// Settling by a caller with a share.
+#[no_mangle]
+pub extern "C" fn kundatrezo_settle_shared<'a>(
+    job: &[u8],
+    noiseless: &[u64],
+    main: &'a [u64],
+    second: &'a [u64],
+    base: u64,
+    shares: &[u64],
+    marks: &mut [u64],
+    caller: u64,
+    out: &mut [u8],
+) -> TextAnswer
+    ensures { λ r. ⌜ sharedSettleReply (now (job .entry)) (record { noiseless = now (noiseless .entry); main = now (main .entry); second = now (second .entry); base = base }) (now (out .entry)) (record { shares = now (shares .entry); marks = now (marks .entry); caller = caller }) ≡ record { reply = textReply r (now (out .exit)); marks = now (marks .exit) } ⌝ }
+{
+    shared_runs::settle_shared(
+        job,
+        noiseless,
+        main,
+        second,
+        base,
+        shares,
+        marks,
+        caller,
+        out,
+    )
 }
 
 // The walk of a set of outcomes in a shot, over a job without noise.

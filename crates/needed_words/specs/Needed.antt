@@ -2,15 +2,16 @@
 use mathlib.Core.Path.{_≡_}
 use mathlib.Core.List.{List}
 use Prim.Native.Nat.{ℕ, _≤_}
-use lib.ListN.{length, replicate}
+use lib.ListN.{length, replicate, drop}
 use Rattle.job.specs.declared.Header.{Header}
-use Rattle.job.specs.declared.Answer.{Answer}
 use Rattle.job.specs.Job.{answer, accepted}
 use Rattle.job.specs.Sound.{InstructionsSound}
 use Rattle.instructions.specs.Ahead.{instructionsAt, Ahead}
+use Rattle.draws.specs.Left.{leftAfter}
 use Rattle.draws.specs.Execute.{starts, Ended, execute}
 use Rattle.rows.specs.declared.Shape.{Shape}
 use Rattle.rows.specs.Words.{wordsPerRow, pack}
+use Rattle.execution.specs.declared.Answered.{Answered}
 use Rattle.execution.specs.Went.{headerOf}
 use Rattle.run.specs.Run.{Source, RunReply, frameWords, outcomeWords, lentOf, flipTotals}
 
@@ -46,7 +47,9 @@ pub record NeededReady (job : List ℕ) (shape : Shape) (from : ℕ) (x z d tota
   pub of-totals : length totals ≡ shape .outcomes
   pub of-noiseless : outcomeWords (headerOf job shape) ≤ length noiseless
 
--- the answer and the words and totals after it are the reply
-pub record NeededRun (job : List ℕ) (h : Header) (source : Source) (from : ℕ) (x z d totals : List ℕ) (r : Answer) : Type 0 where
+-- the answer and the words and totals after it are the reply, and the main list is left at a position
+pub record NeededRun (job : List ℕ) (h : Header) (source : Source) (from : ℕ) (x z d totals : List ℕ) (r : Answered) : Type 0 where
   pub is : neededReply h (execute h (lentOf h source) (instructionsAt job 2 from) (source .main) starts)
-      ≡ record { answered = r; x = x; z = z; deltas = d; totals = totals }
+      ≡ record { answered = r .answer; x = x; z = z; deltas = d; totals = totals }
+  pub within : r .taken ≤ length (source .main)
+  pub leaves : drop (r .taken) (source .main) ≡ leftAfter (lentOf h source) (instructionsAt job 2 from) (source .main)

@@ -1,8 +1,9 @@
 // A run of a job over exactly the words that it needs.
+use execution::Answered;
 use execution::execute;
-use job::Answer;
 use rows::Shape;
 ghost use mathlib.Core.Path.{_≡_};
+ghost use mathlib.Core.List.{_++_};
 ghost use lib.ListN.{length};
 ghost use Rattle.rows.specs.Overwrite.{cleared};
 ghost use Rattle.run.specs.Run.{Source};
@@ -22,7 +23,7 @@ fn clear_all(x: &mut [u64], z: &mut [u64], deltas: &mut [u64], totals: &mut [u64
     rows::clear(totals, 0, nt);
 }
 
-// The words and the totals are cleared first, and again where the draws were spent.
+// The main list lies in two parts. The words and the totals are cleared first, and again where the draws were spent.
 pub fn run_needed<'a>(
     job: &[u8],
     from: usize,
@@ -33,11 +34,12 @@ pub fn run_needed<'a>(
     shape: Shape,
     noiseless: &[u64],
     main: &'a [u64],
+    more: &'a [u64],
     second: &'a [u64],
     base: u64,
-) -> Answer
+) -> Answered
     requires { ⌜ NeededReady (now job) shape from (now x) (now z) (now deltas) (now totals) (now noiseless) ⌝ }
-    ensures { λ r. ⌜ NeededRun (now (job .entry)) (headerOf (now (job .entry)) shape) (record { noiseless = now (noiseless .entry); main = now (main .entry); second = now (second .entry); base = base }) from (now (x .exit)) (now (z .exit)) (now (deltas .exit)) (now (totals .exit)) r ⌝ }
+    ensures { λ r. ⌜ NeededRun (now (job .entry)) (headerOf (now (job .entry)) shape) (record { noiseless = now (noiseless .entry); main = now (main .entry) ++ now (more .entry); second = now (second .entry); base = base }) from (now (x .exit)) (now (z .exit)) (now (deltas .exit)) (now (totals .exit)) r ⌝ }
 {
     clear_all(&mut *x, &mut *z, &mut *deltas, &mut *totals);
     let r = execute(
@@ -50,10 +52,12 @@ pub fn run_needed<'a>(
         shape,
         noiseless,
         main,
+        more,
         second,
         base,
     );
-    if r.number == 0 {
+    let answer = r.answer;
+    if answer.number == 0 {
         return r;
     }
     clear_all(x, z, deltas, totals);

@@ -2,11 +2,12 @@
 use crate::Correlation;
 ghost use mathlib.Core.Path.{_≡_};
 ghost use mathlib.Core.Option.{none};
-ghost use Prim.Native.Nat.{_+_, _^_, _<_, _≤_};
-ghost use lib.ListN.{length, drop};
+ghost use mathlib.Core.List.{_++_};
+ghost use Prim.Native.Nat.{_+_, _-_, _^_, _<_, _≤_};
+ghost use lib.ListN.{length, getD, drop};
 ghost use Rattle.draws.specs.Draws.{unitOf, falls, Lent, partOf};
 ghost use Rattle.noise.specs.Kinds.{correlationOf};
-ghost use Rattle.noise.specs.Words.{skipOf, positionAfter};
+ghost use Rattle.noise.specs.Words.{skipOf, moreOf, positionAfter};
 
 // u = floor(w / 2048) / 2^53. A number below 2^53 is cast without loss, and scaling by a power of two is exact.
 pub fn unit(w: u64) -> f64
@@ -33,6 +34,16 @@ fn tail<'a>(words: &'a [u64], from: usize) -> &'a [u64]
     }
 }
 
+// A position counted from another: 0 where it lies before.
+fn behind(position: usize, first: usize) -> usize
+    ensures { λ r. ⌜ r ≡ position - first ⌝ }
+{
+    if position < first {
+        return 0;
+    }
+    position - first
+}
+
 // The part of one of the two lists that a noise line reads from: the main list from a position on, or the second from base + c on, wrapping at 2^64.
 pub fn part<'a>(
     main: &'a [u64],
@@ -49,6 +60,22 @@ pub fn part<'a>(
     }
 }
 
+// What follows that part where the main list has two: the second from the same position on, counted behind the first, or nothing, since a correlated line
+// reads the second list alone.
+pub fn more_part<'a>(
+    more: &'a [u64],
+    correlation: Correlation,
+    position: usize,
+    first: usize,
+) -> &'a [u64]
+    ensures { λ r. ⌜ now r ≡ moreOf (correlationOf correlation) (drop (position - first) (now (more .entry))) ⌝ }
+{
+    match correlation {
+        Correlation::Uncorrelated => tail(more, behind(position, first)),
+        Correlation::Shared(_) => tail(more, more.len()),
+    }
+}
+
 // The position in the main list behind a noise line: only a line without correlation reads on.
 pub fn position_after(correlation: Correlation, position: usize, read: usize) -> usize
     requires { ⌜ (correlationOf correlation ≡ none → position + read < 2 ^ 64) ⌝ }
@@ -60,20 +87,59 @@ pub fn position_after(correlation: Correlation, position: usize, read: usize) ->
     }
 }
 
-// How many shots, of so many, are passed over before the next fault: as many words bring none. Fewer where the words end.
-pub fn next_skip(words: &[u64], at: usize, shots: usize, p: f64) -> usize
-    requires { ⌜ at ≤ length (now words) ⌝ }
-    ensures { λ r. ⌜ r ≡ skipOf p shots (drop at (now (words .entry))) ⌝ }
+// How many words two parts have, the second behind the first.
+pub fn count(words: &[u64], more: &[u64]) -> usize
+    ensures { λ r. ⌜ r ≡ length (now (words .entry) ++ now (more .entry)) ⌝ }
+{
+    words.len() + more.len()
+}
+
+// The word at a place of the two.
+pub fn word_at(words: &[u64], more: &[u64], at: usize) -> u64
+    requires { ⌜ at < length (now words ++ now more) ⌝ }
+    ensures { λ r. ⌜ r ≡ getD (now (words .entry) ++ now (more .entry)) at 0 ⌝ }
+{
+    if at < words.len() {
+        return words[at];
+    }
+    more[at - words.len()]
+}
+
+// How many of n words, from a place on, bring no fault before one that does.
+fn skip_in(words: &[u64], at: usize, n: usize, p: f64) -> usize
+    requires { ⌜ n ≤ length (now words) - at ⌝ }
+    ensures { λ r. ⌜ r ≡ skipOf p n (drop at (now (words .entry))) ⌝ }
 {
     let mut i = 0;
-    while i < shots {
-        if words.len() <= at + i {
-            return i;
-        }
+    while i < n {
         if is_fault(words[at + i], p) {
             return i;
         }
         i += 1;
     }
     i
+}
+
+// The same of as many words as there are shots, or fewer where the words end.
+fn skip_part(words: &[u64], at: usize, shots: usize, p: f64) -> usize
+    ensures { λ r. ⌜ r ≡ skipOf p shots (drop at (now (words .entry))) ⌝ }
+{
+    let left = behind(words.len(), at);
+    if left < shots {
+        return skip_in(words, at, left, p);
+    }
+    skip_in(words, at, shots, p)
+}
+
+// How many shots, of so many, are passed over before the next fault: as many words bring none. Fewer where the words end.
+pub fn next_skip(words: &[u64], more: &[u64], at: usize, shots: usize, p: f64) -> usize
+    requires { ⌜ at ≤ length (now words ++ now more) ⌝ }
+    ensures { λ r. ⌜ r ≡ skipOf p shots (drop at (now (words .entry) ++ now (more .entry))) ⌝ }
+{
+    let skip = skip_part(words, at, shots, p);
+    let next = at + skip;
+    if next < words.len() {
+        return skip;
+    }
+    skip + skip_part(more, next - words.len(), shots - skip, p)
 }

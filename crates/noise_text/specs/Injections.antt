@@ -34,13 +34,20 @@ pub record PutTo (words : List ℕ) (from shots : ℕ) (out : List ℕ) (ls : Li
   pub puts : Puts from (textOf ls) out after place
   pub few : place ≤ from + 1342 * shots
 
--- what an instruction comes to was put, or a word was needed past the end
-unfoldable pub PutAs : List ℕ → ℕ → ℕ → List ℕ → Step → List ℕ → Drawn → Type 0
-PutAs words from shots out Step.spent after r = r ≡ Spent
-PutAs words from shots out (Step.lines ls left) after r = PutTo words from shots out ls left after r
+-- a word was needed past the end, and these words are left
+pub record SpentTo (words left : List ℕ) (r : Drawn) : Type 0 where
+  pub next : ℕ
+  pub is : r ≡ Spent next
+  pub within : next ≤ length words
+  pub rest : left ≡ drop next words
 
-pub record StepPut (words : List ℕ) (from shots : ℕ) (out : List ℕ) (step : Step) (after : List ℕ) (r : Drawn) : Type 0 where
-  pub put : PutAs words from shots out step after r
+-- what an instruction comes to was put, or it is spent, and leaves this
+unfoldable pub PutAs : List ℕ → ℕ → ℕ → List ℕ → List ℕ → Step → List ℕ → Drawn → Type 0
+PutAs words from shots out spent Step.spent after r = SpentTo words spent r
+PutAs words from shots out spent (Step.lines ls left) after r = PutTo words from shots out ls left after r
+
+pub record StepPut (words : List ℕ) (from shots : ℕ) (out spent : List ℕ) (step : Step) (after : List ℕ) (r : Drawn) : Type 0 where
+  pub put : PutAs words from shots out spent step after r
 
 -- what draws come to
 unfoldable pub injected : Distribution → Draws → Step

@@ -6,6 +6,7 @@ ghost use Rattle.text.specs.Bytes.{LF};
 ghost use Rattle.job.specs.Line.{Instruction};
 ghost use Rattle.writer.specs.Placed.{Puts};
 ghost use Rattle.draws.specs.Draws.{depolarizingElement, drawShots};
+ghost use Rattle.draws.specs.Left.{leftSpent};
 ghost use Rattle.draws.specs.Settle.{injectText, stepOf};
 ghost use Rattle.noise_text.specs.Elements.{keptElement, elementIn, Kept, ElementIn};
 ghost use Rattle.noise_text.specs.Injections.{StepPut, injected, Ready, ReadyOf};
@@ -19,6 +20,8 @@ use faults::elements::element_members;
 use faults::elements::element_x;
 use noise::PauliDistribution;
 use noise::PauliFault;
+use noise::words::count;
+use noise::words::more_part;
 use noise::words::part;
 use noise::words::position_after;
 use pauli::Shot;
@@ -77,9 +80,9 @@ fn put_element(
 
 // ---- A noise line
 
-// A word was needed past the end; or the places of the next word and of the next byte.
+// A word was needed past the end, with the place where the list of words is left; or the places of the next word and of the next byte.
 pub enum Drawn {
-    Spent,
+    Spent(usize),
     Done(usize, usize),
 }
 
@@ -88,6 +91,7 @@ fn put_faults(
     out: &mut [u8],
     from: usize,
     words: &[u64],
+    more: &[u64],
     mask: &[u64],
     shots: usize,
     fault: PauliFault,
@@ -95,7 +99,7 @@ fn put_faults(
     elements: &[u64],
 ) -> Drawn
     requires { ⌜ (from + 1342 * shots < 2 ^ 64) × Ready (fault .probability) (fault .distribution) (now sums) (now mask) (now elements) shots ⌝ }
-    ensures { λ r. ⌜ ((q : Ready (fault .probability) (fault .distribution) (now (sums .entry)) (now (mask .entry)) (now (elements .entry)) shots) → StepPut (now (words .entry)) from shots (now (out .entry)) (injected (q .noise .distribution) (drawShots (q .lent) (q .noise) shots 0 (now (words .entry)))) (now (out .exit)) r) ⌝ }
+    ensures { λ r. ⌜ ((q : Ready (fault .probability) (fault .distribution) (now (sums .entry)) (now (mask .entry)) (now (elements .entry)) shots) → StepPut (now (words .entry) ++ now (more .entry)) from shots (now (out .entry)) [] (injected (q .noise .distribution) (drawShots (q .lent) (q .noise) shots 0 (now (words .entry) ++ now (more .entry)))) (now (out .exit)) r) ⌝ }
 {
     let p = fault.probability;
     let d = fault.distribution;
@@ -104,9 +108,9 @@ fn put_faults(
     let mut at = 0;
     let mut shot = 0;
     loop {
-        match next_fault(words, at, mask, Shot(shot), shots, p, chooser, sums) {
+        match next_fault(words, more, at, mask, Shot(shot), shots, p, chooser, sums) {
             NextFault::Spent => {
-                return Drawn::Spent;
+                return Drawn::Spent(count(words, more));
             }
             NextFault::Done(next) => {
                 return Drawn::Done(next, place);
@@ -120,7 +124,7 @@ fn put_faults(
     }
 }
 
-// The injections that stand for a noise line. Words of the main list are read from a position on, which is moved.
+// The injections that stand for a noise line. Words of the main list, which lies in two parts, are read from a position on, which is moved.
 pub fn put_noise<'a>(
     out: &mut [u8],
     place: usize,
@@ -130,20 +134,22 @@ pub fn put_noise<'a>(
     elements: &[u64],
     shots: usize,
     main: &'a [u64],
+    more: &'a [u64],
     second: &'a [u64],
     base: u64,
     position: usize,
 ) -> Drawn
-    requires { ⌜ (place + 1342 * shots < 2 ^ 64) × (position ≤ length (now main)) × ReadyOf (fault .probability) (fault .distribution) (now sums) (now mask) (now elements) shots (fault .correlation) (now second) base ⌝ }
-    ensures { λ r. ⌜ ((q : ReadyOf (fault .probability) (fault .distribution) (now (sums .entry)) (now (mask .entry)) (now (elements .entry)) shots (fault .correlation) (now (second .entry)) base) (text : List ℕ) → StepPut (now (main .entry)) place shots (now (out .entry)) (stepOf (q .ready .lent) (drop position (now (main .entry))) text (Instruction.noise (q .ready .noise))) (now (out .exit)) r) ⌝ }
+    requires { ⌜ (place + 1342 * shots < 2 ^ 64) × (position ≤ length (now main ++ now more)) × ReadyOf (fault .probability) (fault .distribution) (now sums) (now mask) (now elements) shots (fault .correlation) (now second) base ⌝ }
+    ensures { λ r. ⌜ ((q : ReadyOf (fault .probability) (fault .distribution) (now (sums .entry)) (now (mask .entry)) (now (elements .entry)) shots (fault .correlation) (now (second .entry)) base) (text : List ℕ) → StepPut (now (main .entry) ++ now (more .entry)) place shots (now (out .entry)) (leftSpent (Instruction.noise (q .ready .noise)) (drop position (now (main .entry) ++ now (more .entry)))) (stepOf (q .ready .lent) (drop position (now (main .entry) ++ now (more .entry))) text (Instruction.noise (q .ready .noise))) (now (out .exit)) r) ⌝ }
 {
     if fault.probability <= 0.0 {
         return Drawn::Done(position, place);
     }
     let correlation = fault.correlation;
     let words = part(main, second, correlation, base, position);
-    match put_faults(out, place, words, mask, shots, fault, sums, elements) {
-        Drawn::Spent => Drawn::Spent,
+    let rest = more_part(more, correlation, position, main.len());
+    match put_faults(out, place, words, rest, mask, shots, fault, sums, elements) {
+        Drawn::Spent(read) => Drawn::Spent(position_after(correlation, position, read)),
         Drawn::Done(read, next) => {
             Drawn::Done(position_after(correlation, position, read), next)
         }

@@ -12,6 +12,7 @@ use template::read_all;
 use template::values;
 
 pub mod compare;
+pub mod lists;
 
 // Room for a list of cases.
 pub fn list_buffer() -> [u8; 786432]

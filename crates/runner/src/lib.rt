@@ -1,11 +1,26 @@
 // A run of a job: the tests, then its instructions one after the other on the lent words.
-use checker::examine;
+use execution::Answered;
 use job::Answer;
+use job_shape::Tested;
 use needed_words::run_needed;
 use numbers::pieces::find;
+use rows::Shape;
 ghost use mathlib.Core.Path.{_≡_};
+ghost use mathlib.Core.List.{_++_};
 ghost use Rattle.run.specs.Run.{Source, Memory, RunReply, runReply};
-ghost use Rattle.runner.specs.Enough.{suffice};
+ghost use Rattle.job.specs.Job.{jobOf};
+ghost use Rattle.job_shape.specs.Tested.{Tests};
+ghost use Rattle.runner.specs.Enough.{suffice, enoughLent};
+ghost use Rattle.runner.specs.Ran.{RunReady, RanTo};
+
+// How many words are lent of each list that a run tests.
+pub struct Lengths {
+    pub x: usize,
+    pub z: usize,
+    pub deltas: usize,
+    pub totals: usize,
+    pub noiseless: usize,
+}
 
 // Whether so many words are lent: a frame's of the X and of the Z part, the outcomes' of the deltas and of the noiseless bits; and a total for each outcome.
 fn enough(
@@ -45,6 +60,70 @@ fn too_few() -> Answer
     }
 }
 
+// The tests of a job, then 13.
+pub fn tested(job: &[u8], lent: Lengths) -> Tested
+    ensures { λ r. ⌜ Tests (now (job .entry)) (enoughLent (jobOf (now (job .entry)) .header) lent) r ⌝ }
+{
+    let r = job_shape::test(job);
+    let answer = r.answer;
+    if answer.number != 0 {
+        return r;
+    }
+    let shape = r.shape;
+    if !enough(
+        shape.qubits * shape.width,
+        shape.outcomes * shape.width,
+        shape.outcomes,
+        lent.x,
+        lent.z,
+        lent.deltas,
+        lent.totals,
+        lent.noiseless,
+    ) {
+        return Tested {
+            answer: too_few(),
+            shape,
+        };
+    }
+    r
+}
+
+// A run of a job that passed the tests, for which enough is lent. The main list lies in two parts.
+pub fn run_tested<'a>(
+    job: &[u8],
+    shape: Shape,
+    x: &mut [u64],
+    z: &mut [u64],
+    deltas: &mut [u64],
+    totals: &mut [u64],
+    noiseless: &[u64],
+    main: &'a [u64],
+    more: &'a [u64],
+    second: &'a [u64],
+    base: u64,
+) -> Answered
+    requires { ⌜ RunReady (now job) shape (now x) (now z) (now deltas) (now totals) (now noiseless) ⌝ }
+    ensures { λ r. ⌜ RanTo (now (job .entry)) (record { x = now (x .entry); z = now (z .entry); deltas = now (deltas .entry); totals = now (totals .entry); source = record { noiseless = now (noiseless .entry); main = now (main .entry) ++ now (more .entry); second = now (second .entry); base = base } }) (now (x .exit)) (now (z .exit)) (now (deltas .exit)) (now (totals .exit)) r ⌝ }
+{
+    let frame = shape.qubits * shape.width;
+    let outcomes = shape.outcomes * shape.width;
+    let from = find(job, 0, 10) + 1;
+    run_needed(
+        job,
+        from,
+        &mut x[..frame],
+        &mut z[..frame],
+        &mut deltas[..outcomes],
+        &mut totals[..shape.outcomes],
+        shape,
+        noiseless,
+        main,
+        more,
+        second,
+        base,
+    )
+}
+
 // A run of a job over lent words: the X and Z parts of the frames, the deltas and their totals, which are written, the noiseless bits, the main and the
 // second list of draws, and the base of the second. The words beyond those that are needed stay, and a refusal other than 14 writes nothing.
 pub fn run<'a>(
@@ -60,39 +139,32 @@ pub fn run<'a>(
 ) -> Answer
     ensures { λ r. ⌜ runReply (now (job .entry)) (record { x = now (x .entry); z = now (z .entry); deltas = now (deltas .entry); totals = now (totals .entry); source = record { noiseless = now (noiseless .entry); main = now (main .entry); second = now (second .entry); base = base } }) ≡ record { answered = r; x = now (x .exit); z = now (z .exit); deltas = now (deltas .exit); totals = now (totals .exit) } ⌝ }
 {
-    let examined = examine(job);
-    let answer = examined.answer;
+    let tested = tested(
+        job,
+        Lengths {
+            x: x.len(),
+            z: z.len(),
+            deltas: deltas.len(),
+            totals: totals.len(),
+            noiseless: noiseless.len(),
+        },
+    );
+    let answer = tested.answer;
     if answer.number != 0 {
         return answer;
     }
-    let h = examined.header;
-    let shape = rows::shape_of(h.qubits as usize, h.outcomes as usize, h.shots as usize);
-    let frame = shape.qubits * shape.width;
-    let outcomes = shape.outcomes * shape.width;
-    if !enough(
-        frame,
-        outcomes,
-        shape.outcomes,
-        x.len(),
-        z.len(),
-        deltas.len(),
-        totals.len(),
-        noiseless.len(),
-    ) {
-        return too_few();
-    }
-    let from = find(job, 0, 10) + 1;
-    run_needed(
+    let r = run_tested(
         job,
-        from,
-        &mut x[..frame],
-        &mut z[..frame],
-        &mut deltas[..outcomes],
-        &mut totals[..shape.outcomes],
-        shape,
+        tested.shape,
+        x,
+        z,
+        deltas,
+        totals,
         noiseless,
         main,
+        &main[main.len()..],
         second,
         base,
-    )
+    );
+    r.answer
 }

@@ -1,22 +1,24 @@
 // Settling of a job: its text with each noise instruction replaced by the injections that fall.
 ghost use mathlib.Core.Path.{_≡_};
 ghost use mathlib.Core.Bool.{_&&_};
+ghost use mathlib.Core.List.{_++_};
 ghost use lib.Dec.{leb};
-ghost use Rattle.job.specs.Job.{maxBytes};
+ghost use Rattle.job.specs.Job.{maxBytes, jobOf};
+ghost use Rattle.job_shape.specs.Tested.{Tests};
+ghost use Rattle.run.specs.Run.{outcomeWords};
 ghost use Rattle.writer.specs.Reply.{textReply};
 ghost use Rattle.backward.specs.Settling.{settleReply};
 ghost use Rattle.instruction_text.specs.Pass.{passOf};
-ghost use Rattle.settling.specs.Whole.{Fits, SettledPut};
-use checker::examine;
+ghost use Rattle.settling.specs.Whole.{Fits, SettledPut, SettledTo};
 use faults::elements::ALL_WORDS;
 use instruction_text::Moved;
 use instruction_text::Reached;
 use instruction_text::put_instruction;
 use job::Answer;
+use job_shape::Tested;
 use noise::Place;
 use numbers::pieces::find;
 use rows::Shape;
-use rows::shape_of;
 use template::values::WORDS;
 use writer::TextAnswer;
 use writer::put_bytes;
@@ -24,10 +26,16 @@ use writer::refused;
 
 const MAX_BYTES: usize = 1048576;
 
-// The text is so long; or the line of the noise whose draws were spent.
+// The text is so long; or the line of the noise whose draws were spent. Each with the words of the main list that were taken.
 pub enum TextLength {
-    Length(usize),
-    SpentAt(u64),
+    Length(usize, usize),
+    SpentAt(u64, usize),
+}
+
+// An answer, and how many words of the main list were taken for it.
+pub struct Answered {
+    pub answer: TextAnswer,
+    pub taken: usize,
 }
 
 // The settled text of an accepted job, written as far as the lent bytes go.
@@ -37,11 +45,12 @@ fn put_settled<'a>(
     shape: Shape,
     noiseless: &[u64],
     main: &'a [u64],
+    more: &'a [u64],
     second: &'a [u64],
     base: u64,
 ) -> TextLength
-    requires { ⌜ Fits (passOf (now job) shape (now noiseless) (now main) (now second) base) ⌝ }
-    ensures { λ r. ⌜ SettledPut (passOf (now (job .entry)) shape (now (noiseless .entry)) (now (main .entry)) (now (second .entry)) base) (now (out .entry)) (now (out .exit)) r ⌝ }
+    requires { ⌜ Fits (passOf (now job) shape (now noiseless) (now main ++ now more) (now second) base) ⌝ }
+    ensures { λ r. ⌜ SettledPut (passOf (now (job .entry)) shape (now (noiseless .entry)) (now (main .entry) ++ now (more .entry)) (now (second .entry)) base) (now (out .entry)) (now (out .exit)) r ⌝ }
 {
     let mut values = [0u64; WORDS];
     let mut elements = [0u64; ALL_WORDS];
@@ -65,18 +74,19 @@ fn put_settled<'a>(
             shape,
             noiseless,
             main,
+            more,
             second,
             base,
         ) {
-            Moved::Spent => {
-                return TextLength::SpentAt(here.place.line);
+            Moved::Spent(position) => {
+                return TextLength::SpentAt(here.place.line, position);
             }
             Moved::To(next) => {
                 here = next;
             }
         }
     }
-    TextLength::Length(here.text)
+    TextLength::Length(here.text, here.place.position)
 }
 
 // Whether a text of so many bytes fits the lent ones and the limit.
@@ -99,8 +109,86 @@ fn measured(number: u64, need: usize) -> TextAnswer
     }
 }
 
-// Settles a job: the answer, the byte figure, and the settled text over the first of the lent bytes. A first pass only measures the text, so that nothing
-// is written with a refusal.
+// The tests of a job, then 13.
+pub fn tested(job: &[u8], noiseless: usize) -> Tested
+    ensures { λ r. ⌜ Tests (now (job .entry)) (leb (outcomeWords (jobOf (now (job .entry)) .header)) noiseless) r ⌝ }
+{
+    let r = job_shape::test(job);
+    let answer = r.answer;
+    if answer.number != 0 {
+        return r;
+    }
+    let shape = r.shape;
+    if noiseless < shape.outcomes * shape.width {
+        return Tested {
+            answer: Answer {
+                number: 13,
+                line: 0,
+            },
+            shape,
+        };
+    }
+    r
+}
+
+// Settles a job that passed the tests. A first pass only measures the text, so that nothing is written with a refusal. With 15 no word is taken.
+pub fn settle_tested<'a>(
+    job: &[u8],
+    shape: Shape,
+    noiseless: &[u64],
+    main: &'a [u64],
+    more: &'a [u64],
+    second: &'a [u64],
+    base: u64,
+    out: &mut [u8],
+) -> Answered
+    requires { ⌜ Fits (passOf (now job) shape (now noiseless) (now main ++ now more) (now second) base) ⌝ }
+    ensures { λ r. ⌜ SettledTo (now (job .entry)) (record { noiseless = now (noiseless .entry); main = now (main .entry) ++ now (more .entry); second = now (second .entry); base = base }) (now (out .entry)) (now (out .exit)) r ⌝ }
+{
+    let mut nothing = [0u8; 1];
+    match put_settled(
+        &mut nothing[..0],
+        job,
+        shape,
+        noiseless,
+        main,
+        more,
+        second,
+        base,
+    ) {
+        TextLength::SpentAt(k, taken) => Answered {
+            answer: refused(Answer {
+                number: 14,
+                line: k,
+            }),
+            taken,
+        },
+        TextLength::Length(need, taken) => {
+            if !text_fits(need, out.len()) {
+                return Answered {
+                    answer: measured(15, need),
+                    taken: 0,
+                };
+            }
+            put_settled(
+                &mut out[..need],
+                job,
+                shape,
+                noiseless,
+                main,
+                more,
+                second,
+                base,
+            );
+            Answered {
+                answer: measured(0, need),
+                taken,
+            }
+        }
+    }
+}
+
+// Settles a job: the answer, the byte figure, and the settled text over the first of the lent bytes.
 pub fn settle<'a>(
     job: &[u8],
     noiseless: &[u64],
@@ -111,35 +199,20 @@ pub fn settle<'a>(
 ) -> TextAnswer
     ensures { λ r. ⌜ textReply r (now (out .exit)) ≡ settleReply (now (job .entry)) (record { noiseless = now (noiseless .entry); main = now (main .entry); second = now (second .entry); base = base }) (now (out .entry)) ⌝ }
 {
-    let examined = examine(job);
-    let answer = examined.answer;
+    let tested = tested(job, noiseless.len());
+    let answer = tested.answer;
     if answer.number != 0 {
         return refused(answer);
     }
-    let header = examined.header;
-    let shape = shape_of(
-        header.qubits as usize,
-        header.outcomes as usize,
-        header.shots as usize,
+    let r = settle_tested(
+        job,
+        tested.shape,
+        noiseless,
+        main,
+        &main[main.len()..],
+        second,
+        base,
+        out,
     );
-    if noiseless.len() < shape.outcomes * shape.width {
-        return refused(Answer {
-            number: 13,
-            line: 0,
-        });
-    }
-    let mut nothing = [0u8; 1];
-    match put_settled(&mut nothing[..0], job, shape, noiseless, main, second, base) {
-        TextLength::SpentAt(k) => refused(Answer {
-            number: 14,
-            line: k,
-        }),
-        TextLength::Length(need) => {
-            if !text_fits(need, out.len()) {
-                return measured(15, need);
-            }
-            put_settled(&mut out[..need], job, shape, noiseless, main, second, base);
-            measured(0, need)
-        }
-    }
+    r.answer
 }

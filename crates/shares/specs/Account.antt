@@ -1,16 +1,17 @@
 -- Definitions that the theorems on shares use: sequences of calls, and the places of the main list whose words they are handed. Assumes nothing.
-use mathlib.Core.Bool.{cond}
-use mathlib.Core.List.{List, [], _∷_, _++_}
-use Prim.Native.Nat.{ℕ, zero, suc, _+_, _-_}
-use lib.Dec.{eqb}
+use mathlib.Core.Path.{_≡_}
+use mathlib.Core.Bool.{Bool, true, false, cond, _&&_}
+use mathlib.Core.List.{List, [], _∷_, _++_, map}
+use Prim.Native.Nat.{ℕ, zero, suc, _+_, _-_, _≤_, _<_}
+use lib.Dec.{eqb, leb}
 use lib.ListN.{length, getD, take, replicate}
 use Rattle.job.specs.declared.Answer.{Answer}
-use Rattle.job.specs.Job.{Job, jobOf}
+use Rattle.job.specs.Job.{Job, jobOf, checkJob}
 use Rattle.job.specs.Reply.{TextReply}
 use Rattle.draws.specs.Left.{StaysWithin}
-use Rattle.run.specs.Run.{Source, Memory, RunReply, lentOf}
+use Rattle.run.specs.Run.{Source, Memory, RunReply, outcomeWords, enoughWords, lentOf}
 use Rattle.backward.specs.Calls.{withSource}
-use Rattle.shares.specs.Shares.{Share, sum, stretchFrom, ownLeft, commonLeft}
+use Rattle.shares.specs.Shares.{Share, sum, stretchFrom, ownLeft, commonLeft, marksFit, eachWithin, sharesFit, callerFits}
 use Rattle.shares.specs.Replies.{shared, takenBy, takesWords, Shared, sharedRunReply, sharedSettleReply}
 
 -- ---- places
@@ -19,6 +20,10 @@ use Rattle.shares.specs.Replies.{shared, takenBy, takesWords, Shared, sh
 unfoldable pub places : ℕ → ℕ → List ℕ
 places at zero = []
 places at (suc n) = at ∷ places (suc at) n
+
+-- the words of a list at some places
+abbrev pub wordsAt : List ℕ → List ℕ → List ℕ
+wordsAt main = map (λ (p : ℕ). getD main p 0)
 
 -- how often a place stands in a list
 unfoldable pub times : ℕ → List ℕ → ℕ
@@ -34,6 +39,15 @@ availablePlaces s main =
 -- the places whose words a call is handed: the first of those available, as many as its job takes
 unfoldable pub handed : Job → Share → Source → Answer → List ℕ
 handed j s from a = cond (takesWords a) (take (takenBy j (shared s from)) (availablePlaces s (from .main))) []
+
+-- ---- what passes the tests
+
+-- the tests of the job, the lent words, the shares and the caller's number
+pub record Passes (job : List ℕ) (enough : Bool) (s : Share) (main : List ℕ) : Type 0 where
+  pub tests : checkJob job .number ≡ 0
+  pub lent : (enough && marksFit s) ≡ true
+  pub shares : sharesFit s main ≡ true
+  pub caller : callerFits s ≡ true
 
 -- ---- calls from the same list, under the same shares
 
@@ -57,6 +71,11 @@ from main s = record { noiseless = s .noiseless; main = main; second = s .second
 
 abbrev pub withMain : List ℕ → Memory → Memory
 withMain main m = withSource m (from main (m .source))
+
+-- of the caller's own call, and what follows it; or of what follows another's
+unfoldable pub TakesAlike : Bool → Type 0 → Type 0 → Type 0 → Type 0
+TakesAlike true own later others = own × later
+TakesAlike false own later others = others
 
 module _ (main shares : List ℕ) where
   -- a caller's share, with the marks that the last call left
@@ -91,13 +110,29 @@ module _ (main shares : List ℕ) where
   handedThrough [] marks = []
   handedThrough (c ∷ cs) marks = handedBy c marks ++ handedThrough cs (marksBy c marks)
 
-  -- a call whose job stays within the caller's own stretch
+  -- a call whose job stays within the caller's own stretch; one that the tests of the job or 13 refuse reads no word
   unfoldable pub StaysOwn : Call → List ℕ → Type 0
-  StaysOwn (Call.run c job m) marks = StaysWithin (lentOf (jobOf job .header) (m .source)) (jobOf job .instructions) (ownLeft shares marks c main)
-  StaysOwn (Call.settle c job s out) marks = StaysWithin (lentOf (jobOf job .header) s) (jobOf job .instructions) (ownLeft shares marks c main)
+  StaysOwn (Call.run c job m) marks =
+      checkJob job .number ≡ 0 → enoughWords (jobOf job .header) m ≡ true
+      → StaysWithin (lentOf (jobOf job .header) (m .source)) (jobOf job .instructions) (ownLeft shares marks c main)
+  StaysOwn (Call.settle c job s out) marks =
+      checkJob job .number ≡ 0 → leb (outcomeWords (jobOf job .header)) (length (s .noiseless)) ≡ true
+      → StaysWithin (lentOf (jobOf job .header) s) (jobOf job .instructions) (ownLeft shares marks c main)
 
-  -- one that does, or that is a run. A run takes words wherever it reads them; settling takes none where its text finds no room, and how long the text is
-  -- hangs on the words of the common part, if the job gets that far.
+  -- whether a call takes the words that it reads
+  unfoldable pub takes : Call → List ℕ → Bool
+  takes (Call.run c job m) marks = takesWords (ranBy c job m marks .reply .answered)
+  takes (Call.settle c job s out) marks = takesWords (settledBy c job s out marks .reply .answered)
+
+  -- Each of a caller's calls takes its words where no one else calls and among the calls of others, or in neither case.
+  unfoldable pub TakeAlike : ℕ → List Call → List ℕ → List ℕ → Type 0
+  TakeAlike caller [] marks among = Unit {0}
+  TakeAlike caller (c ∷ cs) marks among =
+      TakesAlike (eqb (callerOf c) caller) (takes c marks ≡ takes c among) (TakeAlike caller cs (marksBy c marks) (marksBy c among))
+      (TakeAlike caller cs marks (marksBy c among))
+
+  -- A call that stays within the caller's own stretch, or is a run. A run takes words wherever it reads them; settling takes none where its text finds no
+  -- room, and how long the text is hangs on the words of the common part, if the job gets that far.
   unfoldable pub RunOrStays : Call → List ℕ → Type 0
   RunOrStays (Call.run c job m) marks = Unit {0}
   RunOrStays (Call.settle c job s out) marks = StaysOwn (Call.settle c job s out) marks
@@ -112,9 +147,15 @@ unfoldable pub callsOf : ℕ → List Call → List Call
 callsOf caller [] = []
 callsOf caller (c ∷ cs) = cond (eqb (callerOf c) caller) (c ∷ callsOf caller cs) (callsOf caller cs)
 
--- nothing taken: a mark of zero for each caller, and for the common part
-abbrev pub nothingTaken : List ℕ → List ℕ
-nothingTaken shares = replicate (suc (length shares)) 0
+-- nothing taken: a mark of zero for each caller, and for the common part; a list of marks may be longer
+abbrev pub nothingTaken : List ℕ → List ℕ → List ℕ
+nothingTaken shares beyond = replicate (suc (length shares)) 0 ++ beyond
+
+-- no more is marked taken than the parts hold
+pub record Within (main shares marks : List ℕ) : Type 0 where
+  pub marked-all : length shares < length marks
+  pub each : eachWithin shares marks ≡ true
+  pub common : getD marks (length shares) 0 ≤ length main - sum shares
 
 -- what is left of all stretches
 unfoldable pub leftInStretches : List ℕ → List ℕ → ℕ

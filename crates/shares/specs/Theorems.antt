@@ -1,41 +1,39 @@
 -- Theorems on callers with shares of the main list: a call with a share is the plain call on the words available; no word is handed out twice, and none is
 -- lost; and demand 3 job by job. Their proofs stand in Laws. Assumes nothing.
 use mathlib.Core.Path.{_≡_, refl, sym, ap, subst, _∙_}
-use mathlib.Core.Bool.{Bool, true, cond, _&&_}
 use mathlib.Core.Logic.{_⊎_}
 use mathlib.Core.List.{List, [], _∷_, _++_}
-use Prim.Native.Nat.{ℕ, suc, _+_, _-_, _≤_, _<_}
+use mathlib.Core.Option.{none}
+use Prim.Native.Nat.{ℕ, _+_, _≤_, _<_}
 use native.Mathlib.Omega.{arith}
 use borrow.Author.Tests.{eq-eqb}
-use lib.Dec.{eqb, leb}
+use lib.Dec.{leb}
 use lib.ListN.{length, getD, take}
+use Rattle.text.specs.Laws.Values.{both}
 use Rattle.job.specs.Line.{Placed}
-use Rattle.job.specs.Job.{answer, Job, jobOf, checkJob}
+use Rattle.job.specs.Job.{answer, Job, jobOf}
 use Rattle.job.specs.Reply.{TextReply, refusedText}
 use Rattle.draws.specs.Draws.{Lent}
+use Rattle.draws.specs.Settle.{settle}
 use Rattle.draws.specs.Known.{SpentAt, mainLeft}
 use Rattle.draws.specs.Left.{spentOn, leftAfter}
-use Rattle.draws.specs.Laws.Left.{left-spent}
+use Rattle.draws.specs.Laws.Spent.{spent-at}
+use Rattle.draws.specs.Laws.Left.{left-spent, taken-enough, taken-needed}
 use Rattle.run.specs.Run.{Source, Memory, RunReply, outcomeWords, enoughWords, lentOf, untouched, runReply}
 use Rattle.backward.specs.Calls.{withSource}
 use Rattle.backward.specs.Settling.{settleReply}
 use Rattle.backward.specs.CallTheorems.{Demand3, demand-3-calls}
-use Rattle.shares.specs.Shares.{Share, sum, stretchFrom, available, marksFit, sharesFit, callerFits}
-use Rattle.shares.specs.Replies.{shared, takenBy, marksFor, Shared, tested, sharedReply, sharedRunReply, sharedSettleReply}
-use Rattle.shares.specs.Account.{times, availablePlaces, Call, callerOf, callsOf, replyTo, handedBy, marksThrough, handedThrough, StaysOwn, AllRunOrStay, nothingTaken, leftInStretches, leftInCommon}
+use Rattle.shares.specs.Shares.{Share, sum, stretchFrom, ownLeft, commonLeft, available, marksFit, marksAfter}
+use Rattle.shares.specs.Replies.{shared, takenBy, takesWords, tested, sharedReply, sharedRunReply, sharedSettleReply}
+use Rattle.shares.specs.Account.{times, wordsAt, availablePlaces, Passes, Call, callerOf, callsOf, replyTo, handedBy, marksThrough, handedThrough, StaysOwn, TakeAlike, AllRunOrStay, nothingTaken, Within, leftInStretches, leftInCommon}
 use Rattle.shares.specs.Laws.Places.{marked, marked-once, marked-behind, marked-none, left-none}
-use Rattle.shares.specs.Laws.Sequences.{Within, nothing-within, through-within, through-marked, through-left, common-none, others-none}
-use Rattle.shares.specs.Laws.Words.{wordsAt, map-take, available-words, taken-left}
-use Rattle.shares.specs.Laws.Alone.{call-same, agree-through}
+use Rattle.shares.specs.Laws.Words.{map-take, available-words, taken-left}
+use Rattle.shares.specs.Laws.Moves.{takes-zero, takes-none, takes-by, kept, moves}
+use Rattle.shares.specs.Laws.Sequences.{nothing-taken, through-within, through-marked, through-left, common-none, others-none}
+use Rattle.shares.specs.Laws.Alone.{call-same, agree-through, alike-through}
+use Rattle.shares.specs.Laws.Spent.{run-passed, run-settles}
 
 -- ---- the plain call on the words available
-
--- What passes the tests, the lent words, the shares and the caller's number:
-pub record Passes (job : List ℕ) (enough : Bool) (s : Share) (main : List ℕ) : Type 0 where
-  pub tests : checkJob job .number ≡ 0
-  pub lent : (enough && marksFit s) ≡ true
-  pub shares : sharesFit s main ≡ true
-  pub caller : callerFits s ≡ true
 
 pub shared-run-is-plain : (job : List ℕ) (m : Memory) (s : Share) → Passes job (enoughWords (jobOf job .header) m) s (m .source .main)
     → sharedRunReply job m s .reply ≡ runReply job (withSource m (shared s (m .source)))
@@ -48,37 +46,94 @@ pub shared-settle-is-plain : (job : List ℕ) (from : Source) (out : List ℕ) (
 unfolding sharedSettleReply sharedReply tested
 shared-settle-is-plain job from out s p = rw (eq-eqb _ _ (p .tests), p .lent, p .shares, p .caller) refl
 
+-- So a call without shares is one of a single caller who has no stretch: all words are common.
+pub plain-is-one-caller : (main : List ℕ) → available (record { shares = 0 ∷ []; marks = 0 ∷ 0 ∷ []; caller = 0 }) main ≡ main
+unfolding available ownLeft commonLeft sum
+plain-is-one-caller main = refl
+
+-- ---- the words that a job takes
+
+module _ (j : Job) (s : Share) (from : Source) where
+  abbrev lent : Lent
+  lent = lentOf (j .header) from
+
+  abbrev words : List ℕ
+  words = available s (from .main)
+
+  -- What a job takes is enough for it: of these words alone it makes what it makes of all that are available.
+  pub taken-suffice : settle lent (j .instructions) (take (takenBy j (shared s from)) words) ≡ settle lent (j .instructions) words
+  unfolding takenBy
+  taken-suffice = taken-enough lent (j .instructions) words
+
+  -- And each of them is needed: of fewer words a noise line needs one of the main list past their end.
+  pub taken-all-needed : (n : ℕ) → n < takenBy j (shared s from)
+      → (k : ℕ) × (spent : SpentAt lent (take n words) (j .instructions) k) × (spent .noise .correlation ≡ none)
+  unfolding takenBy
+  taken-all-needed n few = taken-needed lent (j .instructions) words n few
+
+-- A job that succeeds takes them, and so does one that is refused by 14, for either list: they are marked as taken.
+pub run-marks : (job : List ℕ) (m : Memory) (s : Share)
+    → (sharedRunReply job m s .reply .answered .number ≡ 0 ⊎ sharedRunReply job m s .reply .answered .number ≡ 14)
+    → sharedRunReply job m s .marks ≡ marksAfter s (m .source .main) (takenBy (jobOf job) (shared s (m .source)))
+unfolding sharedRunReply
+run-marks job m s by = moves (λ (r : RunReply). r .answered) (λ a. untouched a m) (λ a. refl) job _ s (m .source) _ (takes-by _ by)
+
+pub settling-marks : (job : List ℕ) (from : Source) (out : List ℕ) (s : Share)
+    → (sharedSettleReply job from out s .reply .answered .number ≡ 0 ⊎ sharedSettleReply job from out s .reply .answered .number ≡ 14)
+    → sharedSettleReply job from out s .marks ≡ marksAfter s (from .main) (takenBy (jobOf job) (shared s from))
+unfolding sharedSettleReply
+settling-marks job from out s by = moves (λ (r : TextReply). r .answered) (λ a. refusedText a out) (λ a. refl) job _ s from _ (takes-by _ by)
+
+-- A job that is refused by any other number takes no word.
+pub refused-run-takes-none : (job : List ℕ) (m : Memory) (s : Share)
+    → (sharedRunReply job m s .reply .answered .number ≡ 0 → ⊥) → (sharedRunReply job m s .reply .answered .number ≡ 14 → ⊥)
+    → sharedRunReply job m s .marks ≡ s .marks
+unfolding sharedRunReply
+refused-run-takes-none job m s zero spent =
+    kept (λ (r : RunReply). r .answered) (λ a. untouched a m) (λ a. refl) job _ s (m .source) _ (takes-none _ zero spent)
+
+pub refused-settling-takes-none : (job : List ℕ) (from : Source) (out : List ℕ) (s : Share)
+    → (sharedSettleReply job from out s .reply .answered .number ≡ 0 → ⊥) → (sharedSettleReply job from out s .reply .answered .number ≡ 14 → ⊥)
+    → sharedSettleReply job from out s .marks ≡ s .marks
+unfolding sharedSettleReply
+refused-settling-takes-none job from out s zero spent =
+    kept (λ (r : TextReply). r .answered) (λ a. refusedText a out) (λ a. refl) job _ s from _ (takes-none _ zero spent)
+
 -- ---- the account
 
--- Take any list, any shares, and any sequence of runs and settlings by any callers, from nothing taken, each with the marks that the last one left.
-module _ (main shares : List ℕ) (calls : List Call) where
+-- Take any list, any shares, and any sequence of runs and settlings by any callers, from nothing taken, each with the marks that the last one left. The list
+-- of marks may be longer than the parts are many.
+module _ (main shares beyond : List ℕ) (calls : List Call) where
   abbrev final : List ℕ
-  final = marksThrough main shares calls (nothingTaken shares)
+  final = marksThrough main shares calls (nothingTaken shares beyond)
 
   abbrev out : List ℕ
-  out = handedThrough main shares calls (nothingTaken shares)
+  out = handedThrough main shares calls (nothingTaken shares beyond)
+
+  start : Within main shares (nothingTaken shares beyond)
+  start = nothing-taken main shares beyond
 
   handed-marked : (p : ℕ) → times p out ≡ marked p 0 shares final
   handed-marked p =
-      let e = through-marked main shares calls (nothingTaken shares) (nothing-within main shares) p in
-      omega (arith, e, marked-none p 0 shares (suc (length shares)))
+      let e = through-marked main shares calls (nothingTaken shares beyond) start p in
+      omega (arith, e, marked-none p 0 shares beyond)
 
   -- No word of the list is handed out twice.
   pub never-twice : (p : ℕ) → times p out ≤ 1
   never-twice p =
-      subst (λ (n : ℕ). n ≤ 1) (sym (handed-marked p)) (marked-once p 0 shares final (through-within main shares calls (nothingTaken shares) (nothing-within main shares) .each))
+      subst (λ (n : ℕ). n ≤ 1) (sym (handed-marked p)) (marked-once p 0 shares final (through-within main shares calls (nothingTaken shares beyond) start .each))
 
   -- What is handed out are words of the list, where the shares fit it; else every call is refused.
   pub handed-below : sum shares ≤ length main → (p : ℕ) → length main ≤ p → times p out ≡ 0
   handed-below fits p far =
-      let w = through-within main shares calls (nothingTaken shares) (nothing-within main shares) in
+      let w = through-within main shares calls (nothingTaken shares beyond) start in
       handed-marked p ∙ marked-behind p 0 shares final (w .each) (omega (arith, w .common, fits, far))
 
   -- The words handed out, plus those left in stretches and in the common part, make the list's length.
   pub all-accounted : sum shares ≤ length main → length out + leftInStretches shares final + leftInCommon main shares final ≡ length main
   all-accounted fits =
-      let e = through-left main shares calls (nothingTaken shares) (nothing-within main shares) in
-      omega (arith, e, fits, left-none shares (suc (length shares)), common-none shares)
+      let e = through-left main shares calls (nothingTaken shares beyond) start in
+      omega (arith, e, fits, left-none shares beyond, common-none shares beyond)
 
 -- ---- each caller's own
 
@@ -99,31 +154,48 @@ handed-words j s from =
     (map-take (λ (p : ℕ). getD (from .main) p 0) (takenBy j (shared s from)) (availablePlaces s (from .main)) ∙ ap (take (takenBy j (shared s from))) (available-words s (from .main)))
     ∙ taken-left (lentOf (j .header) from) (j .instructions) (available s (from .main))
 
--- Take any calls of a caller, each of which stays within the caller's own stretch or is a run, and one more, which stays within it, as they go where no one else
--- calls. Whatever calls of others stand among them, the last one's whole reply is the same.
+-- Take any calls of a caller among those of others, and one more, which stays within the caller's own stretch. If each of the earlier ones takes its words where
+-- no one else calls and among the calls of others, or in neither case, the last one's whole reply is the same.
 pub own-alone : (main shares marks : List ℕ) (caller : ℕ) → Within main shares marks → caller < length shares
+    → (calls : List Call) → TakeAlike main shares caller calls marks marks
+    → (last : Call) → callerOf last ≡ caller → StaysOwn main shares last (marksThrough main shares (callsOf caller calls) marks)
+    → replyTo main shares last (marksThrough main shares (callsOf caller calls) marks) ≡ replyTo main shares last (marksThrough main shares calls marks)
+own-alone main shares marks caller w below calls alike last e s =
+    call-same main shares caller
+    (agree-through main shares caller marks marks record { within = w; also = w; own = refl } below calls alike) last e s
+
+-- So it is, whatever the others do, where each of the earlier calls stays within the stretch too, or is a run.
+pub own-alone-always : (main shares marks : List ℕ) (caller : ℕ) → Within main shares marks → caller < length shares
     → (calls : List Call) → AllRunOrStay main shares (callsOf caller calls) marks
     → (last : Call) → callerOf last ≡ caller → StaysOwn main shares last (marksThrough main shares (callsOf caller calls) marks)
     → replyTo main shares last (marksThrough main shares (callsOf caller calls) marks) ≡ replyTo main shares last (marksThrough main shares calls marks)
-own-alone main shares marks caller w below calls kept last e s =
-    call-same main shares caller
-    (agree-through main shares caller marks marks record { within = w; also = w; own = refl } below calls kept) last e s
+own-alone-always main shares marks caller w below calls kept =
+    own-alone main shares marks caller w below calls
+    (alike-through main shares caller marks marks record { within = w; also = w; own = refl } below calls kept)
 
 -- ---- number 14
 
--- For a word of the main list, 14 means that the own stretch and the common part are used up at the word needed. For one of the second list, the words
--- that the lines before took stay taken.
+-- The job is spent at a line: of a word of the main list, and then the own stretch and the common part are used up at the word needed; or of one of the second
+-- list, and then the words that the lines before took stay taken.
 pub spent-both : (lent : Lent) (is : List Placed) (words : List ℕ) (k : ℕ) (s : SpentAt lent words is k)
     → leftAfter lent is words ≡ spentOn (s .noise .correlation) (mainLeft lent words (s .before))
 spent-both lent is words k s = left-spent s
 
+-- A run with a share that answers 14 is spent at its line, of the words available.
+pub run-spent : (job : List ℕ) (m : Memory) (s : Share) (k : ℕ) → sharedRunReply job m s .reply .answered ≡ answer 14 k
+    → SpentAt (lentOf (jobOf job .header) (m .source)) (available s (m .source .main)) (jobOf job .instructions) k
+unfolding takesWords enoughWords
+run-spent job m s k e =
+    let p = run-passed job m s (ap takesWords e) in
+    spent-at _ _ _ k (run-settles job (withSource m (shared s (m .source))) (p .tests) (both (enoughWords (jobOf job .header) m) (marksFit s) (p .lent) .0) k
+    (ap (λ (r : RunReply). r .answered) (sym (shared-run-is-plain job m s p)) ∙ e))
+
 -- ---- demand 3
 
--- Job by job, with the draws taken as handed out: a run with a share that answers 0 is a run of the words available, so that the sum of a set's deltas is
--- the count of the walk of the list which settles from those words.
-pub demand-3-shared : (job : List ℕ) (m : Memory) (s : Share) → Passes job (enoughWords (jobOf job .header) m) s (m .source .main)
-    → sharedRunReply job m s .reply .answered .number ≡ 0
+-- Job by job, with the draws taken as handed out: a run with a share that answers 0 is a run of the words available, of which those that it takes are enough
+-- (taken-suffice), so that the sum of a set's deltas is the count of the walk of the list which settles from those words.
+pub demand-3-shared : (job : List ℕ) (m : Memory) (s : Share) → sharedRunReply job m s .reply .answered .number ≡ 0
     → (sharedRunReply job m s .reply ≡ runReply job (withSource m (shared s (m .source)))) × Demand3 job (withSource m (shared s (m .source)))
-demand-3-shared job m s p zero =
-    let same = shared-run-is-plain job m s p in
+demand-3-shared job m s zero =
+    let same = shared-run-is-plain job m s (run-passed job m s (takes-zero (sharedRunReply job m s .reply .answered) zero)) in
     (same, demand-3-calls job (withSource m (shared s (m .source))) (ap (λ (r : RunReply). r .answered .number) (sym same) ∙ zero))

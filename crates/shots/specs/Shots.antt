@@ -1,14 +1,14 @@
 -- What the shots of a noise line draw, as the code goes through them. Definitions. Assumes nothing.
 use Prim.Native.Nat.{ℕ, zero, suc, _-_, _*_, _<_, _≤_}
 use mathlib.Core.Path.{_≡_}
-use mathlib.Core.Bool.{Bool}
+use mathlib.Core.Bool.{Bool, true}
 use mathlib.Core.List.{List}
 use mathlib.Core.Option.{none, some}
-use lib.ListN.{length, drop}
+use lib.ListN.{length, getD, drop}
 use lib.Ieee.{Float}
 use Rattle.pauli.specs.Bits.{Bits}
 use Rattle.job.specs.Line.{Noise}
-use Rattle.draws.specs.Draws.{isSatisfied, ShotDraw, drawShot, Lent}
+use Rattle.draws.specs.Draws.{falls, isSatisfied, ShotDraw, drawShot, Lent}
 use Rattle.noise.specs.declared.PauliDistribution.{PauliDistribution}
 use Rattle.shots.specs.declared.ShotDraw.{ShotDraw as Draw}
 use Rattle.shots.specs.declared.ShotDraw.the-variants as draw
@@ -30,6 +30,10 @@ unfoldable pub nextOf : Draw → ℕ
 nextOf draw.Spent = 0
 nextOf (draw.Quiet next) = next
 nextOf (draw.Fault e next) = next
+
+-- the word at a place, if there is one, brings a fault
+abbrev pub FallsAt : Float → List ℕ → ℕ → Type 0
+FallsAt p words at = at < length words → falls (getD words at 0) p ≡ true
 
 -- One shot's draw, from a place of the words on: for every noise line that the values stand for, and all noiseless bits in which its condition is
 -- satisfied or not, as was said.

@@ -2,15 +2,17 @@
 use choice::Choice;
 use choice::Chooser;
 use choice::element;
-use noise::words::is_fault;
+use noise::words::count;
 use noise::words::next_skip;
 use pauli::Shot;
 ghost use mathlib.Core.Path.{_≡_};
+ghost use mathlib.Core.List.{_++_};
 ghost use Prim.Native.Nat.{_*_, _/_, _%_, _<_, _≤_};
 ghost use lib.ListN.{length, getD};
+ghost use lib.Ieee.{Float};
 ghost use Rattle.pauli.specs.Bits.{bit};
 ghost use Rattle.choice.specs.Choice.{Sized};
-ghost use Rattle.shots.specs.Shots.{ShotDrawn, FaultFound};
+ghost use Rattle.shots.specs.Shots.{FallsAt, ShotDrawn, FaultFound};
 
 // What one shot draws: no fault, or an element, each with the place of the next word; or a word was needed past the end.
 pub enum ShotDraw {
@@ -19,28 +21,26 @@ pub enum ShotDraw {
     Fault(u64, usize),
 }
 
-// One shot's draw. `satisfied` says whether the condition is, in that shot.
+// One shot's draw, where the word at its place, if there is one, brings a fault. The words lie in two parts, the second behind the first. `satisfied` says
+// whether the condition is, in that shot.
 pub fn draw_shot(
     words: &[u64],
+    more: &[u64],
     at: usize,
-    p: f64,
     chooser: Chooser,
     sums: &[f64],
     satisfied: bool,
 ) -> ShotDraw
     requires { ⌜ Sized chooser ⌝ }
-    ensures { λ r. ⌜ ShotDrawn (now (words .entry)) at p (chooser .kind) (now (sums .entry)) satisfied r ⌝ }
+    ensures { λ r. ⌜ ((p : Float) → FallsAt p (now (words .entry) ++ now (more .entry)) at → ShotDrawn (now (words .entry) ++ now (more .entry)) at p (chooser .kind) (now (sums .entry)) satisfied r) ⌝ }
 {
-    if words.len() <= at {
+    if count(words, more) <= at {
         return ShotDraw::Spent;
-    }
-    if !is_fault(words[at], p) {
-        return ShotDraw::Quiet(at + 1);
     }
     if !satisfied {
         return ShotDraw::Quiet(at + 1);
     }
-    match element(words, at + 1, chooser, sums) {
+    match element(words, more, at + 1, chooser, sums) {
         Choice::Chosen(e, next) => ShotDraw::Fault(e, next),
         Choice::Spent => ShotDraw::Spent,
     }
@@ -66,6 +66,7 @@ pub enum NextFault {
 // The next fault in the shots from one on. The mask has the shots whose condition is satisfied.
 pub fn next_fault(
     words: &[u64],
+    more: &[u64],
     at: usize,
     mask: &[u64],
     shot: Shot,
@@ -74,19 +75,19 @@ pub fn next_fault(
     chooser: Chooser,
     sums: &[f64],
 ) -> NextFault
-    requires { ⌜ (at ≤ length (now words)) × (shot .0 ≤ shots) × (shots ≤ 64 * length (now mask)) × Sized chooser ⌝ }
-    ensures { λ r. ⌜ FaultFound (now (words .entry)) at (now (mask .entry)) (shot .0) shots p (chooser .kind) (now (sums .entry)) r ⌝ }
+    requires { ⌜ (at ≤ length (now words ++ now more)) × (shot .0 ≤ shots) × (shots ≤ 64 * length (now mask)) × Sized chooser ⌝ }
+    ensures { λ r. ⌜ FaultFound (now (words .entry) ++ now (more .entry)) at (now (mask .entry)) (shot .0) shots p (chooser .kind) (now (sums .entry)) r ⌝ }
 {
     let mut i = at;
     let mut s = shot.0;
     while s < shots {
-        let skip = next_skip(words, i, shots - s, p);
+        let skip = next_skip(words, more, i, shots - s, p);
         i += skip;
         s += skip;
         if s == shots {
             return NextFault::Done(i);
         }
-        match draw_shot(words, i, p, chooser, sums, is_set(mask, Shot(s))) {
+        match draw_shot(words, more, i, chooser, sums, is_set(mask, Shot(s))) {
             ShotDraw::Spent => {
                 return NextFault::Spent;
             }

@@ -1,5 +1,33 @@
 //! The lists of words that a call draws from.
 
+use crate::{Rows, sys};
+
+/// Where the noise lines of a run or of settling have their words from: lists of a caller's own ([`Draws`]), or a share of a list that others draw from, too
+/// ([`Caller`](crate::Caller)).
+pub trait Source: sealed::Source {}
+
+pub(crate) mod sealed {
+    use super::{Rows, sys};
+
+    /// The calls that draw.
+    pub trait Source {
+        fn run(&mut self, job: &[u8], rows: Rows<'_>, noiseless: &[u64]) -> sys::Answer;
+        fn settle(&mut self, job: &[u8], noiseless: &[u64], out: &mut [u8]) -> sys::TextAnswer;
+    }
+}
+
+impl<S: Source + ?Sized> Source for &mut S {}
+
+impl<S: Source + ?Sized> sealed::Source for &mut S {
+    fn run(&mut self, job: &[u8], rows: Rows<'_>, noiseless: &[u64]) -> sys::Answer {
+        S::run(self, job, rows, noiseless)
+    }
+
+    fn settle(&mut self, job: &[u8], noiseless: &[u64], out: &mut [u8]) -> sys::TextAnswer {
+        S::settle(self, job, noiseless, out)
+    }
+}
+
 /// The words that noise lines draw from. The default has none, which is enough for a job without noise.
 ///
 /// A noise line without a correlation reads the main list on from where the last one stopped. One with `corr=c` reads the second list from place
@@ -35,5 +63,17 @@ impl<'a> Draws<'a> {
     #[must_use]
     pub fn with_second(self, second: &'a [u64], base: u64) -> Self {
         Self { second, base, ..self }
+    }
+}
+
+impl Source for Draws<'_> {}
+
+impl sealed::Source for Draws<'_> {
+    fn run(&mut self, job: &[u8], rows: Rows<'_>, noiseless: &[u64]) -> sys::Answer {
+        sys::run(job, rows, noiseless, *self)
+    }
+
+    fn settle(&mut self, job: &[u8], noiseless: &[u64], out: &mut [u8]) -> sys::TextAnswer {
+        sys::settle(job, noiseless, *self, out)
     }
 }

@@ -1,6 +1,6 @@
 //! Frames and deltas in memory of their own.
 
-use crate::{Answer, Draws, Examination, Rows, examine, run};
+use crate::{Answer, Examination, Rows, Source, examine, run};
 use std::ops::BitXorAssign;
 
 /// The frames and outcome deltas that a run leaves, in memory of their own, which a further run uses again.
@@ -41,20 +41,20 @@ impl Frames {
     ///
     /// # Errors
     ///
-    /// The refusal by a test of the job, 13 (too few noiseless words) or 14.
-    pub fn of_run(job: &[u8], noiseless: &[u64], draws: Draws<'_>) -> Answer<Self> {
+    /// The refusal by a test of the job, 13 (too few noiseless words), 26 or 14.
+    pub fn of_run(job: &[u8], noiseless: &[u64], draws: impl Source) -> Answer<Self> {
         let mut frames = Self::new();
         frames.run(job, noiseless, draws)?;
         Ok(frames)
     }
 
-    /// Run a job in this memory, which grows as the job's header asks. After a refusal by 13 or 14 every row and total is zero, and after one by a test of the job
-    /// there are none.
+    /// Run a job in this memory, which grows as the job's header asks. After a refusal by 13, 14 or 26 every row and total is zero, and after one by a test of
+    /// the job there are none.
     ///
     /// # Errors
     ///
-    /// The refusal by a test of the job, 13 (too few noiseless words) or 14.
-    pub fn run(&mut self, job: &[u8], noiseless: &[u64], draws: Draws<'_>) -> Answer {
+    /// The refusal by a test of the job, 13 (too few noiseless words), 26 or 14.
+    pub fn run(&mut self, job: &[u8], noiseless: &[u64], draws: impl Source) -> Answer {
         let examined = examine(job);
         self.job = examined.unwrap_or_default();
         for (list, need) in [

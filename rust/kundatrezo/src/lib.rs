@@ -8,6 +8,7 @@
 //! | [`check`] | whether the job passes the tests of a job; [`examine`] says what it asks of its caller, too |
 //! | [`run`] | the frames and the outcome deltas of all shots, and how many of them flip each outcome; [`Frames`] has memory of its own |
 //! | [`settle`] | the job with its noise replaced by the injections that the same words draw; [`settled`] as a `Vec` |
+//! | [`SharedDraws`] | a main list of which up to eight callers have shares: a run or settling by one of them draws from [`SharedDraws::caller`] |
 //! | [`walk`] | for a set of outcomes and a shot, the count of faults that flip the set's parity |
 //! | [`annotate`] | the job with depolarizing noise before each measurement and after each gate; [`annotated`] as a `Vec` |
 //! | [`locations`] | the number of fault locations |
@@ -89,6 +90,7 @@ mod frames;
 mod make;
 mod noise;
 mod refusal;
+mod shares;
 mod single_faults;
 mod split;
 mod sys;
@@ -97,12 +99,13 @@ mod xorshift;
 
 pub use by_shot::{Shots, by_outcome, by_shot};
 pub use clifford::{MAX_CLIFFORD_QUBITS, clifford_line};
-pub use draws::Draws;
+pub use draws::{Draws, Source};
 pub use error_model::{ErrorModel, Mechanism, error_model};
 pub use examination::{Examination, examine};
 pub use frames::{Frames, bit};
 pub use make::{JobParameters, make, make_job};
 pub use refusal::{Answer, Number, Refusal};
+pub use shares::{AccountError, Caller, MAX_CALLERS, SharedDraws};
 pub use single_faults::{FaultTable, MAX_GROUPS, SingleFault, fault_table, write_fault_table};
 pub use split::{Part, restricted, split};
 pub use used::Used;
@@ -170,8 +173,8 @@ pub fn check(job: &[u8]) -> Answer {
 ///
 /// # Errors
 ///
-/// The refusal by a test of the job, 13 (a lent list is too short, that of the totals too) or 14 (a draw lies past its list). 14 leaves the needed words of
-/// `rows` zero, the totals of the header's outcomes too; the others leave all memory untouched.
+/// The refusal by a test of the job, 13 (a lent list is too short, that of the totals too), 26 (of a [`Caller`]: there is none of this number) or 14 (a draw
+/// lies past its list). 14 leaves the needed words of `rows` zero, the totals of the header's outcomes too; the others leave all memory untouched.
 ///
 /// ```
 /// use kundatrezo::{Draws, Rows, run};
@@ -182,8 +185,8 @@ pub fn check(job: &[u8]) -> Answer {
 /// assert_eq!((x, z, deltas, totals), ([0b10], [0], [0b10], [1]));
 /// # Ok::<(), kundatrezo::Refusal>(())
 /// ```
-pub fn run(job: &[u8], rows: Rows<'_>, noiseless: &[u64], draws: Draws<'_>) -> Answer {
-    answer_of(&sys::run(job, rows, noiseless, draws), 0).map(drop)
+pub fn run(job: &[u8], rows: Rows<'_>, noiseless: &[u64], mut draws: impl Source) -> Answer {
+    answer_of(&draws.run(job, rows, noiseless), 0).map(drop)
 }
 
 /// Write the settled job at the front of `out`, and say how many bytes it has: each noise line is replaced by the injections that a run with the same
@@ -191,8 +194,8 @@ pub fn run(job: &[u8], rows: Rows<'_>, noiseless: &[u64], draws: Draws<'_>) -> A
 ///
 /// # Errors
 ///
-/// The refusal by a test of the job, 13 (too few noiseless words), 14 or 15 (the text does not fit; [`Refusal::figure`] is then exactly the
-/// bytes that it takes, also above [`MAX_BYTES`]). Nothing is written then.
+/// The refusal by a test of the job, 13 (too few noiseless words), 26 (of a [`Caller`]: there is none of this number), 14 or 15 (the text does not fit;
+/// [`Refusal::figure`] is then exactly the bytes that it takes, also above [`MAX_BYTES`]). Nothing is written then.
 ///
 /// ```
 /// use kundatrezo::{Draws, Number, settle};
@@ -210,8 +213,8 @@ pub fn run(job: &[u8], rows: Rows<'_>, noiseless: &[u64], draws: Draws<'_>) -> A
 /// assert_eq!(refusal.figure, bytes as u64);
 /// # Ok::<(), kundatrezo::Refusal>(())
 /// ```
-pub fn settle(job: &[u8], noiseless: &[u64], draws: Draws<'_>, out: &mut [u8]) -> Answer<usize> {
-    let said = sys::settle(job, noiseless, draws, out);
+pub fn settle(job: &[u8], noiseless: &[u64], mut draws: impl Source, out: &mut [u8]) -> Answer<usize> {
+    let said = draws.settle(job, noiseless, out);
     answer_of(&said.answer, said.figure).map(size)
 }
 
@@ -228,7 +231,7 @@ pub fn settle(job: &[u8], noiseless: &[u64], draws: Draws<'_>, out: &mut [u8]) -
 /// assert_eq!(settled(job, &[], Draws::default())?, job);
 /// # Ok::<(), kundatrezo::Refusal>(())
 /// ```
-pub fn settled(job: &[u8], noiseless: &[u64], draws: Draws<'_>) -> Answer<Vec<u8>> {
+pub fn settled(job: &[u8], noiseless: &[u64], draws: impl Source) -> Answer<Vec<u8>> {
     let mut out = vec![0; job.len()];
     settle_into(job, noiseless, draws, &mut out)?;
     Ok(out)
@@ -250,11 +253,11 @@ pub fn settled(job: &[u8], noiseless: &[u64], draws: Draws<'_>) -> Answer<Vec<u8
 /// assert_eq!(out, job);
 /// # Ok::<(), kundatrezo::Refusal>(())
 /// ```
-pub fn settle_into(job: &[u8], noiseless: &[u64], draws: Draws<'_>, out: &mut Vec<u8>) -> Answer<usize> {
-    let bytes = match settle(job, noiseless, draws, out) {
+pub fn settle_into(job: &[u8], noiseless: &[u64], mut draws: impl Source, out: &mut Vec<u8>) -> Answer<usize> {
+    let bytes = match settle(job, noiseless, &mut draws, out) {
         Err(refusal) if refusal.number == Number::ROOM && refusal.figure <= MAX_BYTES as u64 => {
             out.resize(size(refusal.figure), 0);
-            settle(job, noiseless, draws, out)?
+            settle(job, noiseless, &mut draws, out)?
         }
         answer => answer?,
     };

@@ -75,6 +75,8 @@ numbers! {
     22 SEED "the seed is zero"
     23 EDITION "the header's edition is neither 1 nor 2"
     24 GROUPS "no groups, more than 16, or noise with d=2 over more than 4 qubits in a table of single faults"
+    25 SHARES "the shares total more than the list, there are no callers or more than 8, or more is marked taken than a part holds"
+    26 CALLER "the caller's number is not below the number of callers"
 }
 
 impl Number {

@@ -108,6 +108,50 @@ unsafe extern "C" {
         out_len: usize,
     ) -> TextAnswer;
 
+    fn kundatrezo_run_shared(
+        job: *const u8,
+        job_len: usize,
+        x: *mut u64,
+        x_len: usize,
+        z: *mut u64,
+        z_len: usize,
+        deltas: *mut u64,
+        deltas_len: usize,
+        totals: *mut u64,
+        totals_len: usize,
+        noiseless: *const u64,
+        noiseless_len: usize,
+        main: *const u64,
+        main_len: usize,
+        second: *const u64,
+        second_len: usize,
+        base: u64,
+        shares: *const u64,
+        shares_len: usize,
+        marks: *mut u64,
+        marks_len: usize,
+        caller: u64,
+    ) -> Answer;
+
+    fn kundatrezo_settle_shared(
+        job: *const u8,
+        job_len: usize,
+        noiseless: *const u64,
+        noiseless_len: usize,
+        main: *const u64,
+        main_len: usize,
+        second: *const u64,
+        second_len: usize,
+        base: u64,
+        shares: *const u64,
+        shares_len: usize,
+        marks: *mut u64,
+        marks_len: usize,
+        caller: u64,
+        out: *mut u8,
+        out_len: usize,
+    ) -> TextAnswer;
+
     fn kundatrezo_walk(job: *const u8, job_len: usize, shot: u64, set: *const u64, set_len: usize) -> Count;
 
     fn kundatrezo_annotate(job: *const u8, job_len: usize, p_bits: u64, out: *mut u8, out_len: usize) -> TextAnswer;
@@ -228,6 +272,72 @@ pub fn settle(job: &[u8], noiseless: &[u64], draws: Draws<'_>, out: &mut [u8]) -
             draws.second.as_ptr(),
             draws.second.len(),
             draws.base,
+            out.as_mut_ptr(),
+            out.len(),
+        )
+    })
+}
+
+/// What a caller with a share is lent to draw from.
+pub struct Shared<'a> {
+    pub main: &'a [u64],
+    pub second: &'a [u64],
+    pub base: u64,
+    pub shares: &'a [u64],
+    pub marks: &'a mut [u64],
+    pub caller: u64,
+}
+
+pub fn run_shared(job: &[u8], rows: Rows<'_>, noiseless: &[u64], draws: &mut Shared<'_>) -> Answer {
+    let Rows { x, z, deltas, totals } = rows;
+    // the call has no form without totals: those of any header fit here
+    let mut own = [0; crate::MAX_OUTCOMES];
+    let totals = totals.unwrap_or(&mut own);
+    in_default_state(|| unsafe {
+        kundatrezo_run_shared(
+            job.as_ptr(),
+            job.len(),
+            x.as_mut_ptr(),
+            x.len(),
+            z.as_mut_ptr(),
+            z.len(),
+            deltas.as_mut_ptr(),
+            deltas.len(),
+            totals.as_mut_ptr(),
+            totals.len(),
+            noiseless.as_ptr(),
+            noiseless.len(),
+            draws.main.as_ptr(),
+            draws.main.len(),
+            draws.second.as_ptr(),
+            draws.second.len(),
+            draws.base,
+            draws.shares.as_ptr(),
+            draws.shares.len(),
+            draws.marks.as_mut_ptr(),
+            draws.marks.len(),
+            draws.caller,
+        )
+    })
+}
+
+pub fn settle_shared(job: &[u8], noiseless: &[u64], draws: &mut Shared<'_>, out: &mut [u8]) -> TextAnswer {
+    in_default_state(|| unsafe {
+        kundatrezo_settle_shared(
+            job.as_ptr(),
+            job.len(),
+            noiseless.as_ptr(),
+            noiseless.len(),
+            draws.main.as_ptr(),
+            draws.main.len(),
+            draws.second.as_ptr(),
+            draws.second.len(),
+            draws.base,
+            draws.shares.as_ptr(),
+            draws.shares.len(),
+            draws.marks.as_mut_ptr(),
+            draws.marks.len(),
+            draws.caller,
             out.as_mut_ptr(),
             out.len(),
         )

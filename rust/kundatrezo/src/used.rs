@@ -1,7 +1,7 @@
 //! How many words of the lists are read.
 
 use crate::noise::{Kind, Noise};
-use crate::{Answer, Draws, Examination, Number, bit, examine, settle};
+use crate::{Answer, Draws, Examination, Frames, Number, SharedDraws, bit, settle, size};
 
 /// How many words a run or settling reads.
 #[derive(Debug, Clone, Copy, Default, PartialEq, Eq, Hash)]
@@ -16,8 +16,9 @@ pub struct Used {
 impl Draws<'_> {
     /// How many words a run of this job, or its settling, reads.
     ///
-    /// A call that has enough words does the same with more of them, so the number is the length of the shortest list that is enough: that length is
-    /// enough for [`settle`], and one less is refused by 14. This takes the time of about five calls of it.
+    /// Of the main list the engine says it: a run by one caller, for whom all words are common, leaves the number in its mark. Of the second list it is the
+    /// length of the shortest that is enough: that length is enough for [`settle`], and one less is refused by 14. This takes the time of a run, and of about
+    /// three settlings where there is a second list.
     ///
     /// # Errors
     ///
@@ -33,12 +34,12 @@ impl Draws<'_> {
     /// # Ok::<(), kundatrezo::Refusal>(())
     /// ```
     pub fn used(&self, job: &[u8], noiseless: &[u64]) -> Answer<Used> {
-        enough(job, noiseless, *self)?;
-        let (main, second) = (self.main, self.second);
-        let main_is = |words: usize| enough(job, noiseless, Draws { main: &main[..words], ..*self }).is_ok();
-        let second_is = |words: usize| enough(job, noiseless, Draws { second: &second[..words], ..*self }).is_ok();
-        let guess = guess(job, examine(job)?, noiseless, self).unwrap_or_default();
-        Ok(Used { main: least(main.len(), guess.main, main_is), second: least(second.len(), guess.second, second_is) })
+        let mut common = SharedDraws::new(self.main, &[0])?;
+        let frames = Frames::of_run(job, noiseless, common.caller(0).with_second(self.second, self.base))?;
+        let second_is = |words: usize| enough(job, noiseless, Draws { second: &self.second[..words], ..*self }).is_ok();
+        let guess = guess(job, frames.job(), noiseless, self).unwrap_or_default();
+        let second = if self.second.is_empty() { 0 } else { least(self.second.len(), guess, second_is) };
+        Ok(Used { main: size(common.marks()[1]), second })
     }
 }
 
@@ -65,24 +66,21 @@ fn least(most: usize, guess: usize, has: impl Fn(usize) -> bool) -> usize {
     high
 }
 
-/// How many words the noise lines of an accepted job read, as far as can be told from their text. The calls judge it.
-fn guess(job: &[u8], numbers: Examination, noiseless: &[u64], draws: &Draws<'_>) -> Option<Used> {
+/// From which place on the noise lines of an accepted job read no word of the second list, as far as can be told from their text. The calls judge it.
+fn guess(job: &[u8], numbers: Examination, noiseless: &[u64], draws: &Draws<'_>) -> Option<usize> {
     let text = std::str::from_utf8(job).ok()?;
-    let mut used = Used::default();
+    let mut used = 0;
     for noise in text.lines().filter_map(Noise::read).filter(|noise| noise.p > 0.0) {
+        let Some(correlation) = noise.correlation else {
+            continue;
+        };
         let holds = |shot: usize| {
             let words = numbers.words_per_row();
             let sum = noise.condition.iter().fold(false, |sum, id| sum ^ bit(&noiseless[id * words..][..words], shot));
             noise.condition.is_empty() || sum == noise.parity
         };
-        match noise.correlation {
-            None => used.main += noise.words(&draws.main[used.main..], numbers.shots, holds)?,
-            Some(correlation) => {
-                let place = usize::try_from(draws.base.wrapping_add(correlation)).ok()?;
-                let end = place + noise.words(draws.second.get(place..)?, numbers.shots, holds)?;
-                used.second = used.second.max(end);
-            }
-        }
+        let place = usize::try_from(draws.base.wrapping_add(correlation)).ok()?;
+        used = used.max(place + noise.words(draws.second.get(place..)?, numbers.shots, holds)?);
     }
     Some(used)
 }
@@ -114,6 +112,7 @@ impl Noise {
 #[cfg(test)]
 mod tests {
     use super::*;
+    use crate::examine;
     use std::cell::Cell;
 
     /// Looks for the least number from a value on, and counts the looks.
@@ -165,8 +164,14 @@ op=n p=3ff0000000000000 corr=150 cond=- parity=0 d=2 q=1 size=3
             words.iter_mut().filter(|word| **word % 16 == 0).for_each(|word| *word = u64::MAX);
             let draws = Draws::new(&words).with_second(&words, 3);
             let numbers = examine(job).expect("the job is accepted");
-            let guessed = guess(job, numbers, &noiseless, &draws);
-            assert_eq!(Ok(guessed.expect("there is a guess")), draws.used(job, &noiseless));
+            let used = draws.used(job, &noiseless).expect("the job runs");
+            assert_eq!(guess(job, numbers, &noiseless, &draws), Some(used.second));
+            // of either list one word less is not enough
+            let cut = |main: usize, second: usize| {
+                enough(job, &noiseless, Draws::new(&words[..main]).with_second(&words[..second], 3)).is_ok()
+            };
+            let Used { main, second } = used;
+            assert_eq!((cut(main, second), cut(main - 1, second), cut(main, second - 1)), (true, false, false));
         }
     }
 }

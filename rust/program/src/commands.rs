@@ -3,7 +3,7 @@
 use crate::arguments::{Arguments, Command, FILE, Flag, Operand};
 use crate::completions::{self, SHELLS};
 use crate::words::{self, Lent};
-use crate::{Failure, faults, files, load, manual, numbers, print, rates, shots, sizes};
+use crate::{Failure, faults, files, load, manual, numbers, print, rates, shares, shots, sizes};
 use kundatrezo::{Examination, Frames, MAX_BYTES, Number, Refusal, Shots, bit};
 use std::fmt::Write;
 
@@ -20,7 +20,7 @@ const TOTALS: Flag = Flag {
     value: FILE,
     text: "write the outcomes' totals and rates to this file, and do not print the deltas",
 };
-const OUTPUT: Flag =
+pub const OUTPUT: Flag =
     Flag { name: "--output", value: FILE, text: "write the text to this file; without it, to standard output" };
 const ROOM: Flag =
     Flag { name: "--room", value: "N", text: "lend N bytes for the text; without it 1048576, the most it may have" };
@@ -66,8 +66,9 @@ and 'delta=' for each recorded outcome, with a digit for each shot, shot 0 first
             BY_SHOT,
             rates::DETAILS,
             words::DETAILS,
+            shares::DETAILS,
         ],
-        options: &[words::FLAGS, &[X, Z, DELTAS, SHOTS, PACKED, TOTALS]],
+        options: &[words::FLAGS, shares::FLAGS, &[X, Z, DELTAS, SHOTS, PACKED, TOTALS]],
         obey: run,
     },
     Command {
@@ -77,8 +78,9 @@ and 'delta=' for each recorded outcome, with a digit for each shot, shot 0 first
         details: &[
             "Writes the job with each noise line replaced by the injections that a run with the same words makes.",
             words::DETAILS,
+            shares::DETAILS,
         ],
-        options: &[words::FLAGS, &[OUTPUT, ROOM]],
+        options: &[words::FLAGS, shares::FLAGS, &[OUTPUT, ROOM]],
         obey: settle,
     },
     Command {
@@ -137,6 +139,14 @@ job. A qubit that control and target share counts for both."],
         details: &[faults::MODEL, faults::APPROXIMATION],
         options: &[faults::MODEL_FLAGS, &[OUTPUT]],
         obey: faults::model,
+    },
+    Command {
+        name: "share",
+        operand: Operand::None,
+        summary: "the account of a main list that several callers have shares of",
+        details: &[shares::NEW],
+        options: &[words::MAIN_FLAGS, shares::NEW_FLAGS, &[OUTPUT]],
+        obey: shares::print_account,
     },
     Command {
         name: "split",

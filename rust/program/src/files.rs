@@ -4,7 +4,8 @@ use crate::Failure;
 use kundatrezo::{MAX_BYTES, MAX_OUTCOMES, MAX_SHOTS};
 use std::ffi::OsStr;
 use std::fs::{self, File};
-use std::io::{self, Read};
+use std::io::{self, Read, Write};
+use std::path::PathBuf;
 
 /// A file that is read, or standard input for `-`.
 pub fn open(path: &OsStr) -> Result<Box<dyn Read>, Failure> {
@@ -59,14 +60,73 @@ pub fn write_words(path: &OsStr, words: &[u64]) -> Result<(), Failure> {
     write(path, &bytes_of(words))
 }
 
+/// What is written piece by piece, to a file or to standard output. A file is there under its name when it is whole; until then it is called NAME.partial. What
+/// is no plain file, such as a pipe or a device, is written under its name.
+pub struct Output {
+    file: Option<(PathBuf, PathBuf, File)>,
+}
+
+impl Output {
+    pub fn create(path: Option<&OsStr>) -> Result<Self, Failure> {
+        let Some(path) = path else {
+            return Ok(Self { file: None });
+        };
+        test_name(path)?;
+        // where the name is a link, what it leads to is written
+        let whole = fs::canonicalize(path).unwrap_or_else(|_| path.into());
+        let mut partial = whole.clone().into_os_string();
+        if fs::metadata(&whole).map_or(true, |found| found.is_file()) {
+            partial.push(".partial");
+        }
+        let file = File::create(&partial).map_err(|error| fault(&partial, &error))?;
+        Ok(Self { file: Some((whole, partial.into(), file)) })
+    }
+
+    pub fn write(&mut self, bytes: &[u8]) -> Result<(), Failure> {
+        match &mut self.file {
+            Some((_, partial, file)) => file.write_all(bytes).map_err(|error| fault(partial.as_os_str(), &error)),
+            None => Ok(io::stdout().lock().write_all(bytes)?),
+        }
+    }
+
+    /// See that all of it is written, and give the file its name.
+    pub fn finish(mut self) -> Result<(), Failure> {
+        let Some((whole, partial, file)) = self.file.take() else {
+            return Ok(io::stdout().lock().flush()?);
+        };
+        if whole == partial {
+            return Ok(());
+        }
+        let done = file.sync_all().and_then(|()| fs::rename(&partial, &whole));
+        done.map_err(|error| fault(partial.as_os_str(), &error))
+    }
+}
+
+/// What is not whole is no use.
+impl Drop for Output {
+    fn drop(&mut self) {
+        if let Some((whole, partial, _)) = self.file.take()
+            && whole != partial
+        {
+            _ = fs::remove_file(partial);
+        }
+    }
+}
+
 /// Write bytes to a file. `-`, which stands for standard input elsewhere, is no file's name here.
 pub fn write(path: &OsStr, bytes: &[u8]) -> Result<(), Failure> {
-    if path == "-" {
-        return Err(Failure::Other("what is written goes to a file, and - is none".into()));
-    }
+    test_name(path)?;
     fs::write(path, bytes).map_err(|error| fault(path, &error))
 }
 
-fn fault(path: &OsStr, error: &io::Error) -> Failure {
+fn test_name(path: &OsStr) -> Result<(), Failure> {
+    match path == "-" {
+        true => Err(Failure::Other("what is written goes to a file, and - is none".into())),
+        false => Ok(()),
+    }
+}
+
+/// What went wrong with a file.
+pub fn fault(path: &OsStr, error: &io::Error) -> Failure {
     Failure::Other(format!("{}: {error}", path.display()))
 }

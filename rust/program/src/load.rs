@@ -50,5 +50,9 @@ pub fn write_job(arguments: &Arguments) -> Result<(), Failure> {
 
 /// The command `fill`.
 pub fn write_words(arguments: &Arguments) -> Result<(), Failure> {
-    write_out(arguments, &files::bytes_of(&List::made(arguments)?.words))
+    let list = List::whole(arguments)?;
+    if !list.is_given() {
+        return Err(Failure::Other("--seed or --state is wanted".into()));
+    }
+    write_out(arguments, &files::bytes_of(&list.words))
 }

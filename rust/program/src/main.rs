@@ -10,6 +10,7 @@ mod load;
 mod manual;
 mod numbers;
 mod rates;
+mod shares;
 mod shots;
 mod sizes;
 mod words;
@@ -110,7 +111,7 @@ times, others once. What follows -- is no option.",
 Exit status: 0, the work is done; 1, the call refused, and standard error says by which number, at which
 line, and what may help (docs/REFUSALS.md has more); 2, the arguments are at fault, or a file or standard
 output can't be read or written. Unless the status is 0 no file is written, but for those that were
-written before one could not be.",
+written before one could not be, and for an account of shared words, which a refusal by 14 changes too.",
 ];
 
 /// The help of the whole program.

@@ -2,8 +2,9 @@
 
 use crate::arguments::{Arguments, FILE, Flag};
 use crate::commands::longer;
+use crate::shares::Share;
 use crate::{Failure, files};
-use kundatrezo::{Answer, Draws, Examination, Number, Refusal, Used, Xorshift};
+use kundatrezo::{Answer, Caller, Draws, Examination, Number, Refusal, Source as Drawn, Used, Xorshift};
 use std::ffi::OsString;
 use std::io::Read;
 
@@ -24,7 +25,8 @@ const BASE: Flag = Flag { name: "--base", value: "N", text: "the base of the sec
 const NOISELESS: Flag =
     Flag { name: "--noiseless", value: FILE, text: "rows of the noiseless bits of the outcomes; without it, zeros" };
 
-/// The options of words that are made, and those of all that is lent.
+/// The options of a main list, of one that is made, and of all that is lent.
+pub const MAIN_FLAGS: &[Flag] = &[MAIN, SEED, STATE, SKIP, WORDS];
 pub const MADE_FLAGS: &[Flag] = &[SEED, STATE, SKIP, WORDS];
 pub const FLAGS: &[Flag] = &[MAIN, SEED, STATE, SKIP, WORDS, SECOND, SECOND_SEED, SECOND_STATE, BASE, NOISELESS];
 
@@ -48,7 +50,7 @@ and 'skip=' with the value of --skip for the next run of a series. 'second=' say
 second list, if one is given, was not read: that is a --base for the next run.";
 
 /// Most words of a list: no job of main-list noise needs as many, and they are 2 GiB.
-const MOST: usize = 1 << 28;
+pub const MOST: usize = 1 << 28;
 
 /// Where a list has its words from.
 enum Source {
@@ -87,29 +89,30 @@ impl List {
         Ok(Self { words: Vec::new(), source, most: MOST, seed: seed.name })
     }
 
-    /// The words that options make, as many as they say.
-    pub fn made(arguments: &Arguments) -> Result<Self, Failure> {
-        let mut list = Self::read(arguments, &MAIN, &SEED, &STATE)?;
-        if !list.is_given() {
-            return Err(Failure::Other(format!("{} or {} is wanted", SEED.name, STATE.name)));
+    /// The main list, as far as options give it.
+    fn main(arguments: &Arguments) -> Result<Self, Failure> {
+        let mut main = Self::read(arguments, &MAIN, &SEED, &STATE)?;
+        if let Some(words) = arguments.number(WORDS.name)? {
+            main.most = usize::try_from(words).unwrap_or(MOST).min(MOST);
         }
-        if arguments.value(WORDS.name).is_none() {
+        arguments.number(SKIP.name)?.map(|words| main.skip(words)).transpose()?;
+        Ok(main)
+    }
+
+    /// The main list to its end, or as long as options say.
+    pub fn whole(arguments: &Arguments) -> Result<Self, Failure> {
+        let mut main = Self::main(arguments)?;
+        if matches!(main.source, Source::Made(_)) && arguments.value(WORDS.name).is_none() {
             return Err(Failure::Other(format!("{} is wanted for words that are made", WORDS.name)));
         }
-        list.cut(arguments)?;
-        list.grow(list.most)?;
-        Ok(list)
-    }
-
-    /// Bound the main list and leave out its first words, as options say.
-    fn cut(&mut self, arguments: &Arguments) -> Result<(), Failure> {
-        if let Some(words) = arguments.number(WORDS.name)? {
-            self.most = usize::try_from(words).unwrap_or(MOST).min(MOST);
+        if arguments.number(WORDS.name)?.is_some_and(|words| words > MOST as u64) {
+            return Err(Failure::Other(format!("a list has at most {MOST} words")));
         }
-        arguments.number(SKIP.name)?.map_or(Ok(()), |words| self.skip(words))
+        main.grow(main.most)?;
+        Ok(main)
     }
 
-    fn is_given(&self) -> bool {
+    pub fn is_given(&self) -> bool {
         !matches!(self.source, Source::None) || !self.words.is_empty()
     }
 
@@ -166,6 +169,7 @@ pub struct Lent<'a> {
     second: List,
     base: u64,
     skipped: u64,
+    share: Option<Share>,
 }
 
 impl<'a> Lent<'a> {
@@ -181,17 +185,24 @@ impl<'a> Lent<'a> {
             Some(path) => files::words(path, &mut files::open(path)?, need)?,
             None => vec![0; need],
         };
-        let mut main = List::read(arguments, &MAIN, &SEED, &STATE)?;
+        let mut main = List::main(arguments)?;
         let second = List::read(arguments, &SECOND, &SECOND_SEED, &SECOND_STATE)?;
         if let (Source::Made(main), Source::Made(second)) = (&main.source, &second.source)
             && main == second
         {
             return Err(Failure::Other("the words of the two lists are to differ: give another seed".into()));
         }
-        main.cut(arguments)?;
+        let share = Share::read(arguments)?;
+        if let Some(share) = &share {
+            if arguments.value(WORDS.name).is_some() {
+                return Err(Failure::Other(format!("the account says how many words there are, not {}", WORDS.name)));
+            }
+            main.most = share.length()?;
+            main.grow(main.most)?;
+        }
         let [skipped, base] = [&SKIP, &BASE].map(|flag| arguments.number(flag.name));
         let (skipped, base) = (skipped?.unwrap_or(0), base?.unwrap_or(0));
-        Ok(Self { job, examined, noiseless, main, second, base, skipped })
+        Ok(Self { job, examined, noiseless, main, second, base, skipped, share })
     }
 
     fn draws(&self) -> Draws<'_> {
@@ -200,14 +211,24 @@ impl<'a> Lent<'a> {
 
     /// Make a call. Where it needs more words than the lists have so far, more are read or made and it is called again: the words before them are
     /// the same, so the answer is that of a list which was long enough from the start.
-    pub fn call<T>(&mut self, mut call: impl FnMut(&[u64], Draws<'_>) -> Answer<T>) -> Result<T, Failure> {
+    pub fn call<T>(&mut self, mut call: impl FnMut(&[u64], &mut dyn Drawn) -> Answer<T>) -> Result<T, Failure> {
         loop {
-            let refusal = match call(&self.noiseless, self.draws()) {
-                Ok(done) => return Ok(done),
-                Err(refusal) => refusal,
+            let (answer, left) = match &self.share {
+                None => (call(&self.noiseless, &mut self.draws()), None),
+                Some(share) => {
+                    let drawn = |caller: Caller<'_>| {
+                        call(&self.noiseless, &mut caller.with_second(&self.second.words, self.base))
+                    };
+                    let (answer, left) = share.call(&self.main.words, drawn)?;
+                    (answer, Some(left))
+                }
             };
-            if refusal.number != Number::DRAWS || !self.make_more(&refusal)? {
-                return Err(Failure::refused(&refusal, self.job, self.remedy(&refusal)));
+            match answer {
+                Err(refusal) if refusal.number == Number::DRAWS && self.make_more(&refusal)? => {}
+                answer => {
+                    self.share.as_mut().zip(left).map(|(share, left)| share.keep(left)).transpose()?;
+                    return answer.map_err(|refusal| Failure::refused(&refusal, self.job, self.remedy(&refusal)));
+                }
             }
         }
     }
@@ -237,8 +258,13 @@ impl<'a> Lent<'a> {
         line.split(' ').find_map(|field| field.strip_prefix("corr="))?.parse().ok()
     }
 
-    /// What to do about a refusal by 13, 14 or 15.
+    /// What to do about a refusal by 13, 14, 15 or 26.
     fn remedy(&self, refusal: &Refusal) -> Option<String> {
+        let reads_main = refusal.number != Number::DRAWS || self.correlation(refusal).is_none();
+        let of_share = self.share.as_ref().filter(|_| reads_main).and_then(|share| share.remedy(refusal));
+        if of_share.is_some() {
+            return of_share;
+        }
         match refusal.number {
             Number::WORDS => Some(format!(
                 "{} has {} words, and needs {}: ceil(shots / 64) for each outcome of the header",
@@ -246,7 +272,7 @@ impl<'a> Lent<'a> {
                 self.noiseless.len(),
                 self.examined.outcome_words()
             )),
-            Number::DRAWS if self.correlation(refusal).is_none() => Some(self.main.remedy("main")),
+            Number::DRAWS if reads_main => Some(self.main.remedy("main")),
             Number::DRAWS => Some(self.second.remedy("second")),
             _ => longer(refusal),
         }
@@ -258,10 +284,16 @@ impl<'a> Lent<'a> {
         if given == [false; 2] {
             return Ok(String::new());
         }
-        let used = self.draws().used(self.job, &self.noiseless);
+        let main = self.share.as_ref().map_or(&self.main.words, |share| &share.available);
+        let draws = Draws::new(main).with_second(&self.second.words, self.base);
+        let used = draws.used(self.job, &self.noiseless);
         let Used { main, second, .. } = used.map_err(|refusal| Failure::refused(&refusal, self.job, None))?;
         let skip = self.skipped.saturating_add(main as u64);
-        let parts = [format!("words={main} skip={skip}"), format!("second={second}")];
+        let words = match &self.share {
+            Some(share) => share.report.clone(),
+            None => format!("words={main} skip={skip}"),
+        };
+        let parts = [words, format!("second={second}")];
         let said: Vec<String> =
             parts.into_iter().zip(given).filter(|(_, given)| *given).map(|(part, _)| part).collect();
         Ok(format!("{}\n", said.join(" ")))

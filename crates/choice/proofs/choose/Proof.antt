@@ -1,6 +1,7 @@
 -- `choice::choose` meets its contract. The invariant: the choice from here on is the choice from the start.
 use mathlib.Core.Path.{_≡_, refl, sym, _∙_}
-use Prim.Native.Nat.{_-_}
+use mathlib.Core.List.{_++_}
+use Prim.Native.Nat.{_-_, _≤_, _<_}
 use native.Mathlib.Omega.{arith}
 use lib.ListN.{length, drop}
 use borrow.Author.Needs.{needs}
@@ -11,43 +12,49 @@ use Rattle.choice.proofs.choose.Statement.{statement}
 use Rattle.choice.proofs.choose.Tie as tie
 
 abbrev Inv-loop : tie.InvT-loop
-Inv-loop words at c limit i₀ i = bounded c (drop i words) ≡ bounded c (drop at words)
+Inv-loop words more at c limit n i₀ i = bounded c (drop i (words ++ more)) ≡ bounded c (drop at (words ++ more))
 
 abbrev μ-loop : tie.MeasureT-loop
-μ-loop words at c limit i₀ i = length words - i
+μ-loop words more at c limit n i₀ i = n - i
+
+count-requires : tie.Need-count-requires Inv-loop μ-loop
+count-requires c κs = search needs
 
 loop-holds : tie.Need-loop-holds Inv-loop μ-loop
 loop-holds c = refl
 
-mul-w : tie.Need-mul-w Inv-loop μ-loop
-mul-w c = search needs
-
-shared-slice-read-w : tie.Need-shared-slice-read-w Inv-loop μ-loop
-shared-slice-read-w c = search needs
+word-at-requires : tie.Need-word-at-requires Inv-loop μ-loop
+word-at-requires c κs = omega (arith, c .before .before .count .ensures)
 
 add-i : tie.Need-add-i Inv-loop μ-loop
 add-i c = omega arith
 
-rem-t11 : tie.Need-rem-t11 Inv-loop μ-loop
-rem-t11 c = below-limit _ _ _ (c .before .before .before .before .pre) (c .if1 .taken)
+rem-t10 : tie.Need-rem-t10 Inv-loop μ-loop
+rem-t10 c = below-limit _ _ _ (c .before .before .before .before .before .before .before .pre) (c .if1 .taken)
 
 returns : tie.Need-returns Inv-loop μ-loop
 returns c =
+    let a = c .before .before .before .before .before .before .before .args in
+    let inside : c .before .before .before .loop .i < length (a .words .now ++ a .more .now) = omega (arith, c .before .before .before .before .count .ensures) in
     chose _ _
-    (sym (c .before .before .before .loop .inv)
-    ∙ choose-takes _ _ _ _ (c .before .before .before .before .pre) (c .before .before .loop-test .taken) (lt-ltb _ _ (c .if1 .taken)))
-    (omega arith)
+    (sym (c .before .before .before .loop .inv) ∙ choose-takes _ _ _ _ _ (c .before .before .before .before .before .before .before .pre) (c .before .word-at .ensures) inside (lt-ltb _ _ (c .if1 .taken)))
+    (omega (arith, c .before .before .before .before .count .ensures))
 
 loop-less : tie.Need-loop-less Inv-loop μ-loop
 loop-less c = omega arith
 
 loop-again : tie.Need-loop-again Inv-loop μ-loop
 loop-again c =
-    sym (choose-rejects _ _ _ _ (c .before .before .before .before .pre) (c .before .before .loop-test .taken) (le-ltb _ _ (c .if1 .left)))
+    let a = c .before .before .before .before .before .before .before .args in
+    let inside : c .before .before .before .loop .i < length (a .words .now ++ a .more .now) = omega (arith, c .before .before .before .before .count .ensures) in
+    sym (choose-rejects _ _ _ _ _ (c .before .before .before .before .before .before .before .pre) (c .before .word-at .ensures) inside (le-ltb _ _ (c .if1 .left)))
     ∙ c .before .before .before .loop .inv
 
 returns-2 : tie.Need-returns-2 Inv-loop μ-loop
-returns-2 c = chose-none (sym (c .before .loop .inv) ∙ choose-ends _ _ _ (c .loop-test .left))
+returns-2 c =
+    let a = c .before .before .before .before .before .args in
+    let ends : length (a .words .now ++ a .more .now) ≤ c .before .loop .i = omega (arith, c .before .before .count .ensures) in
+    chose-none (sym (c .before .loop .inv) ∙ choose-ends _ _ _ ends)
 
 pub choose-spec : {M : Type 1} → statement M
 choose-spec =
@@ -55,11 +62,11 @@ choose-spec =
     (tie.spec
     Inv-loop
     μ-loop
+    count-requires
     loop-holds
-    mul-w
-    shared-slice-read-w
+    word-at-requires
     add-i
-    rem-t11
+    rem-t10
     returns
     loop-less
     loop-again

@@ -43,14 +43,14 @@ below-limit zero w limit e h = absurd (omega (arith, limit-none))
 below-limit (suc c) w limit e h = omega arith
 
 -- a word below the limit, one that is rejected, and no word
-module _ (c : ℕ) (ws : List ℕ) (i limit : ℕ) (e : limit ≡ limitOf c) where
-  pub choose-takes : i < length ws → ltb (getD ws i 0) limit ≡ true → bounded c (drop i ws) ≡ Choice.chosen (getD ws i 0 % c) (drop (i + 1) ws)
+module _ (c : ℕ) (ws : List ℕ) (i w limit : ℕ) (e : limit ≡ limitOf c) (is : w ≡ getD ws i 0) where
+  pub choose-takes : i < length ws → ltb w limit ≡ true → bounded c (drop i ws) ≡ Choice.chosen (w % c) (drop (i + 1) ws)
   unfolding bounded
-  choose-takes h t = rw (add-one, drop-cons ws i 0, ← e, t)
+  choose-takes h t = rw (add-one, drop-cons ws i 0, ← is, ← e, t)
 
-  pub choose-rejects : i < length ws → ltb (getD ws i 0) limit ≡ false → bounded c (drop i ws) ≡ bounded c (drop (i + 1) ws)
+  pub choose-rejects : i < length ws → ltb w limit ≡ false → bounded c (drop i ws) ≡ bounded c (drop (i + 1) ws)
   unfolding bounded
-  choose-rejects h t = rw (add-one, drop-cons ws i 0, ← e, t)
+  choose-rejects h t = rw (add-one, drop-cons ws i 0, ← is, ← e, t)
 
 pub choose-ends : (c : ℕ) (ws : List ℕ) (i : ℕ) → length ws ≤ i → bounded c (drop i ws) ≡ Choice.spent
 unfolding bounded
@@ -59,12 +59,12 @@ choose-ends c ws i h = rw (drop-of-length-le ws h)
 -- ---- by weight
 
 module _ {ws : List ℕ} {sums : List Float} (i : ℕ) where
-  pub weighed : i < length ws → getD ws i 0 < 2 ^ 64 → (e : ℕ) → e ≡ rustPlace (unitOf (getD ws i 0)) sums → Weighed ws i sums (Chosen e (i + 1))
+  pub weighed : i < length ws → (w : ℕ) → w ≡ getD ws i 0 → w < 2 ^ 64 → (e : ℕ) → e ≡ rustPlace (unitOf w) sums → Weighed ws i sums (Chosen e (i + 1))
   unfolding byWeight choiceOf nextOf
-  weighed h small e is =
+  weighed h w read small e is =
       record {
         within = omega arith;
-        is = λ weights p. rw (is, p .is (getD ws i 0) small, add-one, drop-cons ws i 0);
+        is = λ weights p. rw (is, p .is w small, add-one, drop-cons ws i 0, ← read);
       }
 
   pub weighed-none : length ws ≤ i → Weighed ws i sums Spent

@@ -4,13 +4,17 @@ use mathlib.Core.List.{List, [], _∷_, _++_, append-assoc, append-nil}
 use mathlib.Core.Option.{Option, none, some}
 use Prim.Native.Nat.{ℕ, _+_, _-_, _≤_, _<_, min}
 use native.Mathlib.Omega.{arith}
-use lib.ListN.{length, length-append}
+use lib.ListN.{length, take, drop, length-append, length-drop, take-append-drop}
+use lib.Seq.{take-append-seam}
+use Rattle.job.specs.declared.Header.{Header}
 use Rattle.job.specs.Line.{Noise, Instruction, Placed}
 use Rattle.draws.specs.Draws.{Lent, Fault, Draws, drawLine, partOf}
 use Rattle.draws.specs.Settle.{SettledLine, Step, stepOf, Settled, prefixed, settleThen, settle}
 use Rattle.draws.specs.Known.{SpentAt, leftBy, mainLeft}
 use Rattle.draws.specs.Left.{spentOn, leftSpent, leftThen, leftAfter, StaysWithin}
 use Rattle.draws.specs.Laws.Words.{Took, took-more, StepTook, step-took, step-spent, step-drawn, main-read, main-kept, spent-past}
+use Rattle.draws.specs.Execute.{States, Executed, executeOne}
+use Rattle.draws.specs.Laws.Settling.{onStep, one-settled}
 use Rattle.draws.specs.Laws.Spent.{Suffix, settle-goes, spent-here, spent-later}
 
 -- ---- a beginning is taken
@@ -49,12 +53,17 @@ left-length lent is main = suffix-length (left-suffix lent is main)
 
 -- ---- a longer list
 
+-- Fewer words are left than follow; or no word follows, or none is left.
+pub record Fewer (left more : List ℕ) : Type 0 where
+  pub few : length left ≤ length more
+  pub none-left : length left ≡ length more → left ≡ []
+
 -- A job either stays within a list, whatever follows it, or uses it up and needs more.
 pub data Uses (lent : Lent) (is : List Placed) (own : List ℕ) : Type 0 where
   within : (rest : List ℕ) → ((more : List ℕ) → leftAfter lent is (own ++ more) ≡ rest ++ more)
       → ((more : List ℕ) → settle lent is (own ++ more) ≡ settle lent is own) → Uses lent is own
   past : (k : ℕ) (s : SpentAt lent own is k) → s .noise .correlation ≡ none
-      → ((more : List ℕ) → length (leftAfter lent is (own ++ more)) ≤ length more) → Uses lent is own
+      → ((more : List ℕ) → Fewer (leftAfter lent is (own ++ more)) more) → Uses lent is own
 
 -- of a step that was made
 made : {O : Type 0} {f done : List ℕ → O} {ws left : List ℕ} → Took f done ws left → f ws ≡ done left
@@ -77,7 +86,7 @@ module _ (lent : Lent) (i : Placed) (is : List Placed) (own mid : List ℕ) (ls 
       settle-on more ∙ ap (prefixed ls) (same more)
       ∙ sym (ap (settle lent (i ∷ is)) (sym (append-nil own)) ∙ settle-on [] ∙ ap (λ (m : List ℕ). prefixed ls (settle lent is m)) (append-nil mid)))
   uses-on (Uses.past k s corr less) =
-      Uses.past k (spent-later lent own i is ls mid (made t) s) corr (λ more. subst (λ (l : List ℕ). length l ≤ length more) (sym (left-on more)) (less more))
+      Uses.past k (spent-later lent own i is ls mid (made t) s) corr (λ more. subst (λ (l : List ℕ). Fewer l more) (sym (left-on more)) (less more))
 
 -- a step that was spent
 module _ (lent : Lent) (i : Placed) (is : List Placed) (own : List ℕ) (n : Noise) (noise : i .instruction ≡ Instruction.noise n)
@@ -93,13 +102,14 @@ module _ (lent : Lent) (i : Placed) (is : List Placed) (own : List ℕ) (n : Noi
 
   -- of the main list: more words are read past its end, or spent too
   left-main : n .correlation ≡ none → (more : List ℕ) → (o : Step) → step (own ++ more) ≡ o
-      → length (leftThen (Instruction.noise n) (own ++ more) o (leftAfter lent is)) ≤ length more
+      → Fewer (leftThen (Instruction.noise n) (own ++ more) o (leftAfter lent is)) more
   unfolding leftThen leftSpent spentOn partOf
-  left-main corr more Step.spent e = rw corr (omega arith)
+  left-main corr more Step.spent e = rw corr (record { few = omega arith; none-left = λ same. refl })
   left-main corr more (Step.lines ls left) e =
       let r = main-read lent (own ++ more) (i .text) n ls left corr e in
       let less = spent-past lent n own (own-spent none corr (drawLine lent n own) refl) more (r .0) left (r .1) in
-      omega (arith, less, left-length lent is left)
+      let short : length (leftAfter lent is left) < length more = omega (arith, less, left-length lent is left) in
+      record { few = omega (arith, short); none-left = λ same. absurd (omega (arith, short, same)) }
 
   -- of the second: the main list does not matter
   left-second : (p : ℕ) → n .correlation ≡ some p → (more : List ℕ) → step more ≡ Step.spent
@@ -166,7 +176,71 @@ own-taken lent is own more other = go (uses lent is own)
         let a : length (leftAfter lent is (own ++ more)) ≡ length rest + length more = ap length (left more) ∙ length-append rest more in
         let b : length (leftAfter lent is (own ++ other)) ≡ length rest + length other = ap length (left other) ∙ length-append rest other in
         omega (arith, a, b, long, also)
-    go (Uses.past k s corr less) = omega (arith, less more, less other, long, also)
+    go (Uses.past k s corr less) = omega (arith, less more .few, less other .few, long, also)
+
+-- ---- what is taken
+
+module _ (lent : Lent) (is : List Placed) (words : List ℕ) where
+  abbrev left : List ℕ
+  left = leftAfter lent is words
+
+  -- how many words a job takes
+  abbrev pub taken : ℕ
+  taken = length words - length left
+
+  abbrev used : List ℕ
+  used = left-suffix lent is words .used
+
+  whole : words ≡ used ++ left
+  whole = left-suffix lent is words .whole
+
+  pub taken-used : take taken words ≡ used
+  taken-used =
+      let long : length words ≡ length used + length left = ap length whole ∙ length-append used left in
+      let n : taken ≡ length used = omega (arith, long) in
+      ap (λ (k : ℕ). take k words) n ∙ ap (take (length used)) whole ∙ take-append-seam used left
+
+  -- They are enough: of these words alone the job makes what it makes of all.
+  pub taken-enough : settle lent is (take taken words) ≡ settle lent is words
+  taken-enough = ap (settle lent is) taken-used ∙ go (uses lent is used)
+    where
+      go : Uses lent is used → settle lent is used ≡ settle lent is words
+      go (Uses.within rest after same) = sym (same left) ∙ ap (settle lent is) (sym whole)
+      go (Uses.past k s corr less) =
+          let all : leftAfter lent is (used ++ left) ≡ left = ap (leftAfter lent is) (sym whole) in
+          let nothing : left ≡ [] = sym all ∙ less left .none-left (ap length all) in
+          ap (settle lent is) (sym (append-nil used) ∙ ap (λ (l : List ℕ). used ++ l) (sym nothing) ∙ sym whole)
+
+  -- And each is needed: of fewer words a noise line needs one of the main list past their end.
+  pub taken-needed : (n : ℕ) → n < taken → (k : ℕ) × (s : SpentAt lent (take n words) is k) × (s .noise .correlation ≡ none)
+  taken-needed n few = go (uses lent is (take n words))
+    where
+      go : Uses lent is (take n words) → (k : ℕ) × (s : SpentAt lent (take n words) is k) × (s .noise .correlation ≡ none)
+      go (Uses.within rest after same) =
+          let all : left ≡ rest ++ drop n words = ap (leftAfter lent is) (sym (take-append-drop n words)) ∙ after (drop n words) in
+          let long : length left ≡ length rest + length (drop n words) = ap length all ∙ length-append rest (drop n words) in
+          absurd (omega (arith, few, long, length-drop n words))
+      go (Uses.past k s corr less) = (k, s, corr)
+
+-- ---- by execution in place
+
+module _ (h : Header) (lent : Lent) (i : Placed) (is : List Placed) (main : List ℕ) (states : States) where
+  pub left-went : (t : States) (left : List ℕ) → executeOne h lent main (i .instruction) states ≡ Executed.went t left
+      → leftAfter lent is left ≡ leftAfter lent (i ∷ is) main
+  unfolding leftAfter leftThen onStep
+  left-went t left e = go (stepOf lent main (i .text) (i .instruction)) (sym (one-settled h lent main (i .text) (i .instruction) states) ∙ e)
+    where
+      go : (o : Step) → onStep h states o ≡ Executed.went t left → leftAfter lent is left ≡ leftThen (i .instruction) main o (leftAfter lent is)
+      go Step.spent f = let no : _≡_ {A = ℕ} 0 1 = cc in absurd (omega arith)
+      go (Step.lines ls mid) f = let same : mid ≡ left = cc in rw same
+
+  pub left-stopped : executeOne h lent main (i .instruction) states ≡ Executed.spent → leftSpent (i .instruction) main ≡ leftAfter lent (i ∷ is) main
+  unfolding leftAfter leftThen onStep
+  left-stopped e = go (stepOf lent main (i .text) (i .instruction)) (sym (one-settled h lent main (i .text) (i .instruction) states) ∙ e)
+    where
+      go : (o : Step) → onStep h states o ≡ Executed.spent → leftSpent (i .instruction) main ≡ leftThen (i .instruction) main o (leftAfter lent is)
+      go Step.spent f = refl
+      go (Step.lines ls mid) f = let no : _≡_ {A = ℕ} 0 1 = cc in absurd (omega arith)
 
 -- ---- where draws are spent
 

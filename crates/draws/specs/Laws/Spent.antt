@@ -174,7 +174,7 @@ spent-at lent main (i ∷ is) k e = go (stepOf lent main (i .text) (i .instructi
 
 -- ---- more words after both lists change nothing that was settled
 
-drop-append : (k : ℕ) (xs ys : List ℕ) → drop k (xs ++ ys) ≡ drop k xs ++ drop (k - length xs) ys
+pub drop-append : (k : ℕ) (xs ys : List ℕ) → drop k (xs ++ ys) ≡ drop k xs ++ drop (k - length xs) ys
 drop-append zero [] ys = refl
 drop-append zero (x ∷ xs) ys = rw (zero-sub (suc (length xs)))
 drop-append (suc k) [] ys = rw (sub-zero (suc k))

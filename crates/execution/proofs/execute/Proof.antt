@@ -1,8 +1,9 @@
 -- `execution::execute` meets its contract. Assumes nothing.
-use Rattle.execution.specs.Laws.Steps.{GoingFrom, going-begun, going-some, going-on, going-fewer, going-stopped, going-end}
+use Rattle.execution.specs.Laws.Steps.{GoingFrom, going-begun, going-some, going-on, going-fewer, going-stopped, stopped-left, going-end, end-left}
 use Rattle.execution.specs.Went.{lentBy}
 use Rattle.totals.specs.Held.{TotalsHeld}
 use Rattle.instructions.specs.Ahead.{instructionsAt}
+use mathlib.Core.List.{_++_}
 use lib.ListN.{length}
 use borrow.Author.Needs.{needs}
 use mathlib.Core.Path.{_≡_, refl, sym, _∙_}
@@ -11,17 +12,17 @@ use Rattle.execution.proofs.execute.Statement.{statement}
 use Rattle.execution.proofs.execute.Tie as tie
 
 abbrev Inv-loop : tie.InvT-loop
-Inv-loop job from x₀ z₀ deltas₀ totals₀ shape noiseless main second base values₀ elements₀ scratch₀ place₀ x z deltas totals values elements scratch place =
+Inv-loop job from x₀ z₀ deltas₀ totals₀ shape noiseless main more second base values₀ elements₀ scratch₀ place₀ x z deltas totals values elements scratch place =
     (length values ≡ 136) × (length elements ≡ 4096) × (length scratch ≡ 1984) × (length x ≡ length x₀) × (length z ≡ length z₀) × (length deltas ≡ length deltas₀)
-    × GoingFrom job shape (lentBy shape noiseless second base) main from x₀ z₀ deltas₀ x z deltas place
+    × GoingFrom job shape (lentBy shape noiseless second base) (main ++ more) from x₀ z₀ deltas₀ x z deltas place
     × TotalsHeld (shape .width) (shape .outcomes) deltas totals
 
 abbrev μ-loop : tie.MeasureT-loop
-μ-loop job from x₀ z₀ deltas₀ totals₀ shape noiseless main second base values₀ elements₀ scratch₀ place₀ x z deltas totals values elements scratch place =
+μ-loop job from x₀ z₀ deltas₀ totals₀ shape noiseless main more second base values₀ elements₀ scratch₀ place₀ x z deltas totals values elements scratch place =
     length (instructionsAt job (place .line) (place .byte))
 
 loop-holds : tie.Need-loop-holds Inv-loop μ-loop
-loop-holds c = (refl, refl, refl, refl, refl, refl, going-begun _ _ _ _ _ _ (c .before .before .before .before .before .before .before .before .pre .0 .1) _ _ _, c .before .before .before .before .before .before .before .before .pre .2)
+loop-holds c = (refl, refl, refl, refl, refl, refl, going-begun _ _ _ _ _ _ (c .before .before .before .before .before .before .before .before .before .pre .0 .1) _ _ _, c .before .before .before .before .before .before .before .before .before .pre .2)
 
 slice-aggregate-step : tie.Need-slice-aggregate-step Inv-loop μ-loop
 slice-aggregate-step c = omega (arith, c .before .before .before .loop .inv .0)
@@ -36,7 +37,7 @@ step-requires : tie.Need-step-requires Inv-loop μ-loop
 step-requires c κs =
     let i = c .before .before .before .before .before .before .before .before .before .loop .inv in
     let g = going-some _ _ _ _ (i .6) in
-    let rows = c .before .before .before .before .before .before .before .before .before .before .before .before .before .before .before .before .before .before .pre .1 in (
+    let rows = c .before .before .before .before .before .before .before .before .before .before .before .before .before .before .before .before .before .before .before .pre .1 in (
       record {
         recorded = g .recorded;
         ahead = g .ahead;
@@ -60,34 +61,38 @@ step-requires c κs =
 enum-known-moved : tie.Need-enum-known-moved Inv-loop μ-loop
 enum-known-moved c = search needs
 
-enum-told : tie.Need-enum-told Inv-loop μ-loop
-enum-told c = search needs
-
 same-length : tie.Need-same-length Inv-loop μ-loop
-same-length c = c .before .before .before .before .before .before .before .before .before .before .before .before .before .step .kept .1 .1 .1 .1 .1 .0 ∙ c .before .before .before .before .before .before .before .before .before .before .before .before .before .before .before .before .before .before .before .before .before .before .before .loop .inv .3
+same-length c = c .before .before .before .before .before .before .before .before .before .before .before .before .before .before .step .kept .1 .1 .1 .1 .1 .0 ∙ c .before .before .before .before .before .before .before .before .before .before .before .before .before .before .before .before .before .before .before .before .before .before .before .before .loop .inv .3
 
 same-length-2 : tie.Need-same-length-2 Inv-loop μ-loop
-same-length-2 c = c .before .before .before .before .before .before .before .before .before .before .before .before .before .step .kept .1 .1 .1 .1 .1 .1 .0 ∙ c .before .before .before .before .before .before .before .before .before .before .before .before .before .before .before .before .before .before .before .before .before .before .before .loop .inv .4
+same-length-2 c = c .before .before .before .before .before .before .before .before .before .before .before .before .before .before .step .kept .1 .1 .1 .1 .1 .1 .0 ∙ c .before .before .before .before .before .before .before .before .before .before .before .before .before .before .before .before .before .before .before .before .before .before .before .before .loop .inv .4
 
 same-length-3 : tie.Need-same-length-3 Inv-loop μ-loop
-same-length-3 c = c .before .before .before .before .before .before .before .before .before .before .before .before .before .step .kept .1 .1 .1 .1 .1 .1 .1 .0 ∙ c .before .before .before .before .before .before .before .before .before .before .before .before .before .before .before .before .before .before .before .before .before .before .before .loop .inv .5
+same-length-3 c = c .before .before .before .before .before .before .before .before .before .before .before .before .before .before .step .kept .1 .1 .1 .1 .1 .1 .1 .0 ∙ c .before .before .before .before .before .before .before .before .before .before .before .before .before .before .before .before .before .before .before .before .before .before .before .before .loop .inv .5
 
 same-length-4 : tie.Need-same-length-4 Inv-loop μ-loop
-same-length-4 c = c .before .before .before .before .before .before .before .before .before .before .before .before .before .step .ensures .1 .long ∙ sym (c .before .before .before .before .before .before .before .before .before .before .before .before .before .before .before .before .before .before .before .before .before .before .before .before .before .before .before .before .before .before .before .before .pre .2 .long)
+same-length-4 c = c .before .before .before .before .before .before .before .before .before .before .before .before .before .before .step .ensures .1 .long ∙ sym (c .before .before .before .before .before .before .before .before .before .before .before .before .before .before .before .before .before .before .before .before .before .before .before .before .before .before .before .before .before .before .before .before .before .before .pre .2 .long)
 
 returns : tie.Need-returns Inv-loop μ-loop
-returns c = (
-  record {
-    by = going-stopped _ _ _ _ (c .before .before .before .before .before .before .before .before .before .before .before .before .before .before .before .before .before .before .before .before .before .before .before .loop .inv .6) _ _ _
-        (λ recorded ahead states holds. rw (c .enum-told .given .1) at (c .before .before .before .before .before .before .before .before .before .before .before .before .before .step .ensures .0 .by recorded ahead states holds));
-  },
-  c .before .before .before .before .before .before .before .before .before .before .before .before .before .step .ensures .1,
-)
+returns c =
+    let g = c .before .before .before .before .before .before .before .before .before .before .before .before .before .before .before .before .before .before .before .before .before .before .before .before .loop .inv .6 in
+    let left = stopped-left _ _ _ _ g _ _ _ _ (λ recorded ahead states holds. rw (c .before .moved .given .1) at (c .before .before .before .before .before .before .before .before .before .before .before .before .before .before .step .ensures .0 .by recorded ahead states holds)) in (
+      record {
+        by = going-stopped _ _ _ _ g _ _ _ _
+            (λ recorded ahead states holds. rw (c .before .moved .given .1) at (c .before .before .before .before .before .before .before .before .before .before .before .before .before .before .step .ensures .0 .by recorded ahead states holds));
+        within = left .0;
+        leaves = left .1;
+      },
+      c .before .before .before .before .before .before .before .before .before .before .before .before .before .before .step .ensures .1,
+    )
+
+enum-known-moved-2 : tie.Need-enum-known-moved-2 Inv-loop μ-loop
+enum-known-moved-2 c = search needs
 
 loop-less : tie.Need-loop-less Inv-loop μ-loop
 loop-less c =
     going-fewer _ _ _ _ (c .before .before .before .before .before .before .before .before .before .before .before .before .before .before .before .before .before .before .before .before .before .before .before .before .loop .inv .6) _ _ _ _
-    (λ recorded ahead states holds. rw (c .before .moved .given .1) at (c .before .before .before .before .before .before .before .before .before .before .before .before .before .before .step .ensures .0 .by recorded ahead states holds))
+    (λ recorded ahead states holds. rw (c .before .moved2 .given .1) at (c .before .before .before .before .before .before .before .before .before .before .before .before .before .before .step .ensures .0 .by recorded ahead states holds))
 
 loop-again : tie.Need-loop-again Inv-loop μ-loop
 loop-again c =
@@ -99,7 +104,7 @@ loop-again c =
       c .before .before .before .before .before .before .before .before .before .before .before .before .before .before .step .kept .1 .1 .1 .1 .1 .1 .0 ∙ i .4,
       c .before .before .before .before .before .before .before .before .before .before .before .before .before .before .step .kept .1 .1 .1 .1 .1 .1 .1 .0 ∙ i .5,
       going-on _ _ _ _ (i .6) _ _ _ _
-          (λ recorded ahead states holds. rw (c .before .moved .given .1) at (c .before .before .before .before .before .before .before .before .before .before .before .before .before .before .step .ensures .0 .by recorded ahead states holds)),
+          (λ recorded ahead states holds. rw (c .before .moved2 .given .1) at (c .before .before .before .before .before .before .before .before .before .before .before .before .before .before .step .ensures .0 .by recorded ahead states holds)),
       c .before .before .before .before .before .before .before .before .before .before .before .before .before .before .step .ensures .1,
     )
 
@@ -113,10 +118,15 @@ same-length-7 : tie.Need-same-length-7 Inv-loop μ-loop
 same-length-7 c = c .before .before .loop .inv .5
 
 same-length-8 : tie.Need-same-length-8 Inv-loop μ-loop
-same-length-8 c = c .before .before .loop .inv .7 .long ∙ sym (c .before .before .before .before .before .before .before .before .before .before .before .pre .2 .long)
+same-length-8 c = c .before .before .loop .inv .7 .long ∙ sym (c .before .before .before .before .before .before .before .before .before .before .before .before .pre .2 .long)
 
 returns-2 : tie.Need-returns-2 Inv-loop μ-loop
-returns-2 c = (record { by = going-end _ _ _ _ (c .before .before .loop .inv .6) (c .if1 .left) }, c .before .before .loop .inv .7)
+returns-2 c =
+    let g = c .before .before .loop .inv .6 in
+    let left = end-left _ _ _ _ g (c .if1 .left) in (
+      record { by = going-end _ _ _ _ g (c .if1 .left); within = left .0; leaves = left .1 },
+      c .before .before .loop .inv .7,
+    )
 
 pub execute-spec : {M : Type 1} → statement M
 execute-spec =
@@ -130,12 +140,12 @@ execute-spec =
     slice-aggregate-step-3
     step-requires
     enum-known-moved
-    enum-told
     same-length
     same-length-2
     same-length-3
     same-length-4
     returns
+    enum-known-moved-2
     loop-less
     loop-again
     same-length-5

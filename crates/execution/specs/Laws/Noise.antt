@@ -14,6 +14,8 @@ use Rattle.job.specs.Job.{noiseOf, placedAt}
 use Rattle.instructions.specs.declared.Next.{Next}
 use Rattle.instructions.specs.Ahead.{instructionsAt}
 use Rattle.draws.specs.Draws.{Lent, partOf, mainAfter}
+use Rattle.draws.specs.Left.{spentOn, leftSpent}
+use Rattle.draws.specs.Laws.Left.{left-went, left-stopped}
 use Rattle.draws.specs.Execute.{States, Executed, injectShots, injectNoise, onMain, executeOne, Ended, executeThen, execute}
 use Rattle.rows.specs.declared.Shape.{Shape}
 use Rattle.propagator.specs.Acts.{stateOf}
@@ -21,7 +23,7 @@ use Rattle.noise.specs.declared.Place.{Place}
 use Rattle.noise.specs.declared.Correlation.{Correlation}
 use Rattle.noise.specs.Kinds.{correlationOf}
 use Rattle.noise.specs.Words.{positionAfter}
-use Rattle.noise.specs.Laws.Position.{main-after, main-stays, position-within, position-fits}
+use Rattle.noise.specs.Laws.Position.{main-after, main-stays, main-spent, position-within, position-fits}
 use Rattle.faults.specs.Elements.{AllInside}
 use Rattle.faults.specs.declared.Prepared.{Prepared}
 use Rattle.faults.specs.Prepared.{NoiseLines, noiseIn, PreparedAs}
@@ -32,7 +34,7 @@ use Rattle.injection.specs.Injected.{LineReady, FaultsReady, executedAs, placeO
 use Rattle.injection.specs.Laws.Holds.{holds-some}
 use Rattle.execution.specs.declared.Moved.{Moved}
 use Rattle.execution.specs.declared.Moved.the-variants.{To, Spent}
-use Rattle.execution.specs.Went.{headerOf, lentBy, WentBy, Went, NoiseReady, NoiseRoom, NoiseDone}
+use Rattle.execution.specs.Went.{headerOf, lentBy, Ending, endingOf, WentBy, Went, NoiseReady, NoiseRoom, NoiseDone}
 
 -- ---- what the noise comes to
 
@@ -62,24 +64,28 @@ module _ (h : Header) (lent : Lent) (main : List ℕ) (n : Noise) (corr : Correl
 -- ---- the instruction at the head of those that are left
 
 module _ (h : Header) (lent : Lent) (main : List ℕ) (n : Noise) (text : List ℕ) (rest : List Placed) (k position : ℕ) (states : States) where
-  abbrev whole : Ended
-  whole = execute h lent (placedAt k text (Instruction.noise n) ∷ rest) (drop position main) states
+  abbrev whole : Ending
+  whole = endingOf h lent (placedAt k text (Instruction.noise n) ∷ rest) (drop position main) states
 
   head-went : (t : States) (left : List ℕ) → executeOne h lent (drop position main) (Instruction.noise n) states ≡ Executed.went t left
-      → execute h lent rest left t ≡ whole
+      → endingOf h lent rest left t ≡ whole
   unfolding execute executeThen
-  head-went t left e = rw e
+  head-went t left e =
+      let same = left-went h lent (placedAt k text (Instruction.noise n)) rest (drop position main) states t left e in
+      let went : execute h lent rest left t ≡ whole .ends = rw e in
+      λ i. record { ends = went i; left = same i }
 
-  head-spent : executeOne h lent (drop position main) (Instruction.noise n) states ≡ Executed.spent → whole ≡ Ended.spentAt k
-  unfolding execute executeThen
-  head-spent e = rw e
+  head-spent : executeOne h lent (drop position main) (Instruction.noise n) states ≡ Executed.spent
+      → (whole .ends ≡ Ended.spentAt k) × (spentOn (n .correlation) (drop position main) ≡ whole .left)
+  unfolding execute executeThen leftSpent
+  head-spent e = (rw e, left-stopped h lent (placedAt k text (Instruction.noise n)) rest (drop position main) states e)
 
 module _ {job : List ℕ} (place : Place) (next : Next) {values noiseless : List ℕ} (shape : Shape)
     (q : NoiseLines job (next .end + 1) (next .form) values noiseless (shape .width)) (same : q .header ≡ headerOf job shape) (lent : Lent) (main : List ℕ)
     (line : q .line ≡ place .line + 1) (text deltas : List ℕ) (states : States)
   where
-    abbrev comes : Ended
-    comes = execute (headerOf job shape) lent (placedAt (place .line) text (Instruction.noise (noiseIn q)) ∷ q .rest) (drop (place .position) main) states
+    abbrev comes : Ending
+    comes = endingOf (headerOf job shape) lent (placedAt (place .line) text (Instruction.noise (noiseIn q)) ∷ q .rest) (drop (place .position) main) states
 
     noise-went : {elements : List ℕ} {sums : List Float} {mask : List ℕ} {r : Prepared} → PreparedAs q elements sums mask r
         → (x z : List ℕ) (position : ℕ) (t : States) → position ≤ length main → Holds (shape .width) x z deltas t
@@ -101,10 +107,13 @@ module _ {job : List ℕ} (place : Place) (next : Next) {values noiseless : List
           };
         }
 
-    noise-spent : (x z : List ℕ) → executeOne (headerOf job shape) lent (drop (place .position) main) (Instruction.noise (noiseIn q)) states ≡ Executed.spent
-        → Went job shape lent main comes (suc (length (q .rest))) (place .line) x z deltas Spent
+    noise-spent : (x z : List ℕ) (position : ℕ) → position ≤ length main → drop position main ≡ spentOn (noiseIn q .correlation) (drop (place .position) main)
+        → executeOne (headerOf job shape) lent (drop (place .position) main) (Instruction.noise (noiseIn q)) states ≡ Executed.spent
+        → Went job shape lent main comes (suc (length (q .rest))) (place .line) x z deltas (Spent position)
     unfolding WentBy
-    noise-spent x z e = record { by = head-spent (headerOf job shape) lent main (noiseIn q) text (q .rest) (place .line) (place .position) states e }
+    noise-spent x z position within left e =
+        let s = head-spent (headerOf job shape) lent main (noiseIn q) text (q .rest) (place .line) (place .position) states e in
+        record { by = record { ends = s .0; within = within; leaves = left ∙ s .1 } }
 
 -- ---- what the code does
 
@@ -210,14 +219,22 @@ module _ {job : List ℕ} (place : Place) (next : Next) {values noiseless : List
                   (i .is)));
             }
 
-        pub noise-none : d ≡ drawn.Spent → Done x z x′ z′ Spent
+        -- all words of the part are used up
+        pub all-fits : length main < 2 ^ 64 → (read : ℕ) → read ≡ length words → correlationOf (r .fault .correlation) ≡ none → place .position + read < 2 ^ 64
+        all-fits small read e = position-fits (r .fault .correlation) lent main (place .position) read within small (rw (← part) (omega (arith, e)))
+
+        pub noise-none : (read position : ℕ) → d ≡ drawn.Spent → read ≡ length words → position ≡ positionAfter (r .fault .correlation) (place .position) read
+            → Done x z x′ z′ (Spent position)
         unfolding executedAs
-        noise-none e =
+        noise-none read position e all after =
             record {
               by = λ q same line text deltas states holds.
                   let p = prepared q in
                   let i = rw e at (left q same deltas states holds) in
-                  noise-spent place next shape q same lent main line text deltas states x′ z′
+                  let long : read ≡ length (partOf lent (correlationOf (r .fault .correlation)) (drop (place .position) main)) = all ∙ ap length part in
+                  noise-spent place next shape q same lent main line text deltas states x′ z′ position
+                  (rw after (position-within (r .fault .correlation) lent main (place .position) read within (omega (arith, long))))
+                  (rw (after, ← p .correlation) (main-spent (r .fault .correlation) lent main (place .position) read long))
                   (one-spent (headerOf job shape) lent main (noiseIn q) (r .fault .correlation) (p .correlation) (place .position) states (rw (p .stands .probability) at some-words) words part
                   (i .is));
             }

@@ -1,5 +1,5 @@
 -- From instruction to instruction. Laws. Assumes nothing.
-use mathlib.Core.Path.{_≡_, refl, sym, _∙_}
+use mathlib.Core.Path.{_≡_, refl, sym, ap, _∙_}
 use mathlib.Core.List.{List}
 use Prim.Native.Nat.{ℕ, _+_, _*_, _<_, _≤_}
 use native.Mathlib.Omega.{arith}
@@ -9,6 +9,8 @@ use Rattle.instructions.specs.declared.Next.{Next}
 use Rattle.instructions.specs.Ahead.{instructionsAt, Ahead, PlainRead, NoiseRead}
 use Rattle.instructions.specs.Laws.Steps.{none-left}
 use Rattle.draws.specs.Draws.{Lent}
+use Rattle.draws.specs.Settle.{stepOf}
+use Rattle.draws.specs.Left.{leftThen, leftAfter}
 use Rattle.draws.specs.Execute.{States, forwardAll, executeOne, Ended, executeThen, execute}
 use Rattle.rows.specs.declared.Shape.{Shape}
 use Rattle.propagator.specs.Acts.{stateOf}
@@ -21,7 +23,7 @@ use Rattle.injection.specs.Holds.{Holds}
 use Rattle.injection.specs.Laws.Holds.{holds-some, holds-line}
 use Rattle.execution.specs.declared.Moved.{Moved}
 use Rattle.execution.specs.declared.Moved.the-variants.{To, Spent}
-use Rattle.execution.specs.Went.{headerOf, lentBy, RowsFor, WentBy, Went, NoiseReady, NoiseDone, Finished}
+use Rattle.execution.specs.Went.{headerOf, lentBy, RowsFor, Ending, endingOf, WentBy, Went, NoiseReady, NoiseDone, Finished}
 
 -- ---- a line
 
@@ -56,10 +58,10 @@ module _ {job : List ℕ} (shape : Shape) {recorded : ℕ} (place : Place) {next
 
     pub plain-went : (lent : Lent) (main : List ℕ) → place .position ≤ length main → (x′ z′ d′ : List ℕ)
         → Obeyed (next .form) values (shape .width) (shape .qubits) (shape .outcomes) x z d x′ z′ d′ → (states : States) → Holds (shape .width) x z d states
-        → Went job shape lent main (execute (headerOf job shape) lent (instructionsAt job (place .line) (place .byte)) (drop (place .position) main) states)
+        → Went job shape lent main (endingOf (headerOf job shape) lent (instructionsAt job (place .line) (place .byte)) (drop (place .position) main) states)
         (length (instructionsAt job (place .line) (place .byte))) (place .line) x′ z′ d′
         (To (record { byte = next .end + 1; line = place .line + 1; position = place .position }))
-    unfolding WentBy execute executeThen executeOne
+    unfolding WentBy execute executeThen executeOne leftAfter leftThen stepOf
     plain-went lent main within x′ z′ d′ obeyed states holds =
         record {
           by = record {
@@ -93,7 +95,7 @@ module _ {job : List ℕ} (shape : Shape) {recorded : ℕ} (place : Place) {next
     pub noise-done : {main second : List ℕ} {base : ℕ} {x z x′ z′ : List ℕ} {r : Moved}
         → NoiseDone job place next values shape noiseless main second base x z x′ z′ r → (d : List ℕ) (states : States) → Holds (shape .width) x z d states
         → Went job shape (lentBy shape noiseless second base) main
-        (execute (headerOf job shape) (lentBy shape noiseless second base) (instructionsAt job (place .line) (place .byte)) (drop (place .position) main) states)
+        (endingOf (headerOf job shape) (lentBy shape noiseless second base) (instructionsAt job (place .line) (place .byte)) (drop (place .position) main) states)
         (length (instructionsAt job (place .line) (place .byte))) (place .line) x′ z′ d r
     unfolding noise-lines
     noise-done done d states holds = rw (read .instructions) (done .by (noise-lines read noiseless (shape .width) rows) refl refl _ d states holds)
@@ -102,17 +104,17 @@ module _ {job : List ℕ} (shape : Shape) {recorded : ℕ} (place : Place) {next
 
 module _ (job : List ℕ) (shape : Shape) (lent : Lent) (main : List ℕ) where
   -- execution goes on from here, with the states that the words hold
-  pub record Going (all : Ended) (x z d : List ℕ) (place : Place) : Type 0 where
+  pub record Going (all : Ending) (x z d : List ℕ) (place : Place) : Type 0 where
     pub recorded : ℕ
     pub ahead : Ahead job (headerOf job shape) recorded (place .line) (place .byte)
     pub within : place .position ≤ length main
     pub states : States
     pub holds : Holds (shape .width) x z d states
-    pub is : execute (headerOf job shape) lent (instructionsAt job (place .line) (place .byte)) (drop (place .position) main) states ≡ all
+    pub is : endingOf (headerOf job shape) lent (instructionsAt job (place .line) (place .byte)) (drop (place .position) main) states ≡ all
 
   -- from whatever states the words held at first
   pub record GoingFrom (from : ℕ) (x₀ z₀ d₀ x z d : List ℕ) (place : Place) : Type 0 where
-    pub by : (states : States) → Holds (shape .width) x₀ z₀ d₀ states → Going (execute (headerOf job shape) lent (instructionsAt job 2 from) main states) x z d place
+    pub by : (states : States) → Holds (shape .width) x₀ z₀ d₀ states → Going (endingOf (headerOf job shape) lent (instructionsAt job 2 from) main states) x z d place
 
   pub going-begun : (from recorded : ℕ) → Ahead job (headerOf job shape) recorded 2 from → (x z d : List ℕ)
       → GoingFrom from x z d x z d (record { byte = from; line = 2; position = 0 })
@@ -123,14 +125,14 @@ module _ (job : List ℕ) (shape : Shape) (lent : Lent) (main : List ℕ) where
 
   module _ {from : ℕ} {x₀ z₀ d₀ x z d : List ℕ} {place : Place} (g : GoingFrom from x₀ z₀ d₀ x z d place) where
     -- there are such states
-    pub going-some : Going (execute (headerOf job shape) lent (instructionsAt job 2 from) main (stateOf (shape .width) x₀ z₀ d₀)) x z d place
+    pub going-some : Going (endingOf (headerOf job shape) lent (instructionsAt job 2 from) main (stateOf (shape .width) x₀ z₀ d₀)) x z d place
     going-some = g .by (stateOf (shape .width) x₀ z₀ d₀) (holds-some (shape .width) x₀ z₀ d₀)
 
     -- an instruction was obeyed
     abbrev pub Obeying : List ℕ → List ℕ → List ℕ → Moved → Type 0
     Obeying x′ z′ d′ moved =
         (recorded : ℕ) → Ahead job (headerOf job shape) recorded (place .line) (place .byte) → (states : States) → Holds (shape .width) x z d states
-        → Went job shape lent main (execute (headerOf job shape) lent (instructionsAt job (place .line) (place .byte)) (drop (place .position) main) states)
+        → Went job shape lent main (endingOf (headerOf job shape) lent (instructionsAt job (place .line) (place .byte)) (drop (place .position) main) states)
         (length (instructionsAt job (place .line) (place .byte))) (place .line) x′ z′ d′ moved
 
     pub going-on : (x′ z′ d′ : List ℕ) (next : Place) → Obeying x′ z′ d′ (To next) → GoingFrom from x₀ z₀ d₀ x′ z′ d′ next
@@ -157,16 +159,32 @@ module _ (job : List ℕ) (shape : Shape) (lent : Lent) (main : List ℕ) where
         let b = going-some in
         went (b .recorded) (b .ahead) (b .states) (b .holds) .by .fewer
 
-    pub going-stopped : (x′ z′ d′ : List ℕ) → Obeying x′ z′ d′ Spent → (states₀ : States) → Holds (shape .width) x₀ z₀ d₀ states₀
+    pub going-stopped : (x′ z′ d′ : List ℕ) (position : ℕ) → Obeying x′ z′ d′ (Spent position) → (states₀ : States) → Holds (shape .width) x₀ z₀ d₀ states₀
         → Finished (execute (headerOf job shape) lent (instructionsAt job 2 from) main states₀) (shape .width) x′ z′ d′ (answer 14 (place .line))
     unfolding WentBy
-    going-stopped x′ z′ d′ went states₀ holds₀ =
+    going-stopped x′ z′ d′ position went states₀ holds₀ =
         let b = g .by states₀ holds₀ in
-        Finished.stopped (place .line) (sym (b .is) ∙ went (b .recorded) (b .ahead) (b .states) (b .holds) .by) refl
+        Finished.stopped (place .line) (sym (ap (λ (e : Ending). e .ends) (b .is)) ∙ went (b .recorded) (b .ahead) (b .states) (b .holds) .by .ends) refl
+
+    pub stopped-left : (x′ z′ d′ : List ℕ) (position : ℕ) → Obeying x′ z′ d′ (Spent position)
+        → (position ≤ length main) × (drop position main ≡ leftAfter lent (instructionsAt job 2 from) main)
+    unfolding WentBy
+    stopped-left x′ z′ d′ position went =
+        let b = going-some in
+        let s = went (b .recorded) (b .ahead) (b .states) (b .holds) .by in
+        (s .within, s .leaves ∙ ap (λ (e : Ending). e .left) (b .is))
 
     pub going-end : length job ≤ place .byte → (states₀ : States) → Holds (shape .width) x₀ z₀ d₀ states₀
         → Finished (execute (headerOf job shape) lent (instructionsAt job 2 from) main states₀) (shape .width) x z d accepted
     unfolding execute
     going-end past states₀ holds₀ =
         let b = g .by states₀ holds₀ in
-        Finished.finished (b .states) (sym (b .is) ∙ rw (none-left job (place .line) (place .byte) past)) refl (b .holds)
+        Finished.finished (b .states) (sym (ap (λ (e : Ending). e .ends) (b .is)) ∙ rw (none-left job (place .line) (place .byte) past)) refl (b .holds)
+
+    pub end-left : length job ≤ place .byte → (place .position ≤ length main) × (drop (place .position) main ≡ leftAfter lent (instructionsAt job 2 from) main)
+    unfolding leftAfter
+    end-left past =
+        let b = going-some in
+        let all : leftAfter lent (instructionsAt job (place .line) (place .byte)) (drop (place .position) main) ≡ leftAfter lent (instructionsAt job 2 from) main =
+        ap (λ (e : Ending). e .left) (b .is) in
+        (b .within, (rw (none-left job (place .line) (place .byte) past) at all))

@@ -14,6 +14,7 @@ use Rattle.instructions.specs.Ahead.{instructionsAt, NoiseRead}
 use Rattle.instructions.specs.Laws.Places.{whole-line}
 use Rattle.instructions.specs.Laws.Steps.{plain-read, noise-read}
 use Rattle.writer.specs.Placed.{Puts}
+use Rattle.draws.specs.Left.{leftSpent, leftThen, leftAfter}
 use Rattle.draws.specs.Settle.{SettledLine, Step, stepOf, Settled, prefixed, settleThen, settle}
 use Rattle.faults.specs.Elements.{AllInside}
 use Rattle.faults.specs.declared.Prepared.{Prepared}
@@ -24,40 +25,48 @@ use Rattle.instruction_text.specs.declared.Reached.{Reached}
 use Rattle.instruction_text.specs.declared.Moved.{Moved}
 use Rattle.instruction_text.specs.declared.Moved.the-variants as moved
 use Rattle.noise_text.specs.Injections.{textOf, PutAs, StepPut, ReadyOf}
-use Rattle.instruction_text.specs.Pass.{Pass, lentBy, settledFrom, Between, Onward, MovedTo, InstructionPut}
+use Rattle.instruction_text.specs.Pass.{Pass, lentBy, settledFrom, leftFrom, Between, Onward, SpentHere, MovedTo, InstructionPut}
 use Rattle.noise_text.specs.Laws.Elements.{element-of}
 use Rattle.noise_text.specs.Laws.Injections.{text-one}
 
--- the lines that an instruction comes to, and then those of the others
-record LinesPut (words : List ℕ) (from shots : ℕ) (out after : List ℕ) (all : Settled) (later : List ℕ → Settled) (i j : ℕ) : Type 0 where
+-- the lines that an instruction comes to, and then those of the others; and what they leave
+record LinesPut (words : List ℕ) (from shots : ℕ) (out after : List ℕ) (all : Settled) (later : List ℕ → Settled) (left : List ℕ) (onward : List ℕ → List ℕ)
+    (i j : ℕ) : Type 0 where
   lines : List SettledLine
+  leaves : left ≡ onward (drop i words)
   settles : all ≡ prefixed lines (later (drop i words))
   puts : Puts from (textOf lines) out after j
   few : j ≤ from + 1342 * shots
   within : i ≤ length words
 
-module _ {words : List ℕ} {from shots : ℕ} {out after : List ℕ} {step : Step} {r : Drawn} (k : ℕ) (later : List ℕ → Settled)
-    (t : StepPut words from shots out step after r)
+module _ {words : List ℕ} {from shots : ℕ} {out after : List ℕ} {step : Step} {r : Drawn} (k : ℕ) (later : List ℕ → Settled) (i : Instruction) (main : List ℕ)
+    (onward : List ℕ → List ℕ) (t : StepPut words from shots out (leftSpent i main) step after r)
   where
-    spent-step : r ≡ drawn.Spent → settleThen k step later ≡ Settled.spentAt k
-    unfolding PutAs settleThen
-    spent-step e = go step (t .put)
+    spent-step : (at : ℕ) → r ≡ drawn.Spent at
+        → (settleThen k step later ≡ Settled.spentAt k) × (at ≤ length words) × (drop at words ≡ leftThen i main step onward)
+    unfolding PutAs settleThen leftThen
+    spent-step at e = go step (t .put)
       where
-        go : (st : Step) → PutAs words from shots out st after r → settleThen k st later ≡ Settled.spentAt k
-        go Step.spent u = refl
+        go : (st : Step) → PutAs words from shots out (leftSpent i main) st after r
+            → (settleThen k st later ≡ Settled.spentAt k) × (at ≤ length words) × (drop at words ≡ leftThen i main st onward)
+        go Step.spent u =
+            let same : u .next ≡ at = cc (u .is, e) in
+            (refl, rw same at (u .within), ap (λ (m : ℕ). drop m words) (sym same) ∙ sym (u .rest))
         go (Step.lines ls left) u = let z : _≡_ {A = ℕ} 0 1 = cc (u .is, e) in absurd (omega arith)
 
-    done-step : (i j : ℕ) → r ≡ drawn.Done i j → LinesPut words from shots out after (settleThen k step later) later i j
-    unfolding PutAs settleThen
-    done-step i j e = go step (t .put)
+    done-step : (at j : ℕ) → r ≡ drawn.Done at j → LinesPut words from shots out after (settleThen k step later) later (leftThen i main step onward) onward at j
+    unfolding PutAs settleThen leftThen
+    done-step at j e = go step (t .put)
       where
-        go : (st : Step) → PutAs words from shots out st after r → LinesPut words from shots out after (settleThen k st later) later i j
-        go Step.spent u = let z : _≡_ {A = ℕ} 0 1 = cc (u, e) in absurd (omega arith)
+        go : (st : Step) → PutAs words from shots out (leftSpent i main) st after r
+            → LinesPut words from shots out after (settleThen k st later) later (leftThen i main st onward) onward at j
+        go Step.spent u = let z : _≡_ {A = ℕ} 0 1 = cc (u .is, e) in absurd (omega arith)
         go (Step.lines ls left) u =
-            let next : u .next ≡ i = cc (u .is, e) in
+            let next : u .next ≡ at = cc (u .is, e) in
             let place : u .place ≡ j = cc (u .is, e) in
             record {
               lines = ls;
+              leaves = ap onward (u .rest ∙ ap (λ (m : ℕ). drop m words) next);
               settles = ap (λ (ws : List ℕ). prefixed ls (later ws)) (u .rest ∙ ap (λ (m : ℕ). drop m words) next);
               puts = rw place at (u .puts);
               few = rw place at (u .few);
@@ -75,7 +84,7 @@ module _ {p : Pass} {here : Reached} (b : Between p here) where
   module _ {line : Next} {values : List ℕ} (n : NextLine (p .job) (here .place .byte) line values) (quiet : noiseForm (line .form) ≡ false) where
     pub plain-put : {out after : List ℕ} {byte : ℕ} → Puts (here .text) (take (line .end + 1 - here .place .byte) (drop (here .place .byte) (p .job))) out after byte
         → InstructionPut p out here after (moved.To (record { place = record { byte = line .end + 1; line = here .place .line + 1; position = here .place .position }; text = byte }))
-    unfolding MovedTo settle settleThen stepOf
+    unfolding MovedTo settle settleThen stepOf leftAfter leftThen
     plain-put {out} {after} {byte} puts =
         let r = plain-read (b .ahead) n quiet in
         let text = lineAt (p .job) (here .place .byte) (line .end) in
@@ -85,6 +94,7 @@ module _ {p : Pass} {here : Reached} (b : Between p here) where
               record {
                 lines = copy ∷ [];
                 settles = ap (λ (is : List Placed). settle (lentBy p) is (drop (here .place .position) (p .main))) (r .instructions);
+                leaves = ap (λ (is : List Placed). leftAfter (lentBy p) is (drop (here .place .position) (p .main))) (r .instructions);
                 puts = subst (λ (t : List ℕ). Puts (here .text) t out after byte) (whole-line (n .place) ∙ sym (text-one copy)) puts;
                 onward = omega arith;
                 few = omega (arith, puts .place, n .place .inside, ended-parts (p .job) (b .ahead .ended), length-take (line .end + 1 - here .place .byte) (drop (here .place .byte) (p .job)));
@@ -155,7 +165,7 @@ module _ {p : Pass} {here : Reached} (b : Between p here) where
 
         -- what its draws come to
         module _ {out after : List ℕ} {o : Drawn}
-            (put : StepPut (p .main) (here .text) (p .shape .shots) out
+            (put : StepPut (p .main) (here .text) (p .shape .shots) out (leftSpent (Instruction.noise (noiseIn noise-here)) (drop (here .place .position) (p .main)))
             (stepOf (lentBy p) (drop (here .place .position) (p .main)) (lineAt (p .job) (here .place .byte) (line .end)) (Instruction.noise (noiseIn noise-here))) after o)
           where
             abbrev step : Step
@@ -164,19 +174,28 @@ module _ {p : Pass} {here : Reached} (b : Between p here) where
             abbrev later : List ℕ → Settled
             later = settle (lentBy p) (instructionsAt (p .job) (here .place .line + 1) (line .end + 1))
 
+            abbrev onward : List ℕ → List ℕ
+            onward = leftAfter (lentBy p) (instructionsAt (p .job) (here .place .line + 1) (line .end + 1))
+
+            then-left : leftFrom p here ≡ leftThen (Instruction.noise (noiseIn noise-here)) (drop (here .place .position) (p .main)) step onward
+            unfolding leftAfter
+            then-left = ap (λ (is : List Placed). leftAfter (lentBy p) is (drop (here .place .position) (p .main))) (noise-is .instructions)
+
             then-settled : settledFrom p here ≡ settleThen (here .place .line) step later
             unfolding settle
             then-settled = ap (λ (is : List Placed). settle (lentBy p) is (drop (here .place .position) (p .main))) (noise-is .instructions)
 
-            pub noise-spent : o ≡ drawn.Spent → InstructionPut p out here after moved.Spent
+            pub noise-spent : (at : ℕ) → o ≡ drawn.Spent at → InstructionPut p out here after (moved.Spent at)
             unfolding MovedTo
-            noise-spent e = record { put = then-settled ∙ spent-step (here .place .line) later put e }
+            noise-spent at e =
+                let s = spent-step (here .place .line) later (Instruction.noise (noiseIn noise-here)) (drop (here .place .position) (p .main)) onward put at e in
+                record { put = record { settles = then-settled ∙ s .0; within = s .1; leaves = s .2 ∙ sym then-left } }
 
             pub noise-done : (i j : ℕ) → o ≡ drawn.Done i j
                 → InstructionPut p out here after (moved.To (record { place = record { byte = r .next; line = here .place .line + 1 + r .lines; position = i }; text = j }))
             unfolding MovedTo
             noise-done i j e =
-                let t = done-step (here .place .line) later put i j e in
+                let t = done-step (here .place .line) later (Instruction.noise (noiseIn noise-here)) (drop (here .place .position) (p .main)) onward put i j e in
                 record {
                   put =
                       record {
@@ -184,6 +203,7 @@ module _ {p : Pass} {here : Reached} (b : Between p here) where
                         settles =
                             then-settled ∙ t .settles
                             ∙ ap (λ (is : List Placed). prefixed (t .lines) (settle (lentBy p) is (drop i (p .main)))) (sym (ready .instructions));
+                        leaves = then-left ∙ t .leaves ∙ ap (λ (is : List Placed). leftAfter (lentBy p) is (drop i (p .main))) (sym (ready .instructions));
                         puts = t .puts;
                         onward = omega arith;
                         few = omega (arith, t .few, few-shots);
@@ -201,7 +221,7 @@ module _ {p : Pass} {here : Reached} (b : Between p here) where
                 }
 
 module _ {p : Pass} {out : List ℕ} {here : Reached} {after : List ℕ} {r : Moved} (t : InstructionPut p out here after r) where
-  pub moved-spent : r ≡ moved.Spent → settledFrom p here ≡ Settled.spentAt (here .place .line)
+  pub moved-spent : {position : ℕ} → r ≡ moved.Spent position → SpentHere p here position
   unfolding MovedTo
   moved-spent e = rw e at (t .put)
 

@@ -3,9 +3,9 @@ use mathlib.Core.Path.{_≡_, refl, _∙_}
 use mathlib.Core.List.{List}
 use Prim.Native.Nat.{ℕ, _≤_}
 use native.Mathlib.Omega.{arith}
-use lib.ListN.{length, replicate}
-use Rattle.job.specs.declared.Answer.{Answer}
+use lib.ListN.{length, replicate, drop}
 use Rattle.instructions.specs.Ahead.{instructionsAt}
+use Rattle.draws.specs.Left.{leftAfter}
 use Rattle.draws.specs.Execute.{States, starts, Ended, execute}
 use Rattle.frames.specs.Forward.{start}
 use Rattle.rows.specs.declared.Shape.{Shape}
@@ -15,6 +15,7 @@ use Rattle.totals.specs.Held.{TotalsHeld}
 use Rattle.totals.specs.Laws.Held.{held-zeros}
 use Rattle.injection.specs.Holds.{Holds}
 use Rattle.injection.specs.Laws.Holds.{holds-starts}
+use Rattle.execution.specs.declared.Answered.{Answered}
 use Rattle.execution.specs.Went.{headerOf, lentBy, RowsFor, Finished}
 use Rattle.run.specs.Run.{Source, lentOf}
 use Rattle.needed_words.specs.Needed.{NeededReady, NeededRun}
@@ -51,27 +52,34 @@ module _ {job : List ℕ} {shape : Shape} {from : ℕ} {x z d totals noiseless :
       let shots = ready .ahead .header .few-shots in
       rw (zeros d d′ ed, zeros totals totals′ et, ready .of-totals) (held-zeros (shape .width) (shape .outcomes) (length d) (omega arith))
 
-  module _ (source : Source) (same : source .noiseless ≡ noiseless) {x′ z′ d′ totals′ : List ℕ} {r : Answer}
-      (finished : Finished (execute (headerOf job shape) (lentBy shape noiseless (source .second) (source .base)) (instructionsAt job 2 from) (source .main) starts) (shape .width) x′ z′ d′ r)
+  module _ (source : Source) (same : source .noiseless ≡ noiseless) {x′ z′ d′ totals′ : List ℕ} {r : Answered}
+      (finished : Finished (execute (headerOf job shape) (lentBy shape noiseless (source .second) (source .base)) (instructionsAt job 2 from) (source .main) starts) (shape .width) x′ z′ d′ (r .answer))
+      (within : r .taken ≤ length (source .main))
+      (leaves : drop (r .taken) (source .main) ≡ leftAfter (lentBy shape noiseless (source .second) (source .base)) (instructionsAt job 2 from) (source .main))
       (held : TotalsHeld (shape .width) (shape .outcomes) d′ totals′) (lx : length x′ ≡ length x) (lz : length z′ ≡ length z) (ld : length d′ ≡ length d)
     where
       abbrev all : Ended
       all = execute (headerOf job shape) (lentOf (headerOf job shape) source) (instructionsAt job 2 from) (source .main) starts
 
-      in-source : Finished all (shape .width) x′ z′ d′ r
+      in-source : Finished all (shape .width) x′ z′ d′ (r .answer)
       in-source = rw (← ready .words, same) finished
+
+      left-in-source : drop (r .taken) (source .main) ≡ leftAfter (lentOf (headerOf job shape) source) (instructionsAt job 2 from) (source .main)
+      left-in-source = rw (← ready .words, same) leaves
 
       past : (states : States) → all ≡ Ended.ended states → (s : ℕ) → shape .shots ≤ s → states s ≡ start
       past states e s k = past-shots (headerOf job shape) (lentOf (headerOf job shape) source) (instructionsAt job 2 from) (source .main) states refl (ready .sound) e s k
 
-      pub run-finished : Words x′ → Words z′ → Words d′ → r .number ≡ 0 → NeededRun job (headerOf job shape) source from x′ z′ d′ totals′ r
+      pub run-finished : Words x′ → Words z′ → Words d′ → r .answer .number ≡ 0 → NeededRun job (headerOf job shape) source from x′ z′ d′ totals′ r
       run-finished fx fz fd zero =
           record {
             is = needed-finished (headerOf job shape) (ready .words) (ready .ahead .header .some-shots) past (lx ∙ ready .of-x) (lz ∙ ready .of-z) (ld ∙ ready .of-deltas) fx fz fd held in-source zero;
+            within = within;
+            leaves = left-in-source;
           }
 
       pub run-stopped : {x″ z″ d″ totals″ : List ℕ} → x″ ≡ cleared 0 (length x′) x′ → z″ ≡ cleared 0 (length z′) z′ → d″ ≡ cleared 0 (length d′) d′
-          → totals″ ≡ cleared 0 (length totals′) totals′ → (r .number ≡ 0 → ⊥) → NeededRun job (headerOf job shape) source from x″ z″ d″ totals″ r
+          → totals″ ≡ cleared 0 (length totals′) totals′ → (r .answer .number ≡ 0 → ⊥) → NeededRun job (headerOf job shape) source from x″ z″ d″ totals″ r
       run-stopped {x″} {z″} {d″} {totals″} ex ez ed et some =
           record {
             is =
@@ -81,4 +89,6 @@ module _ {job : List ℕ} {shape : Shape} {from : ℕ} {x z d totals noiseless :
                 (zeros d′ d″ ed ∙ rw (ld, ready .of-deltas))
                 (zeros totals′ totals″ et ∙ rw (held .long))
                 in-source some;
+            within = within;
+            leaves = left-in-source;
           }

@@ -4,9 +4,10 @@ use mathlib.Core.List.{List}
 use mathlib.Core.Option.{none}
 use Prim.Native.Nat.{ℕ, _+_, _^_, _<_, _≤_}
 use native.Mathlib.Omega.{arith}
-use lib.ListN.{length, drop, length-drop}
+use lib.ListN.{length, drop, length-drop, drop-of-length-le}
 use lib.Seq.{drop-drop}
 use Rattle.draws.specs.Draws.{Lent, partOf, mainAfter}
+use Rattle.draws.specs.Left.{spentOn}
 use Rattle.noise.specs.declared.Correlation.{Correlation}
 use Rattle.noise.specs.declared.Correlation.the-variants.{Uncorrelated, Shared}
 use Rattle.noise.specs.Kinds.{correlationOf}
@@ -25,6 +26,15 @@ pub main-stays : (corr : Correlation) (lent : Lent) (main : List ℕ) (position 
 unfolding mainAfter correlationOf partOf
 main-stays Uncorrelated lent main position = refl
 main-stays (Shared c) lent main position = refl
+
+-- behind a line whose part is used up
+pub main-spent : (corr : Correlation) (lent : Lent) (main : List ℕ) (position read : ℕ) → read ≡ length (partOf lent (correlationOf corr) (drop position main))
+    → drop (positionAfter corr position read) main ≡ spentOn (correlationOf corr) (drop position main)
+unfolding spentOn correlationOf partOf positionAfter
+main-spent Uncorrelated lent main position read e =
+    let past : length main ≤ position + read = omega (arith, e, length-drop position main) in
+    drop-of-length-le main past
+main-spent (Shared c) lent main position read e = refl
 
 -- the position stays in the main list
 pub position-within : (corr : Correlation) (lent : Lent) (main : List ℕ) (position read : ℕ) → position ≤ length main

@@ -1,17 +1,20 @@
--- The part of a list that a noise line reads from, and words that bring no fault. Laws. Assumes nothing.
+-- The part of a list that a noise line reads from, in two pieces, and words that bring no fault. Laws. Assumes nothing.
 use Prim.Native.Nat.{ℕ, zero, suc, _+_, _-_, _%_, _^_, _<_, _≤_}
+use native.Mathlib.Nat.{sub-zero, suc-sub-suc, suc-add}
 use native.Mathlib.Omega.{arith}
-use mathlib.Core.Path.{_≡_, refl}
-use mathlib.Core.Bool.{true, false}
-use mathlib.Core.List.{List, []}
-use lib.ListN.{length, getD, drop, take, length-drop, drop-of-length-le}
-use lib.Seq.{drop-cons, take-all}
+use mathlib.Core.Path.{_≡_, refl, sym, ap, _∙_}
+use mathlib.Core.Bool.{Bool, true, false, cond}
+use mathlib.Core.List.{List, [], _∷_, _++_, append-nil}
+use mathlib.Core.Option.{Option, none, some}
+use lib.ListN.{length, getD, drop, take, length-drop, List·getD-append}
+use lib.Seq.{drop-cons, take-all, getD-append-add}
 use lib.Ieee.{Float}
 use Rattle.draws.specs.Draws.{falls, Lent, partOf}
+use Rattle.draws.specs.Laws.Spent.{drop-append}
 use Rattle.noise.specs.declared.Correlation.{Correlation}
 use Rattle.noise.specs.declared.Correlation.the-variants.{Uncorrelated, Shared}
 use Rattle.noise.specs.Kinds.{correlationOf}
-use Rattle.noise.specs.Words.{skipOf}
+use Rattle.noise.specs.Words.{skipOf, moreOf}
 
 -- what a list holds from a place on, cut at its length
 pub tail-whole : (ws : List ℕ) (i : ℕ) → take (length ws - i) (drop i ws) ≡ drop i ws
@@ -27,6 +30,25 @@ module _ (lent : Lent) (k : Correlation) (main r : List ℕ) where
   unfolding partOf correlationOf
   part-second c base second e s b q = rw (e, s, b) q
 
+-- the part of a main list that lies in two pieces
+pub part-both : (lent : Lent) (k : Correlation) (main more first second : List ℕ) (position : ℕ) → first ≡ partOf lent (correlationOf k) (drop position main)
+    → second ≡ moreOf (correlationOf k) (drop (position - length main) more) → first ++ second ≡ partOf lent (correlationOf k) (drop position (main ++ more))
+part-both lent k main more first second position a b = rw (a, b) (go (correlationOf k))
+  where
+    go : (c : Option ℕ) → partOf lent c (drop position main) ++ moreOf c (drop (position - length main) more) ≡ partOf lent c (drop position (main ++ more))
+    go none = unfold partOf moreOf in sym (drop-append position main more)
+    go (some c) = unfold partOf moreOf in append-nil (drop ((lent .base + c) % 2 ^ 64) (lent .second))
+
+-- ---- two parts
+
+pub both-first : (ws more : List ℕ) (i : ℕ) → i < length ws → getD ws i 0 ≡ getD (ws ++ more) i 0
+both-first ws more i h = sym (List·getD-append ws more 0 i h)
+
+pub both-second : (ws more : List ℕ) (i : ℕ) → length ws ≤ i → getD more (i - length ws) 0 ≡ getD (ws ++ more) i 0
+both-second ws more i h =
+    let back : length ws + (i - length ws) ≡ i = omega arith in
+    sym (getD-append-add ws more (i - length ws) 0) ∙ ap (λ (j : ℕ). getD (ws ++ more) j 0) back
+
 -- ---- words that bring no fault
 
 skip-nil : (p : Float) (most : ℕ) → skipOf p most [] ≡ 0
@@ -34,23 +56,100 @@ unfolding skipOf
 skip-nil p zero = refl
 skip-nil p (suc most) = refl
 
-module _ (p : Float) (ws : List ℕ) (at i shots : ℕ) where
-  -- no shot is left, no word is left, a fault, and a word that brings none
-  pub skip-done : shots ≤ i → skipOf p (shots - i) (drop (at + i) ws) ≡ 0
+-- neither more than so many, nor more than there are
+pub skip-within : (p : Float) (most : ℕ) (ws : List ℕ) → (skipOf p most ws ≤ most) × (skipOf p most ws ≤ length ws)
+unfolding skipOf
+skip-within p zero ws = omega arith
+skip-within p (suc most) [] = omega arith
+skip-within p (suc most) (w ∷ ws) = go (falls w p) (skip-within p most ws)
+  where
+    go : (b : Bool) → (skipOf p most ws ≤ most) × (skipOf p most ws ≤ length ws)
+        → (cond b 0 (suc (skipOf p most ws)) ≤ suc most) × (cond b 0 (suc (skipOf p most ws)) ≤ suc (length ws))
+    go true ih = omega arith
+    go false ih = omega arith
+
+-- so many as there are words are the most
+skip-all : (p : Float) (most : ℕ) (ws : List ℕ) → length ws ≤ most → skipOf p (length ws) ws ≡ skipOf p most ws
+unfolding skipOf
+skip-all p most [] h = sym (skip-nil p most)
+skip-all p zero (w ∷ ws) h = absurd (omega arith)
+skip-all p (suc most) (w ∷ ws) h = rw (skip-all p most ws (omega arith))
+
+pub skip-end : (p : Float) (most : ℕ) (ws : List ℕ) (at left : ℕ) → left ≡ length ws - at → left ≤ most → skipOf p left (drop at ws) ≡ skipOf p most (drop at ws)
+skip-end p most ws at left e h =
+    let long : length (drop at ws) ≡ left = length-drop at ws ∙ sym e in
+    ap (λ (k : ℕ). skipOf p k (drop at ws)) (sym long) ∙ skip-all p most (drop at ws) (omega (arith, long))
+
+-- a word that follows so many without a fault, if they are not the most and not all, brings one
+pub skip-falls : (p : Float) (most : ℕ) (ws : List ℕ) → skipOf p most ws < most → skipOf p most ws < length ws → falls (getD ws (skipOf p most ws) 0) p ≡ true
+unfolding skipOf
+skip-falls p zero ws h l = absurd (omega arith)
+skip-falls p (suc most) [] h l = absurd (omega arith)
+skip-falls p (suc most) (w ∷ ws) h l = go (falls w p) refl (skip-falls p most ws) h l
+  where
+    go : (b : Bool) → falls w p ≡ b → (skipOf p most ws < most → skipOf p most ws < length ws → falls (getD ws (skipOf p most ws) 0) p ≡ true)
+        → cond b 0 (suc (skipOf p most ws)) < suc most → cond b 0 (suc (skipOf p most ws)) < suc (length ws)
+        → falls (getD (w ∷ ws) (cond b 0 (suc (skipOf p most ws))) 0) p ≡ true
+    go true f ih a b = f
+    go false f ih a b = ih (omega arith) (omega arith)
+
+-- a fault in the first part, or none, and then those of the second
+skip-stays : (p : Float) (most : ℕ) (ws more : List ℕ) → skipOf p most ws < length ws → skipOf p most ws ≡ skipOf p most (ws ++ more)
+unfolding skipOf
+skip-stays p zero ws more h = refl
+skip-stays p (suc most) [] more h = absurd (omega arith)
+skip-stays p (suc most) (w ∷ ws) more h = go (falls w p) (skip-stays p most ws more) h
+  where
+    go : (b : Bool) → (skipOf p most ws < length ws → skipOf p most ws ≡ skipOf p most (ws ++ more))
+        → cond b 0 (suc (skipOf p most ws)) < suc (length ws) → cond b 0 (suc (skipOf p most ws)) ≡ cond b 0 (suc (skipOf p most (ws ++ more)))
+    go true ih l = refl
+    go false ih l = ap suc (ih (omega arith))
+
+skip-past : (p : Float) (most : ℕ) (ws more : List ℕ) → length ws ≤ skipOf p most ws
+    → skipOf p most ws + skipOf p (most - skipOf p most ws) more ≡ skipOf p most (ws ++ more)
+unfolding skipOf
+skip-past p zero [] more h = refl
+skip-past p zero (w ∷ ws) more h = absurd (omega arith)
+skip-past p (suc most) [] more h = rw sub-zero (omega arith)
+skip-past p (suc most) (w ∷ ws) more h = go (falls w p) (skip-past p most ws more) h
+  where
+    go : (b : Bool) → (length ws ≤ skipOf p most ws → skipOf p most ws + skipOf p (most - skipOf p most ws) more ≡ skipOf p most (ws ++ more))
+        → suc (length ws) ≤ cond b 0 (suc (skipOf p most ws))
+        → cond b 0 (suc (skipOf p most ws)) + skipOf p (suc most - cond b 0 (suc (skipOf p most ws))) more ≡ cond b 0 (suc (skipOf p most (ws ++ more)))
+    go true ih l = absurd (omega arith)
+    go false ih l = rw (suc-sub-suc, suc-add) (ap suc (ih (omega arith)))
+
+module _ (p : Float) (ws : List ℕ) (at most k : ℕ) (is : k ≡ skipOf p most (drop at ws)) where
+  pub skip-fits : (k ≤ most) × (k ≤ length ws - at)
+  skip-fits = omega (arith, skip-within p most (drop at ws), length-drop at ws)
+
+module _ (p : Float) (ws more : List ℕ) (at most k : ℕ) (is : k ≡ skipOf p most (drop at ws)) where
+  pub skip-here : at + k < length ws → k ≡ skipOf p most (drop at (ws ++ more))
+  skip-here h =
+      is ∙ skip-stays p most (drop at ws) (drop (at - length ws) more) (omega (arith, is, length-drop at ws)) ∙ ap (skipOf p most) (sym (drop-append at ws more))
+
+  pub skip-on : length ws ≤ at + k → (j : ℕ) → j ≡ skipOf p (most - k) (drop (at + k - length ws) more) → k + j ≡ skipOf p most (drop at (ws ++ more))
+  skip-on h j next =
+      let whole : skipOf p most (drop at ws) + skipOf p (most - skipOf p most (drop at ws)) (drop (at - length ws) more) ≡ skipOf p most (drop at (ws ++ more)) =
+      skip-past p most (drop at ws) (drop (at - length ws) more) (omega (arith, is, length-drop at ws)) ∙ ap (skipOf p most) (sym (drop-append at ws more)) in
+      let same : at + k - length ws ≡ at - length ws = omega (arith, skip-fits p ws at most k is) in
+      ap (λ (x : ℕ). k + x) (next ∙ ap (λ (x : ℕ). skipOf p (most - k) (drop x more)) same)
+      ∙ ap (λ (x : ℕ). x + skipOf p (most - x) (drop (at - length ws) more)) is ∙ whole
+
+module _ (p : Float) (ws : List ℕ) (at i n : ℕ) where
+  -- no word is left, a fault, and a word that brings none
+  pub skip-done : n ≤ i → skipOf p (n - i) (drop (at + i) ws) ≡ 0
   unfolding skipOf
-  skip-done h = let z : shots - i ≡ 0 = omega arith in rw z
+  skip-done h = let z : n - i ≡ 0 = omega arith in rw z
 
-  pub skip-ends : length ws ≤ at + i → skipOf p (shots - i) (drop (at + i) ws) ≡ 0
-  skip-ends h = rw (drop-of-length-le ws h) (skip-nil p (shots - i))
-
-  pub skip-stops : i < shots → at + i < length ws → falls (getD ws (at + i) 0) p ≡ true → skipOf p (shots - i) (drop (at + i) ws) ≡ 0
+  pub skip-stops : i < n → at + i < length ws → falls (getD ws (at + i) 0) p ≡ true → skipOf p (n - i) (drop (at + i) ws) ≡ 0
   unfolding skipOf
-  skip-stops h l e = let left : shots - i ≡ suc (shots - (i + 1)) = omega arith in rw (left, drop-cons ws (at + i) 0, e)
+  skip-stops h l e = let left : n - i ≡ suc (n - (i + 1)) = omega arith in rw (left, drop-cons ws (at + i) 0, e)
 
-  pub skip-more : i < shots → at + i < length ws → falls (getD ws (at + i) 0) p ≡ false
-      → skipOf p (shots - i) (drop (at + i) ws) ≡ suc (skipOf p (shots - (i + 1)) (drop (at + (i + 1)) ws))
+  pub skip-more : i < n → at + i < length ws → falls (getD ws (at + i) 0) p ≡ false
+      → skipOf p (n - i) (drop (at + i) ws) ≡ suc (skipOf p (n - (i + 1)) (drop (at + (i + 1)) ws))
   unfolding skipOf
   skip-more h l e =
-      let left : shots - i ≡ suc (shots - (i + 1)) = omega arith in
+      let left : n - i ≡ suc (n - (i + 1)) = omega arith in
       let next : at + (i + 1) ≡ suc (at + i) = omega arith in
       rw (left, drop-cons ws (at + i) 0, e, next)

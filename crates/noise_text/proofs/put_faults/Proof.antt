@@ -2,6 +2,7 @@
 use Rattle.noise_text.specs.Laws.Injections.{element-inside, element-next, Putting, put-none, put-more, put-spent, put-done}
 use Rattle.noise_text.specs.Injections.{Ready}
 use Rattle.shots.specs.Laws.Next.{found-kind, at-shot, at-within}
+use mathlib.Core.List.{_++_}
 use lib.ListN.{length}
 use Prim.Native.Nat.{_+_, _-_, _*_, _≤_}
 use mathlib.Core.Path.{_≡_, refl, _∙_}
@@ -11,33 +12,36 @@ use Rattle.noise_text.proofs.put_faults.Statement.{statement}
 use Rattle.noise_text.proofs.put_faults.Tie as tie
 
 abbrev Inv-loop : tie.InvT-loop
-Inv-loop out₀ from words mask shots sums elements p d chooser place₀ at₀ shot₀ out place at shot =
-    (at ≤ length words)
+Inv-loop out₀ from words more mask shots sums elements p d chooser place₀ at₀ shot₀ out place at shot =
+    (at ≤ length (words ++ more))
     × (shot ≤ shots)
     × (place ≤ from + 1342 * shot)
     × (length out ≡ length out₀)
-    × ((q : Ready p d sums mask elements shots) → Putting q words from out₀ at shot place out)
+    × ((q : Ready p d sums mask elements shots) → Putting q (words ++ more) from out₀ at shot place out)
 
 abbrev μ-loop : tie.MeasureT-loop
-μ-loop out₀ from words mask shots sums elements p d chooser place₀ at₀ shot₀ out place at shot = shots - shot
+μ-loop out₀ from words more mask shots sums elements p d chooser place₀ at₀ shot₀ out place at shot = shots - shot
 
 chooser-of-requires : tie.Need-chooser-of-requires Inv-loop μ-loop
-chooser-of-requires c κs = c .before .before .before .before .before .pre .1 .small
+chooser-of-requires c κs = c .before .before .before .before .before .before .pre .1 .small
 
 loop-holds : tie.Need-loop-holds Inv-loop μ-loop
 loop-holds c = (omega arith, omega arith, omega arith, refl, λ q. put-none q)
 
 next-fault-requires : tie.Need-next-fault-requires Inv-loop μ-loop
-next-fault-requires c κs = (c .loop .inv .0, c .loop .inv .1, c .before .before .before .before .before .before .before .pre .1 .masked, c .before .chooser-of .ensures .1)
+next-fault-requires c κs = (c .loop .inv .0, c .loop .inv .1, c .before .before .before .before .before .before .before .before .pre .1 .masked, c .before .chooser-of .ensures .1)
 
 enum-told : tie.Need-enum-told Inv-loop μ-loop
 enum-told c = search needs
 
+count-requires : tie.Need-count-requires Inv-loop μ-loop
+count-requires c κs = search needs
+
 same-length : tie.Need-same-length Inv-loop μ-loop
-same-length c = c .before .before .before .loop .inv .3
+same-length c = c .before .before .before .before .loop .inv .3
 
 returns : tie.Need-returns Inv-loop μ-loop
-returns c = λ q. put-spent q (c .before .before .before .loop .inv .4 q) (found-kind (c .before .before .before .before .chooser-of .ensures .0) (c .before .before .next-fault .ensures)) (c .before .before .before .loop .inv .1) (c .enum-told .given .1)
+returns c = λ q. put-spent q (c .before .before .before .before .loop .inv .4 q) (found-kind (c .before .before .before .before .before .chooser-of .ensures .0) (c .before .before .before .next-fault .ensures)) (c .before .before .before .before .loop .inv .1) (c .before .enum-told .given .1) _ (c .count .ensures)
 
 enum-known-next : tie.Need-enum-known-next Inv-loop μ-loop
 enum-known-next c = search needs
@@ -54,7 +58,7 @@ enum-known-s c = search needs
 put-element-requires : tie.Need-put-element-requires Inv-loop μ-loop
 put-element-requires c κs =
     let later = at-shot (found-kind (c .before .before .before .before .before .before .chooser-of .ensures .0) (c .before .before .before .before .next-fault .ensures)) _ _ _ (c .before .before .s .given .1) in
-    (omega (arith, later, c .before .before .before .before .before .loop .inv .2, c .before .before .before .before .before .before .before .before .before .before .before .before .pre .0), element-inside (c .before .before .before .before .before .before .before .before .before .before .before .before .pre .1) (found-kind (c .before .before .before .before .before .before .chooser-of .ensures .0) (c .before .before .before .before .next-fault .ensures)) (c .before .before .before .before .before .loop .inv .1) _ _ _ (c .before .before .s .given .1))
+    (omega (arith, later, c .before .before .before .before .before .loop .inv .2, c .before .before .before .before .before .before .before .before .before .before .before .before .before .pre .0), element-inside (c .before .before .before .before .before .before .before .before .before .before .before .before .before .pre .1) (found-kind (c .before .before .before .before .before .before .chooser-of .ensures .0) (c .before .before .before .before .next-fault .ensures)) (c .before .before .before .before .before .loop .inv .1) _ _ _ (c .before .before .s .given .1))
 
 add-shot : tie.Need-add-shot Inv-loop μ-loop
 add-shot c = omega (arith, at-shot (found-kind (c .before .before .before .before .before .before .before .before .before .before .chooser-of .ensures .0) (c .before .before .before .before .before .before .before .before .next-fault .ensures)) _ _ _ (c .before .before .before .before .before .before .s .given .1))
@@ -65,7 +69,7 @@ loop-less c = omega (arith, at-shot (found-kind (c .before .before .before .befo
 loop-again : tie.Need-loop-again Inv-loop μ-loop
 loop-again c =
     let later = at-shot (found-kind (c .before .before .before .before .before .before .before .before .before .before .chooser-of .ensures .0) (c .before .before .before .before .before .before .before .before .next-fault .ensures)) _ _ _ (c .before .before .before .before .before .before .s .given .1) in
-    let goes = element-next (c .before .before .before .before .before .before .before .before .before .before .before .before .before .before .before .before .pre .1) (found-kind (c .before .before .before .before .before .before .before .before .before .before .chooser-of .ensures .0) (c .before .before .before .before .before .before .before .before .next-fault .ensures)) (c .before .before .before .before .before .before .before .before .before .loop .inv .1) _ _ _ (c .before .before .before .before .before .before .s .given .1) (c .before .before .before .put-element .ensures) in (
+    let goes = element-next (c .before .before .before .before .before .before .before .before .before .before .before .before .before .before .before .before .before .pre .1) (found-kind (c .before .before .before .before .before .before .before .before .before .before .chooser-of .ensures .0) (c .before .before .before .before .before .before .before .before .next-fault .ensures)) (c .before .before .before .before .before .before .before .before .before .loop .inv .1) _ _ _ (c .before .before .before .before .before .before .s .given .1) (c .before .before .before .put-element .ensures) in (
       at-within (found-kind (c .before .before .before .before .before .before .before .before .before .before .chooser-of .ensures .0) (c .before .before .before .before .before .before .before .before .next-fault .ensures)) _ _ _ (c .before .before .before .before .before .before .s .given .1),
       omega (arith, later),
       omega (arith, later, goes, c .before .before .before .before .before .before .before .before .before .loop .inv .2),
@@ -83,6 +87,7 @@ put-faults-spec =
     loop-holds
     next-fault-requires
     enum-told
+    count-requires
     same-length
     returns
     enum-known-next

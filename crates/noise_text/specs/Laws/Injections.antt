@@ -6,7 +6,7 @@ use mathlib.Core.Option.{Option, none, some}
 use Prim.Native.Nat.{ℕ, _+_, _-_, _*_, _^_, _≤_, _<_}
 use native.Mathlib.Omega.{arith}
 use lib.Ieee.{Float, le}
-use lib.ListN.{length, drop}
+use lib.ListN.{length, drop, length-drop, drop-of-length-le}
 use Rattle.text.specs.Bytes.{LF, unlines}
 use Rattle.pauli.specs.declared.Shot.{Shot}
 use Rattle.job.specs.Line.{Distribution, sizeOf, Noise, Instruction}
@@ -16,6 +16,7 @@ use Rattle.writer.specs.Laws.Placing.{puts-nothing, puts-more}
 use Rattle.writer.specs.Laws.Lines.{inject-next}
 use Rattle.draws.specs.Draws.{elementAt, Lent, Fault, Draws, alsoFault, drawShots, drawLine, partOf, mainAfter}
 use Rattle.draws.specs.Settle.{SettledLine, injectText, injection, Step, noiseStep, stepOf}
+use Rattle.draws.specs.Left.{spentOn, leftSpent}
 use Rattle.draws.specs.Laws.SettledText.{element-sound}
 use Rattle.noise.specs.declared.PauliDistribution.{PauliDistribution}
 use Rattle.noise.specs.declared.Correlation.{Correlation}
@@ -23,14 +24,14 @@ use Rattle.shots.specs.declared.NextFault.{NextFault}
 use Rattle.shots.specs.declared.NextFault.the-variants as next
 use Rattle.noise.specs.Kinds.{correlationOf}
 use Rattle.noise.specs.Words.{positionAfter}
-use Rattle.noise.specs.Laws.Position.{main-after, position-within, position-fits}
+use Rattle.noise.specs.Laws.Position.{main-after, main-spent, position-within, position-fits}
 use Rattle.shots.specs.Shots.{FaultFound}
 use Rattle.shots.specs.Laws.Next.{draws-spent, draws-done, draws-at, done-within, at-below}
 use Rattle.faults.specs.Laws.Drawn.{size-some}
 use Rattle.noise_text.specs.declared.Drawn.{Drawn}
 use Rattle.noise_text.specs.declared.Drawn.the-variants.{Spent, Done}
 use Rattle.noise_text.specs.Elements.{elementIn, ElementIn}
-use Rattle.noise_text.specs.Injections.{textOf, PutAs, StepPut, injected, Ready, ReadyOf}
+use Rattle.noise_text.specs.Injections.{textOf, SpentTo, PutAs, StepPut, injected, Ready, ReadyOf}
 
 -- ---- texts
 
@@ -122,11 +123,16 @@ module _ {p : Float} {d : PauliDistribution} {sums : List Float} {mask elements 
             puts = rw (map-append (injection D) (s .faults) (f ∷ []), text-append (map (injection D) (s .faults)) (injection D f ∷ [])) (puts-more (s .puts) (rw line at puts));
           }
 
-      pub put-spent : r ≡ next.Spent → StepPut words from shots out (injected D (drawShots (q .lent) (q .noise) shots 0 words)) mid Spent
-      put-spent k = rw (s .draws, draws-spent found here (q .stands) (q .lent) (q .fits) (q .satisfied) k) (unfold alsoFaults injected PutAs in record { put = refl })
+      pub put-spent : r ≡ next.Spent → (all : ℕ) → all ≡ length words
+          → StepPut words from shots out [] (injected D (drawShots (q .lent) (q .noise) shots 0 words)) mid (Spent all)
+      unfolding alsoFaults injected PutAs
+      put-spent k all e =
+          let past : length words ≤ all = omega arith in
+          let stopped : SpentTo words [] (Spent all) = record { next = all; is = refl; within = omega arith; rest = sym (drop-of-length-le words past) } in
+          rw (s .draws, draws-spent found here (q .stands) (q .lent) (q .fits) (q .satisfied) k) record { put = stopped }
 
       pub put-done : (i : ℕ) → r ≡ next.Done i → place ≤ from + 1342 * shots
-          → StepPut words from shots out (injected D (drawShots (q .lent) (q .noise) shots 0 words)) mid (Done i place)
+          → StepPut words from shots out [] (injected D (drawShots (q .lent) (q .noise) shots 0 words)) mid (Done i place)
       put-done i k few =
           rw (s .draws, draws-done found here (q .stands) (q .lent) (q .fits) (q .satisfied) i k)
           (unfold alsoFaults injected PutAs in
@@ -147,23 +153,23 @@ module _ {p : Float} {d : PauliDistribution} {sums : List Float} {mask elements 
 
 -- draws from some words, where the main list goes on at a place of its own
 module _ {words : List ℕ} {from shots : ℕ} {out after : List ℕ} {r : Drawn} (main : List ℕ) (n : Noise) (before : List ℕ) (o : Draws)
-    (t : StepPut words from shots out (injected (n .distribution) o) after r)
+    (t : StepPut words from shots out [] (injected (n .distribution) o) after r) (spent : List ℕ)
   where
-    as-spent : r ≡ Spent → StepPut main from shots out (noiseStep n before o) after Spent
+    as-spent : (i k : ℕ) → r ≡ Spent i → k ≤ length main → spent ≡ drop k main → StepPut main from shots out spent (noiseStep n before o) after (Spent k)
     unfolding injected noiseStep PutAs
-    as-spent e = record { put = go o (t .put) }
+    as-spent i k e within rest = record { put = go o (t .put) }
       where
-        go : (o : Draws) → PutAs words from shots out (injected (n .distribution) o) after r → PutAs main from shots out (noiseStep n before o) after Spent
-        go Draws.spent u = refl
+        go : (o : Draws) → PutAs words from shots out [] (injected (n .distribution) o) after r → PutAs main from shots out spent (noiseStep n before o) after (Spent k)
+        go Draws.spent u = record { next = k; is = refl; within = within; rest = rest }
         go (Draws.drawn fs left) u = let z : _≡_ {A = ℕ} 0 1 = cc (u .is, e) in absurd (omega arith)
 
     as-done : (i j k : ℕ) → r ≡ Done i j → k ≤ length main → mainAfter (n .correlation) before (drop i words) ≡ drop k main
-        → StepPut main from shots out (noiseStep n before o) after (Done k j)
+        → StepPut main from shots out spent (noiseStep n before o) after (Done k j)
     unfolding injected noiseStep PutAs
     as-done i j k e within rest = record { put = go o (t .put) }
       where
-        go : (o : Draws) → PutAs words from shots out (injected (n .distribution) o) after r → PutAs main from shots out (noiseStep n before o) after (Done k j)
-        go Draws.spent u = let z : _≡_ {A = ℕ} 0 1 = cc (u, e) in absurd (omega arith)
+        go : (o : Draws) → PutAs words from shots out [] (injected (n .distribution) o) after r → PutAs main from shots out spent (noiseStep n before o) after (Done k j)
+        go Draws.spent u = let z : _≡_ {A = ℕ} 0 1 = cc (u .is, e) in absurd (omega arith)
         go (Draws.drawn fs left) u =
             let next : u .next ≡ i = cc (u .is, e) in
             let place : u .place ≡ j = cc (u .is, e) in
@@ -188,13 +194,26 @@ part-main lent none main = refl
 part-main lent (some c) main = refl
 
 step-within : {words : List ℕ} {from shots : ℕ} {out : List ℕ} {step : Step} {after : List ℕ} {r : Drawn} {i j : ℕ}
-    → StepPut words from shots out step after r → r ≡ Done i j → i ≤ length words
+    → StepPut words from shots out [] step after r → r ≡ Done i j → i ≤ length words
 unfolding PutAs
 step-within {words} {from} {shots} {out} {step} {after} {r} {i} t e = go step (t .put)
   where
-    go : (st : Step) → PutAs words from shots out st after r → i ≤ length words
-    go Step.spent u = let z : _≡_ {A = ℕ} 0 1 = cc (u, e) in absurd (omega arith)
+    go : (st : Step) → PutAs words from shots out [] st after r → i ≤ length words
+    go Step.spent u = let z : _≡_ {A = ℕ} 0 1 = cc (u .is, e) in absurd (omega arith)
     go (Step.lines ls left) u = let same : u .next ≡ i = cc (u .is, e) in rw same at (u .within)
+
+-- nothing is left where a word was needed past the end
+step-spent : {words : List ℕ} {from shots : ℕ} {out : List ℕ} {step : Step} {after : List ℕ} {r : Drawn} {i : ℕ}
+    → StepPut words from shots out [] step after r → r ≡ Spent i → i ≡ length words
+unfolding PutAs
+step-spent {words} {from} {shots} {out} {step} {after} {r} {i} t e = go step (t .put)
+  where
+    go : (st : Step) → PutAs words from shots out [] st after r → i ≡ length words
+    go Step.spent u =
+        let same : u .next ≡ i = cc (u .is, e) in
+        let none : 0 ≡ length words - u .next = ap length (u .rest) ∙ length-drop (u .next) words in
+        omega (arith, u .within, same, none)
+    go (Step.lines ls left) u = let z : _≡_ {A = ℕ} 0 1 = cc (u .is, e) in absurd (omega arith)
 
 module _ {p : Float} {d : PauliDistribution} {sums : List Float} {mask elements : List ℕ} {shots : ℕ} {correlation : Correlation} {second : List ℕ} {base : ℕ}
     (q : ReadyOf p d sums mask elements shots correlation second base) (text main : List ℕ) (position : ℕ) (inside : position ≤ length main)
@@ -202,11 +221,15 @@ module _ {p : Float} {d : PauliDistribution} {sums : List Float} {mask elements 
     abbrev noise : Noise
     noise = q .ready .noise
 
+    -- what is left where it is spent
+    abbrev unread : List ℕ
+    unread = leftSpent (Instruction.noise noise) (drop position main)
+
     abbrev step : Step
     step = stepOf (q .ready .lent) (drop position main) text (Instruction.noise noise)
 
     -- with p at or below zero nothing is read and nothing is put
-    pub no-draws : {place : ℕ} {out : List ℕ} → le p zeroFloat ≡ true → StepPut main place shots out step out (Done position place)
+    pub no-draws : {place : ℕ} {out : List ℕ} → le p zeroFloat ≡ true → StepPut main place shots out unread step out (Done position place)
     unfolding stepOf drawLine noiseStep PutAs unlines
     no-draws {place} low =
         rw (← q .ready .stands .probability, low)
@@ -238,9 +261,23 @@ module _ {p : Float} {d : PauliDistribution} {sums : List Float} {mask elements 
           ∙ line-draws (q .ready .lent) noise words above
           ∙ ap (λ (k : ℕ). drawShots (q .ready .lent) noise k 0 words) (q .shots-are))
 
-      module _ {place : ℕ} {out after : List ℕ} {r : Drawn} (put : StepPut words place shots out (injected (noise .distribution) draws) after r) where
-        pub spent-draws : r ≡ Spent → StepPut main place shots out step after Spent
-        spent-draws e = rw step-is (as-spent main noise (drop position main) draws put e)
+      module _ {place : ℕ} {out after : List ℕ} {r : Drawn} (put : StepPut words place shots out [] (injected (noise .distribution) draws) after r) where
+        module _ {i : ℕ} (e : r ≡ Spent i) where
+          all-read : i ≡ length (partOf (q .ready .lent) (correlationOf correlation) (drop position main))
+          all-read = step-spent put e ∙ ap length part
+
+          pub all-fits : length main < 2 ^ 64 → correlationOf correlation ≡ none → position + i < 2 ^ 64
+          all-fits small = position-fits correlation (q .ready .lent) main position i inside small (omega (arith, all-read))
+
+          pub spent-draws : StepPut main place shots out unread step after (Spent (positionAfter correlation position i))
+          unfolding leftSpent
+          spent-draws =
+              let left : spentOn (noise .correlation) (drop position main) ≡ drop (positionAfter correlation position i) main =
+              rw (← q .correlated) (sym (main-spent correlation (q .ready .lent) main position i all-read)) in
+              rw step-is
+              (as-spent main noise (drop position main) draws put (spentOn (noise .correlation) (drop position main)) i (positionAfter correlation position i) e
+              (position-within correlation (q .ready .lent) main position i inside (omega (arith, all-read)))
+              left)
 
         module _ {i j : ℕ} (e : r ≡ Done i j) where
           read-within : i ≤ length (partOf (q .ready .lent) (correlationOf correlation) (drop position main))
@@ -249,11 +286,11 @@ module _ {p : Float} {d : PauliDistribution} {sums : List Float} {mask elements 
           pub read-fits : length main < 2 ^ 64 → correlationOf correlation ≡ none → position + i < 2 ^ 64
           read-fits small = position-fits correlation (q .ready .lent) main position i inside small read-within
 
-          pub done-draws : StepPut main place shots out step after (Done (positionAfter correlation position i) j)
+          pub done-draws : StepPut main place shots out unread step after (Done (positionAfter correlation position i) j)
           done-draws =
               let left : mainAfter (noise .correlation) (drop position main) (drop i words) ≡ drop (positionAfter correlation position i) main =
               rw (← q .correlated, part) (main-after correlation (q .ready .lent) main position i) in
               rw step-is
-              (as-done main noise (drop position main) draws put i j (positionAfter correlation position i) e
+              (as-done main noise (drop position main) draws put unread i j (positionAfter correlation position i) e
               (position-within correlation (q .ready .lent) main position i inside read-within)
               left)

@@ -1,11 +1,13 @@
 -- A job that passed its tests. Laws. Assumes nothing.
 use mathlib.Core.Path.{_≡_, refl, sym, ap, subst, _∙_}
-use mathlib.Core.Bool.{true, false}
-use mathlib.Core.List.{List, _++_}
+use mathlib.Core.Bool.{Bool, true, false}
+use mathlib.Core.List.{List, [], _++_, append-nil}
 use Prim.Native.Nat.{ℕ, _+_, _*_, _/_, _^_, _≤_, _<_}
 use native.Mathlib.Nat.{mul-le-mul}
 use native.Mathlib.Omega.{arith}
 use lib.ListN.{length, drop}
+use lib.Dec.{eqb}
+use borrow.Author.Tests.{eqb-true, eqb-false}
 use Rattle.text.specs.Bytes.{LF, until}
 use Rattle.job.specs.declared.Header.{Header}
 use Rattle.job.specs.declared.Answer.{Answer}
@@ -17,13 +19,17 @@ use Rattle.job.specs.Theorems.{checked-sound}
 use Rattle.instructions.specs.Ahead.{instructionsAt, Ahead}
 use Rattle.instructions.specs.Laws.Places.{found-line}
 use Rattle.instructions.specs.Laws.Steps.{started}
-use Rattle.checker.specs.declared.Examined.{Examined}
-use Rattle.checker.specs.Examines.{Examines}
+use Rattle.job_shape.specs.declared.Tested.{Tested}
+use Rattle.job_shape.specs.Tested.{testedAnswer, Tests}
 use Rattle.rows.specs.Shape.{shapeOf}
 use Rattle.run.specs.Run.{Memory, frameWords, outcomeWords, enoughWords, untouched, runReply}
+use Rattle.execution.specs.declared.Answered.{Answered}
 use Rattle.execution.specs.Went.{headerOf}
 use Rattle.needed_words.specs.Needed.{NeededReady, NeededRun}
-use Rattle.runner.specs.Laws.Replies.{run-refused, run-short, run-enough, needed-over}
+use Rattle.job_shape.specs.Laws.Tested.{passed-both}
+use Rattle.runner.specs.Enough.{enoughLent}
+use Rattle.runner.specs.Ran.{RunReady, RanTo}
+use Rattle.runner.specs.Laws.Replies.{run-refused, run-short, run-enough, needed-over, same-test}
 
 -- the lines behind the header begin at `from`
 pub record Passed (job : List ℕ) (h : Header) (from : ℕ) : Type 0 where
@@ -33,34 +39,51 @@ pub record Passed (job : List ℕ) (h : Header) (from : ℕ) : Type 0 where
   pub instructions : instructionsAt job 2 from ≡ jobOf job .instructions
   pub sound : InstructionsSound h 0 (instructionsAt job 2 from)
 
-module _ {job : List ℕ} {r : Examined} (x : Examines job r) where
-  pub refused-reply : (m : Memory) → (r .answer .number ≡ 0 → ⊥) → runReply job m ≡ untouched (r .answer) m
-  refused-reply m ne = rw (x .answers) (run-refused job m (λ e. ne (ap (λ (a : Answer). a .number) (x .answers) ∙ e)))
+module _ (job : List ℕ) (passes : checkJob job .number ≡ 0) where
+  pub range : HeaderSound (jobOf job .header)
+  range = checked-sound job passes .header
 
-  module _ (zero : r .answer .number ≡ 0) where
-    passes : checkJob job .number ≡ 0
-    passes = sym (ap (λ (a : Answer). a .number) (x .answers)) ∙ zero
+  pub passed-at : {e : ℕ} → e ≡ 0 + until LF (drop 0 job) → Passed job (jobOf job .header) (e + 1)
+  passed-at {e} found =
+      let ended = checked-sound job passes .ended in
+      let begun = started job e passes (found-line job 0 e ended (ended-parts job ended .0) found) in
+      record {
+        passed = passes;
+        header = refl;
+        ahead = begun .ahead;
+        instructions = begun .instructions;
+        sound = rw (begun .instructions) (checked-sound job passes .instructions);
+      }
 
-    same : jobOf job .header ≡ r .header
-    same = sym (x .finds passes .header)
+-- a job that passed its tests, and 13
+pub tested-ready : {job : List ℕ} {x z d totals noiseless : List ℕ} {r : Tested}
+    → Tests job (enoughLent (jobOf job .header) record { x = length x; z = length z; deltas = length d; totals = length totals; noiseless = length noiseless }) r
+    → r .answer .number ≡ 0 → RunReady job (r .shape) x z d totals noiseless
+tested-ready {job} t zero =
+    let p = passed-both job _ (sym (ap (λ (a : Answer). a .number) (t .answers)) ∙ zero) in
+    record { passes = p .0; shaped = t .shaped zero; enough = p .1 }
 
-    pub range : HeaderSound (r .header)
-    range = rw (← same) (checked-sound job passes .header)
+-- a job that is refused, by its tests or by 13
+pub refused-reply : (job : List ℕ) (m : Memory) {r : Tested}
+    → Tests job
+    (enoughLent (jobOf job .header)
+    record { x = length (m .x); z = length (m .z); deltas = length (m .deltas); totals = length (m .totals); noiseless = length (m .source .noiseless) }) r
+    → (r .answer .number ≡ 0 → ⊥) → runReply job m ≡ untouched (r .answer) m
+refused-reply job m {r} t ne = go (eqb (checkJob job .number) 0) refl (enoughWords (jobOf job .header) m) refl
+  where
+    says : r .answer ≡ testedAnswer job (enoughWords (jobOf job .header) m)
+    says = t .answers ∙ ap (testedAnswer job) (same-test (jobOf job .header) m)
 
-    pub short-reply : (m : Memory) {a : Answer} → a ≡ answer 13 0 → enoughWords (r .header) m ≡ false → runReply job m ≡ untouched a m
-    short-reply m e few = rw e (run-short job m passes (rw same few))
-
-    pub passed-at : {e : ℕ} → e ≡ 0 + until LF (drop 0 job) → Passed job (r .header) (e + 1)
-    passed-at {e} found =
-        let ended = checked-sound job passes .ended in
-        let begun = started job e passes (found-line job 0 e ended (ended-parts job ended .0) found) in
-        record {
-          passed = passes;
-          header = same;
-          ahead = rw same at (begun .ahead);
-          instructions = begun .instructions;
-          sound = rw (begun .instructions) (rw same at (checked-sound job passes .instructions));
-        }
+    go : (b : Bool) → eqb (checkJob job .number) 0 ≡ b → (l : Bool) → enoughWords (jobOf job .header) m ≡ l → runReply job m ≡ untouched (r .answer) m
+    go false p l q =
+        let is : r .answer ≡ checkJob job = unfold testedAnswer in (says ∙ rw p) in
+        rw is (run-refused job m (eqb-false (checkJob job .number) 0 p))
+    go true p false q =
+        let is : r .answer ≡ answer 13 0 = unfold testedAnswer in (says ∙ rw (p, q)) in
+        rw is (run-short job m (eqb-true (checkJob job .number) 0 p) q)
+    go true p true q =
+        let is : r .answer ≡ checkJob job = unfold testedAnswer in (says ∙ rw (p, q)) in
+        absurd (ne (ap (λ (a : Answer). a .number) is ∙ eqb-true (checkJob job .number) 0 p))
 
 module _ {job : List ℕ} {h : Header} {from : ℕ} (p : Passed job h from) where
   -- the shape of its rows has the header
@@ -81,20 +104,29 @@ module _ {job : List ℕ} {h : Header} {from : ℕ} (p : Passed job h from) wher
         of-noiseless = ln;
       }
 
-  pub needed-reply : (m : Memory) {x z d totals : List ℕ} {r : Answer} → enoughWords h m ≡ true
+  pub needed-reply : (m : Memory) {x z d totals : List ℕ} {r : Answered} → enoughWords h m ≡ true
       → NeededRun job (headerOf job (shapeOf (h .qubits) (h .outcomes) (h .shots))) (m .source) from x z d totals r
-      → runReply job m
-      ≡ record {
-        answered = r;
-        x = x ++ drop (frameWords h) (m .x);
-        z = z ++ drop (frameWords h) (m .z);
-        deltas = d ++ drop (outcomeWords h) (m .deltas);
-        totals = totals ++ drop (h .outcomes) (m .totals);
-      }
+      → RanTo job m (x ++ drop (frameWords h) (m .x)) (z ++ drop (frameWords h) (m .z)) (d ++ drop (outcomeWords h) (m .deltas)) (totals ++ drop (h .outcomes) (m .totals)) r
   needed-reply m {x} {z} {d} {totals} {r} enough runs =
       let run = subst (λ (g : Header). NeededRun job g (m .source) from x z d totals r) (sym shaped) runs in
-      run-enough job m (p .passed) (rw (p .header) enough)
-      ∙ rw (p .header, ← p .instructions) (needed-over h m _ ∙ rw (run .is))
+      record {
+        is = run-enough job m (p .passed) (rw (p .header) enough) ∙ rw (p .header, ← p .instructions) (needed-over h m _ ∙ rw (run .is));
+        within = run .within;
+        leaves = rw (p .header, ← p .instructions) (run .leaves);
+      }
+
+-- a main list in two parts of which the second is empty
+pub ran-alone : (job : List ℕ) (m : Memory) {x z d totals : List ℕ} {r : Answered} (none : List ℕ) → none ≡ []
+    → RanTo job
+    (record {
+      x = m .x;
+      z = m .z;
+      deltas = m .deltas;
+      totals = m .totals;
+      source = record { noiseless = m .source .noiseless; main = m .source .main ++ none; second = m .source .second; base = m .source .base };
+    }) x z d totals r
+    → runReply job m ≡ record { answered = r .answer; x = x; z = z; deltas = d; totals = totals }
+ran-alone job m none e ran = rw (e, append-nil (m .source .main)) at (ran .is)
 
 -- ---- products fit a word
 

@@ -6,35 +6,36 @@ use lib.Seq.{length-take-le}
 use lib.ListN.{length, length-take}
 use Prim.Native.Nat.{_+_, _-_}
 use mathlib.Core.Path.{_≡_, refl, sym, _∙_}
+use mathlib.Core.List.{_++_}
 use borrow.Author.Needs.{needs}
 use native.Mathlib.Omega.{arith}
 use Rattle.settling.proofs.put_settled.Statement.{statement}
 use Rattle.settling.proofs.put_settled.Tie as tie
 
 abbrev Inv-loop : tie.InvT-loop
-Inv-loop out₀ job shape noiseless main second base values₀ elements₀ end text here₀ out values elements here =
-    Going (passOf job shape noiseless main second base) text out₀ here out
+Inv-loop out₀ job shape noiseless main more second base values₀ elements₀ end text here₀ out values elements here =
+    Going (passOf job shape noiseless (main ++ more) second base) text out₀ here out
     × (length out ≡ length out₀)
     × (length values ≡ 136)
     × (length elements ≡ 4096)
 
 abbrev μ-loop : tie.MeasureT-loop
-μ-loop out₀ job shape noiseless main second base values₀ elements₀ end text here₀ out values elements here = length job + 2 - here .place .line
+μ-loop out₀ job shape noiseless main more second base values₀ elements₀ end text here₀ out values elements here = length job + 2 - here .place .line
 
 find-requires : tie.Need-find-requires Inv-loop μ-loop
 find-requires c κs = omega arith
 
 add-end : tie.Need-add-end Inv-loop μ-loop
-add-end c = omega (arith, fits-sizes (c .before .before .before .before .before .before .pre), c .find .ensures .1)
+add-end c = omega (arith, fits-sizes (c .before .before .before .before .before .before .before .pre), c .find .ensures .1)
 
 slice-aggregate-put-bytes : tie.Need-slice-aggregate-put-bytes Inv-loop μ-loop
-slice-aggregate-put-bytes c = sym (length-take-le _ _ (omega (arith, header-at (c .before .before .before .before .before .before .before .before .pre) (c .before .before .find .ensures .0) .inside)))
+slice-aggregate-put-bytes c = sym (length-take-le _ _ (omega (arith, header-at (c .before .before .before .before .before .before .before .before .before .pre) (c .before .before .find .ensures .0) .inside)))
 
 put-bytes-requires : tie.Need-put-bytes-requires Inv-loop μ-loop
-put-bytes-requires c κs = rw length-take (omega (arith, fits-sizes (c .before .before .before .before .before .before .before .before .pre), c .before .before .find .ensures .1))
+put-bytes-requires c κs = rw length-take (omega (arith, fits-sizes (c .before .before .before .before .before .before .before .before .before .pre), c .before .before .find .ensures .1))
 
 loop-holds : tie.Need-loop-holds Inv-loop μ-loop
-loop-holds c = (pass-begins (c .before .before .before .before .before .before .before .before .before .before .before .pre) (c .before .before .before .before .before .find .ensures .0) (c .before .before .put-bytes .ensures), refl, refl, refl)
+loop-holds c = (pass-begins (c .before .before .before .before .before .before .before .before .before .before .before .before .pre) (c .before .before .before .before .before .find .ensures .0) (c .before .before .put-bytes .ensures), refl, refl, refl)
 
 slice-aggregate-put-instruction : tie.Need-slice-aggregate-put-instruction Inv-loop μ-loop
 slice-aggregate-put-instruction c = sym (c .before .before .before .before .loop .inv .2)
@@ -45,14 +46,14 @@ slice-aggregate-put-instruction-2 c = sym (c .before .before .before .before .be
 put-instruction-requires : tie.Need-put-instruction-requires Inv-loop μ-loop
 put-instruction-requires c κs = (c .before .before .before .before .before .loop .inv .0 .between, c .before .before .before .if1 .taken, c .before .before .before .before .before .loop .inv .0 .few, omega (arith, c .before .before .before .before .before .loop .inv .2), omega (arith, c .before .before .before .before .before .loop .inv .3))
 
-enum-told : tie.Need-enum-told Inv-loop μ-loop
-enum-told c = search needs
+enum-known-position : tie.Need-enum-known-position Inv-loop μ-loop
+enum-known-position c = search needs
 
 same-length : tie.Need-same-length Inv-loop μ-loop
-same-length c = c .before .before .before .before .before .before .put-instruction .kept .0 ∙ c .before .before .before .before .before .before .before .before .before .before .before .before .loop .inv .1 ∙ c .before .before .before .before .before .before .before .before .before .before .before .before .before .before .before .put-bytes .kept .0
+same-length c = c .before .before .before .before .before .before .before .put-instruction .kept .0 ∙ c .before .before .before .before .before .before .before .before .before .before .before .before .before .loop .inv .1 ∙ c .before .before .before .before .before .before .before .before .before .before .before .before .before .before .before .before .put-bytes .kept .0
 
 returns : tie.Need-returns Inv-loop μ-loop
-returns c = pass-spent (c .before .before .before .before .before .before .before .before .before .before .before .before .loop .inv .0) (moved-spent (c .before .before .before .before .before .before .put-instruction .ensures) (c .enum-told .given .1))
+returns c = pass-spent (c .before .before .before .before .before .before .before .before .before .before .before .before .before .loop .inv .0) (moved-spent (c .before .before .before .before .before .before .before .put-instruction .ensures) (c .before .position .given .1))
 
 enum-known-next : tie.Need-enum-known-next Inv-loop μ-loop
 enum-known-next c = search needs
@@ -74,7 +75,7 @@ same-length-2 : tie.Need-same-length-2 Inv-loop μ-loop
 same-length-2 c = c .before .before .loop .inv .1 ∙ c .before .before .before .before .before .put-bytes .kept .0
 
 returns-2 : tie.Need-returns-2 Inv-loop μ-loop
-returns-2 c = pass-done (c .before .before .loop .inv .0) (header-put (c .before .before .before .before .before .before .before .before .before .before .before .before .before .before .pre) (c .before .before .before .before .before .before .before .before .find .ensures .0) (c .before .before .before .before .before .put-bytes .ensures)) (c .if1 .left)
+returns-2 c = pass-done (c .before .before .loop .inv .0) (header-put (c .before .before .before .before .before .before .before .before .before .before .before .before .before .before .before .pre) (c .before .before .before .before .before .before .before .before .find .ensures .0) (c .before .before .before .before .before .put-bytes .ensures)) (c .if1 .left)
 
 pub put-settled-spec : {M : Type 1} → statement M
 put-settled-spec =
@@ -90,7 +91,7 @@ put-settled-spec =
     slice-aggregate-put-instruction
     slice-aggregate-put-instruction-2
     put-instruction-requires
-    enum-told
+    enum-known-position
     same-length
     returns
     enum-known-next

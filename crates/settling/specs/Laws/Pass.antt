@@ -13,12 +13,13 @@ use Rattle.instructions.specs.Laws.Places.{found-line, whole-line}
 use Rattle.instructions.specs.Laws.Steps.{none-left, started}
 use Rattle.writer.specs.Placed.{Puts}
 use Rattle.writer.specs.Laws.Placing.{puts-nothing, puts-more}
+use Rattle.draws.specs.Left.{leftAfter}
 use Rattle.draws.specs.Settle.{SettledLine, Settled, prefixed, settle, settledText}
 use Rattle.instruction_text.specs.declared.Reached.{Reached}
 use Rattle.settling.specs.declared.TextLength.the-variants as text-length
 use Rattle.noise_text.specs.Injections.{textOf}
-use Rattle.instruction_text.specs.Pass.{Pass, lentBy, settledFrom, Between, Onward}
-use Rattle.settling.specs.Whole.{settledBy, Fits, PutAll, SettledPut}
+use Rattle.instruction_text.specs.Pass.{Pass, lentBy, settledFrom, leftFrom, Between, Onward, SpentHere}
+use Rattle.settling.specs.Whole.{settledBy, leftByAll, Fits, takenFor, PutAll, SettledPut}
 use Rattle.noise_text.specs.Laws.Injections.{text-append}
 
 -- ---- lines before others
@@ -39,6 +40,7 @@ prefixed-more ls ms (Settled.settled ks) = ap Settled.settled (sym (append-assoc
 pub record Going (p : Pass) (from : ℕ) (out : List ℕ) (here : Reached) (after : List ℕ) : Type 0 where
   pub lines-put : List SettledLine
   pub settles : settledBy p ≡ prefixed lines-put (settledFrom p here)
+  pub leaves : leftByAll p ≡ leftFrom p here
   pub puts : Puts from (textOf lines-put) out after (here .text)
   pub few : here .text ≤ 8388608 * here .place .line
   pub between : Between p here
@@ -77,6 +79,7 @@ module _ {p : Pass} (f : Fits p) where
           record {
             lines-put = [];
             settles = ap (λ (is : List Placed). settle (lentBy p) is (p .main)) (sym (s .instructions)) ∙ prefixed-none _;
+            leaves = ap (λ (is : List Placed). leftAfter (lentBy p) is (p .main)) (sym (s .instructions));
             puts = puts-nothing;
             few = omega (arith, puts .place, header-at .inside, fits-sizes, length-take (e + 1) (p .job));
             between =
@@ -97,22 +100,26 @@ module _ {p : Pass} {from : ℕ} {out : List ℕ} {here : Reached} {mid : List �
       record {
         lines-put = g .lines-put ++ o .lines;
         settles = g .settles ∙ ap (prefixed (g .lines-put)) (o .settles) ∙ prefixed-more (g .lines-put) (o .lines) (settledFrom p next);
+        leaves = g .leaves ∙ o .leaves;
         puts = rw (text-append (g .lines-put) (o .lines)) (puts-more (g .puts) (o .puts));
         few = omega (arith, g .few, o .few, o .onward);
         between = o .between;
       }
 
-  pub pass-spent : {start after : List ℕ} → settledFrom p here ≡ Settled.spentAt (here .place .line) → SettledPut p start after (text-length.SpentAt (here .place .line))
-  unfolding prefixed PutAll
-  pass-spent e = record { put = rw (g .settles, e) refl }
+  pub pass-spent : {start after : List ℕ} {position : ℕ} → SpentHere p here position → SettledPut p start after (text-length.SpentAt (here .place .line) position)
+  unfolding prefixed PutAll takenFor
+  pass-spent s = record { put = rw (g .settles, s .settles) refl; within = s .within; leaves = s .leaves ∙ sym (g .leaves) }
 
   pub pass-done : {start : List ℕ} → Puts 0 (settledText (jobOf (p .job) .text) []) start out from → length (p .job) ≤ here .place .byte
-      → SettledPut p start mid (text-length.Length (here .text))
-  unfolding prefixed PutAll settle
+      → SettledPut p start mid (text-length.Length (here .text) (here .place .position))
+  unfolding prefixed PutAll takenFor settle leftAfter
   pass-done header h =
       let t = jobOf (p .job) .text in
+      let none = none-left (p .job) (here .place .line) (here .place .byte) h in
       record {
         put =
-            rw (g .settles, none-left (p .job) (here .place .line) (here .place .byte) h, append-nil (g .lines-put))
+            rw (g .settles, none, append-nil (g .lines-put))
             (record { long = here .text; is = refl; puts = rw (header-append t (g .lines-put)) (puts-more header (g .puts)) });
+        within = g .between .position;
+        leaves = sym (g .leaves ∙ ap (λ (is : List Placed). leftAfter (lentBy p) is (drop (here .place .position) (p .main))) none);
       }

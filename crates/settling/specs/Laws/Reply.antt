@@ -1,49 +1,59 @@
--- The whole reply of settling. Laws. Assumes nothing.
+-- The whole reply of settling, and where it leaves the main list. Laws. Assumes nothing.
 use mathlib.Core.Path.{_≡_, refl, sym, ap, _∙_}
-use mathlib.Core.Bool.{true, false, _&&_}
-use mathlib.Core.List.{List, _++_, append-nil}
+use mathlib.Core.Bool.{Bool, true, false, _&&_, _||_}
+use mathlib.Core.List.{List, [], _++_, append-nil}
 use Prim.Native.Nat.{ℕ, _+_, _*_, _/_, _≤_, _<_}
 use native.Mathlib.Nat.{mul-le-mul}
 use native.Mathlib.Omega.{arith}
-use borrow.Author.Tests.{leb-true, eq-eqb, ne-eqb, le-leb, lt-leb}
-use lib.Dec.{leb}
+use borrow.Author.Tests.{leb-true, eq-eqb, eqb-true, le-leb, lt-leb}
+use lib.Dec.{eqb, leb}
 use lib.ListN.{length, take, drop, drop-of-length-le}
 use lib.Seq.{length-take-le}
 use Rattle.text.specs.Laws.Values.{both}
 use Rattle.job.specs.declared.Answer.{Answer}
-use Rattle.job.specs.declared.Header.{Header}
-use Rattle.job.specs.Job.{maxBytes, Job, jobOf, checkJob}
-use Rattle.job.specs.Sound.{HeaderSound}
-use Rattle.job.specs.Laws.Lines.{header-sound}
-use Rattle.job.specs.Laws.Begun.{job-begun}
-use Rattle.checker.specs.declared.Examined.{Examined}
-use Rattle.checker.specs.Examines.{Examines}
+use Rattle.job.specs.Job.{maxBytes, answer, jobOf, checkJob}
+use Rattle.job.specs.Theorems.{checked-sound}
+use Rattle.job_shape.specs.declared.Tested.{Tested}
+use Rattle.job_shape.specs.Tested.{testedAnswer, Tests}
+use Rattle.job_shape.specs.Laws.Tested.{passed-both, tests-passed, tests-short, tests-enough}
 use Rattle.writer.specs.declared.TextAnswer.{TextAnswer}
 use Rattle.writer.specs.Reply.{textReply}
 use Rattle.writer.specs.Laws.Placing.{placed-over}
 use Rattle.draws.specs.Draws.{Lent}
+use Rattle.draws.specs.Left.{leftAfter}
 use Rattle.draws.specs.Settle.{Settled, settle, settledText}
 use Rattle.rows.specs.declared.Shape.{Shape}
-use Rattle.rows.specs.Shape.{shapeOf}
 use Rattle.rows.specs.Words.{wordsPerRow, bitIn}
 use Rattle.run.specs.Run.{Source, outcomeWords, lentOf}
 use Rattle.backward.specs.Settling.{settledAnswer, settleReply}
+use Rattle.settling.specs.declared.Answered.{Answered}
 use Rattle.settling.specs.declared.TextLength.{TextLength}
 use Rattle.settling.specs.declared.TextLength.the-variants as text-length
 use Rattle.instruction_text.specs.Pass.{Pass, passOf, lentBy}
-use Rattle.settling.specs.Whole.{settledBy, Fits, PutAll, SettledPut}
+use Rattle.settling.specs.Whole.{settledBy, leftByAll, Fits, takenFor, PutAll, SettledPut, SettledTo}
 
 -- ---- refused before any draw
 
-module _ (job : List ℕ) (s : Source) (out : List ℕ) {r : TextAnswer} where
-  pub refused-job : {a : Answer} → r ≡ record { answer = a; figure = 0 } → a ≡ checkJob job → (a .number ≡ 0 → ⊥) → textReply r out ≡ settleReply job s out
-  unfolding settleReply
-  refused-job {a} says same ne = rw (says, ← same, ne-eqb (a .number) 0 ne)
+-- whether the noiseless bits suffice
+abbrev enoughFor : List ℕ → ℕ → Bool
+enoughFor job noiseless = leb (outcomeWords (jobOf job .header)) noiseless
 
-  pub refused-words : r ≡ record { answer = record { number = 13; line = 0 }; figure = 0 } → checkJob job .number ≡ 0
-      → length (s .noiseless) < outcomeWords (jobOf job .header) → textReply r out ≡ settleReply job s out
-  unfolding settleReply
-  refused-words says passes few = rw (says, eq-eqb (checkJob job .number) 0 passes, lt-leb (outcomeWords (jobOf job .header)) (length (s .noiseless)) few)
+-- by the tests or by 13
+pub refused-reply : (job : List ℕ) (s : Source) (out : List ℕ) {t : Tested} {r : TextAnswer} → Tests job (enoughFor job (length (s .noiseless))) t
+    → (t .answer .number ≡ 0 → ⊥) → r ≡ record { answer = t .answer; figure = 0 } → textReply r out ≡ settleReply job s out
+unfolding testedAnswer settleReply
+refused-reply job s out {t} {r} tests ne says = go (eqb (checkJob job .number) 0) refl (enoughFor job (length (s .noiseless))) refl
+  where
+    go : (b : Bool) → eqb (checkJob job .number) 0 ≡ b → (l : Bool) → enoughFor job (length (s .noiseless)) ≡ l → textReply r out ≡ settleReply job s out
+    go false p l q =
+        let is : t .answer ≡ checkJob job = tests .answers ∙ rw p in
+        rw (says, is, p)
+    go true p false q =
+        let is : t .answer ≡ answer 13 0 = tests .answers ∙ rw (p, q) in
+        rw (says, is, p, q)
+    go true p true q =
+        let is : t .answer ≡ checkJob job = tests .answers ∙ rw (p, q) in
+        absurd (ne (ap (λ (a : Answer). a .number) is ∙ eqb-true (checkJob job .number) 0 p))
 
 -- ---- settled
 
@@ -70,21 +80,30 @@ module _ {p : Pass} (f : Fits p) where
       rw (eq-eqb (checkJob (p .job) .number) 0 (f .passes), le-leb (outcomeWords (jobOf (p .job) .header)) (length (p .noiseless)) enough)
       (ap (λ (l : Lent). settledAnswer (jobOf (p .job)) (settle l (jobOf (p .job) .instructions) (p .main)) out) (sym lent-same))
 
+  left-is : leftByAll p ≡ leftAfter (lentOf (jobOf (p .job) .header) (sourceOf p)) (jobOf (p .job) .instructions) (p .main)
+  left-is = ap (λ (l : Lent). leftAfter l (jobOf (p .job) .instructions) (p .main)) lent-same
+
   module _ {start after : List ℕ} {t : TextLength} (put : SettledPut p start after t) (out : List ℕ) where
-    pub spent-reply : {r : TextAnswer} {k : ℕ} → t ≡ text-length.SpentAt k → r ≡ record { answer = record { number = 14; line = k }; figure = 0 }
-        → textReply r out ≡ settleReply (p .job) (sourceOf p) out
-    unfolding PutAll settledAnswer
-    spent-reply {r} {k} e says = go (settledBy p) (put .put) ∙ sym (reply-is out)
+    -- the words that were taken stay taken
+    left-at : {r : TextAnswer} {taken : ℕ} {text : List ℕ} → takenFor t ≡ taken → eqb (r .answer .number) 0 || eqb (r .answer .number) 14 ≡ true
+        → textReply r text ≡ settleReply (p .job) (sourceOf p) out → SettledTo (p .job) (sourceOf p) out text (record { answer = r; taken = taken })
+    left-at same takes is =
+        record { is = is; within = rw same at (put .within); leaves = rw takes (rw same at (put .leaves) ∙ left-is) }
+
+    pub spent-reply : {r : TextAnswer} {k taken : ℕ} → t ≡ text-length.SpentAt k taken → r ≡ record { answer = record { number = 14; line = k }; figure = 0 }
+        → SettledTo (p .job) (sourceOf p) out out (record { answer = r; taken = taken })
+    unfolding PutAll takenFor settledAnswer
+    spent-reply {r} {k} e says = left-at (ap takenFor e) (rw says) (go (settledBy p) (put .put) ∙ sym (reply-is out))
       where
         go : (o : Settled) → PutAll p start o after t → textReply r out ≡ settledAnswer (jobOf (p .job)) o out
         go (Settled.spentAt j) u = let same : j ≡ k = cc (u, e) in rw (says, same)
         go (Settled.settled ls) u = let z : _≡_ {A = ℕ} 0 1 = cc (u .is, e) in absurd (omega arith)
 
-    module _ {need : ℕ} (e : t ≡ text-length.Length need) where
+    module _ {need taken : ℕ} (e : t ≡ text-length.Length need taken) where
       pub long-reply : {r : TextAnswer} → r ≡ record { answer = record { number = 15; line = 0 }; figure = need } → leb need (length out) && leb need maxBytes ≡ false
-          → textReply r out ≡ settleReply (p .job) (sourceOf p) out
+          → SettledTo (p .job) (sourceOf p) out out (record { answer = r; taken = 0 })
       unfolding PutAll settledAnswer
-      long-reply {r} says long = go (settledBy p) (put .put) ∙ sym (reply-is out)
+      long-reply {r} says long = record { is = go (settledBy p) (put .put) ∙ sym (reply-is out); within = omega arith; leaves = rw says }
         where
           go : (o : Settled) → PutAll p start o after t → textReply r out ≡ settledAnswer (jobOf (p .job)) o out
           go (Settled.spentAt j) u = let z : _≡_ {A = ℕ} 0 1 = cc (u, e) in absurd (omega arith)
@@ -96,9 +115,9 @@ module _ {p : Pass} (f : Fits p) where
       -- the second pass writes what the first has measured
       pub done-reply : {r : TextAnswer} {text : List ℕ} {s : TextLength} → SettledPut p (take need out) text s
           → r ≡ record { answer = record { number = 0; line = 0 }; figure = need } → leb need (length out) && leb need maxBytes ≡ true
-          → textReply r (text ++ drop need out) ≡ settleReply (p .job) (sourceOf p) out
-      unfolding PutAll settledAnswer
-      done-reply {r} {text} {s} again says fits = go (settledBy p) (put .put) (again .put) ∙ sym (reply-is out)
+          → SettledTo (p .job) (sourceOf p) out (text ++ drop need out) (record { answer = r; taken = taken })
+      unfolding PutAll takenFor settledAnswer
+      done-reply {r} {text} {s} again says fits = left-at (ap takenFor e) (rw says) (go (settledBy p) (put .put) (again .put) ∙ sym (reply-is out))
         where
           go : (o : Settled) → PutAll p start o after t → PutAll p (take need out) o text s → textReply r (text ++ drop need out) ≡ settledAnswer (jobOf (p .job)) o out
           go (Settled.spentAt j) u v = let z : _≡_ {A = ℕ} 0 1 = cc (u, e) in absurd (omega arith)
@@ -113,37 +132,31 @@ module _ {p : Pass} (f : Fits p) where
               v .puts .bytes ∙ placed-over whole (take need out) part ∙ ap (λ (l : List ℕ). whole ++ l) (drop-of-length-le (take need out) none) ∙ append-nil whole in
               rw (says, same, written, fits)
 
--- ---- what the checks leave
+-- a main list in two parts of which the second is empty
+pub settled-alone : (job : List ℕ) (s : Source) (out after none : List ℕ) {r : Answered} → none ≡ []
+    → SettledTo job (record { noiseless = s .noiseless; main = s .main ++ none; second = s .second; base = s .base }) out after r
+    → textReply (r .answer) after ≡ settleReply job s out
+settled-alone job s out after none e settled = rw (e, append-nil (s .main)) at (settled .is)
 
-module _ {job : List ℕ} {r : Examined} (x : Examines job r) (passes : r .answer .number ≡ 0) where
-  checked : checkJob job .number ≡ 0
-  checked = ap (λ (a : Answer). a .number) (sym (x .answers)) ∙ passes
+-- ---- what the tests leave
 
-  pub header-known : HeaderSound (r .header)
-  header-known =
-      let b = job-begun job checked in
-      let same : r .header ≡ b .header = x .finds checked .header ∙ ap (λ (j : Job). j .header) (b .is) in
-      rw same (header-sound (b .header) (b .range) (b .edition))
+module _ {job : List ℕ} {r : Tested} (t : Tests job true r) (zero : r .answer .number ≡ 0) where
+  pub few-words : r .shape .outcomes * r .shape .width ≤ 65536
+  few-words =
+      let h = checked-sound job (tests-passed t zero) .header in
+      let w : (jobOf job .header .shots + 63) / 64 ≤ 64 = omega (arith, h .few-shots) in
+      rw (t .shaped zero) (mul-le-mul (h .few-outcomes) w)
 
-  module _ {shape : Shape} (e : shape ≡ shapeOf (r .header .qubits) (r .header .outcomes) (r .header .shots)) where
-    pub few-words : shape .outcomes * shape .width ≤ 65536
-    few-words =
-        let h = header-known in
-        let w : (r .header .shots + 63) / 64 ≤ 64 = omega (arith, h .few-shots) in
-        rw e (mul-le-mul (h .few-outcomes) w)
+  pub missing-words : (noiseless : ℕ) {a : Answer} {shape : Shape} → a ≡ answer 13 0 → noiseless < r .shape .outcomes * r .shape .width
+      → Tests job (enoughFor job noiseless) (record { answer = a; shape = shape })
+  missing-words noiseless is few = tests-short t zero is _ (lt-leb _ noiseless (rw (t .shaped zero) at few))
 
-    pub missing-words : (noiseless : List ℕ) → length noiseless < shape .outcomes * shape .width
-        → (checkJob job .number ≡ 0) × (length noiseless < outcomeWords (jobOf job .header))
-    missing-words noiseless few = (checked, rw (← x .finds checked .header) (rw e at few))
+  pub enough-words : (noiseless : ℕ) → r .shape .outcomes * r .shape .width ≤ noiseless → Tests job (enoughFor job noiseless) r
+  enough-words noiseless rows = tests-enough t zero _ (le-leb _ noiseless (rw (t .shaped zero) at rows))
 
-    pub fits-of : {noiseless main second : List ℕ} {base : ℕ} → shape .outcomes * shape .width ≤ length noiseless
-        → Fits (passOf job shape noiseless main second base)
-    fits-of rows =
-        let same = x .finds checked .header in
-        rw e
-        (record {
-          passes = checked;
-          shots-are = ap (λ (h : Header). h .shots) (sym same);
-          words-are = refl;
-          rows = rw (← same) (rw e at rows);
-        })
+pub tested-fits : {job noiseless main second : List ℕ} {base : ℕ} {r : Tested} → Tests job (enoughFor job (length noiseless)) r → r .answer .number ≡ 0
+    → Fits (passOf job (r .shape) noiseless main second base)
+tested-fits {job} {noiseless} t zero =
+    let p = passed-both job _ (sym (ap (λ (a : Answer). a .number) (t .answers)) ∙ zero) in
+    rw (t .shaped zero)
+    (record { passes = p .0; shots-are = refl; words-are = refl; rows = leb-true _ (length noiseless) (p .1) })

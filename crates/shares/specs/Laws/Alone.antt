@@ -1,32 +1,33 @@
 -- Laws: a caller's calls, whatever the others do. Assumes nothing.
-use mathlib.Core.Path.{_≡_, refl, sym, ap, ap₂, subst, _∙_}
+use mathlib.Core.Path.{_≡_, refl, sym, ap, ap₂, _∙_}
 use mathlib.Core.Bool.{Bool, true, false, cond, _&&_}
 use mathlib.Core.List.{List, [], _∷_, _++_}
-use Prim.Native.Nat.{ℕ, zero, suc, _+_, _-_, _≤_, _<_, min}
+use Prim.Native.Nat.{ℕ, _+_, _<_, min}
 use native.Mathlib.Omega.{arith}
-use native.Mathlib.Decide.{ℕ-discrete}
-use borrow.Author.Tests.{eqb-true, eqb-false, eq-eqb, ne-eqb, le-leb, lt-ltb, ltb-true}
+use borrow.Author.Tests.{eqb-true, eqb-false, le-leb, lt-ltb, ltb-true}
 use Rattle.text.specs.Laws.Values.{both}
 use lib.Dec.{eqb, leb, ltb}
-use lib.ListN.{length, getD, length-append}
+use lib.ListN.{length, getD}
 use Rattle.job.specs.declared.Header.{Header}
 use Rattle.job.specs.declared.Answer.{Answer}
 use Rattle.job.specs.Job.{answer, jobOf, checkJob}
 use Rattle.job.specs.Reply.{TextReply, refusedText}
+use Rattle.draws.specs.Draws.{Lent}
 use Rattle.draws.specs.Settle.{Settled, settle}
 use Rattle.draws.specs.Execute.{Ended, starts, execute}
 use Rattle.draws.specs.Known.{onSettled}
-use Rattle.draws.specs.Left.{leftAfter, StaysWithin}
+use Rattle.draws.specs.Left.{StaysWithin}
 use Rattle.draws.specs.Laws.Settling.{execute-settle}
-use Rattle.draws.specs.Laws.Left.{Stays, stays, own-taken}
+use Rattle.draws.specs.Laws.Left.{stays, own-taken}
 use Rattle.run.specs.Run.{Source, Memory, RunReply, outcomeWords, enoughWords, lentOf, untouched, spentReply, finishedReply, endedReply, runReply}
 use Rattle.backward.specs.Calls.{withSource}
 use Rattle.backward.specs.Settling.{settledAnswer, settleReply}
-use Rattle.shares.specs.Shares.{Share, sum, ownLeft, commonLeft, available, marksFit, mostCallers, eachWithin, sharesFit, callerFits, moved, marksAfter}
+use Rattle.shares.specs.Shares.{ownLeft, commonLeft, available, marksFit, sharesFit, moved, marksAfter}
 use Rattle.shares.specs.Replies.{shared, takenBy, takesWords, marksFor, Shared, tested, sharedReply, sharedRunReply, sharedSettleReply}
-use Rattle.shares.specs.Account.{from, withMain, shareOf, Call, Reply, callerOf, callsOf, replyTo, marksBy, handedBy, marksThrough, StaysOwn, RunOrStays, AllRunOrStay}
-use Rattle.shares.specs.Laws.Moves.{Moves, Called}
-use Rattle.shares.specs.Laws.Sequences.{Within, getD-moved, getD-other, call-called, call-within}
+use Rattle.shares.specs.Account.{from, withMain, shareOf, Call, Reply, callerOf, callsOf, replyTo, marksBy, handedBy, marksThrough, StaysOwn, takes, TakesAlike, TakeAlike, RunOrStays, AllRunOrStay, Within}
+use Rattle.shares.specs.Laws.Moves.{Called}
+use Rattle.shares.specs.Laws.Sequences.{getD-moved, getD-other, call-called, call-within}
+use Rattle.shares.specs.Laws.Spent.{run-takes}
 
 -- what a run leaves does not hang on what draws are taken from, but for the draws
 ended-source : (h : Header) (m : Memory) (s : Source) (e : Ended) → endedReply h (withSource m s) e ≡ endedReply h m e
@@ -55,38 +56,6 @@ module _ (main shares : List ℕ) (c : ℕ) where
 
     same-marked : marksFit (shareOf main shares c marks) ≡ marksFit (shareOf main shares c other)
     same-marked = rw (lt-ltb _ _ (a .within .marked-all), lt-ltb _ _ (a .also .marked-all)) refl
-
-    module _ {A : Type 0} (job : List ℕ) (enough : Bool) (s : Source) (refuse : Answer → A) (plain also-plain : A) (answered : A → Answer) where
-      abbrev mine : Shared A
-      mine = sharedReply job enough (shareOf main shares c marks) (from main s) refuse plain (answered plain)
-
-      abbrev theirs : Shared A
-      theirs = sharedReply job enough (shareOf main shares c other) (from main s) refuse also-plain (answered also-plain)
-
-      -- A call whose plain replies are the same replies the same.
-      pub same-reply : plain ≡ also-plain → mine .reply ≡ theirs .reply
-      unfolding sharedReply tested
-      same-reply e = rw (same-fit, same-marked, e) refl
-
-      -- Its own mark is the same, where what passes the tests takes the same of the own stretch.
-      pub same-mark : (checkJob job .number ≡ 0 → enough ≡ true → c < length shares
-          → getD (marksFor (jobOf job) (shareOf main shares c marks) (from main s) (answered plain)) c 0
-          ≡ getD (marksFor (jobOf job) (shareOf main shares c other) (from main s) (answered also-plain)) c 0)
-          → getD (mine .marks) c 0 ≡ getD (theirs .marks) c 0
-      unfolding sharedReply tested
-      same-mark e =
-          rw (same-fit, same-marked)
-          (go (eqb (checkJob job .number) 0) refl (enough && marksFit (shareOf main shares c other)) refl (sharesFit (shareOf main shares c other) main)
-          (ltb c (length shares)) refl)
-        where
-          go : (p : Bool) → eqb (checkJob job .number) 0 ≡ p → (l : Bool) → (enough && marksFit (shareOf main shares c other)) ≡ l → (f k : Bool) → ltb c (length shares) ≡ k
-              → getD (cond p (cond l (cond f (cond k (marksFor (jobOf job) (shareOf main shares c marks) (from main s) (answered plain)) marks) marks) marks) marks) c 0
-              ≡ getD (cond p (cond l (cond f (cond k (marksFor (jobOf job) (shareOf main shares c other) (from main s) (answered also-plain)) other) other) other) other) c 0
-          go true p true l true true k = e (eqb-true _ 0 p) (both enough _ l .0) (ltb-true _ _ k)
-          go true p true l true false k = a .own
-          go true p true l false b k = a .own
-          go true p false l f b k = a .own
-          go false p q l f b k = a .own
 
     -- ---- the words taken of the own stretch
 
@@ -119,6 +88,38 @@ module _ (main shares : List ℕ) (c : ℕ) where
               own-after marks (a .within) below (taken marks) ∙ ap₂ _+_ (a .own) own-same ∙ sym (own-after other (a .also) below (taken other))
           go false = a .own
 
+    module _ {A : Type 0} (job : List ℕ) (enough : Bool) (s : Source) (refuse : Answer → A) (plain also-plain : A) (answered : A → Answer) where
+      abbrev mine : Shared A
+      mine = sharedReply job enough (shareOf main shares c marks) (from main s) refuse plain (answered plain)
+
+      abbrev theirs : Shared A
+      theirs = sharedReply job enough (shareOf main shares c other) (from main s) refuse also-plain (answered also-plain)
+
+      -- A call whose plain replies are the same replies the same.
+      pub same-reply : plain ≡ also-plain → mine .reply ≡ theirs .reply
+      unfolding sharedReply tested
+      same-reply e = rw (same-fit, same-marked, e) refl
+
+      -- Its own mark is the same, where words are taken of both, or of neither.
+      pub same-mark : takesWords (answered (mine .reply)) ≡ takesWords (answered (theirs .reply)) → getD (mine .marks) c 0 ≡ getD (theirs .marks) c 0
+      unfolding sharedReply tested
+      same-mark t =
+          rw (same-fit, same-marked)
+          (go (eqb (checkJob job .number) 0) (enough && marksFit (shareOf main shares c other)) (sharesFit (shareOf main shares c other) main) (ltb c (length shares)) refl
+          (rw (same-fit, same-marked) at t))
+        where
+          answer-of : Bool → Bool → Bool → Bool → A → Answer
+          answer-of p l f k r = answered (cond p (cond l (cond f (cond k r (refuse (answer 26 0))) (refuse (answer 25 0))) (refuse (answer 13 0))) (refuse (checkJob job)))
+
+          go : (p l f k : Bool) → ltb c (length shares) ≡ k → takesWords (answer-of p l f k plain) ≡ takesWords (answer-of p l f k also-plain)
+              → getD (cond p (cond l (cond f (cond k (marksFor (jobOf job) (shareOf main shares c marks) (from main s) (answered plain)) marks) marks) marks) marks) c 0
+              ≡ getD (cond p (cond l (cond f (cond k (marksFor (jobOf job) (shareOf main shares c other) (from main s) (answered also-plain)) other) other) other) other) c 0
+          go true true true true k t = same-after job s (ltb-true _ _ k) _ _ t
+          go true true true false k t = a .own
+          go true true false b k t = a .own
+          go true false f b k t = a .own
+          go false l f b k t = a .own
+
     -- ---- the plain calls
 
     -- what a job that stays within the own stretch settles to
@@ -131,74 +132,109 @@ module _ (main shares : List ℕ) (c : ℕ) where
         t .same (commonLeft shares marks main) ∙ sym (t .same (commonLeft shares other main))
         ∙ ap (λ (l : List ℕ). settle (lentOf (jobOf job .header) s) (jobOf job .instructions) (l ++ commonLeft shares other main)) same-own
 
-    same-run : (job : List ℕ) (m : Memory) → StaysWithin (lentOf (jobOf job .header) (m .source)) (jobOf job .instructions) (ownLeft shares marks c main)
+    same-run : (job : List ℕ) (m : Memory) → StaysOwn main shares (Call.run c job m) marks
         → runReply job (withSource m (shared (shareOf main shares c marks) (from main (m .source))))
         ≡ runReply job (withSource m (shared (shareOf main shares c other) (from main (m .source))))
-    unfolding runReply enoughWords
-    same-run job m w =
-        let h = jobOf job .header in
-        let lent = lentOf h (m .source) in
-        let is = jobOf job .instructions in
-        let same : execute h lent is (available (shareOf main shares c marks) main) starts ≡ execute h lent is (available (shareOf main shares c other) main) starts =
-        execute-settle h lent is _ starts ∙ ap (onSettled h starts) (same-settled job (m .source) w) ∙ sym (execute-settle h lent is _ starts) in
-        ap (λ (r : RunReply). answers job m r)
-        (ended-source h m _ (execute h lent is (available (shareOf main shares c marks) main) starts)
-        ∙ ap (endedReply h m) same
-        ∙ sym (ended-source h m _ (execute h lent is (available (shareOf main shares c other) main) starts)))
+    unfolding StaysOwn runReply enoughWords
+    same-run job m w = go (eqb (checkJob job .number) 0) refl (enoughWords (jobOf job .header) m) refl
       where
-        answers : List ℕ → Memory → RunReply → RunReply
-        answers job m r = cond (eqb (checkJob job .number) 0) (cond (enoughWords (jobOf job .header) m) r (untouched (answer 13 0) m)) (untouched (checkJob job) m)
+        h : Header
+        h = jobOf job .header
 
-    same-text : (job : List ℕ) (s : Source) (out : List ℕ) → StaysWithin (lentOf (jobOf job .header) s) (jobOf job .instructions) (ownLeft shares marks c main)
+        lent : Lent
+        lent = lentOf h (m .source)
+
+        ended : List ℕ → Ended
+        ended marks = execute h lent (jobOf job .instructions) (available (shareOf main shares c marks) main) starts
+
+        went : List ℕ → RunReply
+        went marks = endedReply h (withSource m (shared (shareOf main shares c marks) (from main (m .source)))) (ended marks)
+
+        same : checkJob job .number ≡ 0 → enoughWords h m ≡ true → went marks ≡ went other
+        same p e =
+            ended-source h m _ (ended marks)
+            ∙ ap (endedReply h m)
+            (execute-settle h lent _ _ starts ∙ ap (onSettled h starts) (same-settled job (m .source) (w p e)) ∙ sym (execute-settle h lent _ _ starts))
+            ∙ sym (ended-source h m _ (ended other))
+
+        go : (p : Bool) → eqb (checkJob job .number) 0 ≡ p → (e : Bool) → enoughWords h m ≡ e
+            → cond p (cond e (went marks) (untouched (answer 13 0) m)) (untouched (checkJob job) m) ≡ cond p (cond e (went other) (untouched (answer 13 0) m)) (untouched (checkJob job) m)
+        go true p true e = same (eqb-true _ 0 p) e
+        go true p false e = refl
+        go false p e′ e = refl
+
+    same-text : (job : List ℕ) (s : Source) (out : List ℕ) → StaysOwn main shares (Call.settle c job s out) marks
         → settleReply job (shared (shareOf main shares c marks) (from main s)) out ≡ settleReply job (shared (shareOf main shares c other) (from main s)) out
-    unfolding settleReply
-    same-text job s out w =
-        ap
-        (λ (o : Settled).
-        cond (eqb (checkJob job .number) 0)
-        (cond (leb (outcomeWords (jobOf job .header)) (length (s .noiseless))) (settledAnswer (jobOf job) o out) (refusedText (answer 13 0) out))
-        (refusedText (checkJob job) out))
-        (same-settled job s w)
-
-    -- a run that passes the tests and has the words answers 0 or 14
-    run-takes : (job : List ℕ) (m : Memory) (src : Source) → checkJob job .number ≡ 0 → enoughWords (jobOf job .header) (withSource m src) ≡ true
-        → takesWords (runReply job (withSource m src) .answered) ≡ true
-    unfolding runReply takesWords
-    run-takes job m src p e = rw (eq-eqb _ _ p, e) (go (execute _ _ _ _ _))
+    unfolding StaysOwn settleReply
+    same-text job s out w = go (eqb (checkJob job .number) 0) refl (leb (outcomeWords (jobOf job .header)) (length (s .noiseless))) refl
       where
-        go : (o : Ended) → takesWords (endedReply (jobOf job .header) (withSource m src) o .answered) ≡ true
-        go (Ended.spentAt k) = unfold endedReply spentReply in refl
-        go (Ended.ended states) = unfold endedReply finishedReply in refl
+        went : List ℕ → TextReply
+        went marks = settledAnswer (jobOf job) (settle (lentOf (jobOf job .header) s) (jobOf job .instructions) (available (shareOf main shares c marks) main)) out
+
+        go : (p : Bool) → eqb (checkJob job .number) 0 ≡ p → (e : Bool) → leb (outcomeWords (jobOf job .header)) (length (s .noiseless)) ≡ e
+            → cond p (cond e (went marks) (refusedText (answer 13 0) out)) (refusedText (checkJob job) out)
+            ≡ cond p (cond e (went other) (refusedText (answer 13 0) out)) (refusedText (checkJob job) out)
+        go true p true e = ap (λ (o : Settled). settledAnswer (jobOf job) o out) (same-settled job s (w (eqb-true _ 0 p) e))
+        go true p false e = refl
+        go false p e′ e = refl
 
     -- ---- a call of the caller's
 
     pub call-same : (k : Call) → callerOf k ≡ c → StaysOwn main shares k marks → replyTo main shares k marks ≡ replyTo main shares k other
-    unfolding callerOf StaysOwn replyTo sharedRunReply sharedSettleReply
+    unfolding callerOf replyTo sharedRunReply sharedSettleReply
     call-same (Call.run d job m) e w =
         rw e (ap Reply.ran (same-reply job _ (m .source) (λ b. untouched b (withMain main m)) _ _ (λ (r : RunReply). r .answered) (same-run job m (rw e at w))))
     call-same (Call.settle d job s out) e w =
         rw e (ap Reply.wrote (same-reply job _ s (λ b. refusedText b out) _ _ (λ (r : TextReply). r .answered) (same-text job s out (rw e at w))))
 
-    pub call-mark : (k : Call) → callerOf k ≡ c → RunOrStays main shares k marks → getD (marksBy main shares k marks) c 0 ≡ getD (marksBy main shares k other) c 0
-    unfolding callerOf RunOrStays StaysOwn marksBy sharedRunReply sharedSettleReply enoughWords
-    call-mark (Call.run d job m) e w =
-        rw e
-        (same-mark job _ (m .source) (λ b. untouched b (withMain main m)) _ _ (λ (r : RunReply). r .answered)
-        (λ p enough below.
-        same-after job (m .source) below _ _
-        (run-takes job m (shared (shareOf main shares c marks) (from main (m .source))) p enough
-        ∙ sym (run-takes job m (shared (shareOf main shares c other) (from main (m .source))) p enough))))
-    call-mark (Call.settle d job s out) e w =
-        rw e
-        (same-mark job _ s (λ b. refusedText b out) _ _ (λ (r : TextReply). r .answered)
-        (λ p enough below. same-after job s below _ _ (ap (λ (r : TextReply). takesWords (r .answered)) (same-text job s out (rw e at w)))))
+    -- A run takes words or not by the tests alone.
+    run-alike : (job : List ℕ) (m : Memory) → takes main shares (Call.run c job m) marks ≡ takes main shares (Call.run c job m) other
+    unfolding takes sharedRunReply sharedReply tested enoughWords
+    run-alike job m =
+        rw (same-fit, same-marked)
+        (go (eqb (checkJob job .number) 0) refl (enoughWords (jobOf job .header) m && marksFit (shareOf main shares c other)) refl (sharesFit (shareOf main shares c other) main) (ltb c (length shares)))
+      where
+        ran : List ℕ → RunReply
+        ran marks = runReply job (withSource m (shared (shareOf main shares c marks) (from main (m .source))))
+
+        no : Answer → RunReply
+        no b = untouched b (withMain main m)
+
+        tests : Bool → Bool → Bool → Bool → RunReply → Bool
+        tests p l f k r = takesWords (cond p (cond l (cond f (cond k r (no (answer 26 0))) (no (answer 25 0))) (no (answer 13 0))) (no (checkJob job)) .answered)
+
+        go : (p : Bool) → eqb (checkJob job .number) 0 ≡ p → (l : Bool) → (enoughWords (jobOf job .header) m && marksFit (shareOf main shares c other)) ≡ l → (f k : Bool)
+            → tests p l f k (ran marks) ≡ tests p l f k (ran other)
+        go true p true l true true = took marks ∙ sym (took other)
+          where
+            took : (marks : List ℕ) → takesWords (ran marks .answered) ≡ true
+            took marks = run-takes job (withSource m (shared (shareOf main shares c marks) (from main (m .source)))) (eqb-true _ 0 p) (both (enoughWords (jobOf job .header) m) _ l .0)
+        go true p true l true false = refl
+        go true p true l false k = refl
+        go true p false l f k = refl
+        go false p l′ l f k = refl
+
+    pub call-alike : (k : Call) → callerOf k ≡ c → RunOrStays main shares k marks → takes main shares k marks ≡ takes main shares k other
+    unfolding callerOf RunOrStays
+    call-alike (Call.run d job m) e w = rw e (run-alike job m)
+    call-alike (Call.settle d job s out) e w = unfold takes replyTo in ap answered-takes (call-same (Call.settle d job s out) e w)
+      where
+        answered-takes : Reply → Bool
+        answered-takes (Reply.ran r) = takesWords (r .answered)
+        answered-takes (Reply.wrote r) = takesWords (r .answered)
+
+    pub call-mark : (k : Call) → callerOf k ≡ c → takes main shares k marks ≡ takes main shares k other → getD (marksBy main shares k marks) c 0 ≡ getD (marksBy main shares k other) c 0
+    unfolding callerOf takes marksBy sharedRunReply sharedSettleReply
+    call-mark (Call.run d job m) e t =
+        rw e (same-mark job _ (m .source) (λ b. untouched b (withMain main m)) _ _ (λ (r : RunReply). r .answered) (rw e at t))
+    call-mark (Call.settle d job s out) e t = rw e (same-mark job _ s (λ b. refusedText b out) _ _ (λ (r : TextReply). r .answered) (rw e at t))
 
   -- ---- a sequence
 
-  pub agree-call : {marks other : List ℕ} → Agree marks other → (k : Call) → callerOf k ≡ c → RunOrStays main shares k marks
+  pub agree-call : {marks other : List ℕ} → Agree marks other → (k : Call) → callerOf k ≡ c → takes main shares k marks ≡ takes main shares k other
       → Agree (marksBy main shares k marks) (marksBy main shares k other)
-  agree-call a k e w =
-      record { within = call-within main shares k _ (a .within); also = call-within main shares k _ (a .also); own = call-mark a k e w }
+  agree-call a k e t =
+      record { within = call-within main shares k _ (a .within); also = call-within main shares k _ (a .also); own = call-mark a k e t }
 
   -- a call of another's leaves the own mark alone
   agree-other : {marks other : List ℕ} → Agree marks other → c < length shares → (k : Call) → (callerOf k ≡ c → ⊥) → Agree marks (marksBy main shares k other)
@@ -214,16 +250,34 @@ module _ (main shares : List ℕ) (c : ℕ) where
       go (Called.none same h) = ap (λ (l : List ℕ). getD l c 0) same
 
   -- The caller's own calls alone, beside the calls of all.
-  pub agree-through : (marks other : List ℕ) → Agree marks other → c < length shares → (ks : List Call) → AllRunOrStay main shares (callsOf c ks) marks
+  pub agree-through : (marks other : List ℕ) → Agree marks other → c < length shares → (ks : List Call) → TakeAlike main shares c ks marks other
       → Agree (marksThrough main shares (callsOf c ks) marks) (marksThrough main shares ks other)
-  unfolding callsOf marksThrough AllRunOrStay
+  unfolding callsOf marksThrough TakeAlike
   agree-through marks other a below [] w = a
-  agree-through marks other a below (k ∷ ks) w =
-      go (eqb (callerOf k) c) refl (λ n o b. agree-through n o b below ks) w
+  agree-through marks other a below (k ∷ ks) w = go (eqb (callerOf k) c) refl (λ n o b. agree-through n o b below ks) w
     where
       go : (b : Bool) → eqb (callerOf k) c ≡ b
-          → ((n o : List ℕ) → Agree n o → AllRunOrStay main shares (callsOf c ks) n → Agree (marksThrough main shares (callsOf c ks) n) (marksThrough main shares ks o))
-          → AllRunOrStay main shares (cond b (k ∷ callsOf c ks) (callsOf c ks)) marks
+          → ((n o : List ℕ) → Agree n o → TakeAlike main shares c ks n o → Agree (marksThrough main shares (callsOf c ks) n) (marksThrough main shares ks o))
+          → TakesAlike b (takes main shares k marks ≡ takes main shares k other) (TakeAlike main shares c ks (marksBy main shares k marks) (marksBy main shares k other))
+          (TakeAlike main shares c ks marks (marksBy main shares k other))
           → Agree (marksThrough main shares (cond b (k ∷ callsOf c ks) (callsOf c ks)) marks) (marksThrough main shares ks (marksBy main shares k other))
-      go true e ih v = ih _ _ (agree-call a k (eqb-true _ _ e) (v .0)) (v .1)
-      go false e ih v = ih _ _ (agree-other a below k (eqb-false _ _ e)) v
+      go true e ih v = unfold TakesAlike in ih _ _ (agree-call a k (eqb-true _ _ e) (v .0)) (v .1)
+      go false e ih v = unfold TakesAlike in ih _ _ (agree-other a below k (eqb-false _ _ e)) v
+
+  -- Runs, and settlings that stay within the own stretch, take their words in both cases or in neither.
+  pub alike-through : (marks other : List ℕ) → Agree marks other → c < length shares → (ks : List Call) → AllRunOrStay main shares (callsOf c ks) marks
+      → TakeAlike main shares c ks marks other
+  unfolding callsOf TakeAlike AllRunOrStay
+  alike-through marks other a below [] w = tt
+  alike-through marks other a below (k ∷ ks) w = go (eqb (callerOf k) c) refl (λ n o b. alike-through n o b below ks) w
+    where
+      go : (b : Bool) → eqb (callerOf k) c ≡ b
+          → ((n o : List ℕ) → Agree n o → AllRunOrStay main shares (callsOf c ks) n → TakeAlike main shares c ks n o)
+          → AllRunOrStay main shares (cond b (k ∷ callsOf c ks) (callsOf c ks)) marks
+          → TakesAlike b (takes main shares k marks ≡ takes main shares k other) (TakeAlike main shares c ks (marksBy main shares k marks) (marksBy main shares k other))
+          (TakeAlike main shares c ks marks (marksBy main shares k other))
+      go true e ih v =
+          unfold TakesAlike in
+          let alike = call-alike a k (eqb-true _ _ e) (v .0) in
+          (alike, ih _ _ (agree-call a k (eqb-true _ _ e) alike) (v .1))
+      go false e ih v = unfold TakesAlike in ih _ _ (agree-other a below k (eqb-false _ _ e)) v

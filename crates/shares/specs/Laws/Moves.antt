@@ -1,24 +1,24 @@
 -- Laws: what a call with a share does to the marks, and the places that it is handed. Assumes nothing.
-use mathlib.Core.Path.{_≡_, refl, sym, ap, ap₂, subst, _∙_}
-use mathlib.Core.Bool.{Bool, true, false, true≢false, cond, _&&_, _||_}
+use mathlib.Core.Path.{_≡_, refl, sym, ap, _∙_}
+use mathlib.Core.Bool.{Bool, true, false, true≢false, cond, _&&_}
+use mathlib.Core.Logic.{_⊎_, inl, inr}
 use mathlib.Core.List.{List, [], _∷_, _++_}
 use Prim.Native.Nat.{ℕ, zero, suc, _+_, _-_, _≤_, _<_, min}
 use native.Mathlib.Omega.{arith}
-use native.Mathlib.Decide.{decLt}
 use borrow.Author.Tests.{eqb-true, eqb-false, eq-eqb, ne-eqb, ltb-true, leb-true}
-use lib.Dec.{eqb, leb, ltb}
-use lib.ListN.{length, getD, set, take, drop, length-append, length-take, length-drop, length-set}
+use lib.Dec.{eqb, leb}
+use lib.ListN.{length, getD, take}
 use Rattle.text.specs.Laws.Values.{both}
 use Rattle.job.specs.declared.Answer.{Answer}
 use Rattle.job.specs.Job.{answer, Job, jobOf, checkJob}
 use Rattle.job.specs.Reply.{ofCall}
 use Rattle.job.specs.Laws.Numbers.{check-of-job}
-use Rattle.draws.specs.Left.{leftAfter}
-use Rattle.run.specs.Run.{Source, lentOf}
-use Rattle.shares.specs.Shares.{Share, sum, stretchFrom, ownLeft, commonLeft, available, marksFit, mostCallers, eachWithin, sharesFit, callerFits, moved, marksAfter}
+use Rattle.run.specs.Run.{Source}
+use Rattle.shares.specs.Shares.{Share, sum, stretchFrom, ownLeft, commonLeft, marksFit, mostCallers, eachWithin, sharesFit, callerFits, moved, marksAfter}
 use Rattle.shares.specs.Replies.{shared, takenBy, takesWords, marksFor, Shared, tested, sharedReply}
-use Rattle.shares.specs.Account.{places, availablePlaces, handed}
-use Rattle.shares.specs.Laws.Places.{length-places, take-places}
+use Rattle.shares.specs.Account.{places, availablePlaces, handed, Passes}
+use Rattle.shares.specs.Laws.Places.{take-places}
+use Rattle.shares.specs.Laws.Words.{available-length}
 
 -- ---- what passes the tests
 
@@ -29,7 +29,7 @@ pub record Fits (s : Share) (main : List ℕ) : Type 0 where
   pub common : getD (s .marks) (length (s .shares)) 0 ≤ length main - sum (s .shares)
   pub caller : s .caller < length (s .shares)
 
-fits : (s : Share) (main : List ℕ) → marksFit s ≡ true → sharesFit s main ≡ true → callerFits s ≡ true → Fits s main
+pub fits : (s : Share) (main : List ℕ) → marksFit s ≡ true → sharesFit s main ≡ true → callerFits s ≡ true → Fits s main
 unfolding sharesFit
 fits s main m f c =
     let common = both _ (leb (getD (s .marks) (length (s .shares)) 0) (length main - sum (s .shares))) f in
@@ -42,27 +42,6 @@ fits s main m f c =
       common = leb-true _ _ (common .1);
       caller = ltb-true _ _ c;
     }
-
--- ---- the parts in number
-
-pub own-length : (shares marks : List ℕ) (c : ℕ) (main : List ℕ) → length (ownLeft shares marks c main) ≤ getD shares c 0 - getD marks c 0
-unfolding ownLeft
-own-length shares marks c main =
-    let e : length (drop (getD marks c 0) (take (getD shares c 0) (drop (stretchFrom shares c) main)))
-    ≡ min (getD shares c 0) (length (drop (stretchFrom shares c) main)) - getD marks c 0 =
-    length-drop (getD marks c 0) (take (getD shares c 0) (drop (stretchFrom shares c) main))
-    ∙ ap (λ (n : ℕ). n - getD marks c 0) (length-take (getD shares c 0) (drop (stretchFrom shares c) main)) in
-    omega (arith, e)
-
-pub common-length : (shares marks main : List ℕ) → length (commonLeft shares marks main) ≡ length main - sum shares - getD marks (length shares) 0
-unfolding commonLeft
-common-length shares marks main =
-    length-drop (getD marks (length shares) 0) (drop (sum shares) main) ∙ ap (λ (n : ℕ). n - getD marks (length shares) 0) (length-drop (sum shares) main)
-
-pub available-length : (s : Share) (main : List ℕ)
-    → length (available s main) ≡ length (ownLeft (s .shares) (s .marks) (s .caller) main) + length (commonLeft (s .shares) (s .marks) main)
-unfolding available
-available-length s main = length-append (ownLeft (s .shares) (s .marks) (s .caller) main) (commonLeft (s .shares) (s .marks) main)
 
 -- ---- a call
 
@@ -130,10 +109,25 @@ module _ (j : Job) (s : Share) (from : Source) (f : Fits s (from .main)) where
         handed-are = first-places taken _ (length own) _ (length common) taken-few;
       }
 
--- no other refusal takes a word
-own-number : (job : List ℕ) → (checkJob job .number ≡ 0 → ⊥) → takesWords (checkJob job) ≡ false
+-- 0 and 14 take words, and no other number does
+pub takes-zero : (a : Answer) → a .number ≡ 0 → takesWords a ≡ true
 unfolding takesWords
-own-number job refused = rw (ne-eqb (checkJob job .number) 0 refused) (ne-eqb (checkJob job .number) 14 not-spent)
+takes-zero a e = rw e refl
+
+takes-spent : (a : Answer) → a .number ≡ 14 → takesWords a ≡ true
+unfolding takesWords
+takes-spent a e = rw e refl
+
+pub takes-by : (a : Answer) → (a .number ≡ 0 ⊎ a .number ≡ 14) → takesWords a ≡ true
+takes-by a (inl e) = takes-zero a e
+takes-by a (inr e) = takes-spent a e
+
+pub takes-none : (a : Answer) → (a .number ≡ 0 → ⊥) → (a .number ≡ 14 → ⊥) → takesWords a ≡ false
+unfolding takesWords
+takes-none a not-zero not-spent = rw (ne-eqb (a .number) 0 not-zero) (ne-eqb (a .number) 14 not-spent)
+
+own-number : (job : List ℕ) → (checkJob job .number ≡ 0 → ⊥) → takesWords (checkJob job) ≡ false
+own-number job refused = takes-none (checkJob job) refused not-spent
   where
     not-spent : checkJob job .number ≡ 14 → ⊥
     not-spent e = let clash : true ≡ false = ap ofCall (sym e) ∙ check-of-job job in absurd (true≢false clash)
@@ -177,3 +171,45 @@ module _ {A : Type 0} (answered : A → Answer) (refuse : Answer → A) (refuses
           → Called s (from .main) (r .marks) (handed (jobOf job) s from (answered (r .reply)))
       passes true p = lent p (enough && marksFit s) refl
       passes false p = refused-none (checkJob job) (own-number job (eqb-false _ 0 p)) (rw p refl) (rw p refl)
+
+  -- The marks move only where words are taken.
+  pub kept : takesWords (answered (r .reply)) ≡ false → r .marks ≡ s .marks
+  unfolding sharedReply tested marksFor
+  kept t = go (eqb (checkJob job .number) 0) (enough && marksFit s) (sharesFit s (from .main)) (callerFits s) t
+    where
+      after : List ℕ
+      after = marksAfter s (from .main) (takenBy (jobOf job) (shared s from))
+
+      go : (p l f c : Bool)
+          → takesWords (answered (cond p (cond l (cond f (cond c plain (refuse (answer 26 0))) (refuse (answer 25 0))) (refuse (answer 13 0))) (refuse (checkJob job)))) ≡ false
+          → cond p (cond l (cond f (cond c (cond (takesWords (answered plain)) after (s .marks)) (s .marks)) (s .marks)) (s .marks)) (s .marks) ≡ s .marks
+      go true true true true t = rw t refl
+      go true true true false t = refl
+      go true true false c t = refl
+      go true false f c t = refl
+      go false l f c t = refl
+
+  -- A call that takes words has passed every test.
+  pub passed : takesWords (answered (r .reply)) ≡ true → Passes job enough s (from .main)
+  unfolding sharedReply tested takesWords
+  passed t = go (eqb (checkJob job .number) 0) refl (enough && marksFit s) refl (sharesFit s (from .main)) refl (callerFits s) refl t
+    where
+      no : (a : Answer) → takesWords a ≡ false → takesWords (answered (refuse a)) ≡ true → ⊥
+      no a f t = true≢false (sym t ∙ ap takesWords (refuses a) ∙ f)
+
+      go : (p : Bool) → eqb (checkJob job .number) 0 ≡ p → (l : Bool) → (enough && marksFit s) ≡ l → (f : Bool) → sharesFit s (from .main) ≡ f → (c : Bool) → callerFits s ≡ c
+          → takesWords (answered (cond p (cond l (cond f (cond c plain (refuse (answer 26 0))) (refuse (answer 25 0))) (refuse (answer 13 0))) (refuse (checkJob job)))) ≡ true
+          → Passes job enough s (from .main)
+      go true p true l true f true c t = record { tests = eqb-true _ 0 p; lent = l; shares = f; caller = c }
+      go true p true l true f false c t = absurd (no (answer 26 0) refl t)
+      go true p true l false f c′ c t = absurd (no (answer 25 0) refl t)
+      go true p false l f′ f c′ c t = absurd (no (answer 13 0) refl t)
+      go false p l′ l f′ f c′ c t = absurd (no (checkJob job) (own-number job (eqb-false _ 0 p)) t)
+
+  -- A call that takes words marks as many as its job takes.
+  pub moves : takesWords (answered (r .reply)) ≡ true → r .marks ≡ marksAfter s (from .main) (takenBy (jobOf job) (shared s from))
+  unfolding sharedReply tested marksFor
+  moves t =
+      let p = passed t in
+      let went : r .reply ≡ plain = rw (eq-eqb _ _ (p .tests), p .lent, p .shares, p .caller) refl in
+      rw (eq-eqb _ _ (p .tests), p .lent, p .shares, p .caller, sym (ap (λ (x : A). takesWords (answered x)) went) ∙ t) refl

@@ -1,16 +1,16 @@
 -- Laws: lists of places, marks and what they add up to. Assumes nothing.
-use mathlib.Core.Path.{_≡_, refl, sym, ap, ap₂, _∙_}
-use mathlib.Core.Bool.{Bool, true, false, cond, _&&_}
+use mathlib.Core.Path.{_≡_, refl, ap, ap₂, _∙_}
+use mathlib.Core.Bool.{Bool, true, false, cond}
 use mathlib.Core.List.{List, [], _∷_, _++_}
-use Prim.Native.Nat.{ℕ, zero, suc, _+_, _-_, _≤_, _<_, min}
+use Prim.Native.Nat.{ℕ, zero, suc, _+_, _-_, _≤_, _<_}
 use native.Mathlib.Decide.{decLt, ℕ-discrete}
 use native.Mathlib.Omega.{arith}
-use borrow.Author.Tests.{eqb-true, eqb-false, eq-eqb, ne-eqb, leb-true, le-leb}
+use borrow.Author.Tests.{eq-eqb, ne-eqb, leb-true, le-leb}
 use lib.Dec.{eqb, leb}
-use lib.ListN.{length, getD, set, take, replicate}
+use lib.ListN.{length, getD, take}
 use Rattle.text.specs.Laws.Values.{both}
 use Rattle.shares.specs.Shares.{sum, eachWithin, moved}
-use Rattle.shares.specs.Account.{places, times, leftInStretches}
+use Rattle.shares.specs.Account.{places, times, nothingTaken, leftInStretches}
 
 -- ---- places
 
@@ -106,11 +106,10 @@ marked-behind p from (n ∷ shares) (k ∷ marks) w h =
     ap₂ _+_ (times-behind p from k (omega (arith, h, few)))
     (marked-behind p (from + n) shares marks (both (leb k n) (eachWithin shares marks) w .1) (omega (arith, h)))
 
-pub marked-none : (p from : ℕ) (shares : List ℕ) (n : ℕ) → marked p from shares (replicate n 0) ≡ 0
+pub marked-none : (p from : ℕ) (shares : List ℕ) (beyond : List ℕ) → marked p from shares (nothingTaken shares beyond) ≡ 0
 unfolding marked places times
-marked-none p from shares zero = refl
-marked-none p from [] (suc n) = refl
-marked-none p from (m ∷ shares) (suc n) = omega (arith, marked-none p (from + m) shares n)
+marked-none p from [] beyond = refl
+marked-none p from (m ∷ shares) beyond = omega (arith, marked-none p (from + m) shares beyond)
 
 -- ---- a mark moved
 
@@ -155,11 +154,10 @@ within-common (n ∷ shares) (k ∷ marks) zero t w h = absurd (omega (arith, h)
 within-common (n ∷ shares) (k ∷ marks) (suc i) t w h =
     rw (both (leb k n) (eachWithin shares marks) w .0) (within-common shares marks i t (both (leb k n) (eachWithin shares marks) w .1) (omega (arith, h)))
 
-pub within-none : (shares : List ℕ) (n : ℕ) → eachWithin shares (replicate n 0) ≡ true
+pub within-none : (shares beyond : List ℕ) → eachWithin shares (nothingTaken shares beyond) ≡ true
 unfolding eachWithin
-within-none [] n = refl
-within-none (m ∷ shares) zero = refl
-within-none (m ∷ shares) (suc n) = rw (le-leb 0 m (omega arith)) (within-none shares n)
+within-none [] beyond = refl
+within-none (m ∷ shares) beyond = rw (le-leb 0 m (omega arith)) (within-none shares beyond)
 
 -- ---- what is left of the stretches
 
@@ -180,8 +178,7 @@ left-common (n ∷ shares) [] i t h = refl
 left-common (n ∷ shares) (k ∷ marks) zero t h = absurd (omega (arith, h))
 left-common (n ∷ shares) (k ∷ marks) (suc i) t h = ap (λ (x : ℕ). (n - k) + x) (left-common shares marks i t (omega (arith, h)))
 
-pub left-none : (shares : List ℕ) (n : ℕ) → leftInStretches shares (replicate n 0) ≡ sum shares
+pub left-none : (shares beyond : List ℕ) → leftInStretches shares (nothingTaken shares beyond) ≡ sum shares
 unfolding leftInStretches sum
-left-none [] n = refl
-left-none (m ∷ shares) zero = ap (λ (x : ℕ). m + x) (left-none shares 0)
-left-none (m ∷ shares) (suc n) = omega (arith, left-none shares n)
+left-none [] beyond = refl
+left-none (m ∷ shares) beyond = omega (arith, left-none shares beyond)

@@ -1,18 +1,18 @@
 -- Laws: the marks and the places handed out, over a sequence of calls. Assumes nothing.
 use mathlib.Core.Path.{_≡_, refl, sym, ap, ap₂, subst, _∙_}
-use mathlib.Core.Bool.{Bool, true}
 use mathlib.Core.Logic.{_⊎_, inl, inr}
-use mathlib.Core.List.{List, [], _∷_, _++_}
+use mathlib.Core.List.{List, [], _∷_}
 use Prim.Native.Nat.{ℕ, zero, suc, _+_, _-_, _≤_, _<_}
 use native.Mathlib.Omega.{arith}
-use lib.ListN.{length, getD, set, take, replicate, length-append, length-set, length-replicate, getD-replicate}
+use lib.ListN.{length, getD, take, replicate, length-append, length-set, length-replicate}
 use Rattle.job.specs.Reply.{TextReply, refusedText}
 use Rattle.run.specs.Run.{RunReply, untouched}
-use Rattle.shares.specs.Shares.{Share, sum, stretchFrom, eachWithin, moved}
+use Rattle.shares.specs.Shares.{sum, stretchFrom, moved}
 use Rattle.shares.specs.Replies.{sharedRunReply, sharedSettleReply}
-use Rattle.shares.specs.Account.{places, times, withMain, Call, callerOf, marksBy, handedBy, marksThrough, handedThrough, shareOf, nothingTaken, leftInStretches, leftInCommon}
-use Rattle.shares.specs.Laws.Places.{times-append, times-before, times-behind, length-places, marked, marked-once, marked-behind, marked-none, marked-moved, within-at, within-moved, within-common, within-none, left-moved, left-common, left-none}
-use Rattle.shares.specs.Laws.Moves.{Fits, Moves, Called, own-length, common-length, called}
+use Rattle.shares.specs.Account.{places, times, withMain, Call, callerOf, marksBy, handedBy, marksThrough, handedThrough, shareOf, nothingTaken, Within, leftInStretches, leftInCommon}
+use Rattle.shares.specs.Laws.Places.{times-append, times-before, times-behind, length-places, marked, marked-moved, within-at, within-moved, within-common, within-none, left-moved, left-common}
+use Rattle.shares.specs.Laws.Words.{own-length, common-length}
+use Rattle.shares.specs.Laws.Moves.{Moves, Called, called}
 
 -- ---- lists
 
@@ -38,19 +38,14 @@ all-taken : (shares : List ℕ) → take (length shares) shares ≡ shares
 all-taken [] = refl
 all-taken (n ∷ shares) = ap (λ (l : List ℕ). n ∷ l) (all-taken shares)
 
-pub common-none : (shares : List ℕ) → getD (nothingTaken shares) (length shares) 0 ≡ 0
-common-none shares = getD-replicate (suc (length shares)) (length shares) 0 0 (omega arith)
+pub common-none : (shares beyond : List ℕ) → getD (nothingTaken shares beyond) (length shares) 0 ≡ 0
+common-none [] beyond = refl
+common-none (n ∷ shares) beyond = common-none shares beyond
 
 -- ---- one call
 
 module _ (main shares : List ℕ) where
-  -- no more is taken than the parts hold
-  pub record Within (marks : List ℕ) : Type 0 where
-    pub marked-all : length shares < length marks
-    pub each : eachWithin shares marks ≡ true
-    pub common : getD marks (length shares) 0 ≤ length main - sum shares
-
-  module _ (caller : ℕ) (marks next handed-places : List ℕ) (w : Within marks) (m : Moves (shareOf main shares caller marks) main next handed-places) where
+  module _ (caller : ℕ) (marks next handed-places : List ℕ) (w : Within main shares marks) (m : Moves (shareOf main shares caller marks) main next handed-places) where
     abbrev mid : List ℕ
     mid = moved marks caller (m .own)
 
@@ -71,9 +66,9 @@ module _ (main shares : List ℕ) where
     mid-long : length shares < length mid
     mid-long = omega (arith, length-moved marks caller (m .own), w .marked-all)
 
-    pub next-within : Within next
+    pub next-within : Within main shares next
     next-within =
-        subst Within (sym (m .marks-are))
+        subst (Within main shares) (sym (m .marks-are))
         record {
           marked-all = omega (arith, length-moved mid (length shares) (m .common), mid-long);
           each = within-common shares mid (length shares) (m .common) (within-moved shares marks caller (m .own) (w .each) own-room) (omega arith);
@@ -120,13 +115,13 @@ module _ (main shares : List ℕ) where
   call-called (Call.run c job m) marks = called (λ (r : RunReply). r .answered) (λ a. untouched a (withMain main m)) (λ a. refl) job _ _ _ _
   call-called (Call.settle c job s out) marks = called (λ (r : TextReply). r .answered) (λ a. refusedText a out) (λ a. refl) job _ _ _ _
 
-  module _ (c : Call) (marks : List ℕ) (w : Within marks) where
-    pub call-within : Within (marksBy main shares c marks)
+  module _ (c : Call) (marks : List ℕ) (w : Within main shares marks) where
+    pub call-within : Within main shares (marksBy main shares c marks)
     call-within = go (call-called c marks)
       where
-        go : Called (shareOf main shares (callerOf c) marks) main (marksBy main shares c marks) (handedBy main shares c marks) → Within (marksBy main shares c marks)
+        go : Called (shareOf main shares (callerOf c) marks) main (marksBy main shares c marks) (handedBy main shares c marks) → Within main shares (marksBy main shares c marks)
         go (Called.took m) = next-within (callerOf c) marks _ _ w m
-        go (Called.none e h) = subst Within (sym e) w
+        go (Called.none e h) = subst (Within main shares) (sym e) w
 
     pub call-marked : (p : ℕ) → marked p 0 shares (marksBy main shares c marks) ≡ marked p 0 shares marks + times p (handedBy main shares c marks)
     unfolding times
@@ -150,12 +145,12 @@ module _ (main shares : List ℕ) where
 
   -- ---- a sequence of calls
 
-  pub through-within : (cs : List Call) (marks : List ℕ) → Within marks → Within (marksThrough main shares cs marks)
+  pub through-within : (cs : List Call) (marks : List ℕ) → Within main shares marks → Within main shares (marksThrough main shares cs marks)
   unfolding marksThrough
   through-within [] marks w = w
   through-within (c ∷ cs) marks w = through-within cs (marksBy main shares c marks) (call-within c marks w)
 
-  pub through-marked : (cs : List Call) (marks : List ℕ) → Within marks → (p : ℕ)
+  pub through-marked : (cs : List Call) (marks : List ℕ) → Within main shares marks → (p : ℕ)
       → marked p 0 shares (marksThrough main shares cs marks) ≡ marked p 0 shares marks + times p (handedThrough main shares cs marks)
   unfolding marksThrough handedThrough times
   through-marked [] marks w p = omega arith
@@ -164,7 +159,7 @@ module _ (main shares : List ℕ) where
       let rest = through-marked cs (marksBy main shares c marks) (call-within c marks w) p in
       omega (arith, first, rest, times-append p (handedBy main shares c marks) (handedThrough main shares cs (marksBy main shares c marks)))
 
-  pub through-left : (cs : List Call) (marks : List ℕ) → Within marks
+  pub through-left : (cs : List Call) (marks : List ℕ) → Within main shares marks
       → leftInStretches shares (marksThrough main shares cs marks) + leftInCommon main shares (marksThrough main shares cs marks)
       + length (handedThrough main shares cs marks)
       ≡ leftInStretches shares marks + leftInCommon main shares marks
@@ -175,12 +170,14 @@ module _ (main shares : List ℕ) where
       let rest = through-left cs (marksBy main shares c marks) (call-within c marks w) in
       omega (arith, first, rest, length-append (handedBy main shares c marks) (handedThrough main shares cs (marksBy main shares c marks)))
 
-  pub nothing-within : Within (nothingTaken shares)
-  nothing-within =
+  pub nothing-taken : (beyond : List ℕ) → Within main shares (nothingTaken shares beyond)
+  nothing-taken beyond =
       record {
-        marked-all = omega (arith, length-replicate {A = ℕ} (suc (length shares)) 0);
-        each = within-none shares (suc (length shares));
-        common = omega (arith, common-none shares);
+        marked-all =
+            omega
+            (arith, length-append (replicate (suc (length shares)) 0) beyond, length-replicate {A = ℕ} (suc (length shares)) 0);
+        each = within-none shares beyond;
+        common = omega (arith, common-none shares beyond);
       }
 
   -- ---- no word of another's stretch

@@ -1,41 +1,31 @@
 -- `shots::draw_shot` meets its contract: a law for each way out.
-use Rattle.shots.specs.Laws.Shots.{shot-spent, shot-quiet, shot-unsatisfied, shot-fault, shot-spent-on}
+use Rattle.shots.specs.Laws.Shots.{shot-spent, shot-unsatisfied, shot-fault, shot-spent-on}
 use borrow.Author.Tests.{not-true, not-false}
 use native.Mathlib.Omega.{arith}
-use mathlib.Core.Path.{sym, _∙_}
+use Prim.Native.Nat.{_<_}
+use mathlib.Core.List.{_++_}
+use lib.ListN.{length}
 use borrow.Author.Needs.{needs}
 use Rattle.shots.proofs.draw_shot.Statement.{statement}
 use Rattle.shots.proofs.draw_shot.Tie as tie
 
+count-requires : tie.Need-count-requires
+count-requires c κs = search needs
+
 returns : tie.Need-returns
-returns c = shot-spent _ _ _ _ _ _ (c .if1 .taken)
+returns c = λ p falls. shot-spent _ _ _ _ _ _ (omega (arith, c .before .count .ensures))
 
-mul-is-fault : tie.Need-mul-is-fault
-mul-is-fault c = search needs
-
-shared-slice-read-is-fault : tie.Need-shared-slice-read-is-fault
-shared-slice-read-is-fault c = search needs
-
-is-fault-requires : tie.Need-is-fault-requires
-is-fault-requires c κs = search needs
-
-add-t14 : tie.Need-add-t14
-add-t14 c = search needs
+add-t11 : tie.Need-add-t11
+add-t11 c = search needs
 
 returns-2 : tie.Need-returns-2
-returns-2 c = shot-quiet _ _ _ _ _ _ (omega arith) (sym (c .before .is-fault .ensures) ∙ not-true _ (c .if2 .taken))
-
-add-t15 : tie.Need-add-t15
-add-t15 c = search needs
-
-returns-3 : tie.Need-returns-3
-returns-3 c = shot-unsatisfied _ _ _ _ _ _ (omega arith) (not-true _ (c .if3 .taken))
+returns-2 c = λ p falls. shot-unsatisfied _ _ _ _ _ _ (omega (arith, c .before .before .count .ensures)) (not-true _ (c .if2 .taken))
 
 add-element : tie.Need-add-element
 add-element c = search needs
 
 element-requires : tie.Need-element-requires
-element-requires c κs = search needs
+element-requires c κs = (omega (arith, c .before .before .count .ensures), c .before .before .before .before .before .before .pre)
 
 enum-known-e : tie.Need-enum-known-e
 enum-known-e c = search needs
@@ -43,29 +33,29 @@ enum-known-e c = search needs
 enum-told : tie.Need-enum-told
 enum-told c = search needs
 
+returns-3 : tie.Need-returns-3
+returns-3 c =
+    let a = c .before .before .before .before .before .before .before .before .before .before .args in
+    let inside : a .at < length (a .words .now ++ a .more .now) = omega (arith, c .before .before .before .before .before .before .count .ensures) in
+    λ p falls. shot-fault _ _ _ _ _ _ inside (falls inside) (not-false _ (c .before .before .before .before .if2 .left)) (c .before .before .before .element .ensures) _ _ (c .before .e .given .1)
+
 returns-4 : tie.Need-returns-4
 returns-4 c =
-    shot-fault _ _ _ _ _ _ (c .before .before .before .before .before .before .before .before .if1 .left) (sym (c .before .before .before .before .before .before .is-fault .ensures) ∙ not-false _ (c .before .before .before .before .before .if2 .left)) (not-false _ (c .before .before .before .before .if3 .left)) (c .before .before .before .element .ensures) _ _ (c .before .e .given .1)
-
-returns-5 : tie.Need-returns-5
-returns-5 c =
-    shot-spent-on _ _ _ _ _ _ (c .before .before .before .before .before .before .before .if1 .left) (sym (c .before .before .before .before .before .is-fault .ensures) ∙ not-false _ (c .before .before .before .before .if2 .left)) (not-false _ (c .before .before .before .if3 .left)) (c .before .before .element .ensures) (c .enum-told .given .1)
+    let a = c .before .before .before .before .before .before .before .before .before .args in
+    let inside : a .at < length (a .words .now ++ a .more .now) = omega (arith, c .before .before .before .before .before .count .ensures) in
+    λ p falls. shot-spent-on _ _ _ _ _ _ inside (falls inside) (not-false _ (c .before .before .before .if2 .left)) (c .before .before .element .ensures) (c .enum-told .given .1)
 
 pub draw-shot-spec : {M : Type 1} → statement M
 draw-shot-spec =
     tie.close
     (tie.spec
+    count-requires
     returns
-    mul-is-fault
-    shared-slice-read-is-fault
-    is-fault-requires
-    add-t14
+    add-t11
     returns-2
-    add-t15
-    returns-3
     add-element
     element-requires
     enum-known-e
     enum-told
-    returns-4
-    returns-5)
+    returns-3
+    returns-4)

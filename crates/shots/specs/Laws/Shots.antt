@@ -8,7 +8,7 @@ use mathlib.Core.Bool.{Bool, true, false, cond, _&&_}
 use mathlib.Core.List.{List, [], _∷_}
 use mathlib.Core.Option.{none}
 use lib.ListN.{length, getD, drop, length-drop, drop-of-length-le}
-use lib.Seq.{drop-cons, drop-drop}
+use lib.Seq.{drop-cons, drop-drop, getD-drop}
 use lib.Ieee.{Float}
 use Rattle.pauli.specs.Bits.{Bits, bit}
 use Rattle.job.specs.Line.{Noise}
@@ -25,7 +25,8 @@ use Rattle.noise.specs.Kinds.{Represents}
 use Rattle.choice.specs.Choice.{choiceOf, nextOf as nextOfChoice, ElementChosen}
 use Rattle.noise.specs.Condition.{Masks}
 use Rattle.noise.specs.Words.{skipOf}
-use Rattle.shots.specs.Shots.{drawOf, nextOf, ShotDrawn, orLater, firstFault, faultOf as foundOf, wordAfter, InShots, FaultFound}
+use Rattle.noise.specs.Laws.Words.{skip-within, skip-falls}
+use Rattle.shots.specs.Shots.{drawOf, nextOf, FallsAt, ShotDrawn, orLater, firstFault, faultOf as foundOf, wordAfter, InShots, FaultFound}
 
 -- ---- one shot
 
@@ -35,16 +36,7 @@ module _ (words : List ℕ) (at : ℕ) (p : Float) (d : PauliDistribution) (sums
   shot-spent h = record { within = omega arith; is = λ n bits r m. rw (drop-of-length-le words h) }
 
   module _ (h : at < length words) where
-    -- the word brings no fault
-    pub shot-quiet : falls (getD words at 0) p ≡ false → ShotDrawn words at p d sums satisfied (draw.Quiet (at + 1))
-    unfolding drawOf nextOf drawShot
-    shot-quiet e =
-        record {
-          within = omega arith;
-          is = λ n bits r m. rw (drop-cons words at 0, add-one, ← r .probability, e);
-        }
-
-    -- it does, but not in this shot
+    -- its condition is not satisfied
     pub shot-unsatisfied : satisfied ≡ false → ShotDrawn words at p d sums satisfied (draw.Quiet (at + 1))
     unfolding drawOf nextOf drawShot
     shot-unsatisfied e =
@@ -89,21 +81,16 @@ quiet-within q e = rw e at (q .within)
 
 -- ---- shots that are passed over
 
-skip-within : (p : Float) (most : ℕ) (ws : List ℕ) → (skipOf p most ws ≤ most) × (skipOf p most ws ≤ length ws)
-unfolding skipOf
-skip-within p zero ws = omega arith
-skip-within p (suc most) [] = omega arith
-skip-within p (suc most) (w ∷ ws) = go (falls w p) (skip-within p most ws)
-  where
-    go : (b : Bool) → (skipOf p most ws ≤ most) × (skipOf p most ws ≤ length ws)
-        → (cond b 0 (suc (skipOf p most ws)) ≤ suc most) × (cond b 0 (suc (skipOf p most ws)) ≤ suc (length ws))
-    go true ih = omega arith
-    go false ih = omega arith
-
 -- neither past the last shot nor past the last word
 pub skip-stays : (p : Float) (shots s : ℕ) (words : List ℕ) (i k : ℕ) → s ≤ shots → i ≤ length words → k ≡ skipOf p (shots - s) (drop i words)
     → (s + k ≤ shots) × (i + k ≤ length words)
 skip-stays p shots s words i k h l e = omega (arith, skip-within p (shots - s) (drop i words), length-drop i words)
+
+-- the word behind those that are passed over, if a shot is left and the words have not ended, brings a fault
+pub falls-behind : (p : Float) (shots s : ℕ) (words : List ℕ) (i k : ℕ) → k ≡ skipOf p (shots - s) (drop i words) → s + k < shots → FallsAt p words (i + k)
+falls-behind p shots s words i k e left inside =
+    let here : falls (getD (drop i words) (skipOf p (shots - s) (drop i words)) 0) p ≡ true = skip-falls p (shots - s) (drop i words) (omega (arith, e)) (omega (arith, e, length-drop i words)) in
+    ap (λ (w : ℕ). falls w p) (sym (getD-drop i words k 0)) ∙ ap (λ (j : ℕ). falls (getD (drop i words) j 0) p) e ∙ here
 
 module _ (lent : Lent) (n : Noise) where
   -- a shot's draw, and then those after it

@@ -7,6 +7,7 @@ mod make;
 mod names;
 mod refusals;
 mod seeds;
+mod shares;
 mod shots;
 mod single_faults;
 mod starred;

@@ -1,6 +1,8 @@
 //! That this crate and include/kundatrezo.h give the same names, words and limits.
 
-use kundatrezo::{MAX_BYTES, MAX_CLIFFORD_QUBITS, MAX_GROUPS, MAX_OUTCOMES, MAX_QUBITS, MAX_SHOTS, Number};
+use kundatrezo::{
+    MAX_BYTES, MAX_CALLERS, MAX_CLIFFORD_QUBITS, MAX_GROUPS, MAX_OUTCOMES, MAX_QUBITS, MAX_SHOTS, Number,
+};
 
 const HEADER: &str = include_str!("../../../../include/kundatrezo.h");
 
@@ -29,6 +31,7 @@ fn limits_and_version_are_those_of_the_c_header() {
         ("MAX_SHOTS", MAX_SHOTS),
         ("MAX_CLIFFORD_QUBITS", MAX_CLIFFORD_QUBITS),
         ("MAX_GROUPS", MAX_GROUPS),
+        ("MAX_CALLERS", MAX_CALLERS),
     ];
     for (name, limit) in limits {
         assert_eq!(defined(name), Some(limit.to_string().as_str()), "{name}");

@@ -309,6 +309,12 @@ fn arguments_at_fault() {
         ("man man", "no argument is wanted"),
         ("walk - --shot 0", "--shot and --set are wanted"),
         ("walk - --shot 0 --set 1,,2", "the value of --set is to be numbers with commas between"),
+        ("share --seed 1 --words 5", "--shares is wanted"),
+        ("share --seed 1 --shares 5", "--words is wanted for words that are made"),
+        ("share - --shares 5", "no argument is wanted"),
+        ("run - --account /nonexistent/account", "--account and --caller go together"),
+        ("run - --caller 0", "--account and --caller go together"),
+        ("run - --account /nonexistent/account --caller 0", "/nonexistent/account: "),
         ("dem -", "--detector or --observable is wanted"),
         ("faults - --group 1;2", "the value of --group is to be numbers with commas between, or -, not '1;2'"),
         ("faults - --group 0 --output x --output y", "the option --output is given twice"),
@@ -376,7 +382,7 @@ fn help_names_every_command_and_option() {
     };
     let whole = help("--help");
     let lists = "main seed state skip words second second-seed second-state base noiseless";
-    let drawn: &[&str] = &lists.split(' ').collect::<Vec<_>>();
+    let drawn: &[&str] = &lists.split(' ').chain(["account", "caller"]).collect::<Vec<_>>();
     let commands = [
         ("check", vec![]),
         ("run", [drawn, &["x", "z", "deltas", "shots", "packed", "totals"]].concat()),
@@ -387,6 +393,7 @@ fn help_names_every_command_and_option() {
         ("correlation", vec![]),
         ("faults", vec!["group", "output"]),
         ("dem", vec!["detector", "observable", "output"]),
+        ("share", vec!["main", "seed", "state", "skip", "words", "shares", "output"]),
         ("split", vec!["parts", "prefix"]),
         ("add", vec!["output"]),
         ("make", vec!["qubits", "outcomes", "shots", "lines", "seed", "output", "room"]),

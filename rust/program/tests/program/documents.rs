@@ -91,22 +91,23 @@ fn read_me() {
     }
 }
 
-/// Pages whose sessions all do their work, and the example that a page has whole.
+/// Pages whose sessions all do their work.
 #[test]
 fn pages() {
-    for (page, example) in [("docs/FAULTS.md", Some("examples/repetition.job")), ("docs/MAKING.md", None)] {
-        let text = document(page);
+    for page in ["docs/FAULTS.md", "docs/SHARES.md", "docs/MAKING.md"] {
         let folder = session_folder(&page.replace('/', "_"));
-        let steps = steps(&text);
+        let steps = steps(&document(page));
         assert!(!steps.is_empty(), "{page}");
         for step in &steps {
             assert_eq!(run(step, &folder).status, 0, "{}", step.command);
         }
-        if let Some(example) = example {
-            let indented: String = document(example).lines().map(|line| format!("    {line}\n")).collect();
-            assert!(text.contains(&indented), "{example}");
-        }
     }
+}
+
+#[test]
+fn the_repetition_code_stands_on_its_page() {
+    let indented: String = document("examples/repetition.job").lines().map(|line| format!("    {line}\n")).collect();
+    assert!(document("docs/FAULTS.md").contains(&indented));
 }
 
 /// The session that the printing program is tried on is the example.

@@ -54,6 +54,17 @@ pub struct Rows<'a> {
     pub totals: Option<&'a mut [u64]>,
 }
 
+/// A caller's share of the main list.
+#[derive(Debug)]
+pub struct Share<'a> {
+    /// The words of each caller's stretch, in caller order.
+    pub shares: &'a [u64],
+    /// The words taken of each stretch, then of the common part; a call moves them.
+    pub marks: &'a mut [u64],
+    /// The caller's number.
+    pub caller: u64,
+}
+
 /// What a made job is asked to have.
 #[derive(Debug, Clone, Copy, Default, PartialEq, Eq)]
 #[allow(missing_docs)]
@@ -76,6 +87,19 @@ pub trait Calls {
 
     /// Write the settled job at the front of `out`; the figure is its bytes.
     fn settle(&self, job: &[u8], draws: Draws<'_>, noiseless: &[u64], out: &mut [u8]) -> Answer;
+
+    /// Run a job by a caller with a share of the main list.
+    fn run_shared(&self, job: &[u8], draws: Draws<'_>, noiseless: &[u64], rows: Rows<'_>, share: Share<'_>) -> Answer;
+
+    /// Write the job settled by a caller with a share at the front of `out`; the figure is its bytes.
+    fn settle_shared(
+        &self,
+        job: &[u8],
+        draws: Draws<'_>,
+        noiseless: &[u64],
+        share: Share<'_>,
+        out: &mut [u8],
+    ) -> Answer;
 
     /// Walk a noise-free job back; the figure is the count.
     fn walk(&self, job: &[u8], shot: u64, set: &[u64]) -> Answer;

@@ -22,6 +22,8 @@ pub const MAX_ELEMENTS: u64 = 64;
 pub const MAX_GROUPS: usize = 16;
 /// Most qubits of depolarizing noise in a table of single faults.
 pub const MAX_SPREAD: usize = 4;
+/// Most callers with shares of a main list.
+pub const MAX_CALLERS: usize = 8;
 /// The editions that a header may name.
 pub const EDITIONS: std::ops::RangeInclusive<u64> = 1..=2;
 /// The highest code of a gate on one qubit.
@@ -39,7 +41,7 @@ pub type List = SmallVec<[u64; 2]>;
 /// The numbers of the tests of a job, which every call makes.
 pub const TESTS: [u64; 15] = [1, 2, 3, 4, 5, 6, 7, 8, 9, 10, 11, 12, 20, 21, 23];
 /// The numbers that are calls' own.
-pub const OF_CALLS: [u64; 9] = [13, 14, 15, 16, 17, 18, 19, 22, 24];
+pub const OF_CALLS: [u64; 11] = [13, 14, 15, 16, 17, 18, 19, 22, 24, 25, 26];
 
 /// Why a call says no: the number of documents 01 and 02, and the line from 1 (0 where none fits).
 #[derive(Debug, Clone, Copy, PartialEq, Eq)]

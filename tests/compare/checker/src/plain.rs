@@ -7,16 +7,18 @@ pub mod fault_table;
 mod frame;
 mod making;
 mod settling;
+pub mod shares;
 mod walk;
 
-use crate::calls::{Answer, Asked, Calls, Draws, Rows};
+use crate::calls::{Answer, Asked, Calls, Draws, Rows, Share};
 use crate::job::{Header, Job, MAX_BYTES, MAX_PRINTED_BYTES, Refusal, usize_of};
 use crate::read::{self, is_probability, read};
 use by_shot::{Shape, transpose};
 use frame::Frame;
 use settling::Settled;
+use shares::{Available, need_marks};
 
-pub use settling::settled;
+pub use settling::{settled, settled_and_read};
 pub use walk::{need_walkable, walk};
 
 /// The calls by document 01 alone.
@@ -37,6 +39,21 @@ impl Calls for Plain {
             settled(&job, draws, noiseless).map(|settled| settled.text(&job))
         });
         text.map_or_else(Answer::from, |text| deliver_settled(&text, out))
+    }
+
+    fn run_shared(&self, job: &[u8], draws: Draws<'_>, noiseless: &[u64], rows: Rows<'_>, share: Share<'_>) -> Answer {
+        Answer::of(run_shared(job, draws, noiseless, rows, share))
+    }
+
+    fn settle_shared(
+        &self,
+        job: &[u8],
+        draws: Draws<'_>,
+        noiseless: &[u64],
+        share: Share<'_>,
+        out: &mut [u8],
+    ) -> Answer {
+        settle_shared(job, draws, noiseless, share, out).unwrap_or_else(Answer::from)
     }
 
     fn walk(&self, job: &[u8], shot: u64, set: &[u64]) -> Answer {
@@ -173,32 +190,47 @@ pub fn bit(words: &[u64], header: &Header, row: u64, shot: u64) -> bool {
 
 fn run(bytes: &[u8], draws: Draws<'_>, noiseless: &[u64], rows: Rows<'_>) -> Result<(), Refusal> {
     let job = read(bytes)?;
-    let (frame_words, outcome_words) = (job.header.frame_words(), job.header.outcome_words());
+    need_rows(&job.header, noiseless, &rows)?;
+    let mut rows = cleared(&job.header, rows);
+    run_settled(&job, &settled(&job, draws, noiseless)?, &mut rows);
+    Ok(())
+}
+
+/// 13 of a run.
+///
+/// # Errors
+///
+/// The refusal.
+pub fn need_rows(header: &Header, noiseless: &[u64], rows: &Rows<'_>) -> Result<(), Refusal> {
+    let (frame_words, outcome_words) = (header.frame_words(), header.outcome_words());
     need_words(&[
         (rows.frames_x, frame_words),
         (rows.frames_z, frame_words),
         (rows.deltas, outcome_words),
         (noiseless, outcome_words),
     ])?;
-    let outcomes = usize_of(job.header.outcomes);
-    if let Some(totals) = &rows.totals {
-        need_words(&[(totals, outcomes)])?;
-    }
+    rows.totals.as_ref().map_or(Ok(()), |totals| need_words(&[(totals, usize_of(header.outcomes))]))
+}
+
+/// The words that a run needs, which are zero at its start.
+pub fn cleared<'a>(header: &Header, rows: Rows<'a>) -> Rows<'a> {
     let mut rows = Rows {
-        frames_x: &mut rows.frames_x[..frame_words],
-        frames_z: &mut rows.frames_z[..frame_words],
-        deltas: &mut rows.deltas[..outcome_words],
-        totals: rows.totals.map(|totals| &mut totals[..outcomes]),
+        frames_x: &mut rows.frames_x[..header.frame_words()],
+        frames_z: &mut rows.frames_z[..header.frame_words()],
+        deltas: &mut rows.deltas[..header.outcome_words()],
+        totals: rows.totals.map(|totals| &mut totals[..usize_of(header.outcomes)]),
     };
     rows.frames_x.fill(0);
     rows.frames_z.fill(0);
     rows.deltas.fill(0);
     rows.totals.iter_mut().for_each(|totals| totals.fill(0));
-    let settled = settled(&job, draws, noiseless)?;
+    rows
+}
+
+fn run_settled(job: &Job<'_>, settled: &Settled, rows: &mut Rows<'_>) {
     for shot in 0..job.header.shots {
-        run_shot(&job, &settled, shot, &mut rows);
+        run_shot(job, settled, shot, rows);
     }
-    Ok(())
 }
 
 /// Run the settled list in one shot, and leave its frame and deltas in the rows.
@@ -222,4 +254,45 @@ fn run_shot(job: &Job<'_>, settled: &Settled, shot: u64, rows: &mut Rows<'_>) {
         put(rows.deltas, id, delta);
         rows.totals.iter_mut().for_each(|totals| totals[id] += u64::from(delta));
     }
+}
+
+// ---- by a caller with a share
+
+/// A run on the words that are available. With 14 too, the words that were read stay taken.
+fn run_shared(
+    bytes: &[u8],
+    draws: Draws<'_>,
+    noiseless: &[u64],
+    rows: Rows<'_>,
+    mut share: Share<'_>,
+) -> Result<(), Refusal> {
+    let job = read(bytes)?;
+    need_rows(&job.header, noiseless, &rows)?;
+    need_marks(&share)?;
+    let available = Available::of(draws.main, &share)?;
+    let mut rows = cleared(&job.header, rows);
+    let (settled, read) = settled_and_read(&job, Draws { main: &available.words, ..draws }, noiseless);
+    available.take(&mut share, usize_of(read));
+    run_settled(&job, &settled?, &mut rows);
+    Ok(())
+}
+
+/// Settling on these words. Where the text finds no space they stay.
+fn settle_shared(
+    bytes: &[u8],
+    draws: Draws<'_>,
+    noiseless: &[u64],
+    mut share: Share<'_>,
+    out: &mut [u8],
+) -> Result<Answer, Refusal> {
+    let job = read(bytes)?;
+    need_words(&[(noiseless, job.header.outcome_words())])?;
+    need_marks(&share)?;
+    let available = Available::of(draws.main, &share)?;
+    let (settled, read) = settled_and_read(&job, Draws { main: &available.words, ..draws }, noiseless);
+    let answer = settled.map_or_else(Answer::from, |settled| deliver_settled(&settled.text(&job), out));
+    if answer.number != 15 {
+        available.take(&mut share, usize_of(read));
+    }
+    Ok(answer)
 }

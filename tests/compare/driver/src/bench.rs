@@ -7,7 +7,7 @@
 //! For outcomes by shot, `published` is a block transposition in plain Rust, and `with reading` one bit at a time.
 
 use crate::block;
-use checker::calls::{Asked, Calls, Draws, Rows};
+use checker::calls::{Asked, Calls, Draws, Rows, Share};
 use checker::job::{Job, MAX_BYTES, MAX_GROUPS, usize_of};
 use checker::plain::by_shot::Shape;
 use checker::plain::{Plain, settled};
@@ -32,12 +32,13 @@ const LEAST_ROUNDS: usize = 7;
 
 /// Measure the loads of a part, or of all; whether there is such a part.
 pub fn run(part: &str) -> bool {
-    let parts: [(&str, fn()); 7] = [
+    let parts: [(&str, fn()); 8] = [
         ("checks", checks),
         ("runs", runs),
         ("tables", tables),
         ("around", around),
         ("faults", faults),
+        ("shares", shares),
         ("seeds", seeds),
         ("turns", turns),
     ];
@@ -196,6 +197,11 @@ impl Load {
 }
 
 fn measure_run(name: &str, made: &Made) {
+    measure_run_of(name, made, Call::Run);
+}
+
+/// A run, or one by a caller whose stretch is the first half of the words that it reads.
+fn measure_run_of(name: &str, made: &Made, call: Call) {
     let load = &Load::new(made);
     let job = load.job();
     let program = Program::new(&job);
@@ -209,7 +215,7 @@ fn measure_run(name: &str, made: &Made) {
             let program = Program::new(&load.job());
             _ = black_box(program.execute(0, &load.main, &noiseless).is_ok());
         }),
-        engine: engine(Call::Run).map(|engine| {
+        engine: engine(call).map(|engine| {
             Box::new(move || {
                 let rows = Rows {
                     frames_x: &mut rows.0,
@@ -217,7 +223,13 @@ fn measure_run(name: &str, made: &Made) {
                     deltas: &mut rows.2,
                     totals: Some(&mut totals),
                 };
-                let answer = engine.run(black_box(&load.bytes), load.draws(), &load.noiseless, rows);
+                let job = black_box(&load.bytes);
+                let answer = if call == Call::Run {
+                    engine.run(job, load.draws(), &load.noiseless, rows)
+                } else {
+                    let share = Share { shares: &[load.main.len() as u64 / 2], marks: &mut [0; 2], caller: 0 };
+                    engine.run_shared(job, load.draws(), &load.noiseless, rows, share)
+                };
                 assert_eq!(answer.number, 0);
             }) as _
         }),
@@ -312,6 +324,18 @@ fn faults() {
         engine: engine(Call::FaultTable).map(|engine| Box::new(move || table(engine, &mut engine_out)) as _),
     }
     .report("fault table, the same with 16 groups", bytes.len());
+}
+
+// ---- shares
+
+/// Runs by a caller with a share beside plain ones.
+fn shares() {
+    for (qubits, shots) in [(256, 4096), (64, 1024), (10, 64)] {
+        let made = loads::noisy_gates(loads::header(qubits, shots), 500, 0.001);
+        let name = format!("run, 500 gates with noise, {qubits} qubits, {shots} shots");
+        measure_run(&name, &made);
+        measure_run_of("the same by a caller with a share", &made, Call::RunShared);
+    }
 }
 
 // ---- seeds

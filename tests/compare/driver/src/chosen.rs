@@ -1,11 +1,12 @@
 //! Which inputs the stored cases of a call have: random ones, each of which shows something that few before it show.
 
-use checker::calls::Answer;
+use checker::calls::{Answer, Draws, Share};
 use checker::job::{
-    Distribution, Header, Instruction, Job, MAX_BYTES, MAX_CLIFFORD_QUBITS, MAX_GROUPS, MAX_SPREAD, Noise, TESTS,
-    usize_of,
+    Distribution, Header, Instruction, Job, MAX_BYTES, MAX_CALLERS, MAX_CLIFFORD_QUBITS, MAX_GROUPS, MAX_SPREAD, Noise,
+    TESTS, usize_of,
 };
 use checker::plain::settled;
+use checker::plain::shares::Available;
 use checker::read::read;
 use generator::damage::damaged;
 use generator::inputs::{input, lent};
@@ -54,6 +55,9 @@ pub fn chosen(call: Call, case: impl Fn(&Input, &Output) -> Vec<u8>) -> Vec<Vec<
             1 => at_shots(random, call, 20, if call == Call::Walk { 0 } else { 6 }),
             _ => short_damaged(random, call),
         };
+        if call == Call::RunShared {
+            lengthen(&mut input);
+        }
         let Input { frames_x, frames_z, deltas, totals, words, .. } = &mut input;
         for list in [frames_x, frames_z, deltas, totals, words] {
             list.fill(FRESH);
@@ -66,6 +70,7 @@ pub fn chosen(call: Call, case: impl Fn(&Input, &Output) -> Vec<u8>) -> Vec<Vec<
             0 if shown.contains(&format!("{} shots", SHOTS[6])) => MOST_AT_MOST_SHOTS,
             0 if call == Call::FaultTable => MOST_OF_TABLE,
             0 => MOST,
+            14 if call.is_shared() => MOST,
             _ => MOST_REFUSED,
         };
         if case.len() <= most && shown.iter().any(|thing| wanted.contains_key(thing)) {
@@ -95,7 +100,9 @@ fn limits(call: Call) -> Vec<Input> {
     let p = 0.25_f64.to_bits();
     let (line, text) = match call {
         Call::Annotate => (GATE, format!("{GATE}op=n p={p:016x} corr=- cond=- parity=0 d=2 q=0 size=3\n")),
-        Call::Settle => (NOISE, (0..8).map(|shot| format!("op=i shot={shot} x=0 z=-\n")).collect()),
+        Call::Settle | Call::SettleShared => {
+            (NOISE, (0..8).map(|shot| format!("op=i shot={shot} x=0 z=-\n")).collect())
+        }
         _ => ("", String::new()),
     };
     let lengths = [MAX_BYTES, MAX_BYTES + 1];
@@ -112,6 +119,8 @@ fn limits(call: Call) -> Vec<Input> {
             frames_x: rows.clone(),
             frames_z: rows,
             groups,
+            shares: vec![3],
+            marks: vec![0; 2],
             out_len: MAX_BYTES + 2,
             ..Input::default()
         }
@@ -145,6 +154,16 @@ fn at_shots(random: &mut Random, call: Call, most_lines: u64, noise: u64) -> Inp
         hold(random, &mut input);
     }
     input
+}
+
+/// Rows and totals that are longer than the run needs: the program replay_more lends no others.
+fn lengthen(input: &mut Input) {
+    let header = read(&input.job).map(|job| job.header).unwrap_or_default();
+    for rows in [&mut input.frames_x, &mut input.frames_z] {
+        rows.resize(header.frame_words() + 1, 0);
+    }
+    input.deltas.resize(header.outcome_words() + 1, 0);
+    input.totals.resize(usize_of(header.outcomes) + 1, 0);
 }
 
 /// A job of a few lines, damaged, and what the call of the undamaged one is lent.
@@ -184,6 +203,8 @@ fn wanted(call: Call) -> Vec<String> {
         Call::Annotate => &[15, 18],
         Call::FaultTable => &[15, 17, 24],
         Call::Correlation => &[19],
+        Call::RunShared => &[13, 14, 25, 26],
+        Call::SettleShared => &[13, 14, 15, 25, 26],
         Call::Fill => &[22],
         Call::Make => &[3, 15, 22],
         Call::Check | Call::Locations | Call::ByShot | Call::ByOutcome | Call::Print => &[],
@@ -202,9 +223,11 @@ fn wanted(call: Call) -> Vec<String> {
         all.extend(DISTRIBUTIONS.map(String::from));
         return all;
     }
-    all.extend((0..=15).map(|gate| format!("gate {gate}")));
-    all.extend(KINDS.map(String::from));
-    all.extend((1..=MAX_CLIFFORD_QUBITS).map(|qubits| format!("clifford on {qubits}")));
+    if !call.is_shared() {
+        all.extend((0..=15).map(|gate| format!("gate {gate}")));
+        all.extend(KINDS.map(String::from));
+        all.extend((1..=MAX_CLIFFORD_QUBITS).map(|qubits| format!("clifford on {qubits}")));
+    }
     if call != Call::Walk {
         all.extend(DISTRIBUTIONS.map(|kind| format!("{kind}")));
         all.extend(["correlated", "even condition", "odd condition"].map(String::from));
@@ -220,14 +243,16 @@ fn wanted(call: Call) -> Vec<String> {
         Call::Run | Call::Settle => {
             let at_shots = |shots| DISTRIBUTIONS.map(|kind| format!("{kind} at {shots} shots"));
             all.extend(SHOTS.into_iter().flat_map(at_shots));
-            all.extend(["rejected word", "main list spent", "second list spent", "wrapped place"].map(String::from));
+            all.extend(OF_DRAWS.map(String::from));
         }
+        Call::RunShared | Call::SettleShared => all.extend(OF_DRAWS.into_iter().chain(OF_SHARES).map(String::from)),
         Call::Walk => all.extend(SHOTS.map(|shots| format!("{shots} shots"))),
         _ => {}
     }
     let lists: &[&str] = match call {
         Call::Run => &["x", "z", "deltas", "totals", "noiseless"],
         Call::Settle => &["noiseless"],
+        Call::RunShared | Call::SettleShared => &["noiseless", "marks"],
         _ => &[],
     };
     all.extend(lists.iter().flat_map(|list| ["short", "exact", "longer"].map(|length| format!("{length} {list}"))));
@@ -236,6 +261,25 @@ fn wanted(call: Call) -> Vec<String> {
     }
     all
 }
+
+const OF_DRAWS: [&str; 4] = ["rejected word", "main list spent", "second list spent", "wrapped place"];
+
+const OF_SHARES: [&str; 14] = [
+    "one caller",
+    "eight callers",
+    "words of both parts",
+    "words of the stretch alone",
+    "common words alone",
+    "no word taken",
+    "second list spent, words taken",
+    "no callers",
+    "more callers",
+    "total above the list",
+    "total past 2^64",
+    "mark above its stretch",
+    "mark above the common part",
+    "25 before 26",
+];
 
 const KINDS: [&str; 12] = [
     "pauli",
@@ -277,7 +321,11 @@ fn shown(call: Call, input: &Input, output: &Output) -> Vec<String> {
             _ => {}
         }
     }
-    match call {
+    if call.is_shared() {
+        all.push(length("marks", input.marks.len(), input.shares.len() + 1));
+        all.extend(shown_by_share(input, output).into_iter().map(String::from));
+    }
+    match call.unshared() {
         Call::Run => {
             all.push(length("x", input.frames_x.len(), job.header.frame_words()));
             all.push(length("z", input.frames_z.len(), job.header.frame_words()));
@@ -297,6 +345,9 @@ fn shown(call: Call, input: &Input, output: &Output) -> Vec<String> {
         let is_correlated =
             spent.and_then(|line| noise(&line.instruction)).is_some_and(|noise| noise.correlation.is_some());
         all.push(if is_correlated { "second list spent" } else { "main list spent" }.into());
+        if is_correlated && output.marks != input.marks {
+            all.push("second list spent, words taken".into());
+        }
     }
     if number == 0 {
         all.push(format!("{} shots", job.header.shots));
@@ -307,13 +358,44 @@ fn shown(call: Call, input: &Input, output: &Output) -> Vec<String> {
             }
             all.extend(shown_by_noise(noise, job.header.shots, input.base));
         }
-        if call != Call::Make && has_rejected(&job, input) {
+        if call != Call::Make && has_rejected(&job, input, &words_of(call, input)) {
             all.push("rejected word".into());
         }
     }
     all.sort();
     all.dedup();
     all
+}
+
+/// Why a share is refused, or what is taken of it.
+fn shown_by_share(input: &Input, output: &Output) -> Vec<&'static str> {
+    let (callers, length) = (input.shares.len(), input.main.len() as u128);
+    let total: u128 = input.shares.iter().map(|&share| u128::from(share)).sum();
+    let moved = |place: usize| input.marks.get(place) != output.marks.get(place);
+    let caller = usize::try_from(input.caller).unwrap_or(usize::MAX);
+    match output.answer.number {
+        25 if input.caller >= callers as u64 && callers > 0 => vec!["25 before 26"],
+        25 if callers == 0 => vec!["no callers"],
+        25 if callers > MAX_CALLERS => vec!["more callers"],
+        25 if total >= 1 << 64 => vec!["total past 2^64"],
+        25 if total > length => vec!["total above the list"],
+        25 if u128::from(input.marks[callers]) > length - total => vec!["mark above the common part"],
+        25 => vec!["mark above its stretch"],
+        0 => vec![
+            match (moved(caller), moved(callers)) {
+                (true, true) => "words of both parts",
+                (true, false) => "words of the stretch alone",
+                (false, true) => "common words alone",
+                (false, false) => "no word taken",
+            },
+            match callers {
+                1 => "one caller",
+                8 => "eight callers",
+                _ => "some callers",
+            },
+        ],
+        _ => Vec::new(),
+    }
 }
 
 /// How many groups there are, and what the table says of them.
@@ -403,12 +485,21 @@ fn shown_by_noise(noise: &Noise, shots: u64, base: u64) -> Vec<String> {
     all
 }
 
+/// The words of the main list that a call which succeeds may read.
+fn words_of(call: Call, input: &Input) -> Vec<u64> {
+    if !call.is_shared() {
+        return input.main.clone();
+    }
+    let share = Share { shares: &input.shares, marks: &mut input.marks.clone(), caller: input.caller };
+    Available::of(&input.main, &share).expect("a share that fits").words
+}
+
 /// Whether the main list was read further than its lines' faults need without a rejected word.
-fn has_rejected(job: &Job<'_>, input: &Input) -> bool {
+fn has_rejected(job: &Job<'_>, input: &Input, main: &[u64]) -> bool {
     if input.noiseless.len() < job.header.outcome_words() {
         return false;
     }
-    let Ok(settled) = settled(job, input.draws(), &input.noiseless) else { return false };
+    let Ok(settled) = settled(job, Draws { main, ..input.draws() }, &input.noiseless) else { return false };
     let words = |(line, faults): (&checker::job::Line<'_>, &Vec<_>)| match noise(&line.instruction) {
         Some(noise) if noise.correlation.is_none() && noise.probability() > 0.0 => {
             let chosen = if matches!(noise.distribution, Distribution::Single(_)) { 0 } else { faults.len() as u64 };

@@ -88,6 +88,7 @@ pub fn report(under_test: &dyn Calls, call: Call, seed: u64, input: &Input) {
             ("totals", &output.totals),
             ("rows", &output.rows),
             ("words", &output.words),
+            ("marks", &output.marks),
         ];
         for (key, words) in words.into_iter().filter(|(_, words)| !words.is_empty()) {
             println!("{name} {key} {words:x?}");
@@ -101,7 +102,7 @@ pub fn report(under_test: &dyn Calls, call: Call, seed: u64, input: &Input) {
 #[cfg(test)]
 mod tests {
     use super::{Refusals, passes};
-    use checker::calls::{Answer, Asked, Calls, Draws, Rows};
+    use checker::calls::{Answer, Asked, Calls, Draws, Rows, Share};
     use checker::job::{OF_CALLS, TESTS};
     use checker::plain::Plain;
     use reference::vectors::CALLS;
@@ -131,6 +132,14 @@ mod tests {
         }
 
         fn settle(&self, job: &[u8], _: Draws<'_>, _: &[u64], _: &mut [u8]) -> Answer {
+            self.check(job)
+        }
+
+        fn run_shared(&self, job: &[u8], _: Draws<'_>, _: &[u64], _: Rows<'_>, _: Share<'_>) -> Answer {
+            self.check(job)
+        }
+
+        fn settle_shared(&self, job: &[u8], _: Draws<'_>, _: &[u64], _: Share<'_>, _: &mut [u8]) -> Answer {
             self.check(job)
         }
 

@@ -1,6 +1,7 @@
-//! The engine's calls, through the crate that Rust programs use (rust/kundatrezo), so that the comparison tests that crate too.
+//! The engine's calls, through the crate that Rust programs use (rust/kundatrezo), so that the comparison tests that crate too; those with shares by `raw`.
 
-use checker::calls::{Answer, Asked, Calls, Draws, Rows};
+use crate::raw;
+use checker::calls::{Answer, Asked, Calls, Draws, Rows, Share};
 use reference::vectors::Call;
 use std::io::Write;
 use std::process::{Command, Stdio};
@@ -10,6 +11,8 @@ pub const CALLS: &[Call] = &[
     Call::Check,
     Call::Run,
     Call::Settle,
+    Call::RunShared,
+    Call::SettleShared,
     Call::Walk,
     Call::Annotate,
     Call::Locations,
@@ -63,6 +66,21 @@ impl Calls for Linked {
 
     fn settle(&self, job: &[u8], draws: Draws<'_>, noiseless: &[u64], out: &mut [u8]) -> Answer {
         written(kundatrezo::settle(job, noiseless, words(draws), out))
+    }
+
+    fn run_shared(&self, job: &[u8], draws: Draws<'_>, noiseless: &[u64], rows: Rows<'_>, share: Share<'_>) -> Answer {
+        raw::run_shared(job, draws, noiseless, rows, share)
+    }
+
+    fn settle_shared(
+        &self,
+        job: &[u8],
+        draws: Draws<'_>,
+        noiseless: &[u64],
+        share: Share<'_>,
+        out: &mut [u8],
+    ) -> Answer {
+        raw::settle_shared(job, draws, noiseless, share, out)
     }
 
     fn walk(&self, job: &[u8], shot: u64, set: &[u64]) -> Answer {

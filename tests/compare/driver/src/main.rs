@@ -12,8 +12,11 @@ mod differences;
 mod linked;
 mod made;
 mod minimise;
+#[cfg(feature = "linked")]
+mod raw;
 mod replay;
 mod settled;
+mod shared;
 mod shots;
 mod stored;
 mod tables;
@@ -25,20 +28,21 @@ use std::process::ExitCode;
 use std::time::{SystemTime, UNIX_EPOCH};
 
 const USAGE: &str = "\
-usage: compare CALL N [SEED]      N random inputs of a call: check, run, settle, walk, annotate,
+usage: compare CALL N [SEED]      N random inputs of a call: check, run, settle, run_shared, settle_shared, walk, annotate,
                                   locations, correlation, fault_table, by_shot, by_outcome, fill, make, print
        compare settled N [SEED]   N jobs run with their draws, and as their settled text
        compare backward N [SEED]  N jobs: for sets and shots, all of a small job's, the sum of deltas is the walk's count modulo 2
        compare apart N [SEED]     N pairs of jobs without noise: where they differ in other shots alone, a shot's frames and deltas are the same
        compare add N [SEED]       N triples of them: where one holds the faults of both others, its frames and deltas are the exclusive or
        compare tables N [SEED]    N jobs with Clifford tables of five to eight qubits: runs, settled texts and walks; how many tables of each width
+       compare shares N [SEED]    N sequences of calls with shares of one main list: as plain calls on the words available, and all words accounted for
        compare made N [SEED]      N made jobs: accepted, and what was asked for; every kind of line comes up among the small seeds
        compare vectors [CALL]     the stored vectors, or those of a call
        compare all N [SEED]       all of these
        compare write CALL N SEED  N vectors of a call, made by the reference, on standard output
        compare replay [more]      the list of the program replay_calls, or of replay_more, on standard output
        compare bench [PART]       times beside the published Rust's and document 01's by hand; PART is checks, runs, tables,
-                                  around, faults, seeds or turns
+                                  around, faults, shares, seeds or turns
 A difference is seen again by `compare CALL 1 SEED` with the seed that it prints.";
 
 /// The calls under test, and which of them are the library's; the others are document 01's plainest form.
@@ -51,12 +55,13 @@ const UNDER_TEST: (&dyn Calls, &[Call]) = (&checker::plain::Plain, &[]);
 type Comparison = fn(&dyn Calls, u64, u64) -> bool;
 
 /// The comparisons of several calls, by name.
-const TOGETHER: [(&str, Comparison); 6] = [
+const TOGETHER: [(&str, Comparison); 7] = [
     ("settled", settled::passes),
     ("backward", brute::passes),
     ("apart", shots::apart_passes),
     ("add", shots::add_passes),
     ("tables", tables::passes),
+    ("shares", shared::passes),
     ("made", made::passes),
 ];
 

@@ -12,9 +12,11 @@ const MOST_RUNS: usize = 512;
 /// A lent list of an input.
 type List = fn(&mut Input) -> &mut Vec<u64>;
 
-const LISTS: [List; 11] = [
+const LISTS: [List; 13] = [
     |input| &mut input.set,
     |input| &mut input.groups,
+    |input| &mut input.shares,
+    |input| &mut input.marks,
     |input| &mut input.main,
     |input| &mut input.second,
     |input| &mut input.noiseless,

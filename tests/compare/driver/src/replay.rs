@@ -17,7 +17,7 @@ const MOST_BYTES: usize = 600;
 const REPEATED: usize = 4;
 
 /// The calls of the program `replay_more`.
-pub const MORE: [Call; 3] = [Call::FaultTable, Call::Fill, Call::Make];
+pub const MORE: [Call; 5] = [Call::FaultTable, Call::RunShared, Call::SettleShared, Call::Fill, Call::Make];
 
 /// Write the list of `replay_calls` to standard output.
 pub fn write() -> bool {
@@ -57,12 +57,15 @@ fn case(call: Call, input: &Input, output: &Output) -> Vec<u8> {
     add(&mut case, &input.job);
     let draws = [&input.noiseless, &input.main, &input.second];
     let after = [&output.frames_x, &output.frames_z, &output.deltas, &output.totals];
+    let share = [&input.marks, &input.shares, &output.marks];
     let words: Vec<&Vec<u64>> = match call {
         Call::Walk => vec![&input.set],
         Call::FaultTable => vec![&input.groups],
         Call::Fill => vec![&output.words],
         Call::Settle => draws.to_vec(),
         Call::Run => draws.into_iter().chain(after).collect(),
+        Call::SettleShared => share.into_iter().chain(draws).collect(),
+        Call::RunShared => share.into_iter().chain(draws).chain(after).collect(),
         _ => Vec::new(),
     };
     add_text(&mut case, output);
@@ -85,6 +88,14 @@ fn case(call: Call, input: &Input, output: &Output) -> Vec<u8> {
             format!(" figure={figure} base={:016x} bytes={bytes},{} words={lengths}", input.base, input.out_len)
         }
         Call::Run => format!(" figure={figure} base={:016x} bytes={bytes} words={lengths}", input.base),
+        Call::SettleShared => {
+            let Input { base, caller, out_len, .. } = input;
+            format!(" figure={figure} base={base:016x} bytes={bytes},{out_len} words={lengths} caller={caller}")
+        }
+        Call::RunShared => {
+            let Input { base, caller, .. } = input;
+            format!(" figure={figure} base={base:016x} bytes={bytes} words={lengths} caller={caller}")
+        }
         _ => String::new(),
     };
     case.extend_from_slice(format!("{} number={number} line={line}{rest}\n", call.name()).as_bytes());

@@ -170,7 +170,7 @@ fn differs<const N: usize>(
 #[cfg(test)]
 mod tests {
     use super::{add_passes, apart_passes};
-    use checker::calls::{Answer, Asked, Calls, Draws, Rows};
+    use checker::calls::{Answer, Asked, Calls, Draws, Rows, Share};
     use checker::gaps::Gaps;
     use checker::job::Instruction;
     use checker::plain::Plain;
@@ -205,6 +205,28 @@ mod tests {
 
         fn settle(&self, job: &[u8], draws: Draws<'_>, noiseless: &[u64], out: &mut [u8]) -> Answer {
             Plain.settle(job, draws, noiseless, out)
+        }
+
+        fn run_shared(
+            &self,
+            job: &[u8],
+            draws: Draws<'_>,
+            noiseless: &[u64],
+            rows: Rows<'_>,
+            share: Share<'_>,
+        ) -> Answer {
+            Plain.run_shared(job, draws, noiseless, rows, share)
+        }
+
+        fn settle_shared(
+            &self,
+            job: &[u8],
+            draws: Draws<'_>,
+            noiseless: &[u64],
+            share: Share<'_>,
+            out: &mut [u8],
+        ) -> Answer {
+            Plain.settle_shared(job, draws, noiseless, share, out)
         }
 
         fn walk(&self, job: &[u8], shot: u64, set: &[u64]) -> Answer {

@@ -6,8 +6,8 @@ use crate::random::Random;
 use checker::calls::{Calls, Draws};
 use checker::gaps::fault_shot;
 use checker::job::{
-    Distribution, Header, Instruction, Job, MAX_BYTES, MAX_GROUPS, MAX_LIST, MAX_OUTCOMES, MAX_PRINTED_BYTES,
-    MAX_QUBITS, MAX_SHOTS, MAX_SPREAD, Noise, Pauli, usize_of,
+    Distribution, Header, Instruction, Job, MAX_BYTES, MAX_CALLERS, MAX_GROUPS, MAX_LIST, MAX_OUTCOMES,
+    MAX_PRINTED_BYTES, MAX_QUBITS, MAX_SHOTS, MAX_SPREAD, Noise, Pauli, usize_of,
 };
 use checker::plain::{Plain, settled};
 use checker::read::read;
@@ -40,7 +40,7 @@ fn shape(random: &mut Random, call: Call) -> Shape {
     let printed = Header { edition: None, qubits: 64, outcomes: 256, shots: 64 };
     let size = if random.one_in(2) { DENSE } else { ANY };
     match call {
-        Call::Run | Call::Settle => size,
+        Call::Run | Call::Settle | Call::RunShared | Call::SettleShared => size,
         Call::Walk => Shape { noise: if random.one_in(6) { ANY.noise } else { 0 }, ..size },
         Call::Print => {
             Shape { limits: if random.one_in(6) { ANY.limits } else { printed }, draws: random.one_in(4), ..ANY }
@@ -63,10 +63,10 @@ fn large(random: &mut Random, call: Call) -> Made {
         z: random.subset(256, MAX_LIST).into_iter().collect(),
     };
     let (instruction, most) = match call {
-        Call::Settle => (always(pauli), 8),
+        Call::Settle | Call::SettleShared => (always(pauli), 8),
         Call::Annotate => (Instruction::Pauli(pauli), 10_000),
         Call::FaultTable => (Instruction::Noise(Box::new(spread(random, MAX_SPREAD))), 300),
-        Call::Run | Call::Print => (Instruction::Exponential(pauli), 60),
+        Call::Run | Call::RunShared | Call::Print => (Instruction::Exponential(pauli), 60),
         _ => (Instruction::Exponential(pauli), 10_000),
     };
     let room = (MAX_BYTES - write::header(&header).len()) / write::instruction(&instruction).len();
@@ -119,6 +119,10 @@ pub fn lent(random: &mut Random, call: Call, bytes: &[u8]) -> Input {
             lend_draws(random, &job, &mut input);
             let need = Plain.settle(bytes, input.draws(), &input.noiseless, &mut []).figure;
             input.out_len = length_near(random, usize_of(need));
+        }
+        Call::RunShared | Call::SettleShared => {
+            input = lent(random, call.unshared(), bytes);
+            share(random, &mut input);
         }
         Call::Annotate => {
             input.p = own_probability(random);
@@ -313,6 +317,87 @@ fn words_near(random: &mut Random, need: usize) -> Vec<u64> {
         _ => need,
     };
     (0..length).map(|_| random.word()).collect()
+}
+
+// ---- shares
+
+/// A share of a longer main list whose words are those of the main list here: its first are the rest of the caller's stretch, the others that of the common
+/// part. Around them are the stretches of others, and words that were taken before. Some shares are damaged.
+fn share(random: &mut Random, input: &mut Input) {
+    let callers = 1 + random.index(MAX_CALLERS);
+    let caller = random.index(callers);
+    let words = std::mem::take(&mut input.main);
+    let own = match random.below(4) {
+        0 => 0,
+        1 => words.len(),
+        _ => random.index(words.len() + 1),
+    };
+    let few = |random: &mut Random| if random.one_in(3) { 0 } else { random.index(9) };
+    let (mut main, mut shares, mut marks) = (Vec::new(), Vec::new(), Vec::new());
+    for number in 0..callers {
+        let taken = few(random);
+        let left = if number == caller { own } else { few(random) };
+        main.extend(draw_words(random, taken, &[]));
+        match number == caller {
+            true => main.extend(&words[..own]),
+            false => main.extend(draw_words(random, left, &[])),
+        }
+        shares.push((taken + left) as u64);
+        marks.push(taken as u64);
+    }
+    let taken = few(random);
+    main.extend(draw_words(random, taken, &[]));
+    main.extend(&words[own..]);
+    marks.push(taken as u64);
+    if random.one_in(6) {
+        marks.push(random.word());
+    }
+    (input.main, input.shares, input.marks, input.caller) = (main, shares, marks, caller as u64);
+    if random.one_in(5) {
+        damage_share(random, input);
+    }
+}
+
+/// Shares that total more than the list, with too few or too many callers, marks that are too high or too few, a caller that there isn't.
+pub fn damage_share(random: &mut Random, input: &mut Input) {
+    let (callers, length) = (input.shares.len(), input.main.len() as u64);
+    let times = if random.one_in(3) { 2 } else { 1 };
+    for _ in 0..times {
+        let place = random.index(callers.max(1));
+        match random.below(10) {
+            0 => input.caller = past(random, callers as u64),
+            1 => input.shares.clear(),
+            2 => {
+                // callers without a stretch, so that their number alone is wrong
+                let more = (MAX_CALLERS + 1).saturating_sub(input.shares.len());
+                input.shares.extend(vec![0; more]);
+                let common = callers.min(input.marks.len());
+                input.marks.splice(common..common, vec![0; more]);
+            }
+            3 => input.marks.truncate(random.index(callers + 1)),
+            4 if place < input.shares.len() => {
+                // just more than the list, or a total that passes 2^64
+                let total: u64 = input.shares.iter().fold(0, |total, length| total.wrapping_add(*length));
+                let more = past(random, length.wrapping_sub(total).wrapping_add(1).max(1));
+                input.shares[place] = input.shares[place].wrapping_add(more);
+            }
+            5 => input.shares.extend([1 << 63, 1 << 63]),
+            6 => _ = input.main.pop(),
+            7 if place < input.marks.len() && place < input.shares.len() => {
+                input.marks[place] = past(random, input.shares[place].saturating_add(1));
+            }
+            8 if callers < input.marks.len() => {
+                let total: u64 = input.shares.iter().fold(0, |total, length| total.wrapping_add(*length));
+                input.marks[callers] = past(random, length.wrapping_sub(total).wrapping_add(1).max(1));
+            }
+            _ => input.marks.iter_mut().for_each(|mark| *mark = mark.wrapping_add(1)),
+        }
+    }
+}
+
+/// A main list for several jobs.
+pub fn main_list(random: &mut Random, length: usize) -> Vec<u64> {
+    draw_words(random, length, &[])
 }
 
 // ---- draws

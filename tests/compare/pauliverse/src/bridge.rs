@@ -157,12 +157,28 @@ impl Program {
     ///
     /// 14 at the noise line whose draws are spent.
     pub fn faults(&self, base: u64, main: &[u64], noiseless: &NoiselessOutcomes) -> Result<Vec<Vec<Fault>>, Refusal> {
-        set_shots(usize_of(self.header.shots));
+        self.faults_from(base, &mut LentWords::new(main), noiseless)
+    }
+
+    /// How many words of the main list these draws read, also where they are spent.
+    #[must_use]
+    pub fn words_read(&self, base: u64, main: &[u64], noiseless: &NoiselessOutcomes) -> usize {
         let mut rng = LentWords::new(main);
+        _ = self.faults_from(base, &mut rng, noiseless);
+        rng.read()
+    }
+
+    fn faults_from(
+        &self,
+        base: u64,
+        main: &mut LentWords<'_>,
+        noiseless: &NoiselessOutcomes,
+    ) -> Result<Vec<Vec<Fault>>, Refusal> {
+        set_shots(usize_of(self.header.shots));
         let mut all = Vec::with_capacity(self.steps.len());
         for (line, step) in &self.steps {
             let drawn = until_spent(|| match step {
-                Step::Instruction(Published::Noise { fault }) => draw(fault, base, noiseless, &mut rng),
+                Step::Instruction(Published::Noise { fault }) => draw(fault, base, noiseless, main),
                 _ => Vec::new(),
             });
             all.push(drawn.ok_or(Refusal::at(14, *line))?);

@@ -7,12 +7,15 @@ pub mod landed;
 pub mod stored;
 pub mod vectors;
 
-use checker::calls::{Answer, Asked, Calls, Draws, Rows};
+use checker::calls::{Answer, Asked, Calls, Draws, Rows, Share};
 use checker::job::{Header, Instruction, Job, Refusal, usize_of};
 use checker::plain::around::noise_list;
 use checker::plain::by_shot::Shape;
 use checker::plain::fault_table::{need_groups, row};
-use checker::plain::{Plain, bit, deliver, deliver_settled, need_probability, need_walkable, need_words, print_with};
+use checker::plain::shares::{Available, need_marks};
+use checker::plain::{
+    Plain, bit, cleared, deliver, deliver_settled, need_probability, need_rows, need_walkable, need_words, print_with,
+};
 use checker::read::{check, read};
 use checker::write;
 use pauliverse::bridge::{Executed, Program, lend, transposed};
@@ -31,6 +34,21 @@ impl Calls for Reference {
 
     fn settle(&self, job: &[u8], draws: Draws<'_>, noiseless: &[u64], out: &mut [u8]) -> Answer {
         settled(job, draws, noiseless).map_or_else(Answer::from, |text| deliver_settled(&text, out))
+    }
+
+    fn run_shared(&self, job: &[u8], draws: Draws<'_>, noiseless: &[u64], rows: Rows<'_>, share: Share<'_>) -> Answer {
+        Answer::of(run_shared(job, draws, noiseless, rows, share))
+    }
+
+    fn settle_shared(
+        &self,
+        job: &[u8],
+        draws: Draws<'_>,
+        noiseless: &[u64],
+        share: Share<'_>,
+        out: &mut [u8],
+    ) -> Answer {
+        settle_shared(job, draws, noiseless, share, out).unwrap_or_else(Answer::from)
     }
 
     fn walk(&self, job: &[u8], shot: u64, set: &[u64]) -> Answer {
@@ -98,36 +116,68 @@ pub fn execute(job: &Job<'_>, draws: Draws<'_>, noiseless: &[u64]) -> Result<Exe
 
 fn run(bytes: &[u8], draws: Draws<'_>, noiseless: &[u64], rows: Rows<'_>) -> Result<(), Refusal> {
     let job = read(bytes)?;
-    let (frame_words, outcome_words) = (job.header.frame_words(), job.header.outcome_words());
-    need_words(&[
-        (rows.frames_x, frame_words),
-        (rows.frames_z, frame_words),
-        (rows.deltas, outcome_words),
-        (noiseless, outcome_words),
-    ])?;
-    let outcomes = usize_of(job.header.outcomes);
-    if let Some(totals) = &rows.totals {
-        need_words(&[(totals, outcomes)])?;
-    }
-    let mut totals = rows.totals.map(|totals| &mut totals[..outcomes]);
-    let frames_x = &mut rows.frames_x[..frame_words];
-    let frames_z = &mut rows.frames_z[..frame_words];
-    let deltas = &mut rows.deltas[..outcome_words];
-    frames_x.fill(0);
-    frames_z.fill(0);
-    deltas.fill(0);
-    totals.iter_mut().for_each(|totals| totals.fill(0));
-    let executed = execute(&job, draws, noiseless)?;
-    deltas.copy_from_slice(&all_deltas(&executed, &job.header));
+    need_rows(&job.header, noiseless, &rows)?;
+    run_accepted(&job, draws, noiseless, rows)
+}
+
+/// The run of a job to which enough is lent.
+fn run_accepted(job: &Job<'_>, draws: Draws<'_>, noiseless: &[u64], rows: Rows<'_>) -> Result<(), Refusal> {
+    let rows = cleared(&job.header, rows);
+    let executed = execute(job, draws, noiseless)?;
+    rows.deltas.copy_from_slice(&all_deltas(&executed, &job.header));
     let (x_rows, z_rows) = executed.frames();
-    frames_x.copy_from_slice(&x_rows);
-    frames_z.copy_from_slice(&z_rows);
+    rows.frames_x.copy_from_slice(&x_rows);
+    rows.frames_z.copy_from_slice(&z_rows);
     // the published Rust keeps no totals (note 5)
-    let rows = deltas.chunks_exact(job.header.row_words());
-    for (total, row) in totals.into_iter().flatten().zip(rows) {
+    let deltas = rows.deltas.chunks_exact(job.header.row_words());
+    for (total, row) in rows.totals.into_iter().flatten().zip(deltas) {
         *total = row.iter().map(|word| u64::from(word.count_ones())).sum();
     }
     Ok(())
+}
+
+/// A run on the words that are available to a caller, as many of which are taken as the published sampling reads.
+fn run_shared(
+    bytes: &[u8],
+    draws: Draws<'_>,
+    noiseless: &[u64],
+    rows: Rows<'_>,
+    mut share: Share<'_>,
+) -> Result<(), Refusal> {
+    let job = read(bytes)?;
+    need_rows(&job.header, noiseless, &rows)?;
+    need_marks(&share)?;
+    let available = Available::of(draws.main, &share)?;
+    let draws = Draws { main: &available.words, ..draws };
+    available.take(&mut share, words_read(&job, draws, noiseless));
+    run_accepted(&job, draws, noiseless, rows)
+}
+
+/// Settling on these words.
+fn settle_shared(
+    bytes: &[u8],
+    draws: Draws<'_>,
+    noiseless: &[u64],
+    mut share: Share<'_>,
+    out: &mut [u8],
+) -> Result<Answer, Refusal> {
+    let job = read(bytes)?;
+    need_words(&[(noiseless, job.header.outcome_words())])?;
+    need_marks(&share)?;
+    let available = Available::of(draws.main, &share)?;
+    let draws = Draws { main: &available.words, ..draws };
+    let text = settled_accepted(&job, draws, noiseless);
+    let answer = text.map_or_else(Answer::from, |text| deliver_settled(&text, out));
+    if answer.number != 15 {
+        available.take(&mut share, words_read(&job, draws, noiseless));
+    }
+    Ok(answer)
+}
+
+/// How many words of the main list the published sampling reads, also where draws are spent.
+fn words_read(job: &Job<'_>, draws: Draws<'_>, noiseless: &[u64]) -> usize {
+    let noiseless = lend(job, &draws, noiseless);
+    Program::new(job).words_read(draws.base, draws.main, &noiseless)
 }
 
 /// The deltas of every outcome, row after row.
@@ -138,8 +188,13 @@ fn all_deltas(executed: &Executed, header: &Header) -> Vec<u64> {
 fn settled(bytes: &[u8], draws: Draws<'_>, noiseless: &[u64]) -> Result<Vec<u8>, Refusal> {
     let job = read(bytes)?;
     need_words(&[(noiseless, job.header.outcome_words())])?;
-    let outcomes = lend(&job, &draws, noiseless);
-    let faults = Program::new(&job).faults(draws.base, draws.main, &outcomes)?;
+    settled_accepted(&job, draws, noiseless)
+}
+
+/// The settled text of a job to which enough is lent.
+fn settled_accepted(job: &Job<'_>, draws: Draws<'_>, noiseless: &[u64]) -> Result<Vec<u8>, Refusal> {
+    let outcomes = lend(job, &draws, noiseless);
+    let faults = Program::new(job).faults(draws.base, draws.main, &outcomes)?;
     let mut text = job.header_text.to_vec();
     for (line, faults) in job.lines.iter().zip(faults) {
         if !matches!(line.instruction, Instruction::Noise(_)) {

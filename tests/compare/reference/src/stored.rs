@@ -131,6 +131,7 @@ pub fn held_in(part: &str, call: Call) -> Vec<Case> {
     };
     let all = fields_of(&std::fs::read(file).unwrap_or_default());
     all.iter()
+        .filter(|fields| can_be_lent(fields))
         .map(|fields| (fields, case(call, fields)))
         .filter(|(fields, case)| holds(fields, case))
         .map(|(_, case)| case)
@@ -153,6 +154,12 @@ fn overruled() -> Vec<(String, u64)> {
 fn holds(fields: &Fields) -> bool {
     let notes = |key: &str| split(&String::from_utf8_lossy(fields.get(key).map_or(&[], Vec::as_slice)), 10);
     notes("needs").into_iter().all(has_landed) && !notes("not").into_iter().any(has_landed)
+}
+
+/// Whether every share is a word: one case has a share of 2^64.
+fn can_be_lent(fields: &Fields) -> bool {
+    let shares = String::from_utf8_lossy(fields.get("shares").map_or(&[], Vec::as_slice));
+    entries(&shares).all(|share| share.parse::<u64>().is_ok())
 }
 
 type Fields = HashMap<String, Vec<u8>>;
@@ -244,6 +251,9 @@ fn case(call: Call, fields: &Fields) -> Case {
         shot: number("shot"),
         set: split(&text("set"), 10),
         groups: split(&text("groups"), 10),
+        shares: split(&text("shares"), 10),
+        marks: split(&text("marks"), 10),
+        caller: number("caller"),
         qubits: number("qubits"),
         outcomes: number("outcomes"),
         shots: number("shots"),
@@ -261,6 +271,7 @@ fn case(call: Call, fields: &Fields) -> Case {
         deltas: words("after_deltas"),
         totals: split(&text("after_totals"), 10),
         rows: words("after_rows"),
+        marks: split(&text("after_marks"), 10),
         words: words("after_words"),
         bytes: match call {
             Call::Print => bytes("stdout"),
@@ -284,6 +295,9 @@ fn written_over(text: &[u8], length: usize) -> Vec<u8> {
 }
 
 fn split(list: &str, radix: u32) -> Vec<u64> {
-    let entries = list.split(',').filter(|entry| !entry.is_empty() && *entry != "-");
-    entries.map(|entry| u64::from_str_radix(entry, radix).expect("a number")).collect()
+    entries(list).map(|entry| u64::from_str_radix(entry, radix).expect("a number")).collect()
+}
+
+fn entries(list: &str) -> impl Iterator<Item = &str> {
+    list.split(',').filter(|entry| !entry.is_empty() && *entry != "-")
 }

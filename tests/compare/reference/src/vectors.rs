@@ -4,13 +4,17 @@
 //! are decimal numbers.
 
 use crate::stored::Case;
-use checker::calls::{Answer, Asked, Calls, Draws, Rows};
+use checker::calls::{Answer, Asked, Calls, Draws, Rows, Share};
+use checker::job::usize_of;
+use checker::read::read;
 
 /// The calls that have vectors: a file each.
-pub const CALLS: [Call; 13] = [
+pub const CALLS: [Call; 15] = [
     Call::Check,
     Call::Run,
     Call::Settle,
+    Call::RunShared,
+    Call::SettleShared,
     Call::Walk,
     Call::Annotate,
     Call::Locations,
@@ -30,6 +34,8 @@ pub enum Call {
     Check,
     Run,
     Settle,
+    RunShared,
+    SettleShared,
     Walk,
     Annotate,
     Locations,
@@ -49,10 +55,26 @@ impl Call {
         !matches!(self, Call::ByShot | Call::ByOutcome | Call::Fill | Call::Make)
     }
 
+    /// Whether the call is by a caller with a share of the main list.
+    #[must_use]
+    pub fn is_shared(self) -> bool {
+        matches!(self, Call::RunShared | Call::SettleShared)
+    }
+
+    /// The call that it is without shares.
+    #[must_use]
+    pub fn unshared(self) -> Self {
+        match self {
+            Call::RunShared => Call::Run,
+            Call::SettleShared => Call::Settle,
+            _ => self,
+        }
+    }
+
     /// Whether the call writes a text over lent bytes.
     #[must_use]
     pub fn writes_text(self) -> bool {
-        matches!(self, Call::Settle | Call::Annotate | Call::FaultTable | Call::Make)
+        matches!(self, Call::Settle | Call::SettleShared | Call::Annotate | Call::FaultTable | Call::Make)
     }
 
     /// The call's name, as of its subcommand and its file.
@@ -62,6 +84,8 @@ impl Call {
             Call::Check => "check",
             Call::Run => "run",
             Call::Settle => "settle",
+            Call::RunShared => "run_shared",
+            Call::SettleShared => "settle_shared",
             Call::Walk => "walk",
             Call::Annotate => "annotate",
             Call::Locations => "locations",
@@ -88,7 +112,7 @@ pub struct Input {
     pub frames_x: Vec<u64>,
     pub frames_z: Vec<u64>,
     pub deltas: Vec<u64>,
-    /// Whether a run lends a list of totals.
+    /// Whether a run lends a list of totals; one by a caller with a share lends one just long enough where it does not.
     pub with_totals: bool,
     pub totals: Vec<u64>,
     pub out_len: usize,
@@ -96,6 +120,9 @@ pub struct Input {
     pub shot: u64,
     pub set: Vec<u64>,
     pub groups: Vec<u64>,
+    pub shares: Vec<u64>,
+    pub marks: Vec<u64>,
+    pub caller: u64,
     pub qubits: u64,
     pub outcomes: u64,
     pub shots: u64,
@@ -116,6 +143,7 @@ pub struct Output {
     pub deltas: Vec<u64>,
     pub totals: Vec<u64>,
     pub rows: Vec<u64>,
+    pub marks: Vec<u64>,
     pub words: Vec<u64>,
     /// Every lent byte after the call, or what the program printed.
     pub bytes: Vec<u8>,
@@ -147,18 +175,38 @@ impl Input {
         let job = &self.job;
         match call {
             Call::Check => output.answer = calls.check(job),
-            Call::Run => {
+            Call::Run | Call::RunShared => {
                 output.frames_x = self.frames_x.clone();
                 output.frames_z = self.frames_z.clone();
                 output.deltas = self.deltas.clone();
-                output.totals = if self.with_totals { self.totals.clone() } else { Vec::new() };
+                output.totals = match (call, self.with_totals) {
+                    (_, true) => self.totals.clone(),
+                    (Call::Run, false) => Vec::new(),
+                    _ => vec![0; outcomes(job)],
+                };
+                let with_totals = self.with_totals || call == Call::RunShared;
                 let rows = Rows {
                     frames_x: &mut output.frames_x,
                     frames_z: &mut output.frames_z,
                     deltas: &mut output.deltas,
-                    totals: self.with_totals.then_some(output.totals.as_mut_slice()),
+                    totals: with_totals.then_some(output.totals.as_mut_slice()),
                 };
-                output.answer = calls.run(job, self.draws(), &self.noiseless, rows);
+                output.answer = if call == Call::Run {
+                    calls.run(job, self.draws(), &self.noiseless, rows)
+                } else {
+                    output.marks = self.marks.clone();
+                    let share = Share { shares: &self.shares, marks: &mut output.marks, caller: self.caller };
+                    calls.run_shared(job, self.draws(), &self.noiseless, rows, share)
+                };
+                if !self.with_totals {
+                    output.totals.clear();
+                }
+            }
+            Call::SettleShared => {
+                output.bytes = fresh_bytes(self.out_len);
+                output.marks = self.marks.clone();
+                let share = Share { shares: &self.shares, marks: &mut output.marks, caller: self.caller };
+                output.answer = calls.settle_shared(job, self.draws(), &self.noiseless, share, &mut output.bytes);
             }
             Call::Settle => {
                 output.bytes = fresh_bytes(self.out_len);
@@ -197,6 +245,11 @@ impl Input {
     }
 }
 
+/// The outcomes of a job's header; any number will do where it has none.
+fn outcomes(job: &[u8]) -> usize {
+    read(job).map_or(0, |job| usize_of(job.header.outcomes))
+}
+
 // ---- writing
 
 /// A case as its file has it.
@@ -224,6 +277,11 @@ pub fn input_bytes(call: Call, input: &Input) -> Vec<u8> {
         lists.map(|(key, words)| (key, joined(words, 16))).to_vec()
     };
     let totals = || if input.with_totals { vec![("totals", joined(&input.totals, 10))] } else { Vec::new() };
+    let share = || {
+        let lists = [("shares", &input.shares), ("marks", &input.marks)];
+        let lists = lists.map(|(key, numbers)| (key, joined(numbers, 10)));
+        std::iter::once(("caller", input.caller.to_string())).chain(lists).collect::<Vec<_>>()
+    };
     let counts = || vec![("outcomes", input.outcomes.to_string()), ("shots", input.shots.to_string())];
     let seed = || vec![("seed", input.seed.to_string())];
     let deltas = || vec![("deltas", joined(&input.deltas, 16))];
@@ -231,6 +289,8 @@ pub fn input_bytes(call: Call, input: &Input) -> Vec<u8> {
     let fields = match call {
         Call::Run => [base(), draws(), rows(), totals()].concat(),
         Call::Settle => [base(), out_len(), draws()].concat(),
+        Call::RunShared => [base(), share(), draws(), rows(), totals()].concat(),
+        Call::SettleShared => [base(), out_len(), share(), draws()].concat(),
         Call::Walk => vec![("shot", input.shot.to_string()), ("set", joined(&input.set, 10))],
         Call::Annotate => [out_len(), vec![("p", format!("{:016x}", input.p))]].concat(),
         Call::FaultTable => [out_len(), vec![("groups", joined(&input.groups, 10))]].concat(),
@@ -268,7 +328,7 @@ fn output_bytes(call: Call, output: &Output) -> Vec<u8> {
         bytes.extend(with_length("text", &output.bytes[..written]));
     }
     let written = match call {
-        Call::Run => {
+        Call::Run | Call::RunShared => {
             vec![("frames_x", &output.frames_x), ("frames_z", &output.frames_z), ("deltas", &output.deltas)]
         }
         Call::ByShot => vec![("rows", &output.rows)],
@@ -279,8 +339,11 @@ fn output_bytes(call: Call, output: &Output) -> Vec<u8> {
     for (key, words) in written {
         bytes.extend(format!("after_{key} {}\n", joined(words, 16)).into_bytes());
     }
-    if call == Call::Run && !output.totals.is_empty() {
+    if !output.totals.is_empty() {
         bytes.extend(format!("after_totals {}\n", joined(&output.totals, 10)).into_bytes());
+    }
+    if call.is_shared() {
+        bytes.extend(format!("after_marks {}\n", joined(&output.marks, 10)).into_bytes());
     }
     bytes
 }

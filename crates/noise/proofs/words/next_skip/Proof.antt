@@ -1,87 +1,50 @@
--- `noise::words::next_skip` meets its contract. The invariant: the words passed, and those that are skipped from here on, are all that are.
-use mathlib.Core.Path.{_≡_, sym, _∙_}
-use Prim.Native.Nat.{_+_, _-_, _≤_}
+-- `noise::words::next_skip` meets its contract: the fault stands in the first part, or the second is gone through from its place on.
 use native.Mathlib.Omega.{arith}
-use lib.ListN.{length, drop}
+use Prim.Native.Nat.{_+_, _-_}
+use lib.ListN.{length, length-append}
 use borrow.Author.Needs.{needs}
-use native.Mathlib.Nat.{add-zero, sub-zero, zero-add}
-use Rattle.noise.specs.Words.{skipOf}
-use Rattle.noise.specs.Laws.Words.{skip-done, skip-ends, skip-stops, skip-more}
+use Rattle.noise.specs.Laws.Words.{skip-fits, skip-here, skip-on}
 use Rattle.noise.proofs.words.next_skip.Statement.{statement}
 use Rattle.noise.proofs.words.next_skip.Tie as tie
 
-abbrev Inv-loop : tie.InvT-loop
-Inv-loop words at shots p i₀ i = (i ≤ shots) × (at + i ≤ length words) × (i + skipOf p (shots - i) (drop (at + i) words) ≡ skipOf p shots (drop at words))
+skip-part-requires : tie.Need-skip-part-requires
+skip-part-requires c κs = search needs
 
-abbrev μ-loop : tie.MeasureT-loop
-μ-loop words at shots p i₀ i = shots - i
+add-next : tie.Need-add-next
+add-next c = let a = c .before .before .before .args in record { fits = omega (arith, skip-fits _ (a .words .now) (a .at) _ _ (c .skip-part .ensures), length-append (a .words .now) (a .more .now), c .before .before .before .pre, c .before .before .before .good) }
 
-loop-holds : tie.Need-loop-holds Inv-loop μ-loop
-loop-holds c = (omega arith, omega arith, rw (add-zero, sub-zero, zero-add))
+returns : tie.Need-returns
+returns c = skip-here _ _ _ _ _ _ (c .before .skip-part .ensures) (c .if1 .taken)
 
-add-if1 : tie.Need-add-if1 Inv-loop μ-loop
-add-if1 c = omega arith
+sub-skip-part : tie.Need-sub-skip-part
+sub-skip-part c = search needs
 
-returns : tie.Need-returns Inv-loop μ-loop
-returns c =
-    let a = c .before .before .before .before .args in
-    let here = c .before .before .loop in
-    let ends = skip-ends (a .p) (a .words .now) (a .at) (here .i) (a .shots) (c .if1 .taken) in
-    omega (arith, here .inv .2)
+sub-skip-part-2 : tie.Need-sub-skip-part-2
+sub-skip-part-2 c = let a = c .before .before .before .before .args in omega (arith, skip-fits _ (a .words .now) (a .at) _ _ (c .before .skip-part .ensures))
 
-add-is-fault : tie.Need-add-is-fault Inv-loop μ-loop
-add-is-fault c = omega arith
+skip-part-requires-2 : tie.Need-skip-part-requires-2
+skip-part-requires-2 c κs = search needs
 
-mul-is-fault : tie.Need-mul-is-fault Inv-loop μ-loop
-mul-is-fault c = omega arith
+add-result : tie.Need-add-result
+add-result c =
+    let a = c .before .before .before .before .before .args in
+    let first = skip-fits (a .p) (a .words .now) (a .at) _ _ (c .before .before .skip-part .ensures) in
+    let skip = c .before .before .skip-part .result in
+    let second = skip-fits (a .p) (a .more .now) (a .at + skip - length (a .words .now)) (a .shots - skip) _ (c .skip-part2 .ensures) in
+    record { fits = omega (arith, first, second, c .before .before .before .before .before .good) }
 
-shared-slice-read-is-fault : tie.Need-shared-slice-read-is-fault Inv-loop μ-loop
-shared-slice-read-is-fault c = omega arith
-
-is-fault-requires : tie.Need-is-fault-requires Inv-loop μ-loop
-is-fault-requires c κs = search needs
-
-returns-2 : tie.Need-returns-2 Inv-loop μ-loop
-returns-2 c =
-    let a = c .before .before .before .before .before .before .before .args in
-    let here = c .before .before .before .before .before .loop in
-    let stops = skip-stops (a .p) (a .words .now) (a .at) (here .i) (a .shots) (omega arith) (omega arith) (sym (c .before .is-fault .ensures) ∙ c .if2 .taken) in
-    omega (arith, here .inv .2)
-
-add-i : tie.Need-add-i Inv-loop μ-loop
-add-i c = omega arith
-
-loop-less : tie.Need-loop-less Inv-loop μ-loop
-loop-less c = omega arith
-
-loop-again : tie.Need-loop-again Inv-loop μ-loop
-loop-again c =
-    let a = c .before .before .before .before .before .before .before .args in
-    let here = c .before .before .before .before .before .loop in
-    let more = skip-more (a .p) (a .words .now) (a .at) (here .i) (a .shots) (omega arith) (omega arith) (sym (c .before .is-fault .ensures) ∙ c .if2 .left) in
-    (omega arith, omega arith, omega (arith, here .inv .2))
-
-returns-3 : tie.Need-returns-3 Inv-loop μ-loop
-returns-3 c =
-    let a = c .before .before .before .args in
-    let done = skip-done (a .p) (a .words .now) (a .at) (c .before .loop .i) (a .shots) (c .loop-test .left) in
-    omega (arith, c .before .loop .inv .2)
+returns-2 : tie.Need-returns-2
+returns-2 c = skip-on _ _ _ _ _ _ (c .before .before .skip-part .ensures) (c .before .if1 .left) _ (c .skip-part2 .ensures)
 
 pub next-skip-spec : {M : Type 1} → statement M
 next-skip-spec =
     tie.close
     (tie.spec
-    Inv-loop
-    μ-loop
-    loop-holds
-    add-if1
+    skip-part-requires
+    add-next
     returns
-    add-is-fault
-    mul-is-fault
-    shared-slice-read-is-fault
-    is-fault-requires
-    returns-2
-    add-i
-    loop-less
-    loop-again
-    returns-3)
+    sub-skip-part
+    sub-skip-part-2
+    skip-part-requires-2
+    add-result
+    returns-2)

@@ -19,17 +19,23 @@ pub struct Settled {
 ///
 /// 14 at the first noise line that needs a draw past its list.
 pub fn settled(job: &Job<'_>, draws: Draws<'_>, noiseless: &[u64]) -> Result<Settled, Refusal> {
+    settled_and_read(job, draws, noiseless).0
+}
+
+/// The same, and how many words of the main list were read, also where draws are spent.
+pub fn settled_and_read(job: &Job<'_>, draws: Draws<'_>, noiseless: &[u64]) -> (Result<Settled, Refusal>, u64) {
     let mut main = Words::from(draws.main, 0);
     let mut all = Vec::with_capacity(job.lines.len());
     for line in &job.lines {
         all.push(match &line.instruction {
-            Instruction::Noise(noise) => {
-                faults(noise, &job.header, &draws, noiseless, &mut main).ok_or(Refusal::at(14, line.number))?
-            }
+            Instruction::Noise(noise) => match faults(noise, &job.header, &draws, noiseless, &mut main) {
+                Some(faults) => faults,
+                None => return (Err(Refusal::at(14, line.number)), main.place()),
+            },
             _ => Vec::new(),
         });
     }
-    Ok(Settled { faults: all, words_read: main.place() })
+    (Ok(Settled { faults: all, words_read: main.place() }), main.place())
 }
 
 impl Settled {

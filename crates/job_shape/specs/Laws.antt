@@ -1,0 +1,2 @@
+-- Laws, for the proofs that cite them. Nothing here has to be believed.
+pub mod Tested
