@@ -2,7 +2,7 @@
 
 use crate::noise::{Kind, Noise, weight};
 use crate::{Answer, MAX_GROUPS, Number, fault_table};
-use std::collections::HashMap;
+use std::collections::{BTreeSet, HashMap};
 use std::fmt;
 use std::ops::RangeInclusive;
 
@@ -49,6 +49,7 @@ pub fn error_model(job: &[u8], detectors: &[Vec<u64>], observables: &[Vec<u64>])
                     element,
                     p,
                     has_condition: !line.noise.condition.is_empty(),
+                    correlation: line.noise.correlation,
                     flips,
                     detectors: detectors.len(),
                 }),
@@ -123,7 +124,8 @@ impl Line<'_> {
     /// All that decides when its elements fall: what it has in common with the lines that fall together with it.
     fn drawn(&self) -> String {
         let (common, _) = self.text.split_once(" d=").expect("a noise line has its kind");
-        let weights: Vec<u64> = self.weights.iter().map(|weight| weight.to_bits()).collect();
+        // 0 and -0 draw alike
+        let weights: Vec<u64> = self.weights.iter().map(|weight| (weight + 0.0).to_bits()).collect();
         format!("{common} {:?} {} {weights:?}", self.noise.kind, self.noise.size)
     }
 }
@@ -165,6 +167,19 @@ impl ErrorModel {
         self.observables
     }
 
+    /// The correlations whose noise lines don't all draw alike, rising: the model takes these lines for independent, and they are not, since they read the same
+    /// words.
+    #[must_use]
+    pub fn mixed_correlations(&self) -> BTreeSet<u64> {
+        let mut lines = HashMap::new();
+        let falls = self.mechanisms.iter().filter(|mechanism| mechanism.p > 0.0);
+        falls
+            .filter_map(|mechanism| Some((mechanism.correlation?, mechanism.line)))
+            .filter(|(correlation, line)| lines.entry(*correlation).or_insert(*line) != line)
+            .map(|(correlation, _)| correlation)
+            .collect()
+    }
+
     /// Every mechanism, one for each element of each noise line, but for lines that fall together, which have theirs in common. Those that never fall and those
     /// that flip nothing are among them.
     #[must_use]
@@ -185,6 +200,8 @@ pub struct Mechanism {
     pub p: f64,
     /// Whether there is such a condition.
     pub has_condition: bool,
+    /// The correlation of its noise line.
+    pub correlation: Option<u64>,
     /// The groups that it flips, rising: detectors, then observables.
     flips: Vec<usize>,
     detectors: usize,

@@ -1,7 +1,7 @@
 //! What a job asks of its caller.
 
 use crate::refusal::answer_of;
-use crate::{Answer, sys};
+use crate::{Answer, sys, walk};
 
 /// The numbers of an accepted job, which say how many words a run needs. The default, all zero, is that of no job.
 ///
@@ -45,6 +45,26 @@ impl Examination {
     #[must_use]
     pub fn outcome_words(&self) -> usize {
         self.outcomes * self.words_per_row()
+    }
+
+    /// Whether a set of outcomes rises strictly and names those alone that the job records. The walk judges it, on a job that records as many.
+    ///
+    /// # Errors
+    ///
+    /// The refusal by 17.
+    ///
+    /// ```
+    /// use kundatrezo::{Number, examine};
+    ///
+    /// let job = examine(b"op=job qubits=2 outcomes=5 shots=100\nop=o x=- z=0 id=0\nop=o x=- z=1 id=1\n")?;
+    /// assert_eq!(job.test_set(&[0, 1]), Ok(()));
+    /// assert!([vec![1, 0], vec![0, 0], vec![2]].iter().all(|set| job.test_set(set).unwrap_err().number == Number::WALK));
+    /// # Ok::<(), kundatrezo::Refusal>(())
+    /// ```
+    pub fn test_set(&self, set: &[u64]) -> Answer {
+        let lines: String = (0..self.recorded).map(|id| format!("op=r id={id} angle=0\n")).collect();
+        let recording = format!("op=job qubits=1 outcomes={} shots=1\n{lines}", self.recorded);
+        walk(recording.as_bytes(), 0, set).map(drop)
     }
 }
 

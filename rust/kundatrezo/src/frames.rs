@@ -56,7 +56,26 @@ impl Frames {
     /// The refusal by a test of the job, 13 (too few noiseless words), 26 or 14.
     pub fn run(&mut self, job: &[u8], noiseless: &[u64], draws: impl Source) -> Answer {
         let examined = examine(job);
-        self.job = examined.unwrap_or_default();
+        self.lend(examined.unwrap_or_default());
+        examined?;
+        self.run_in(job, noiseless, draws)
+    }
+
+    /// The same for a job of which these numbers are known.
+    pub(crate) fn run_examined(
+        &mut self,
+        numbers: Examination,
+        job: &[u8],
+        noiseless: &[u64],
+        draws: impl Source,
+    ) -> Answer {
+        self.lend(numbers);
+        self.run_in(job, noiseless, draws)
+    }
+
+    /// Cleared memory for a job of these numbers.
+    fn lend(&mut self, job: Examination) {
+        self.job = job;
         for (list, need) in [
             (&mut self.x, self.job.frame_words()),
             (&mut self.z, self.job.frame_words()),
@@ -66,7 +85,9 @@ impl Frames {
             list.clear();
             list.resize(need, 0);
         }
-        examined?;
+    }
+
+    fn run_in(&mut self, job: &[u8], noiseless: &[u64], draws: impl Source) -> Answer {
         let rows = Rows::new(&mut self.x, &mut self.z, &mut self.deltas).with_totals(&mut self.totals);
         run(job, rows, noiseless, draws)
     }

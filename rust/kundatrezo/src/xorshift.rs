@@ -58,6 +58,25 @@ impl Xorshift {
         Self { state }
     }
 
+    /// The words of a block of a sample of this seed, for its main list (0) or its second (1): a stream for each block and list. The state is word
+    /// 2 `block` + `list` + 1 of SplitMix64 from the state that [`new`](Self::new) makes of the seed, or the next where it is zero.
+    ///
+    /// A block reads so few words of the cycle that two streams seldom meet: docs/SAMPLING.md of the repository says how seldom.
+    ///
+    /// ```
+    /// use kundatrezo::Xorshift;
+    ///
+    /// let first = Xorshift::of_block(1, 0, 0).next();
+    /// assert_eq!(first, Some(11_708_912_154_547_754_076));
+    /// assert!([(1, 0, 1), (1, 1, 0), (2, 0, 0)].iter().all(|(seed, block, list)| Xorshift::of_block(*seed, *block, *list).next() != first));
+    /// ```
+    #[must_use]
+    pub fn of_block(seed: u64, block: u64, list: u64) -> Self {
+        let place = block.wrapping_mul(2).wrapping_add(list);
+        let stretched = Self::new(seed).state.wrapping_add(GOLDEN.wrapping_mul(place));
+        Self::new(stretched)
+    }
+
     /// The words from a state on; the state itself is not among the first of them.
     ///
     /// # Errors

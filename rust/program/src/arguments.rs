@@ -70,7 +70,9 @@ impl Command {
 
     /// The help of this command.
     pub fn help(&self) -> String {
-        let row = |flag: &Flag| format!("    {:<18} {}\n", format!("{} {}", flag.name, flag.value), flag.text);
+        let usage = |flag: &Flag| format!("{} {}", flag.name, flag.value);
+        let width = self.flags().map(|flag| usage(flag).len()).max().unwrap_or_default().max(18);
+        let row = |flag: &Flag| format!("    {:<width$} {}\n", usage(flag), flag.text);
         let rows: String = self.flags().map(row).collect();
         let gap = if rows.is_empty() { "" } else { "\n" };
         format!("usage: {}\n\n{}\n{gap}{rows}", self.usage(), self.details.join("\n\n"))

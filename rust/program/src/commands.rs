@@ -3,7 +3,7 @@
 use crate::arguments::{Arguments, Command, FILE, Flag, Operand};
 use crate::completions::{self, SHELLS};
 use crate::words::{self, Lent};
-use crate::{Failure, faults, files, load, manual, numbers, print, rates, shares, shots, sizes};
+use crate::{Failure, counts, faults, files, load, manual, numbers, print, rates, sample, shares, shots, sizes};
 use kundatrezo::{Examination, Frames, MAX_BYTES, Number, Refusal, Shots, bit};
 use std::fmt::Write;
 
@@ -141,6 +141,22 @@ job. A qubit that control and target share counts for both."],
         obey: faults::model,
     },
     Command {
+        name: "sample",
+        operand: Operand::Job,
+        summary: "the rates of any number of shots, with their intervals, or the shots by row",
+        details: sample::DETAILS,
+        options: &[sample::FLAGS],
+        obey: sample::sample,
+    },
+    Command {
+        name: "merge",
+        operand: Operand::Values(FILE),
+        summary: "the sum of the counts of several samples",
+        details: &[counts::DETAILS],
+        options: &[counts::FLAGS],
+        obey: counts::merge,
+    },
+    Command {
         name: "share",
         operand: Operand::None,
         summary: "the account of a main list that several callers have shares of",
@@ -247,7 +263,7 @@ fn run(arguments: &Arguments) -> Result<(), Failure> {
     }
     let by_shot = Shots::of_frames(&frames);
     if let Some(path) = arguments.value(SHOTS.name) {
-        files::write(path, shots::text(&by_shot).as_bytes())?;
+        files::write(path, &shots::text(&by_shot))?;
     }
     if let Some(path) = arguments.value(PACKED.name) {
         files::write(path, &shots::packed(&by_shot))?;

@@ -36,8 +36,9 @@ none of them flips. --detector or --observable is wanted, each as often as there
 
 pub const APPROXIMATION: &str = "\
 Decoders take the errors of a model for independent, while of a noise line's elements one falls at most: for
-small p the difference is of the order of p squared. Lines of one corr that draw alike are one error each.
-The p of a line with a condition is that of shots in which it holds. docs/FAULTS.md has more.";
+small p the difference is of the order of p squared. Lines of one corr that draw alike have their errors in
+common; others of that corr are taken for independent, with a note. The p of a line with a condition is that of
+shots in which it holds. docs/FAULTS.md has more.";
 
 pub fn table(arguments: &Arguments) -> Result<(), Failure> {
     let groups = groups(arguments, &GROUP)?;
@@ -54,6 +55,11 @@ pub fn model(arguments: &Arguments) -> Result<(), Failure> {
     write_out(arguments, model.to_string().as_bytes())?;
     if model.mechanisms().iter().any(|mechanism| mechanism.has_condition) {
         eprintln!("note: noise with a condition has the probability of shots in which it holds");
+    }
+    for correlation in model.mixed_correlations() {
+        eprintln!(
+            "note: lines with corr={correlation} differ in p, condition, kind or size, and are taken for independent"
+        );
     }
     Ok(())
 }

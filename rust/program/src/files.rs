@@ -15,6 +15,18 @@ pub fn open(path: &OsStr) -> Result<Box<dyn Read>, Failure> {
     Ok(Box::new(File::open(path).map_err(|error| fault(path, &error))?))
 }
 
+/// A file of which any place can be read.
+pub fn open_file(path: &OsStr) -> Result<File, Failure> {
+    File::open(path).map_err(|error| fault(path, &error))
+}
+
+/// A text.
+pub fn text(path: &OsStr) -> Result<String, Failure> {
+    let mut text = String::new();
+    open(path)?.read_to_string(&mut text).map_err(|error| fault(path, &error))?;
+    Ok(text)
+}
+
 /// The bytes of a job. A longer file than a job may be is read no further than one byte past that, which is enough to have it refused.
 pub fn job(path: &OsStr) -> Result<Vec<u8>, Failure> {
     let mut bytes = Vec::new();

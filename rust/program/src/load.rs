@@ -1,10 +1,10 @@
 //! A reproducible load: jobs and words from a seed.
 
 use crate::arguments::{Arguments, FILE, Flag};
-use crate::commands::{longer, room, write_out};
+use crate::commands::{room, write_out};
 use crate::words::List;
 use crate::{Failure, files};
-use kundatrezo::{JobParameters, MAX_OUTCOMES, MAX_QUBITS, MAX_SHOTS, Number};
+use kundatrezo::{JobParameters, MAX_BYTES, MAX_OUTCOMES, MAX_QUBITS, MAX_SHOTS, Number};
 
 const QUBITS: Flag = Flag { name: "--qubits", value: "N", text: "the qubits of the header" };
 const OUTCOMES: Flag = Flag { name: "--outcomes", value: "N", text: "the outcomes of the header" };
@@ -42,8 +42,16 @@ pub fn write_job(arguments: &Arguments) -> Result<(), Failure> {
     let bytes = kundatrezo::make(asked, &mut out).map_err(|refusal| {
         let limits =
             format!("a header has 1 to {MAX_QUBITS} qubits, 0 to {MAX_OUTCOMES} outcomes, 1 to {MAX_SHOTS} shots");
-        let remedy = (refusal.number == Number::HEADER).then_some(limits);
-        Failure::refused(&refusal, b"", remedy.or_else(|| longer(&refusal)))
+        let shorter = format!(
+            "leave out --room, if it is given; a text of more than {MAX_BYTES} bytes wants fewer {}",
+            LINES.name
+        );
+        let remedy = match refusal.number {
+            Number::HEADER => Some(limits),
+            Number::ROOM => Some(shorter),
+            _ => None,
+        };
+        Failure::refused(&refusal, b"", remedy)
     })?;
     write_out(arguments, &out[..bytes])
 }

@@ -3,16 +3,20 @@
 mod arguments;
 mod commands;
 mod completions;
+mod counts;
 mod faults;
 mod files;
 mod hints;
 mod load;
 mod manual;
 mod numbers;
+mod progress;
 mod rates;
+mod sample;
 mod shares;
 mod shots;
 mod sizes;
+mod turns;
 mod words;
 
 use arguments::{Arguments, Command};

@@ -13,7 +13,7 @@ const QUANTILE: f64 = 1.959_963_984_540_054;
 
 /// A line for each of the first outcomes.
 pub fn text(frames: &Frames, outcomes: usize) -> String {
-    let shots = frames.job().shots;
+    let shots = frames.job().shots as u64;
     let line = |(id, &total): (usize, &u64)| {
         let (rate, [low, high]) = (part(total, shots), interval(total, shots));
         format!("id={id} total={total} rate={rate:.6} low={low:.6} high={high:.6}\n")
@@ -21,15 +21,22 @@ pub fn text(frames: &Frames, outcomes: usize) -> String {
     frames.totals().iter().take(outcomes).enumerate().map(line).collect()
 }
 
-/// So many of all shots. Both are at most 4,096, and exact.
+/// A line of a sample, which may have many shots and small rates: of no shots nothing is known.
+pub fn line(name: &str, total: u64, shots: u64) -> String {
+    let [low, high] = if shots == 0 { [0.0, 1.0] } else { interval(total, shots) };
+    let rate = if shots == 0 { 0.0 } else { part(total, shots) };
+    format!("{name} total={total} rate={rate:.6e} low={low:.6e} high={high:.6e}\n")
+}
+
+/// So many of all shots. Both are exact up to 2^53.
 #[allow(clippy::cast_precision_loss)]
-fn part(total: u64, shots: usize) -> f64 {
+fn part(total: u64, shots: u64) -> f64 {
     total as f64 / shots as f64
 }
 
 /// Wilson's score interval of a rate, at 95 percent.
 #[allow(clippy::cast_precision_loss)]
-fn interval(total: u64, shots: usize) -> [f64; 2] {
+fn interval(total: u64, shots: u64) -> [f64; 2] {
     let (rate, shots) = (part(total, shots), shots as f64);
     let square = QUANTILE * QUANTILE / shots;
     let middle = (rate + square / 2.0) / (1.0 + square);
@@ -55,8 +62,8 @@ mod tests {
     fn a_rate_lies_in_its_interval() {
         for shots in [1, 2, 63, 64, 65, 4096] {
             for total in [0, 1, shots / 3, shots - 1, shots] {
-                let [low, high] = interval(total as u64, shots);
-                let rate = super::part(total as u64, shots);
+                let [low, high] = interval(total, shots);
+                let rate = super::part(total, shots);
                 assert!((0.0..=rate + 1e-12).contains(&low) && (rate - 1e-12..=1.0).contains(&high));
             }
         }

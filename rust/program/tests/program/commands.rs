@@ -202,6 +202,26 @@ fn an_endless_file_is_read_as_far_as_needed() {
     assert_eq!(call("run - --main -", noise).stderr, "kundatrezo: standard input can be read for one thing only\n");
 }
 
+/// What an error model can't say is said on standard error.
+#[test]
+fn models_come_with_notes() {
+    let line = |p: &str, rest: &str| format!("op=n p={p} corr=5 cond={rest} d=1 x=0 z=- size=1\n");
+    let model = |noise: [String; 2]| {
+        let job =
+            format!("op=job qubits=1 outcomes=2 shots=1\nop=r id=0 angle=0\n{}op=o x=- z=0 id=1\n", noise.concat());
+        let done = call("dem - --detector 1", job);
+        assert_eq!(done.status, 0, "{done:?}");
+        (String::from_utf8(done.stdout).expect("text"), done.stderr)
+    };
+    let (one, other) = ("3fe0000000000000", "3fd0000000000000");
+    assert_eq!(model([one, one].map(|p| line(p, "- parity=0"))), ("detector D0\n".into(), String::new()));
+    let (text, notes) = model([one, other].map(|p| line(p, "- parity=0")));
+    assert_eq!(text, "error(0.5) D0\nerror(0.25) D0\n");
+    assert_eq!(notes, "note: lines with corr=5 differ in p, condition, kind or size, and are taken for independent\n");
+    let (_, notes) = model([line(one, "- parity=0"), line(one, "0 parity=1")]);
+    assert!(notes.starts_with("note: noise with a condition has") && notes.lines().count() == 2, "{notes}");
+}
+
 #[test]
 fn refusals_are_said_in_words() {
     let refused = |arguments: &str, job: &str, text: &str| {
@@ -283,7 +303,7 @@ fn arguments_at_fault() {
     let odd = file(&folder, "odd", [0; 9]);
     let cases = [
         ("", "a command is missing"),
-        ("sample -", "there is no command 'sample'"),
+        ("simulate -", "there is no command 'simulate'"),
         ("check", "a job is missing"),
         ("check - -", "one job is wanted"),
         ("check - --seed 1", "'check' has no option '--seed'"),

@@ -82,12 +82,13 @@ fn refusals() {
 
 #[test]
 fn read_me() {
-    let text = document("rust/README.md");
-    let folder = session_folder("read_me");
-    let steps = steps(&text);
-    assert!(!steps.is_empty());
-    for step in &steps {
-        run(step, &folder);
+    for page in ["rust/README.md", "README.md", "docs/SAMPLING.md"] {
+        let folder = session_folder(&page.replace('/', "_"));
+        let steps = steps(&document(page));
+        assert!(!steps.is_empty(), "{page}");
+        for step in &steps {
+            run(step, &folder);
+        }
     }
 }
 

@@ -5,6 +5,7 @@ mod common;
 mod documents;
 mod jobs;
 mod load;
+mod sample;
 mod shares;
 mod shells;
 mod shots;

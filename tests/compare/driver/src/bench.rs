@@ -30,7 +30,7 @@ fn engine(call: Call) -> Option<&'static dyn Calls> {
 const LEAST_TIME: Duration = Duration::from_secs(1);
 const LEAST_ROUNDS: usize = 7;
 
-/// Measure the loads of a part, or of all; whether there is such a part.
+/// Measure the loads of a part, of all, or the run of a job in a file; whether there is such a part or file.
 pub fn run(part: &str) -> bool {
     let parts: [(&str, fn()); 8] = [
         ("checks", checks),
@@ -49,7 +49,16 @@ pub fn run(part: &str) -> bool {
     for (_, measure) in &chosen {
         measure();
     }
-    !chosen.is_empty()
+    !chosen.is_empty() || run_of_file(part)
+}
+
+/// Measure the run of a job in a file, if there is one.
+fn run_of_file(path: &str) -> bool {
+    let Ok(bytes) = std::fs::read(path) else { return false };
+    let job = read(&bytes).expect("a job that the checks accept");
+    let instructions = job.lines.iter().map(|line| line.instruction.clone()).collect();
+    measure_run(path, &Made { header: job.header, instructions });
+    true
 }
 
 /// What is timed; a part that isn't there has no time.

@@ -1,0 +1,281 @@
+"""Each call, beside what the program, which is over the Rust crate, answers."""
+
+from __future__ import annotations
+
+import ctypes
+import doctest
+import importlib
+import pickle
+import re
+import subprocess
+
+import numpy as np
+import pytest
+from conftest import PROGRAM, REPOSITORY, circuits, jobs, program, sets_of
+from hypothesis import given
+from hypothesis import strategies as st
+
+import kundatrezo
+from kundatrezo import Circuit, Job, Refused, Rows, bits, by_outcome, by_shot, error_model, fill, words
+from kundatrezo import _library
+
+BELL = Job.read(REPOSITORY / "examples/bell.job")
+SYNDROME = Job.read(REPOSITORY / "examples/syndrome.job")
+SEED = ("--seed", 5, "--second-seed", 6)
+
+
+def test_documentation(monkeypatch):
+    monkeypatch.chdir(REPOSITORY)
+    for name in ["README.md", "python/README.md"]:
+        assert doctest.testfile(str(REPOSITORY / name), module_relative=False).failed == 0
+    for name in ["", "._jobs", "._circuit", "._sampling", "._words"]:
+        assert doctest.testmod(importlib.import_module(f"kundatrezo{name}")).failed == 0
+
+
+def test_jobs_are_checked():
+    assert (BELL.qubits, BELL.outcomes, BELL.shots, BELL.recorded, BELL.lines) == (2, 2, 3, 2, 7)
+    with pytest.raises(Refused) as refusal:
+        Job(str(BELL).replace("q=0,1", "q=0,9"))
+    refused = refusal.value
+    assert (refused.number, refused.line, refused.line_text) == (4, 3, "op=u g=11 q=0,9")
+    assert str(refused) == "4 (a qubit not below the header's qubits) at line 3: op=u g=11 q=0,9"
+    assert str(pickle.loads(pickle.dumps(refused))) == str(refused)
+    assert pickle.loads(pickle.dumps(BELL)) == BELL and hash(BELL) == hash(Job(str(BELL)))
+    with pytest.raises(AttributeError):
+        BELL.shots = 4  # type: ignore[misc]
+    with pytest.raises(Refused) as refusal:
+        Job(b"")
+    assert (refusal.value.number, refusal.value.line) == (1, 0)
+
+
+def test_refusals_have_the_texts_of_the_header():
+    """Those of the numbers that the header has."""
+    header = (REPOSITORY / "include/kundatrezo.h").read_text()
+    names = dict(re.findall(r"#define KUNDATREZO_(\w+) (\d+) ", header))
+    texts = re.findall(r'case KUNDATREZO_(\w+): return "(.*)";', header)
+    assert len(texts) >= 22
+    for name, text in texts:
+        assert kundatrezo.TEXTS[int(names[name])] == text
+
+
+def test_names_of_gates_are_those_of_the_language():
+    section = (REPOSITORY / "docs/JOBS.md").read_text().partition("### Gates")[2].partition("###")[0]
+    table = re.findall(r"^\| (\d+) \| (\w+) \| ", section, re.MULTILINE)
+    assert {name: int(code) for code, name in table} == kundatrezo.GATES
+
+
+@given(jobs())
+def test_runs(job):
+    rows = job.run(seed=5, second_seed=6)
+    out = program("run", "-", *SEED, "--deltas", "/dev/stderr", "--totals", "/dev/null", job=job)
+    assert out.startswith(b"ok=1 ")
+    for name in ("x", "z", "deltas"):
+        done = subprocess.run([PROGRAM, "run", "-", *map(str, SEED), "--totals", "/dev/null", f"--{name}", "/dev/stderr"], input=job.text, capture_output=True)
+        assert done.stderr == getattr(rows, name).astype("<u8").tobytes()
+    assert (bits(rows.deltas, job.shots).sum(axis=1) == rows.totals).all()
+
+
+@given(jobs(), st.data())
+def test_settling_and_walks(job, data):
+    settled = job.settle(seed=5, second_seed=6)
+    assert settled.text == program("settle", "-", *SEED, job=job)
+    deltas = bits(job.run(seed=5, second_seed=6).deltas, job.shots)
+    for set_ in data.draw(sets_of(job)):
+        shot = data.draw(st.integers(0, job.shots - 1))
+        count = settled.walk(shot, set_)
+        assert program("walk", "-", "--shot", shot, "--set", ",".join(map(str, set_)) or "-", job=settled) == b"ok=1 count=%d\n" % count
+        assert count % 2 == deltas[set_, shot].sum() % 2
+
+
+@given(jobs())
+def test_annotation_locations_and_correlation(job):
+    assert job.annotate(0.125).text == program("annotate", "-", "--p", 0.125, job=job)
+    assert program("locations", "-", job=job) == b"ok=1 locations=%d\n" % job.locations()
+    done = subprocess.run([PROGRAM, "correlation", "-"], input=job.text, capture_output=True)
+    try:
+        job.correlation()
+        assert done.returncode == 0
+    except Refused as refusal:
+        assert done.returncode == 1 and f"refused: {refusal}".encode() in done.stderr
+
+
+@given(jobs(), st.data())
+def test_fault_tables_and_error_models(job, data):
+    groups = data.draw(sets_of(job)) or [[]]
+    table = job.fault_table(groups)
+    options = [part for group in groups for part in ("--group", ",".join(map(str, group)) or "-")]
+    rows = zip(table.line, table.element, table.flips)
+    text = "".join(f"line={line} el={element} groups={''.join(str(int(flip)) for flip in flips)}\n" for line, element, flips in rows)
+    assert text.encode() == program("faults", "-", *options, job=job)
+    # more groups than the engine takes at a time
+    many = [groups[place % len(groups)] for place in range(35)]
+    assert (job.fault_table(many).flips == table.flips[:, [place % len(groups) for place in range(35)]]).all()
+    options = [part for group in groups for part in ("--detector", ",".join(map(str, group)) or "-")]
+    options += ["--observable", ",".join(map(str, groups[0])) or "-"]
+    assert error_model(job, groups, groups[:1]).encode() == program("dem", "-", *options, job=job)
+
+
+def test_long_fault_tables():
+    """More elements than a table has room for."""
+    circuit = Circuit()
+    for place in range(130):
+        circuit.depolarize(0.01 + place / 1000, 0, 1, 2, 3).choose(0.1, ["X0", "Z1"], [1, place + 1]).gate("CX", place % 4, (place + 1) % 4)
+    groups = [[circuit.measure({qubit: "Z"})] for qubit in range(4)]
+    table = circuit.job().fault_table(groups)
+    assert table.flips.shape == (130 * 257, 4) and (np.diff(table.line) >= 0).all()
+    options = [part for group in groups for part in ("--detector", group[0])]
+    assert error_model(circuit.job(), groups).encode() == program("dem", "-", *options, job=circuit.job())
+
+
+def test_fault_tables_are_refused():
+    for groups, number in (([], 24), ([[3, 1]], 17), ([[99]], 17)):
+        with pytest.raises(Refused) as refusal:
+            SYNDROME.fault_table(groups)
+        assert (refusal.value.number, refusal.value.line) == (number, 0)
+
+
+@given(st.integers(0, 150), st.integers(1, 200), st.integers(0, 2**32))
+def test_by_shot_and_back(outcomes, shots, seed):
+    given_ = np.random.default_rng(seed).random((outcomes, shots)) < 0.5
+    deltas = words(given_)
+    rows = by_shot(deltas, shots)
+    assert rows.shape == (shots, -(-outcomes // 64))
+    assert (bits(rows, outcomes) == given_.T).all()
+    assert (by_outcome(rows, outcomes) == deltas).all()
+
+
+def test_by_shot_is_refused():
+    for outcomes, shots, number in ((1025, 1, 3), (1, 0, 3), (1, 4097, 3), (2, 65, 13)):
+        with pytest.raises(Refused) as refusal:
+            by_shot(np.zeros((outcomes, 1), dtype=np.uint64), shots)
+        assert refusal.value.number == number
+
+
+def test_fill():
+    assert fill(1, 2).tolist() == [1_082_269_761, 1_152_992_998_833_853_505]
+    with pytest.raises(Refused) as refusal:
+        fill(0, 2)
+    assert (refusal.value.number, refusal.value.line) == (22, 0)
+    lent = np.zeros(1000, dtype=np.uint64)
+    assert np.shares_memory(fill(77, lent), lent)
+    state = 77
+    for word in lent[:50].tolist():
+        state ^= state << 13 & 2**64 - 1
+        state ^= state >> 7
+        state ^= state << 17 & 2**64 - 1
+        assert word == state
+    # the rest of a stream is the stream of its last word
+    assert (fill(int(lent[299]), 700) == lent[300:]).all()
+
+
+def test_made_jobs():
+    job = kundatrezo.make_job(5, 8, 100, 30, seed=9)
+    assert (job.qubits, job.outcomes, job.shots) == (5, 8, 100)
+    assert job.text == program("make", "--qubits", 5, "--outcomes", 8, "--shots", 100, "--lines", 30, "--seed", 9)
+    assert job == kundatrezo.make_job(5, 8, 100, 30, seed=9) != kundatrezo.make_job(5, 8, 100, 30, seed=10)
+    for arguments, number in (((0, 8, 100, 30, 9), 3), ((5, 8, 100, 30, 0), 22)):
+        with pytest.raises(Refused) as refusal:
+            kundatrezo.make_job(*arguments)
+        assert (refusal.value.number, refusal.value.line) == (number, 0)
+
+
+def test_arrays_are_lent():
+    job = BELL
+    rows = Rows.of(job)
+    rows.deltas[:] = 99
+    assert job.run(rows=rows) is rows
+    assert rows.deltas.tolist() == [[0b010], [0b100]] and rows.totals.tolist() == [1, 1]
+    # words that are lent are read where they lie
+    noisy = Circuit().fault(0.5, "X0")
+    outcome = noisy.measure("Z0")
+    lent = np.full(64, 2**64 - 1, dtype=np.uint64)
+    lent[7] = 0
+    assert noisy.job(64).run(lent).deltas[outcome, 0] == 1 << 7
+    assert _library.read_words(lent).ctypes.data == lent.ctypes.data
+
+
+def test_arrays_that_can_not_be_lent():
+    rows = Rows.of(BELL)
+    wrong = [rows.x.astype(np.int64), np.zeros((2, 4), dtype=np.uint64)[:, ::4], rows.x.tolist()]
+    frozen = rows.x.copy()
+    frozen.flags.writeable = False
+    for x in [*wrong, frozen]:
+        with pytest.raises(ValueError, match="contiguous, writable array"):
+            BELL.run(rows=Rows(x, rows.z, rows.deltas, rows.totals))  # type: ignore[arg-type]
+    with pytest.raises(ValueError, match="overlaps"):
+        BELL.run(rows=Rows(rows.x, rows.x, rows.deltas, rows.totals))
+    with pytest.raises(ValueError, match="overlaps"):
+        BELL.run(rows=rows, noiseless=rows.deltas)
+    with pytest.raises(Refused) as refusal:
+        BELL.run(rows=Rows(rows.x[:0], rows.z, rows.deltas, rows.totals))
+    assert refusal.value.number == 13
+    with pytest.raises(ValueError, match="from 0 to below"):
+        BELL.walk(-1, [0])
+
+
+def test_what_is_no_list_of_words():
+    """Nothing is rounded, wrapped or left out in silence."""
+    for wrong in (np.random.rand(10_000), "01", ["0"], [0.0], bits(BELL.run().deltas, 3), {0}):
+        with pytest.raises(TypeError):
+            SYNDROME.run(wrong)  # type: ignore[arg-type]
+    for wrong in ("01", ["0"], [0.0], [True]):
+        with pytest.raises(TypeError):
+            SYNDROME.fault_table([wrong])  # type: ignore[list-item]
+        with pytest.raises(TypeError):
+            kundatrezo.sample(SYNDROME, 1, 1, sets=[wrong])  # type: ignore[list-item]
+    for numbers in ([-1], [2**64], np.array([-1])):
+        with pytest.raises(ValueError, match="from 0 to below"):
+            SYNDROME.run(numbers)
+    with pytest.raises(ValueError, match="not both"):
+        SYNDROME.run(fill(1, 10), seed=1)
+    with pytest.raises(ValueError, match="to differ"):
+        SYNDROME.settle(seed=1, second_seed=1)
+
+
+def test_words_past_the_list():
+    with pytest.raises(Refused) as refusal:
+        SYNDROME.run()
+    assert (refusal.value.number, refusal.value.line) == (14, 2)
+    far = Circuit().fault(0.5, "X0", corr=2**64 - 1).job()
+    with pytest.raises(Refused) as refusal:
+        far.run(second_seed=1)
+    assert (refusal.value.number, refusal.value.line) == (14, 2)
+
+
+def test_the_floating_point_state():
+    """Calls are right where subnormal numbers are zero, and leave the state as it was."""
+    # a lone weight of 2^-1074
+    text = b"op=job qubits=1 outcomes=0 shots=1\nop=n p=3ff0000000000000 corr=- cond=- parity=0 d=4 n=1 size=1\nw=0000000000000001 x=0 z=-\n"
+    state = (ctypes.c_uint32 * 8)()
+    libm = _library._libm
+    libm.fegetenv(state)
+    other = (ctypes.c_uint32 * 8)(*state)
+    other[7] |= 0x8040
+    libm.fesetenv(other)
+    try:
+        accepted = _library._calls["check"][0](text, len(text)).number
+        job = Job(text)
+        libm.fegetenv(other)
+    finally:
+        libm.fesetenv(state)
+    assert accepted == 12, "without the package's care the state matters"
+    assert job.lines == 3 and other[7] & 0x8040 == 0x8040
+
+
+@given(circuits())
+def test_builders_write_jobs(circuit):
+    """The engine judges what the builder writes; `check` of the program has the same numbers."""
+    job = circuit.job(circuit.shots)
+    printed = f"ok=1 qubits={job.qubits} outcomes={job.outcomes} shots={job.shots} recorded={job.recorded} lines={job.lines}\n"
+    assert program("check", "-", job=job).decode() == printed
+
+
+def test_wrong_names():
+    wrong_paulis = [lambda pauli=pauli: Circuit().measure(pauli) for pauli in ("Q0", "X0 Z0", {0: "x"}, {0: "XY"}, {0: ""})]
+    wrong_weights = lambda: Circuit().choose(0.5, ["X0", "Z0"], [1.0, 1.0, 1.0])
+    for wrong in (lambda: Circuit().gate("CCX", 0, 1, 2), wrong_weights, *wrong_paulis):
+        with pytest.raises(ValueError):
+            wrong()
+    with pytest.raises(Refused) as refusal:
+        Circuit().gate("ControlledX", 0, 0).job()
+    assert refusal.value.number == 5

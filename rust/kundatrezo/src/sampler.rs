@@ -1,0 +1,567 @@
+//! Any number of shots of a job, in blocks that have words of their own.
+
+use crate::noise::{Kind, Noise};
+use crate::{Answer, Draws, Examination, Frames, MAX_SHOTS, Number, Refusal, Xorshift, bit, examine, size};
+use std::ops::{AddAssign, Range};
+use std::sync::atomic::{AtomicBool, AtomicU64, Ordering};
+use std::thread;
+
+/// Most words of a list of a block, 2 GiB: no job of main-list noise needs as many.
+const MOST_WORDS: usize = 1 << 28;
+
+/// A line that has the place of an injection or a flip in blocks where that does not stand: the identity as a gate, which changes nothing.
+const NOTHING: &[u8] = b"op=p x=- z=-\n";
+
+/// In which shots of the whole the injections and flips of a job stand.
+#[derive(Debug, Clone, Copy, Default, PartialEq, Eq)]
+pub enum Named {
+    /// In the shots that they name, counted through the whole: in the first block alone.
+    #[default]
+    Whole,
+    /// In the shots that they name of each block, as far as it has them.
+    Block,
+}
+
+/// Any number of shots of a job, in runs of [`MAX_SHOTS`] and a last one of what is left: *blocks*. The header's number of shots is replaced.
+///
+/// Each block has a main and a second list of its own, the words of [`Xorshift::of_block`], and the base of its second list is 0. So what a block leaves
+/// depends on the job, the seed, the number of the block and that of its shots alone, and what all blocks leave does not depend on how they are shared among
+/// threads, processes or machines. This loop is tested, not proved: each run is a call of the library, which is.
+///
+/// ```
+/// use kundatrezo::Sampler;
+///
+/// // X with probability 1/4 on each of two qubits: outcomes 0 and 1, and their parity
+/// let job = b"op=job qubits=2 outcomes=2 shots=1
+/// op=n p=3fd0000000000000 corr=- cond=- parity=0 d=1 x=0 z=- size=1
+/// op=n p=3fd0000000000000 corr=- cond=- parity=0 d=1 x=1 z=- size=1
+/// op=o x=- z=0 id=0
+/// op=o x=- z=1 id=1
+/// ";
+/// let sampler = Sampler::new(job, 100_000, 2026)?;
+/// let counts = sampler.counts(&[vec![0, 1]], 2)?;
+/// assert_eq!(counts, sampler.counts(&[vec![0, 1]], 1)?);
+/// let rate = |total: u64| total as f64 / counts.shots as f64;
+/// assert!((rate(counts.totals[0]) - 0.25).abs() < 0.01);
+/// assert!((rate(counts.sets[0]) - 2.0 * 0.25 * 0.75).abs() < 0.01);
+/// # Ok::<(), kundatrezo::Refusal>(())
+/// ```
+#[derive(Debug, Clone)]
+pub struct Sampler {
+    /// The job as the first, a middle and the last block run it.
+    first: Vec<u8>,
+    middle: Vec<u8>,
+    last: Vec<u8>,
+    job: Examination,
+    shots: u64,
+    seed: u64,
+    /// Noiseless bits of the job's own shots, which come again and again; none where all are zero.
+    noiseless: Vec<u64>,
+    need: Need,
+}
+
+impl Sampler {
+    /// So many shots of a job with the words of a seed. Injections and flips stand in the shots of the whole that they name.
+    ///
+    /// # Errors
+    ///
+    /// The refusal by a test of the job.
+    pub fn new(job: &[u8], shots: u64, seed: u64) -> Answer<Self> {
+        Self::with_named(job, shots, seed, Named::Whole)
+    }
+
+    /// The same, and in which shots of the whole injections and flips stand.
+    ///
+    /// # Errors
+    ///
+    /// The refusal by a test of the job.
+    pub fn with_named(job: &[u8], shots: u64, seed: u64, named: Named) -> Answer<Self> {
+        let examined = examine(job)?;
+        let blocks = shots.div_ceil(BLOCK);
+        let text = |block: u64| {
+            let shots = shots_of(shots, block);
+            let stands = |shot: u64| match named {
+                Named::Whole => block == 0,
+                Named::Block => shot < shots.end - shots.start,
+            };
+            block_text(job, shots.end - shots.start, stands)
+        };
+        Ok(Self {
+            first: text(0),
+            middle: text(1),
+            last: text(blocks.saturating_sub(1)),
+            job: Examination { shots: MAX_SHOTS, ..examined },
+            shots,
+            seed,
+            noiseless: Vec::new(),
+            need: Need::of(job),
+        })
+    }
+
+    /// Noiseless bits in the layout of a run, for `shots` shots, that come again and again: shot s of the whole has those of s mod `shots`. Without this all
+    /// are zero.
+    ///
+    /// # Panics
+    ///
+    /// Panics if there are fewer words than the header's outcomes need for so many shots, or no shots.
+    #[must_use]
+    pub fn with_noiseless(self, rows: &[u64], shots: usize) -> Self {
+        let period = shots.div_ceil(64);
+        assert!(shots > 0 && rows.len() >= self.job.outcomes * period, "noiseless bits for each outcome and shot");
+        // Rows that are repeated until they have whole words: each block reads 64 shots of them at a time.
+        let repeated = shots * 64 / gcd(shots, 64);
+        let mut noiseless = vec![0; self.job.outcomes * repeated / 64];
+        for (id, row) in noiseless.chunks_exact_mut(repeated / 64).enumerate() {
+            let given = &rows[id * period..][..period];
+            for shot in (0..repeated).filter(|shot| bit(given, shot % shots)) {
+                row[shot / 64] |= 1 << (shot % 64);
+            }
+        }
+        Self { noiseless, ..self }
+    }
+
+    /// The numbers of the job, with those of the shots of a whole block.
+    #[must_use]
+    pub fn job(&self) -> Examination {
+        self.job
+    }
+
+    /// How many shots the whole has.
+    #[must_use]
+    pub fn shots(&self) -> u64 {
+        self.shots
+    }
+
+    /// How many blocks the whole has.
+    #[must_use]
+    pub fn blocks(&self) -> u64 {
+        self.shots.div_ceil(BLOCK)
+    }
+
+    /// The shots of a block.
+    #[must_use]
+    pub fn shots_of(&self, block: u64) -> Range<u64> {
+        shots_of(self.shots, block)
+    }
+
+    /// The blocks of a part of the whole: of `parts`, as many blocks each or one more or less, that with this place, from 0; none where there is no such part.
+    #[must_use]
+    pub fn part(&self, place: u64, parts: u64) -> Range<u64> {
+        let until = |place: u64| u128::from(self.blocks()) * u128::from(place.min(parts)) / u128::from(parts.max(1));
+        let number = |blocks: u128| u64::try_from(blocks).unwrap_or(self.blocks());
+        number(until(place))..number(until(place.saturating_add(1)))
+    }
+
+    /// The job as a block runs it.
+    #[must_use]
+    pub fn text(&self, block: u64) -> &[u8] {
+        match block {
+            _ if block + 1 == self.blocks() => &self.last,
+            0 => &self.first,
+            _ => &self.middle,
+        }
+    }
+
+    /// Run a block in the memory of a bench, with the noiseless bits of this sampler, and leave its frames, deltas and totals there.
+    ///
+    /// # Errors
+    ///
+    /// The refusal of the run: by a test of the job (10 where the whole has no such shot as a line names), or by 14 for a correlation past 2^28 words.
+    pub fn run<'a>(&self, block: u64, bench: &'a mut Bench) -> Answer<&'a Frames> {
+        let words = self.row_words(block);
+        bench.noiseless.clear();
+        bench.noiseless.resize(self.job.outcomes * words, 0);
+        let period = self.noiseless.len() / self.job.outcomes.max(1);
+        if period > 0 {
+            let start = usize::try_from(block * (BLOCK / 64) % period as u64).unwrap_or_default();
+            for (row, given) in bench.noiseless.chunks_exact_mut(words).zip(self.noiseless.chunks_exact(period)) {
+                row.iter_mut().zip(given.iter().cycle().skip(start)).for_each(|(word, given)| *word = *given);
+            }
+        }
+        self.run_lent(block, bench)
+    }
+
+    /// Run a block with the noiseless bits that [`Bench::noiseless`] has.
+    ///
+    /// # Errors
+    ///
+    /// As [`run`](Self::run), and 13 where there are too few noiseless bits.
+    pub fn run_lent<'a>(&self, block: u64, bench: &'a mut Bench) -> Answer<&'a Frames> {
+        let Range { start, end } = self.shots_of(block);
+        let shots = usize::try_from(end - start).unwrap_or(MAX_SHOTS);
+        let text = self.text(block);
+        bench.main.begin(Xorshift::of_block(self.seed, block, 0), self.need.main(shots));
+        bench.second.begin(Xorshift::of_block(self.seed, block, 1), self.need.second(shots));
+        let job = Examination { shots, ..self.job };
+        loop {
+            let draws = Draws::new(&bench.main.words).with_second(&bench.second.words, 0);
+            match bench.frames.run_examined(job, text, &bench.noiseless, draws) {
+                Err(refusal) if refusal.number == Number::DRAWS && bench.grow(&refusal, text, shots) => {}
+                answer => return answer.map(|()| &bench.frames),
+            }
+        }
+    }
+
+    /// How many words the lists of a whole block have, as far as its noise lines tell: the memory of a [`Bench`] is mostly these.
+    #[must_use]
+    pub fn list_words(&self) -> usize {
+        self.need.main(MAX_SHOTS) + self.need.second(MAX_SHOTS)
+    }
+
+    /// The words of a row of a block.
+    #[must_use]
+    pub fn row_words(&self, block: u64) -> usize {
+        let Range { start, end } = self.shots_of(block);
+        usize::try_from((end - start).div_ceil(64)).unwrap_or_default()
+    }
+
+    /// Do some work on each of these blocks, shared among threads: each begins with what `start` gives, takes the next block that nobody has taken until
+    /// there are none, and gives back what it has made of it all. With an error the threads stop after the blocks that they are at.
+    ///
+    /// # Errors
+    ///
+    /// The error of the first thread that has one.
+    pub fn each<S: Send, E: Send>(
+        blocks: Range<u64>,
+        threads: usize,
+        start: impl Fn() -> S + Sync,
+        work: impl Fn(&mut S, u64) -> Result<(), E> + Sync,
+    ) -> Result<Vec<S>, E> {
+        let next = AtomicU64::new(blocks.start);
+        let failed = AtomicBool::new(false);
+        let obey = || {
+            let mut made = start();
+            while !failed.load(Ordering::Relaxed) {
+                let block = next.fetch_add(1, Ordering::Relaxed);
+                if block >= blocks.end {
+                    break;
+                }
+                work(&mut made, block).inspect_err(|_| failed.store(true, Ordering::Relaxed))?;
+            }
+            Ok(made)
+        };
+        let wanted = usize::try_from(blocks.end.saturating_sub(blocks.start)).unwrap_or(usize::MAX);
+        thread::scope(|scope| {
+            let others: Vec<_> = (1..threads.min(wanted)).map(|_| scope.spawn(obey)).collect();
+            let own = obey();
+            let joined = others.into_iter().map(|thread| thread.join().expect("a thread ends by itself"));
+            [own].into_iter().chain(joined).collect()
+        })
+    }
+
+    /// The totals of all outcomes of the header and of the parities of sets of outcomes, over the whole, by so many threads.
+    ///
+    /// # Errors
+    ///
+    /// The refusal by 17 of a set that does not rise strictly or has an outcome that is not recorded; else as [`run`](Self::run).
+    pub fn counts(&self, sets: &[Vec<u64>], threads: usize) -> Answer<Counts> {
+        sets.iter().try_for_each(|set| self.job.test_set(set))?;
+        let start = || (Bench::new(), Counts::default());
+        let made = Self::each(0..self.blocks(), threads, start, |(bench, counts), block| {
+            counts.add(self.run(block, bench)?, sets);
+            Ok(())
+        })?;
+        let mut sum = Counts { totals: vec![0; self.job.outcomes], sets: vec![0; sets.len()], shots: 0 };
+        made.iter().for_each(|(_, counts)| sum += counts);
+        Ok(sum)
+    }
+}
+
+const BLOCK: u64 = MAX_SHOTS as u64;
+
+fn shots_of(shots: u64, block: u64) -> Range<u64> {
+    let start = block.saturating_mul(BLOCK).min(shots);
+    start..start.saturating_add(BLOCK).min(shots)
+}
+
+fn gcd(a: usize, b: usize) -> usize {
+    if b == 0 { a } else { gcd(b, a % b) }
+}
+
+/// An accepted job with another number of shots, at least 1, in its header, and with the injections and flips of those shots alone in which they stand. The lines
+/// keep their numbers.
+fn block_text(job: &[u8], shots: u64, stands: impl Fn(u64) -> bool) -> Vec<u8> {
+    let header = job.iter().position(|byte| *byte == b'\n').unwrap_or(job.len());
+    let digits = job[..header].iter().rposition(|byte| *byte == b'=').map_or(header, |place| place + 1);
+    let mut text = job[..digits].to_vec();
+    text.extend(shots.max(1).to_string().bytes());
+    for (place, line) in job[header..].split_inclusive(|byte| *byte == b'\n').enumerate() {
+        let kept = place == 0 || named_shot(line).is_none_or(&stands);
+        text.extend_from_slice(if kept { line } else { NOTHING });
+    }
+    text
+}
+
+/// The shot of an injection or a flip, in a job that has passed the checks.
+fn named_shot(line: &[u8]) -> Option<u64> {
+    let fields = line.strip_prefix(b"op=i shot=").or_else(|| line.strip_prefix(b"op=t shot="))?;
+    std::str::from_utf8(fields.split(|byte| *byte == b' ').next()?).ok()?.parse().ok()
+}
+
+/// The first line of an accepted job, from 1, that stands in a shot which it names: an injection or a flip.
+#[must_use]
+pub fn first_named(job: &[u8]) -> Option<u64> {
+    job.split(|byte| *byte == b'\n').zip(1..).find(|(line, _)| named_shot(line).is_some()).map(|(_, place)| place)
+}
+
+/// How many words the noise lines of a job read, a shot on average: a guess, which the calls judge.
+#[derive(Debug, Clone, Default)]
+struct Need {
+    mean: f64,
+    variance: f64,
+    /// The second list is read from no later place on than this.
+    place: Option<u64>,
+}
+
+impl Need {
+    fn of(job: &[u8]) -> Self {
+        let mut need = Self::default();
+        for line in job.split(|byte| *byte == b'\n').filter(|line| line.starts_with(b"op=n ")) {
+            let Some(noise) = std::str::from_utf8(line).ok().and_then(Noise::read).filter(|noise| noise.p > 0.0) else {
+                continue;
+            };
+            match noise.correlation {
+                Some(place) => need.place = need.place.max(Some(place)),
+                None if noise.kind == Kind::Single => need.mean += 1.0,
+                None => {
+                    need.mean += 1.0 + noise.p;
+                    need.variance += noise.p * (1.0 - noise.p);
+                }
+            }
+        }
+        need
+    }
+
+    /// Eight standard deviations above the mean, and some words more for those that a choice rejects.
+    #[allow(clippy::cast_precision_loss, clippy::cast_possible_truncation, clippy::cast_sign_loss)]
+    fn main(&self, shots: usize) -> usize {
+        let shots = shots as f64;
+        let words = self.mean * shots + 8.0 * (self.variance * shots).sqrt();
+        if self.mean > 0.0 { (words as usize + 64).min(MOST_WORDS) } else { 0 }
+    }
+
+    fn second(&self, shots: usize) -> usize {
+        let place = self.place.map(|place| usize::try_from(place).unwrap_or(MOST_WORDS));
+        place.filter(|place| *place < MOST_WORDS).map_or(0, |place| (place + 2 * shots + 64).min(MOST_WORDS))
+    }
+}
+
+/// The memory of a thread that runs blocks: rows and words, which are used again.
+#[derive(Debug, Clone, Default)]
+pub struct Bench {
+    frames: Frames,
+    main: List,
+    second: List,
+    /// The noiseless bits of the next block, in the layout of a run, for [`Sampler::run_lent`].
+    pub noiseless: Vec<u64>,
+}
+
+impl Bench {
+    /// A bench without memory, which grows as blocks need it.
+    #[must_use]
+    pub fn new() -> Self {
+        Self::default()
+    }
+
+    /// What the last run left.
+    #[must_use]
+    pub fn frames(&self) -> &Frames {
+        &self.frames
+    }
+
+    /// More words for the list that the refused noise line reads; whether there are any.
+    fn grow(&mut self, refusal: &Refusal, text: &[u8], shots: usize) -> bool {
+        let line = refusal.line_of(text).and_then(|line| std::str::from_utf8(line).ok());
+        match line.and_then(Noise::read).and_then(|noise| noise.correlation) {
+            None => self.main.grow(2 * self.main.words.len() + shots),
+            Some(place) => usize::try_from(place)
+                .is_ok_and(|place| place < MOST_WORDS && self.second.grow(2 * self.second.words.len() + place + shots)),
+        }
+    }
+}
+
+/// The first words of a stream, as many as are needed.
+#[derive(Debug, Clone, Default)]
+struct List {
+    words: Vec<u64>,
+    stream: Option<Xorshift>,
+}
+
+impl List {
+    fn begin(&mut self, stream: Xorshift, words: usize) {
+        self.stream = Some(stream);
+        self.words.resize(words, 0);
+        self.fill(0);
+    }
+
+    fn fill(&mut self, from: usize) {
+        if let Some(stream) = &mut self.stream {
+            stream.fill(&mut self.words[from..]);
+        }
+    }
+
+    /// Make the list longer, by the next words; whether that could be.
+    fn grow(&mut self, words: usize) -> bool {
+        let before = self.words.len();
+        self.words.resize(words.clamp(before, MOST_WORDS.max(before)), 0);
+        self.fill(before);
+        self.words.len() > before
+    }
+}
+
+/// How many shots flip the outcomes of a job, and the parities of sets of them.
+#[derive(Debug, Clone, Default, PartialEq, Eq)]
+pub struct Counts {
+    /// The shots that are counted.
+    pub shots: u64,
+    /// For each outcome of the header, the shots that flip it.
+    pub totals: Vec<u64>,
+    /// For each set, the shots that flip an odd number of its outcomes.
+    pub sets: Vec<u64>,
+}
+
+impl Counts {
+    /// Add what a run left: the totals that the library has counted, and for each set the ones in the sum of its rows.
+    ///
+    /// # Panics
+    ///
+    /// Panics if a set has an outcome that is not below the header's outcomes.
+    pub fn add(&mut self, frames: &Frames, sets: &[Vec<u64>]) {
+        let parity = |set: &Vec<u64>| {
+            let word = |place: usize| set.iter().fold(0, |sum, id| sum ^ frames.delta_row(size(*id))[place]);
+            (0..frames.job().words_per_row()).map(|place| u64::from(word(place).count_ones())).sum()
+        };
+        let sets = sets.iter().map(parity).collect();
+        *self += &Self { shots: frames.job().shots as u64, totals: frames.totals().to_vec(), sets };
+    }
+}
+
+/// Counts of other shots of the same job and sets; counts without lists take the other's.
+impl AddAssign<&Counts> for Counts {
+    fn add_assign(&mut self, other: &Counts) {
+        self.shots += other.shots;
+        for (own, others) in [(&mut self.totals, &other.totals), (&mut self.sets, &other.sets)] {
+            own.resize(own.len().max(others.len()), 0);
+            own.iter_mut().zip(others).for_each(|(own, other)| *own += other);
+        }
+    }
+}
+
+#[cfg(test)]
+mod tests {
+    use super::*;
+
+    const JOB: &str = "op=job qubits=2 outcomes=2 shots=5
+op=r id=0 angle=0
+op=n p=3fd0000000000000 corr=- cond=0 parity=1 d=2 q=0,1 size=15
+op=i shot=4 x=1 z=-
+op=n p=3fe0000000000000 corr=9000 cond=- parity=0 d=1 x=1 z=- size=1
+op=o x=- z=1 id=1
+op=t shot=0 id=1
+";
+
+    /// Blocks are runs of the job with other shots and the words of the block.
+    #[test]
+    fn blocks_are_runs() {
+        let sampler = Sampler::new(JOB.as_bytes(), 10_000, 3).expect("it is accepted").with_noiseless(&[0b10110, 0], 5);
+        let mut bench = Bench::new();
+        for block in [2, 0, 1] {
+            let shots = if block == 2 { 10_000 - 2 * 4096 } else { 4096 };
+            let mut text = JOB.replace("shots=5", &format!("shots={shots}"));
+            if block > 0 {
+                let named = |line: &&str| !line.starts_with("op=i") && !line.starts_with("op=t");
+                text = text.lines().filter(named).map(|line| format!("{line}\n")).collect();
+            }
+            let words = |list| Xorshift::of_block(3, block, list).take(20_000).collect::<Vec<u64>>();
+            let (main, second) = (words(0), words(1));
+            let mut noiseless = vec![0; 2 * 64];
+            for shot in (0..4096).filter(|shot| 0b10110 >> ((block * 4096 + shot) % 5) & 1 == 1) {
+                noiseless[usize::try_from(shot / 64).expect("small")] |= 1 << (shot % 64);
+            }
+            let row = usize::try_from(shots).expect("small").div_ceil(64);
+            let noiseless: Vec<u64> = noiseless.chunks(64).flat_map(|words| words[..row].to_vec()).collect();
+            let draws = Draws::new(&main).with_second(&second, 0);
+            let frames = Frames::of_run(text.as_bytes(), &noiseless, draws).expect("the words are enough");
+            let sampled = sampler.run(block, &mut bench).expect("it runs");
+            assert_eq!((sampled.deltas(), sampled.totals()), (frames.deltas(), frames.totals()), "{block}");
+            assert_eq!(sampler.text(block).split(|byte| *byte == b'\n').count(), 8);
+        }
+    }
+
+    /// Guesses that are too small are made good, and change nothing.
+    #[test]
+    fn more_words_are_made_where_they_are_needed() {
+        let sampler = Sampler::new(JOB.as_bytes(), 9_000, 1).expect("it is accepted");
+        let starved = Sampler { need: Need::default(), ..sampler.clone() };
+        assert_eq!((starved.list_words(), sampler.list_words() > 4096 + 9000 + 4096), (0, true));
+        assert_eq!(starved.counts(&[vec![0, 1]], 2), sampler.counts(&[vec![0, 1]], 3));
+        let far = JOB.replace("corr=9000", "corr=18446744073709551615");
+        let refusal = Sampler::new(far.as_bytes(), 5, 1).and_then(|sampler| sampler.counts(&[], 1)).unwrap_err();
+        assert_eq!((refusal.number, refusal.line), (Number::DRAWS, 5));
+    }
+
+    #[test]
+    fn sets_parts_and_blocks_that_there_are_not() {
+        let sampler = Sampler::new(JOB.as_bytes(), 9_000, 1).expect("it is accepted");
+        for wrong in [vec![1, 0], vec![0, 0], vec![u64::MAX]] {
+            assert_eq!(sampler.counts(&[vec![0], wrong], 2).unwrap_err().number, Number::WALK);
+        }
+        assert!([(3, 3), (u64::MAX, 3), (0, 0)].iter().all(|(place, parts)| sampler.part(*place, *parts).is_empty()));
+        assert_eq!(sampler.run(sampler.blocks(), &mut Bench::new()).map(drop).unwrap_err().number, Number::WORDS);
+    }
+
+    #[test]
+    fn named_shots_stand_where_they_are_said_to() {
+        let job = b"op=job qubits=1 outcomes=1 shots=70\nop=i shot=69 x=0 z=-\nop=o x=- z=0 id=0\n";
+        assert_eq!(first_named(job), Some(2));
+        let count = |shots, named| {
+            Sampler::with_named(job, shots, 0, named)
+                .and_then(|sampler| sampler.counts(&[], 2))
+                .map(|counts| counts.totals[0])
+        };
+        assert_eq!(count(3 * 4096 + 70, Named::Whole), Ok(1));
+        assert_eq!(count(3 * 4096 + 70, Named::Block), Ok(4));
+        assert_eq!(count(3 * 4096 + 69, Named::Block), Ok(3));
+        assert_eq!(count(69, Named::Block), Ok(0));
+        assert_eq!(count(69, Named::Whole).map_err(|refusal| (refusal.number, refusal.line)), Err((Number::SHOT, 2)));
+        assert_eq!(first_named(b"op=job qubits=1 outcomes=1 shots=70\n"), None);
+    }
+
+    #[test]
+    fn parts_share_the_blocks() {
+        for shots in [0, 1, 4096, 4097, 1_000_000, u64::MAX] {
+            let sampler = Sampler::new(JOB.as_bytes(), shots, 1).expect("it is accepted");
+            for parts in [1, 2, 7, 300] {
+                let shares: Vec<Range<u64>> = (0..parts).map(|place| sampler.part(place, parts)).collect();
+                assert_eq!((shares[0].start, shares[shares.len() - 1].end), (0, sampler.blocks()));
+                assert!(shares.windows(2).all(|two| two[0].end == two[1].start));
+            }
+            let last = sampler.blocks().saturating_sub(1);
+            assert_eq!(sampler.shots_of(last).end, shots);
+        }
+    }
+
+    #[test]
+    fn threads_stop_where_one_fails() {
+        let answer = Sampler::each(
+            0..1_000_000_000,
+            3,
+            || 0,
+            |done, block| {
+                *done += 1;
+                if block == 100 { Err(block) } else { Ok(()) }
+            },
+        );
+        assert_eq!(answer, Err(100));
+        let all = Sampler::each(
+            5..25,
+            4,
+            || 0,
+            |sum, block| {
+                *sum += block;
+                Ok::<(), ()>(())
+            },
+        );
+        assert_eq!(all.map(|sums| sums.iter().sum::<u64>()), Ok((5..25).sum()));
+    }
+}

@@ -1,0 +1,405 @@
+//! Any number of shots of a job: how often outcomes and parities are flipped, or the shots themselves in the forms that decoders read.
+
+use crate::arguments::{Arguments, FILE, Flag};
+use crate::counts::{Sample, crc32};
+use crate::files::{self, Output};
+use crate::progress::Progress;
+use crate::turns::Turns;
+use crate::{Failure, print, shots};
+use kundatrezo::{
+    Bench, Counts, Examination, Frames, MAX_BYTES, MAX_OUTCOMES, MAX_SHOTS, Named, Number, Refusal, Sampler,
+    by_outcome, by_shot,
+};
+use std::ffi::OsStr;
+use std::fs::File;
+use std::ops::Range;
+use std::os::unix::fs::FileExt;
+use std::thread::available_parallelism;
+
+const SHOTS: Flag = Flag { name: "--shots", value: "N", text: "the number of shots, at least 1" };
+const SEED: Flag = Flag { name: "--seed", value: "N", text: "the seed of all words, any number" };
+const SET: Flag = Flag {
+    name: "--set",
+    value: "L..",
+    text: "outcomes, rising, with commas between, whose parity is counted; may be given again",
+};
+const SETS: Flag =
+    Flag { name: "--sets", value: FILE, text: "read sets from this file, a line each, after those of --set" };
+const FORMAT: Flag =
+    Flag { name: "--format", value: "FORM", text: "counts, which is taken without it, or shots by row: 01 or b8" };
+const OUTPUT: Flag =
+    Flag { name: "--output", value: FILE, text: "write counts or rows to this file; without it, to standard output" };
+const THREADS: Flag = Flag {
+    name: "--threads",
+    value: "N",
+    text: "so many threads; without it, as many as there are processors, within 4 GiB",
+};
+const PART: Flag = Flag {
+    name: "--part",
+    value: "I/K",
+    text: "of K parts of the shots the I-th alone, from 1 to K; 'merge' adds counts",
+};
+const NAMED: Flag = Flag {
+    name: "--named",
+    value: "WHERE",
+    text: "injections and flips stand in the shots they name of the 'whole', or of each 'block'",
+};
+const NOISELESS: Flag = Flag {
+    name: "--noiseless",
+    value: FILE,
+    text: "rows of the noiseless bits of the job's own shots, which come again; without it, zeros",
+};
+const NOISELESS_SHOTS: Flag =
+    Flag { name: "--noiseless-shots", value: FILE, text: "the noiseless bits of each shot of the whole, packed as b8" };
+
+pub const FLAGS: &[Flag] = &[SHOTS, SEED, SET, SETS, FORMAT, OUTPUT, THREADS, PART, NAMED, NOISELESS, NOISELESS_SHOTS];
+
+/// What the help says.
+pub const DETAILS: &[&str] = &[
+    "\
+Runs a job in any number of shots, whatever its header has, and counts in how many of them each outcome is
+flipped, and the parity of each --set. Prints the numbers of the job and of the sample, then a line for each
+recorded outcome and each set: 'total=', 'rate=', and 'low=' and 'high=', Wilson's interval at 95 percent.
+--shots and --seed are wanted.",
+    "\
+The shots are run in blocks of 4096, each with words of its own, made from the seed and the block's number. So
+the same seed gives the same answer for every number of threads and parts. Give another sample of the same job
+another seed: their counts can be merged.",
+    "\
+With --format 01 a line has a digit for each outcome of the header, outcome 0 first, or for each set where sets
+are given; with b8 a shot has ceil(n / 8) bytes, with eight of these to a byte, the lowest first. Shot 0 comes
+first. Where rows go to a file, counts are printed; those of parts are put together by 'cat', in their order.",
+    "\
+Of a job with injections or flips, which stand in named shots, --named says where these are. Noiseless bits,
+at which conditions of noise look, are zero, those of a file of the job's own shots again and again (shot s of
+the whole has those of s mod the header's shots), or those of a file with bytes for each shot of the whole.",
+];
+
+pub fn sample(arguments: &Arguments) -> Result<(), Failure> {
+    let asked = Asked::read(arguments)?;
+    let job = files::job(arguments.operand())?;
+    let whole = Whole::read(arguments, asked, &job)?;
+    let (mut output, counts) = whole.run(arguments.value(OUTPUT.name))?;
+    let text = whole.text(counts);
+    match (asked.format, arguments.value(OUTPUT.name)) {
+        (Format::Counts, _) => {
+            output.write(text.as_bytes())?;
+            output.finish()
+        }
+        (_, Some(_)) => {
+            output.finish()?;
+            print(text)
+        }
+        (_, None) => output.finish(),
+    }
+}
+
+/// What is asked for, whatever the job.
+#[derive(Clone, Copy)]
+struct Asked {
+    shots: u64,
+    seed: u64,
+    format: Format,
+    /// Which part, from 1, of how many.
+    part: (u64, u64),
+    threads: Option<usize>,
+}
+
+impl Asked {
+    fn read(arguments: &Arguments) -> Result<Self, Failure> {
+        let (Some(shots), Some(seed)) = (arguments.number(SHOTS.name)?, arguments.number(SEED.name)?) else {
+            return Err(Failure::Other(format!("{} and {} are wanted", SHOTS.name, SEED.name)));
+        };
+        if shots == 0 {
+            return Err(Failure::Other(format!("the value of {} is to be at least 1", SHOTS.name)));
+        }
+        let threads = arguments.parsed(THREADS.name, "a number from 1 to 4096", |text| {
+            text.parse().ok().filter(|threads| (1..=4096).contains(threads))
+        })?;
+        Ok(Self {
+            shots,
+            seed,
+            format: arguments.parsed(FORMAT.name, "counts, 01 or b8", format)?.unwrap_or(Format::Counts),
+            part: arguments.parsed(PART.name, "I/K, with I from 1 to K", part)?.unwrap_or((1, 1)),
+            threads,
+        })
+    }
+}
+
+#[derive(Clone, Copy, PartialEq, Eq)]
+enum Format {
+    Counts,
+    Digits,
+    Packed,
+}
+
+fn format(text: &str) -> Option<Format> {
+    [("counts", Format::Counts), ("01", Format::Digits), ("b8", Format::Packed)]
+        .into_iter()
+        .find_map(|(name, format)| (name == text).then_some(format))
+}
+
+/// A part, from 1, and how many there are.
+pub fn part(text: &str) -> Option<(u64, u64)> {
+    let (place, parts) = text.split_once('/')?;
+    let (place, parts) = (place.parse().ok()?, parts.parse().ok()?);
+    (1..=parts).contains(&place).then_some((place, parts))
+}
+
+const SET_IS: &str = "numbers with commas between, or -";
+
+/// The sets of the options.
+fn sets(arguments: &Arguments, job: Examination) -> Result<Vec<Vec<u64>>, Failure> {
+    let mut given = arguments.all_parsed(SET.name, SET_IS, |text| Some(text.to_owned()))?;
+    if let Some(path) = arguments.value(SETS.name) {
+        given.extend(files::text(path)?.lines().map(str::to_owned));
+    }
+    let set = |text: &String| {
+        let fault = || format!("a set is to be {SET_IS}, not '{}'", text.escape_default());
+        let set = crate::commands::list(text).ok_or_else(|| Failure::Other(fault()))?;
+        job.test_set(&set).map_err(|refusal| {
+            let remedy = match job.recorded {
+                0 => "the job records no outcome".to_owned(),
+                some => format!("the set {text}: it names recorded outcomes, 0 to {}, and rises strictly", some - 1),
+            };
+            Failure::refused(&refusal, &[], Some(remedy))
+        })?;
+        Ok(set)
+    };
+    given.iter().map(set).collect()
+}
+
+fn named(arguments: &Arguments, job: &[u8]) -> Result<Option<Named>, Failure> {
+    let named = arguments.parsed(NAMED.name, "'whole' or 'block'", |text| match text {
+        "whole" => Some(Named::Whole),
+        "block" => Some(Named::Block),
+        _ => None,
+    })?;
+    match (named, kundatrezo::first_named(job)) {
+        (None, Some(line)) => Err(Failure::Other(format!(
+            "line {line} stands in a shot that it names. With {0} whole it stands in that shot of the whole sample, with {0} \
+             block in that shot of each block of {1}; for a fault in every shot write noise of p = 1",
+            NAMED.name, MAX_SHOTS
+        ))),
+        (named, _) => Ok(named),
+    }
+}
+
+/// Where the noiseless bits come from.
+enum Noiseless {
+    /// The sampler's: zeros, or rows of which this is the sum.
+    Own(Option<u32>),
+    /// Bytes for each shot of the whole.
+    Given(File, String),
+}
+
+impl Noiseless {
+    /// What says that two parts had the same.
+    fn mark(&self) -> Option<String> {
+        match self {
+            Self::Own(sum) => sum.map(|sum| format!("{sum:08x}")),
+            Self::Given(..) => Some("shots".to_owned()),
+        }
+    }
+}
+
+fn noiseless(arguments: &Arguments, sampler: Sampler, job: Examination) -> Result<(Sampler, Noiseless), Failure> {
+    match (arguments.value(NOISELESS.name), arguments.value(NOISELESS_SHOTS.name)) {
+        (None, None) => Ok((sampler, Noiseless::Own(None))),
+        (Some(path), None) => {
+            if path == "-" && arguments.operand() == "-" {
+                return Err(Failure::Other("standard input can be read for one thing only".into()));
+            }
+            let rows = files::words(path, &mut files::open(path)?, job.outcome_words())?;
+            if rows.len() < job.outcome_words() {
+                let text = format!("{}: {} words, and {} are needed", path.display(), rows.len(), job.outcome_words());
+                return Err(Failure::Other(text));
+            }
+            let sum = crc32(&files::bytes_of(&rows));
+            Ok((sampler.with_noiseless(&rows, job.shots), Noiseless::Own(Some(sum))))
+        }
+        (None, Some(path)) => {
+            let file = files::open_file(path)?;
+            let bytes = file.metadata().map_err(|error| files::fault(path, &error))?.len();
+            let needed = sampler.shots().saturating_mul(job.outcomes.div_ceil(8) as u64);
+            if bytes < needed {
+                let text = format!("{}: {bytes} bytes, and {needed} are needed", path.display());
+                return Err(Failure::Other(text));
+            }
+            Ok((sampler, Noiseless::Given(file, path.display().to_string())))
+        }
+        _ => Err(Failure::Other(format!("of {}, {} one at most can be given", NOISELESS.name, NOISELESS_SHOTS.name))),
+    }
+}
+
+/// What is sampled.
+struct Whole<'a> {
+    asked: Asked,
+    job: &'a [u8],
+    examined: Examination,
+    sampler: Sampler,
+    sets: Vec<Vec<u64>>,
+    named: Option<Named>,
+    noiseless: Noiseless,
+}
+
+/// Most words of all threads, where their number is not asked for: 4 GiB.
+const MOST_WORDS: usize = 1 << 29;
+
+/// The memory of a thread, and what it has counted.
+#[derive(Default)]
+struct Memory {
+    bench: Bench,
+    counts: Counts,
+    parities: Vec<u64>,
+    rows: Vec<u64>,
+    bytes: Vec<u8>,
+}
+
+impl Whole<'_> {
+    fn read<'a>(arguments: &Arguments, asked: Asked, job: &'a [u8]) -> Result<Whole<'a>, Failure> {
+        let refused = |refusal: Refusal| Failure::refused(&refusal, job, None);
+        let examined = kundatrezo::examine(job).map_err(refused)?;
+        let sets = sets(arguments, examined)?;
+        if asked.format != Format::Counts && sets.len() > MAX_OUTCOMES {
+            return Err(Failure::Other(format!("a row has at most {MAX_OUTCOMES} sets")));
+        }
+        let named = named(arguments, job)?;
+        let sampler = Sampler::with_named(job, asked.shots, asked.seed, named.unwrap_or_default()).map_err(refused)?;
+        let (sampler, noiseless) = noiseless(arguments, sampler, examined)?;
+        Ok(Whole { asked, job, examined, sampler, sets, named, noiseless })
+    }
+
+    /// The text of counts.
+    fn text(&self, counts: Counts) -> String {
+        let sample = Sample {
+            qubits: self.examined.qubits as u64,
+            outcomes: self.examined.outcomes as u64,
+            job: crc32(self.job),
+            seeds: vec![self.asked.seed],
+            part: self.asked.part,
+            whole: self.asked.shots,
+            named: self.named.map(|named| if named == Named::Whole { "whole" } else { "block" }.to_owned()),
+            noiseless: self.noiseless.mark(),
+            counts,
+        };
+        sample.text(self.examined.recorded, &self.sets)
+    }
+
+    /// Run the blocks of the part that is asked for: rows go to a file or to standard output, in their order.
+    fn run(&self, path: Option<&OsStr>) -> Result<(Output, Counts), Failure> {
+        let Asked { format, part: (place, parts), .. } = self.asked;
+        let blocks = self.sampler.part(place - 1, parts);
+        let shots: u64 = match (blocks.start, blocks.end) {
+            (start, end) if start < end => self.sampler.shots_of(end - 1).end - self.sampler.shots_of(start).start,
+            _ => 0,
+        };
+        let turns = Turns::new(blocks.start, Output::create(path)?);
+        let progress = Progress::new(shots, format != Format::Counts && path.is_none());
+        let made = Sampler::each(blocks, self.threads(), Memory::default, |memory, block| {
+            let done = self.block(memory, block, &turns);
+            match &done {
+                Ok(()) => progress.add(memory.bench.frames().job().shots as u64),
+                Err(_) => turns.stop(),
+            }
+            done
+        });
+        progress.end();
+        let written = self.sampler.shots_of(turns.next()).start;
+        let made = made.map_err(|failure| match failure {
+            Failure::Unread => {
+                Failure::Other(format!("standard output was closed before shot {written}: the rest is not written"))
+            }
+            other => other,
+        })?;
+        let mut counts =
+            Counts { shots: 0, totals: vec![0; self.sampler.job().outcomes], sets: vec![0; self.sets.len()] };
+        made.iter().for_each(|memory| counts += &memory.counts);
+        Ok((turns.into_output(), counts))
+    }
+
+    /// As many threads as are asked for, or as there are processors, but no more than have room for their words.
+    fn threads(&self) -> usize {
+        let processors = || available_parallelism().map_or(1, usize::from);
+        self.asked.threads.unwrap_or_else(|| processors().min(MOST_WORDS / self.sampler.list_words().max(1)).max(1))
+    }
+
+    fn block(&self, memory: &mut Memory, block: u64, turns: &Turns) -> Result<(), Failure> {
+        let Memory { bench, counts, parities, rows, bytes } = memory;
+        let frames = match &self.noiseless {
+            Noiseless::Own(_) => self.sampler.run(block, bench),
+            Noiseless::Given(file, name) => {
+                self.read_noiseless(file, block, bytes, bench)
+                    .map_err(|error| Failure::Other(format!("{name}: {error}")))?;
+                self.sampler.run_lent(block, bench)
+            }
+        };
+        let frames = frames.map_err(|refusal| self.refused(&refusal))?;
+        counts.add(frames, &self.sets);
+        if self.asked.format == Format::Counts {
+            return Ok(());
+        }
+        let (count, deltas) = match self.sets.as_slice() {
+            [] => (frames.job().outcomes, frames.deltas()),
+            sets => {
+                sums(frames, sets, parities);
+                (sets.len(), parities.as_slice())
+            }
+        };
+        let shots = frames.job().shots;
+        rows.resize(shots * count.div_ceil(64), 0);
+        by_shot(count as u64, shots as u64, deltas, rows).map_err(|refusal| self.refused(&refusal))?;
+        bytes.clear();
+        match self.asked.format {
+            Format::Digits => shots::write_digits(rows, shots, count, bytes),
+            _ => shots::write_packed(rows, shots, count, bytes),
+        }
+        turns.write(block, bytes)
+    }
+
+    /// The noiseless bits of a block, from a file that has bytes for each shot.
+    fn read_noiseless(&self, file: &File, block: u64, bytes: &mut Vec<u8>, bench: &mut Bench) -> std::io::Result<()> {
+        let Range { start, end } = self.sampler.shots_of(block);
+        let (outcomes, shots) = (self.sampler.job().outcomes, usize::try_from(end - start).unwrap_or_default());
+        let row = outcomes.div_ceil(8);
+        bytes.resize(row * shots, 0);
+        file.read_exact_at(bytes, start * row as u64)?;
+        let mut rows = Vec::with_capacity(shots * outcomes.div_ceil(64));
+        for shot in bytes.chunks_exact(row.max(1)) {
+            rows.extend(shot.chunks(8).map(|word| {
+                let mut bytes = [0; 8];
+                bytes[..word.len()].copy_from_slice(word);
+                u64::from_le_bytes(bytes)
+            }));
+        }
+        bench.noiseless.resize(outcomes * shots.div_ceil(64), 0);
+        let done = by_outcome(outcomes as u64, shots as u64, &rows, &mut bench.noiseless);
+        done.map_err(|refusal| std::io::Error::other(refusal.to_string()))
+    }
+
+    /// The refusal of a block, whose lines are those of the job.
+    fn refused(&self, refusal: &Refusal) -> Failure {
+        let remedy = match refusal.number {
+            Number::LENGTH => {
+                Some(format!("with {MAX_SHOTS} shots in its header the job has more than {MAX_BYTES} bytes"))
+            }
+            Number::SHOT => Some(format!("the whole has {} shots", self.sampler.shots())),
+            Number::DRAWS => Some("place corr of this line lies past 268435456 words, the most of a list".to_owned()),
+            _ => None,
+        };
+        Failure::refused(refusal, self.job, remedy)
+    }
+}
+
+/// For each set the sum of its rows, one after the other.
+fn sums(frames: &Frames, sets: &[Vec<u64>], out: &mut Vec<u64>) {
+    let words = frames.job().words_per_row();
+    out.clear();
+    out.resize(sets.len() * words, 0);
+    for (row, set) in out.chunks_exact_mut(words).zip(sets) {
+        for id in set {
+            let delta = frames.delta_row(usize::try_from(*id).unwrap_or(usize::MAX));
+            row.iter_mut().zip(delta).for_each(|(word, delta)| *word ^= delta);
+        }
+    }
+}

@@ -1,0 +1,272 @@
+//! Samples: the same answer for every number of threads and parts, rows, refusals, and outputs that can't be written.
+
+use crate::common::{Done, finish, folder, kundatrezo};
+use kundatrezo::{Xorshift, bit};
+use std::fs;
+use std::path::Path;
+use std::process::{Command, Stdio};
+
+const SYNDROME: &str = concat!(env!("CARGO_MANIFEST_DIR"), "/../../examples/syndrome.job");
+const BELL: &str = concat!(env!("CARGO_MANIFEST_DIR"), "/../../examples/bell.job");
+
+/// Noise under conditions and in a correlation, and more outcomes than a word has bits for.
+fn wide() -> String {
+    let mut job = String::from("op=job qubits=2 outcomes=70 shots=10\nop=r id=0 angle=0\n");
+    for id in 1..70 {
+        let noise = match id % 3 {
+            0 => "op=n p=3fb999999999999a corr=- cond=0 parity=1 d=2 q=0,1 size=15",
+            1 => "op=n p=3fb999999999999a corr=8300 cond=- parity=0 d=1 x=1 z=- size=1",
+            _ => "op=n p=3f847ae147ae147b corr=- cond=- parity=0 d=1 x=0 z=- size=1",
+        };
+        job += &format!("{noise}\nop=o x=- z={} id={id}\n", id % 2);
+    }
+    job
+}
+
+fn call(arguments: &str, stdin: impl AsRef<[u8]>) -> Done {
+    kundatrezo(arguments.split_whitespace(), stdin.as_ref())
+}
+
+/// What a call prints that does its work.
+fn printed(arguments: &str, stdin: impl AsRef<[u8]>) -> Vec<u8> {
+    let done = call(arguments, stdin);
+    assert_eq!((done.status, done.stderr.as_str()), (0, ""), "{arguments}");
+    done.stdout
+}
+
+fn text(bytes: Vec<u8>) -> String {
+    String::from_utf8(bytes).expect("a text")
+}
+
+/// What says no: its status, and a part of what it says.
+fn fails(arguments: &str, stdin: &str, status: i32, part: &str) {
+    let done = call(arguments, stdin);
+    assert!(done.status == status && done.stderr.contains(part) && done.stdout.is_empty(), "{arguments}: {done:?}");
+}
+
+#[test]
+fn threads_and_parts_make_no_difference() {
+    let folder = folder("sample_parts");
+    let path = |name: String| folder.join(name).into_os_string().into_string().expect("a plain path");
+    for (place, job) in [fs::read_to_string(SYNDROME).expect("the example"), wide()].into_iter().enumerate() {
+        let options = "--shots 50001 --seed 7 --set 0,1,4 --set 2 --set=-";
+        let whole = printed(&format!("sample - {options} --threads 1"), &job);
+        let rows = printed(&format!("sample - {options} --threads 3 --format 01"), &job);
+        assert_eq!(printed(&format!("sample - {options} --threads 2"), &job), whole);
+        for parts in [1, 2, 7, 20] {
+            let (mut files, mut joined) = (Vec::new(), Vec::new());
+            for part in 1..=parts {
+                let own = format!("{options} --part {part}/{parts} --threads {}", 1 + part % 3);
+                let rows = path(format!("{place}.{parts}.{part}.01"));
+                files.push(path(format!("{place}.{parts}.{part}")));
+                let counts = printed(&format!("sample - {own} --format 01 --output {rows}"), &job);
+                assert!(printed(&format!("sample - {own} --output {}", files[part - 1]), &job).is_empty());
+                assert_eq!(fs::read(&files[part - 1]).ok(), Some(counts));
+                joined.extend(fs::read(rows).expect("it is written"));
+            }
+            files.reverse();
+            assert_eq!(printed(&format!("merge {}", files.join(" ")), ""), whole, "{parts}");
+            assert_eq!(joined, rows, "{parts}");
+        }
+    }
+    assert!(
+        fs::read_dir(folder)
+            .expect("it is there")
+            .flatten()
+            .all(|file| !text(file.file_name().into_encoded_bytes()).contains("partial"))
+    );
+}
+
+/// A sample of one block is a run with the words of that block.
+#[test]
+fn a_block_is_a_run() {
+    let folder = folder("sample_block");
+    let job = wide().replace("shots=10\n", "shots=300\n");
+    let list = |list: u64| {
+        let bytes: Vec<u8> = Xorshift::of_block(9, 0, list).take(60_000).flat_map(u64::to_le_bytes).collect();
+        let path = folder.join(list.to_string());
+        fs::write(&path, bytes).expect("it can be written");
+        path.display().to_string()
+    };
+    let [shots, totals] = ["shots", "totals"].map(|name| folder.join(name).display().to_string());
+    let options = format!("--main {} --second {} --shots {shots} --totals {totals}", list(0), list(1));
+    printed(&format!("run - {options}"), &job);
+    let rows = printed("sample - --shots 300 --seed 9 --format 01", &job);
+    assert_eq!(Some(rows), fs::read(shots).ok());
+    let counts = text(printed("sample - --shots 300 --seed 9", &job));
+    let total = |line: &str| line.split(" rate=").next().expect("a first part").to_owned();
+    let counted: Vec<String> = counts.lines().skip(2).map(total).collect();
+    let ran: Vec<String> = fs::read_to_string(totals).expect("it is written").lines().map(total).collect();
+    assert_eq!(counted, ran);
+}
+
+#[test]
+fn rows_are_what_is_counted() {
+    let sets = "--set 0,1,4 --set 2 --set 1,2,3,5,6";
+    let lines = |options: &str| text(printed(&format!("sample {SYNDROME} --shots 9000 --seed 3 {options}"), ""));
+    let counts = lines(sets);
+    let totals = |rows: &str| -> Vec<usize> {
+        let digits = rows.lines().next().map_or(0, str::len);
+        (0..digits).map(|place| rows.lines().filter(|row| row.as_bytes()[place] == b'1').count()).collect()
+    };
+    let all = [totals(&lines("--format 01")), totals(&lines(&format!("{sets} --format 01")))].concat();
+    let counted: Vec<usize> = counts
+        .lines()
+        .skip(2)
+        .map(|line| {
+            line.split(" total=")
+                .nth(1)
+                .and_then(|rest| rest.split(' ').next())
+                .expect("a total")
+                .parse()
+                .expect("a number")
+        })
+        .collect();
+    assert_eq!(counted, all);
+    // packed bytes are the digits
+    let packed = printed("sample - --shots 5000 --seed 3 --format b8", wide());
+    let digits = text(printed("sample - --shots 5000 --seed 3 --format 01", wide()));
+    assert_eq!(packed.len(), 5000 * 9);
+    for (row, line) in packed.chunks(9).zip(digits.lines()) {
+        let mut bytes = row.to_vec();
+        bytes.resize(16, 0);
+        let words: Vec<u64> = bytes.as_chunks().0.iter().map(|word| u64::from_le_bytes(*word)).collect();
+        let unpacked: String = (0..70).map(|id| if bit(&words, id) { '1' } else { '0' }).collect();
+        assert_eq!(unpacked, line);
+    }
+    // a set may come from a file
+    let folder = folder("sample_sets");
+    fs::write(folder.join("sets"), "2\n1,2,3,5,6\n").expect("it can be written");
+    assert_eq!(lines(&format!("--set 0,1,4 --sets {}", folder.join("sets").display())), counts);
+}
+
+#[test]
+fn noiseless_bits_come_again_or_are_given() {
+    let folder = folder("sample_noiseless");
+    let path = |name: &str| folder.join(name).display().to_string();
+    // outcome 0 is 1 in shots 1, 2, 5 and 9 of ten
+    let of_ten = 0b10_0010_0110_u64;
+    let rows: Vec<u8> = (0..70).flat_map(|id| if id == 0 { of_ten } else { 0 }.to_le_bytes()).collect();
+    fs::write(path("rows"), rows).expect("it can be written");
+    let by_shot: Vec<u8> =
+        (0..9000).flat_map(|shot| [vec![u8::from(of_ten >> (shot % 10) & 1 == 1)], vec![0; 8]].concat()).collect();
+    fs::write(path("shots"), by_shot).expect("it can be written");
+    let sample = |options: &str| printed(&format!("sample - --shots 9000 --seed 3 --format 01 {options}"), wide());
+    let again = sample(&format!("--noiseless {}", path("rows")));
+    assert_eq!(sample(&format!("--noiseless-shots {}", path("shots"))), again);
+    assert_ne!(sample(""), again);
+    fails(
+        &format!("sample - --shots 9001 --seed 3 --noiseless-shots {}", path("shots")),
+        &wide(),
+        2,
+        "81009 are needed",
+    );
+    fs::write(path("rows"), [0; 8]).expect("it can be written");
+    fails(&format!("sample - --shots 9 --seed 3 --noiseless {}", path("rows")), &wide(), 2, "70 are needed");
+}
+
+#[test]
+fn named_shots() {
+    fails(&format!("sample {BELL} --shots 9000 --seed 1"), "", 2, "line 4 stands in a shot that it names");
+    let total = |options: &str| {
+        let counts = text(printed(&format!("sample {BELL} --shots 9000 --seed 1 {options}"), ""));
+        counts.lines().filter_map(|line| line.split(' ').nth(1)).skip(2).map(str::to_owned).collect::<Vec<String>>()
+    };
+    assert_eq!(total("--named whole"), ["total=1", "total=1"]);
+    assert_eq!(total("--named block"), ["total=3", "total=3"]);
+    let refused =
+        "refused: 10 (a shot not below the header's shots) at line 7: op=t shot=2 id=1\nhint: the whole has 2 shots\n";
+    fails(&format!("sample {BELL} --shots 2 --seed 1 --named whole"), "", 1, refused);
+}
+
+#[test]
+fn refusals_and_wrong_arguments() {
+    let sample = |options: &str| format!("sample {SYNDROME} --shots 10 --seed 1 {options}");
+    fails("sample - --shots 1 --seed 1", "op=job qubits=0 outcomes=0 shots=1\n", 1, "refused: 3 ");
+    fails(&sample("--set 3,1"), "", 1, "refused: 17 ");
+    fails(&sample("--set 3,7"), "", 1, "hint: the set 3,7: it names recorded outcomes, 0 to 6, and rises strictly");
+    fails(&sample("--set a"), "", 2, "a set is to be numbers");
+    for part in ["0/2", "3/2", "1", "1/0", "-1/2"] {
+        fails(&sample(&format!("--part {part}")), "", 2, "I/K, with I from 1 to K");
+    }
+    fails(&sample("--format 02"), "", 2, "counts, 01 or b8");
+    fails(&sample("--threads 0"), "", 2, "a number from 1");
+    fails(&sample("--named here"), "", 2, "'whole' or 'block'");
+    fails(&sample("--seed 2"), "", 2, "the option --seed is given twice");
+    fails(&format!("sample {SYNDROME} --shots 10"), "", 2, "--shots and --seed are wanted");
+    fails(&format!("sample {SYNDROME} --shots 0 --seed 1"), "", 2, "at least 1");
+    let far = wide().replace("corr=8300", "corr=18446744073709551000");
+    let hint = "op=n p=3fb999999999999a corr=18446744073709551000 cond=- parity=0 d=1 x=1 z=- size=1\nhint: place corr";
+    fails("sample - --shots 10 --seed 1", &far, 1, hint);
+    fails("merge -", "ok=1\n", 2, "these are not the counts");
+    // the longest job, whose header has no room for more digits
+    let longest =
+        format!("op=job qubits=1 outcomes=0 shots=1\n{}{}", "op=u g=4 q=0\n".repeat(8), "op=z q=0\n".repeat(116_493));
+    assert_eq!(longest.len(), kundatrezo::MAX_BYTES);
+    assert!(call("sample - --shots 9 --seed 1", &longest).status == 0);
+    fails(
+        "sample - --shots 4096 --seed 1",
+        &longest,
+        1,
+        "hint: with 4096 shots in its header the job has more than 1048576 bytes",
+    );
+}
+
+/// What can't be written is said, and leaves no file.
+#[test]
+fn full_disks_and_closed_pipes() {
+    let folder = folder("sample_full");
+    let program = env!("CARGO_BIN_EXE_kundatrezo");
+    let shell = |script: &str| {
+        let mut shell = Command::new("sh");
+        finish(shell.arg("-c").arg(script).arg(program).arg(SYNDROME).current_dir(&folder), b"")
+    };
+    for format in ["counts", "01", "b8"] {
+        let sample = format!("\"$0\" sample \"$1\" --shots 100000 --seed 1 --format {format}");
+        for target in [" >/dev/full", " --output /dev/full"] {
+            let done = shell(&format!("{sample}{target}"));
+            assert!(done.status == 2 && done.stderr.contains("No space left"), "{format} {target}: {done:?}");
+        }
+        // a file may have no more than 8 blocks of 512 bytes
+        let full = shell(&format!("trap '' XFSZ; ulimit -f 0; exec {sample} --output rows"));
+        assert!(full.status == 2 && full.stderr.contains("rows.partial: "), "{full:?}");
+        assert!(!folder.join("rows").exists() && !folder.join("rows.partial").exists());
+    }
+    // a link stays one
+    fs::write(folder.join("old"), "old").expect("it can be written");
+    std::os::unix::fs::symlink("old", folder.join("link")).expect("a link can be made");
+    assert_eq!(shell("\"$0\" sample \"$1\" --shots 9 --seed 1 --output link").status, 0);
+    assert!(fs::read_to_string(folder.join("old")).is_ok_and(|counts| counts.starts_with("ok=1 ")));
+    let mut child = Command::new(program)
+        .args(["sample", SYNDROME, "--shots", "100000", "--seed", "1", "--format", "01"])
+        .stdout(Stdio::piped())
+        .stderr(Stdio::piped())
+        .spawn()
+        .expect("it starts");
+    drop(child.stdout.take());
+    let done = child.wait_with_output().expect("it ends");
+    assert_eq!(done.status.code(), Some(2));
+    assert!(text(done.stderr).contains("standard output was closed before shot"));
+}
+
+/// Many shots take no more memory than few: 200,000 rows of 1,025 bytes go through 150 MB, of which threads reserve the larger part and use little.
+#[test]
+fn memory_is_bounded() {
+    let job = "op=job qubits=1 outcomes=1024 shots=1\nop=n p=3fe0000000000000 corr=- cond=- parity=0 d=1 x=0 z=- size=1\nop=o x=- z=0 id=0\n";
+    let script = "ulimit -v 150000; \"$0\" sample - --shots 200000 --seed 1 --threads 2 --format 01 | wc -c";
+    let done = finish(Command::new("sh").arg("-c").arg(script).arg(env!("CARGO_BIN_EXE_kundatrezo")), job.as_bytes());
+    assert_eq!((text(done.stdout).trim(), done.stderr.as_str()), ("205000000", ""));
+}
+
+/// On a terminal, which `script` makes where it is at hand, a line says how far the sample is.
+#[test]
+fn progress_on_a_terminal() {
+    if !Path::new("/usr/bin/script").exists() {
+        return;
+    }
+    let sample = format!("{} sample {SYNDROME} --shots 100000 --seed 1", env!("CARGO_BIN_EXE_kundatrezo"));
+    let done = finish(Command::new("/usr/bin/script").args(["-qec", &sample, "/dev/null"]), b"");
+    let said = text(done.stdout);
+    assert!(done.status == 0 && said.contains(" of 100000 shots, ") && said.contains(" left"), "{said}");
+    assert!(said.contains("ok=1 qubits=5 outcomes=7 shots=100000"), "{said}");
+}
