@@ -4,6 +4,7 @@ use faults::elements::element_x;
 use faults::elements::element_z;
 use noise::PauliDistribution;
 use noise::PauliFault;
+use noise::scan::threshold;
 use pauli::Shot;
 use rows::Shape;
 use shots::NextFault;
@@ -130,12 +131,13 @@ pub fn inject_faults(
 {
     let p = fault.probability;
     let d = fault.distribution;
+    let t = threshold(p);
     let chooser = chooser_of(d);
     let shots = shape.shots;
     let mut at = 0;
     let mut shot = 0;
     loop {
-        match next_fault(words, more, at, mask, Shot(shot), shots, p, chooser, sums) {
+        match next_fault(words, more, at, mask, Shot(shot), shots, t, chooser, sums) {
             NextFault::Spent => {
                 return Drawn::Spent;
             }

@@ -1,6 +1,7 @@
 // A noise line by value, the words that it draws from, and its condition as a mask. Elements are chosen in the crate choice, and its shots gone through in the
 // crate shots.
 pub mod condition;
+pub mod scan;
 pub mod words;
 
 // The four kinds of distribution. The weighted one carries its total; its running sums lie in an array beside it.

@@ -7,7 +7,7 @@ ghost use Prim.Native.Nat.{_+_, _-_, _^_, _<_, _≤_};
 ghost use lib.ListN.{length, getD, drop};
 ghost use Rattle.draws.specs.Draws.{unitOf, falls, Lent, partOf};
 ghost use Rattle.noise.specs.Kinds.{correlationOf};
-ghost use Rattle.noise.specs.Words.{skipOf, moreOf, positionAfter};
+ghost use Rattle.noise.specs.Words.{moreOf, positionAfter};
 
 // u = floor(w / 2048) / 2^53. A number below 2^53 is cast without loss, and scaling by a power of two is exact.
 pub fn unit(w: u64) -> f64
@@ -103,43 +103,4 @@ pub fn word_at(words: &[u64], more: &[u64], at: usize) -> u64
         return words[at];
     }
     more[at - words.len()]
-}
-
-// How many of n words, from a place on, bring no fault before one that does.
-fn skip_in(words: &[u64], at: usize, n: usize, p: f64) -> usize
-    requires { ⌜ n ≤ length (now words) - at ⌝ }
-    ensures { λ r. ⌜ r ≡ skipOf p n (drop at (now (words .entry))) ⌝ }
-{
-    let mut i = 0;
-    while i < n {
-        if is_fault(words[at + i], p) {
-            return i;
-        }
-        i += 1;
-    }
-    i
-}
-
-// The same of as many words as there are shots, or fewer where the words end.
-fn skip_part(words: &[u64], at: usize, shots: usize, p: f64) -> usize
-    ensures { λ r. ⌜ r ≡ skipOf p shots (drop at (now (words .entry))) ⌝ }
-{
-    let left = behind(words.len(), at);
-    if left < shots {
-        return skip_in(words, at, left, p);
-    }
-    skip_in(words, at, shots, p)
-}
-
-// How many shots, of so many, are passed over before the next fault: as many words bring none. Fewer where the words end.
-pub fn next_skip(words: &[u64], more: &[u64], at: usize, shots: usize, p: f64) -> usize
-    requires { ⌜ at ≤ length (now words ++ now more) ⌝ }
-    ensures { λ r. ⌜ r ≡ skipOf p shots (drop at (now (words .entry) ++ now (more .entry))) ⌝ }
-{
-    let skip = skip_part(words, at, shots, p);
-    let next = at + skip;
-    if next < words.len() {
-        return skip;
-    }
-    skip + skip_part(more, next - words.len(), shots - skip, p)
 }

@@ -56,18 +56,6 @@ unfolding skipOf
 skip-nil p zero = refl
 skip-nil p (suc most) = refl
 
--- neither more than so many, nor more than there are
-pub skip-within : (p : Float) (most : ℕ) (ws : List ℕ) → (skipOf p most ws ≤ most) × (skipOf p most ws ≤ length ws)
-unfolding skipOf
-skip-within p zero ws = omega arith
-skip-within p (suc most) [] = omega arith
-skip-within p (suc most) (w ∷ ws) = go (falls w p) (skip-within p most ws)
-  where
-    go : (b : Bool) → (skipOf p most ws ≤ most) × (skipOf p most ws ≤ length ws)
-        → (cond b 0 (suc (skipOf p most ws)) ≤ suc most) × (cond b 0 (suc (skipOf p most ws)) ≤ suc (length ws))
-    go true ih = omega arith
-    go false ih = omega arith
-
 -- so many as there are words are the most
 skip-all : (p : Float) (most : ℕ) (ws : List ℕ) → length ws ≤ most → skipOf p (length ws) ws ≡ skipOf p most ws
 unfolding skipOf
@@ -92,49 +80,6 @@ skip-falls p (suc most) (w ∷ ws) h l = go (falls w p) refl (skip-falls p most 
         → falls (getD (w ∷ ws) (cond b 0 (suc (skipOf p most ws))) 0) p ≡ true
     go true f ih a b = f
     go false f ih a b = ih (omega arith) (omega arith)
-
--- a fault in the first part, or none, and then those of the second
-skip-stays : (p : Float) (most : ℕ) (ws more : List ℕ) → skipOf p most ws < length ws → skipOf p most ws ≡ skipOf p most (ws ++ more)
-unfolding skipOf
-skip-stays p zero ws more h = refl
-skip-stays p (suc most) [] more h = absurd (omega arith)
-skip-stays p (suc most) (w ∷ ws) more h = go (falls w p) (skip-stays p most ws more) h
-  where
-    go : (b : Bool) → (skipOf p most ws < length ws → skipOf p most ws ≡ skipOf p most (ws ++ more))
-        → cond b 0 (suc (skipOf p most ws)) < suc (length ws) → cond b 0 (suc (skipOf p most ws)) ≡ cond b 0 (suc (skipOf p most (ws ++ more)))
-    go true ih l = refl
-    go false ih l = ap suc (ih (omega arith))
-
-skip-past : (p : Float) (most : ℕ) (ws more : List ℕ) → length ws ≤ skipOf p most ws
-    → skipOf p most ws + skipOf p (most - skipOf p most ws) more ≡ skipOf p most (ws ++ more)
-unfolding skipOf
-skip-past p zero [] more h = refl
-skip-past p zero (w ∷ ws) more h = absurd (omega arith)
-skip-past p (suc most) [] more h = rw sub-zero (omega arith)
-skip-past p (suc most) (w ∷ ws) more h = go (falls w p) (skip-past p most ws more) h
-  where
-    go : (b : Bool) → (length ws ≤ skipOf p most ws → skipOf p most ws + skipOf p (most - skipOf p most ws) more ≡ skipOf p most (ws ++ more))
-        → suc (length ws) ≤ cond b 0 (suc (skipOf p most ws))
-        → cond b 0 (suc (skipOf p most ws)) + skipOf p (suc most - cond b 0 (suc (skipOf p most ws))) more ≡ cond b 0 (suc (skipOf p most (ws ++ more)))
-    go true ih l = absurd (omega arith)
-    go false ih l = rw (suc-sub-suc, suc-add) (ap suc (ih (omega arith)))
-
-module _ (p : Float) (ws : List ℕ) (at most k : ℕ) (is : k ≡ skipOf p most (drop at ws)) where
-  pub skip-fits : (k ≤ most) × (k ≤ length ws - at)
-  skip-fits = omega (arith, skip-within p most (drop at ws), length-drop at ws)
-
-module _ (p : Float) (ws more : List ℕ) (at most k : ℕ) (is : k ≡ skipOf p most (drop at ws)) where
-  pub skip-here : at + k < length ws → k ≡ skipOf p most (drop at (ws ++ more))
-  skip-here h =
-      is ∙ skip-stays p most (drop at ws) (drop (at - length ws) more) (omega (arith, is, length-drop at ws)) ∙ ap (skipOf p most) (sym (drop-append at ws more))
-
-  pub skip-on : length ws ≤ at + k → (j : ℕ) → j ≡ skipOf p (most - k) (drop (at + k - length ws) more) → k + j ≡ skipOf p most (drop at (ws ++ more))
-  skip-on h j next =
-      let whole : skipOf p most (drop at ws) + skipOf p (most - skipOf p most (drop at ws)) (drop (at - length ws) more) ≡ skipOf p most (drop at (ws ++ more)) =
-      skip-past p most (drop at ws) (drop (at - length ws) more) (omega (arith, is, length-drop at ws)) ∙ ap (skipOf p most) (sym (drop-append at ws more)) in
-      let same : at + k - length ws ≡ at - length ws = omega (arith, skip-fits p ws at most k is) in
-      ap (λ (x : ℕ). k + x) (next ∙ ap (λ (x : ℕ). skipOf p (most - k) (drop x more)) same)
-      ∙ ap (λ (x : ℕ). x + skipOf p (most - x) (drop (at - length ws) more)) is ∙ whole
 
 module _ (p : Float) (ws : List ℕ) (at i n : ℕ) where
   -- no word is left, a fault, and a word that brings none

@@ -1,21 +1,26 @@
 -- `shots::next_fault` meets its contract. The invariant: the next fault from here on is the next one from the start.
-use Rattle.shots.specs.Laws.Shots.{skip-stays, falls-behind, quiet-within, Later, later-none, later-skip, later-quiet, found-done, found-spent, found-at}
+use Rattle.shots.specs.Laws.Shots.{falls-behind, quiet-within, Later, later-none, later-skip, later-quiet, found-done, found-spent, found-at}
 use borrow.Author.Needs.{needs}
 use lib.ListN.{length, length-append}
 use mathlib.Core.List.{_++_}
 use native.Mathlib.Omega.{arith}
+use mathlib.Core.Path.{_≡_}
 use Prim.Native.Nat.{_-_, _≤_}
+use lib.Ieee.{Float}
+use Rattle.noise.specs.Scan.{thresholdOf}
 use Rattle.shots.proofs.next_fault.Statement.{statement}
 use Rattle.shots.proofs.next_fault.Tie as tie
 
 abbrev Inv-loop : tie.InvT-loop
-Inv-loop words more at mask shots p chooser sums i₀ s₀ i s = (i ≤ length (words ++ more)) × (s₀ ≤ s) × (s ≤ shots) × Later (words ++ more) mask shots p (chooser .kind) sums s₀ at s i
+Inv-loop words more at mask shots t chooser sums i₀ s₀ i s =
+    (i ≤ length (words ++ more)) × (s₀ ≤ s) × (s ≤ shots)
+    × ((p : Float) → t ≡ thresholdOf p → Later (words ++ more) mask shots p (chooser .kind) sums s₀ at s i)
 
 abbrev μ-loop : tie.MeasureT-loop
-μ-loop words more at mask shots p chooser sums i₀ s₀ i s = shots - s
+μ-loop words more at mask shots t chooser sums i₀ s₀ i s = shots - s
 
 loop-holds : tie.Need-loop-holds Inv-loop μ-loop
-loop-holds c = (omega arith, omega arith, omega arith, later-none)
+loop-holds c = (omega arith, omega arith, omega arith, λ p e. later-none)
 
 sub-next-skip : tie.Need-sub-next-skip Inv-loop μ-loop
 sub-next-skip c = omega arith
@@ -24,18 +29,18 @@ next-skip-requires : tie.Need-next-skip-requires Inv-loop μ-loop
 next-skip-requires c κs = omega arith
 
 add-i : tie.Need-add-i Inv-loop μ-loop
-add-i c = let a = c .before .before .before .before .before .before .before .args in record { fits = omega (arith, length-append (a .words .now) (a .more .now), c .before .before .before .before .before .before .before .good, skip-stays _ _ _ _ _ _ (c .before .before .loop .inv .2) (c .before .before .loop .inv .0) (c .next-skip .ensures)) }
+add-i c = let a = c .before .before .before .before .before .before .before .args in record { fits = omega (arith, length-append (a .words .now) (a .more .now), c .before .before .before .before .before .before .before .good, c .next-skip .ensures .within) }
 
 add-s : tie.Need-add-s Inv-loop μ-loop
-add-s c = omega (arith, skip-stays _ _ _ _ _ _ (c .before .before .loop .inv .2) (c .before .before .loop .inv .0) (c .next-skip .ensures))
+add-s c = omega (arith, c .next-skip .ensures .within)
 
 returns : tie.Need-returns Inv-loop μ-loop
 returns c =
-    let stays = skip-stays _ _ _ _ _ _ (c .before .before .before .loop .inv .2) (c .before .before .before .loop .inv .0) (c .before .next-skip .ensures) in
-    found-done (later-skip (c .before .before .before .loop .inv .3) _ (c .before .next-skip .ensures)) (omega arith) (stays .1)
+    let stays = c .before .next-skip .ensures .within in
+    λ p e. found-done (later-skip (c .before .before .before .loop .inv .3 p e) _ (c .before .next-skip .ensures .is p e)) (omega arith) (omega (arith, stays))
 
 is-set-requires : tie.Need-is-set-requires Inv-loop μ-loop
-is-set-requires c κs = omega (arith, skip-stays _ _ _ _ _ _ (c .before .before .before .loop .inv .2) (c .before .before .before .loop .inv .0) (c .before .next-skip .ensures), c .before .before .before .before .before .before .before .before .pre .2)
+is-set-requires c κs = omega (arith, c .before .next-skip .ensures .within, c .before .before .before .before .before .before .before .before .pre .2)
 
 draw-shot-requires : tie.Need-draw-shot-requires Inv-loop μ-loop
 draw-shot-requires c κs = search needs
@@ -45,8 +50,8 @@ enum-told c = search needs
 
 returns-2 : tie.Need-returns-2 Inv-loop μ-loop
 returns-2 c =
-    let stays = skip-stays _ _ _ _ _ _ (c .before .before .before .before .before .before .before .loop .inv .2) (c .before .before .before .before .before .before .before .loop .inv .0) (c .before .before .before .before .before .next-skip .ensures) in
-    found-spent (later-skip (c .before .before .before .before .before .before .before .loop .inv .3) _ (c .before .before .before .before .before .next-skip .ensures)) (omega arith) (c .before .before .before .is-set .ensures) (c .before .before .draw-shot .ensures (c .before .before .before .before .before .before .before .before .before .before .before .before .args .p) (falls-behind _ _ _ _ _ _ (c .before .before .before .before .before .next-skip .ensures) (omega arith))) (c .enum-told .given .1)
+    let stays = c .before .before .before .before .before .next-skip .ensures .within in
+    λ p e. found-spent (later-skip (c .before .before .before .before .before .before .before .loop .inv .3 p e) _ (c .before .before .before .before .before .next-skip .ensures .is p e)) (omega arith) (c .before .before .before .is-set .ensures) (falls-behind _ _ _ _ _ _ (c .before .before .before .before .before .next-skip .ensures .is p e) (omega arith)) (c .before .before .draw-shot .ensures) (c .enum-told .given .1)
 
 enum-known-next : tie.Need-enum-known-next Inv-loop μ-loop
 enum-known-next c = search needs
@@ -56,26 +61,26 @@ enum-known-e c = search needs
 
 returns-3 : tie.Need-returns-3 Inv-loop μ-loop
 returns-3 c =
-    let stays = skip-stays _ _ _ _ _ _ (c .before .before .before .before .before .before .before .before .loop .inv .2) (c .before .before .before .before .before .before .before .before .loop .inv .0) (c .before .before .before .before .before .before .next-skip .ensures) in
-    found-at (later-skip (c .before .before .before .before .before .before .before .before .loop .inv .3) _ (c .before .before .before .before .before .before .next-skip .ensures)) (omega arith) (c .before .before .before .before .is-set .ensures) (c .before .before .before .draw-shot .ensures (c .before .before .before .before .before .before .before .before .before .before .before .before .before .args .p) (falls-behind _ _ _ _ _ _ (c .before .before .before .before .before .before .next-skip .ensures) (omega arith))) _ _ (c .before .e .given .1) (omega arith)
+    let stays = c .before .before .before .before .before .before .next-skip .ensures .within in
+    λ p e. found-at (later-skip (c .before .before .before .before .before .before .before .before .loop .inv .3 p e) _ (c .before .before .before .before .before .before .next-skip .ensures .is p e)) (omega arith) (c .before .before .before .before .is-set .ensures) (falls-behind _ _ _ _ _ _ (c .before .before .before .before .before .before .next-skip .ensures .is p e) (omega arith)) (c .before .before .before .draw-shot .ensures) _ _ (c .before .e .given .1) (omega arith)
 
 add-s-2 : tie.Need-add-s-2 Inv-loop μ-loop
-add-s-2 c = omega (arith, skip-stays _ _ _ _ _ _ (c .before .before .before .before .before .before .before .before .loop .inv .2) (c .before .before .before .before .before .before .before .before .loop .inv .0) (c .before .before .before .before .before .before .next-skip .ensures))
+add-s-2 c = omega (arith, c .before .before .before .before .before .before .next-skip .ensures .within)
 
 loop-less : tie.Need-loop-less Inv-loop μ-loop
-loop-less c = omega (arith, skip-stays _ _ _ _ _ _ (c .before .before .before .before .before .before .before .before .loop .inv .2) (c .before .before .before .before .before .before .before .before .loop .inv .0) (c .before .before .before .before .before .before .next-skip .ensures))
+loop-less c = omega (arith, c .before .before .before .before .before .before .next-skip .ensures .within)
 
 loop-again : tie.Need-loop-again Inv-loop μ-loop
 loop-again c =
-    let stays = skip-stays _ _ _ _ _ _ (c .before .before .before .before .before .before .before .before .loop .inv .2) (c .before .before .before .before .before .before .before .before .loop .inv .0) (c .before .before .before .before .before .before .next-skip .ensures) in (
-      quiet-within (c .before .before .before .draw-shot .ensures (c .before .before .before .before .before .before .before .before .before .before .before .before .before .args .p) (falls-behind _ _ _ _ _ _ (c .before .before .before .before .before .before .next-skip .ensures) (omega arith))) (c .before .next .given .1),
+    let stays = c .before .before .before .before .before .before .next-skip .ensures .within in (
+      quiet-within (c .before .before .before .draw-shot .ensures) (c .before .next .given .1),
       omega arith,
       omega arith,
-      later-quiet (later-skip (c .before .before .before .before .before .before .before .before .loop .inv .3) _ (c .before .before .before .before .before .before .next-skip .ensures)) (omega arith) (c .before .before .before .before .is-set .ensures) (c .before .before .before .draw-shot .ensures (c .before .before .before .before .before .before .before .before .before .before .before .before .before .args .p) (falls-behind _ _ _ _ _ _ (c .before .before .before .before .before .before .next-skip .ensures) (omega arith))) _ (c .before .next .given .1),
+      λ p e. later-quiet (later-skip (c .before .before .before .before .before .before .before .before .loop .inv .3 p e) _ (c .before .before .before .before .before .before .next-skip .ensures .is p e)) (omega arith) (c .before .before .before .before .is-set .ensures) (falls-behind _ _ _ _ _ _ (c .before .before .before .before .before .before .next-skip .ensures .is p e) (omega arith)) (c .before .before .before .draw-shot .ensures) _ (c .before .next .given .1),
     )
 
 returns-4 : tie.Need-returns-4 Inv-loop μ-loop
-returns-4 c = found-done (c .before .loop .inv .3) (c .loop-test .left) (c .before .loop .inv .0)
+returns-4 c = λ p e. found-done (c .before .loop .inv .3 p e) (c .loop-test .left) (c .before .loop .inv .0)
 
 pub next-fault-spec : {M : Type 1} → statement M
 next-fault-spec =
