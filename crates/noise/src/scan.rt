@@ -1,5 +1,5 @@
-// Words gone over for the next one that brings a fault. For that p becomes a threshold, a whole number, so that a word is tested with no float, and eight
-// words at once.
+// Words gone over for the next one that brings a fault. For that p becomes a threshold, a whole number: so a word is tested with no float, and eight
+// words with one branch.
 use crate::words::count;
 use crate::words::is_fault;
 use crate::words::word_at;
@@ -13,14 +13,19 @@ ghost use lib.Ieee.{Float};
 ghost use Rattle.draws.specs.Draws.{falls};
 ghost use Rattle.noise.specs.Scan.{thresholdOf, Quiet, Passed, Stopped, Skipped};
 
-// The least whole number that is not below p * 2^53: floor(w / 2048) is below it where a fault falls. It is 0 for a p that is not above zero, NaN included, and
-// 2^53, which every floor(w / 2048) is below, for one that is not below 1.
+// As many words make a block.
+const BLOCK: usize = 8;
+
+// ---- A word beside the threshold
+
+// The least whole number that is not below p * 2^53: floor(w / 2048) is below it where a fault falls. It is 0 for a p that is not above zero, NaN
+// included, and 2^53, above every floor(w / 2048), for one that is not below 1.
 pub fn threshold(p: f64) -> u64
     ensures { λ r. ⌜ r ≡ thresholdOf p ⌝ }
 {
     if p > 0.0 {
         if p < 1.0 {
-            // the product is exact, and only where it has a fraction does the word of its whole part bring a fault
+            // the product is exact, and its whole part is below it where that, as a word, brings a fault
             let whole = std::num::truncating_f64_to_u64(p * 9007199254740992.0);
             if is_fault(whole * 2048, p) {
                 return whole + 1;
@@ -46,10 +51,9 @@ fn difference(w: u64, t: u64) -> u64
     std::num::wrapping_sub_u64(w / 2048, t)
 }
 
-// As many words are looked at together. An arithmetic on whole words with no branch is what a compiler can do to several at once.
-const BLOCK: usize = 8;
+// ---- Words passed over
 
-// Whether one of a block's words brings a fault.
+// Whether one of a block's words brings a fault. With no branch between them a compiler can take several words at once.
 fn has_fault(words: &[u64], at: usize, t: u64) -> bool
     requires { ⌜ at + 8 ≤ length (now words) ⌝ }
     ensures { λ r. ⌜ (r ≡ false → Quiet t (now (words .entry)) at 8) ⌝ }
@@ -63,7 +67,7 @@ fn has_fault(words: &[u64], at: usize, t: u64) -> bool
     seen >= 9223372036854775808
 }
 
-// Of n words from a place on, how many can be passed over in whole blocks.
+// Of n words from a place on, how many are passed over in whole blocks.
 fn pass_blocks(words: &[u64], at: usize, n: usize, t: u64) -> usize
     requires { ⌜ n ≤ length (now words) - at ⌝ }
     ensures { λ r. ⌜ Passed t (now (words .entry)) at n r ⌝ }
@@ -78,6 +82,7 @@ fn pass_blocks(words: &[u64], at: usize, n: usize, t: u64) -> usize
     i
 }
 
+// The lesser of two numbers.
 fn least(a: usize, b: usize) -> usize
     ensures { λ r. ⌜ r ≡ min a b ⌝ }
 {
@@ -87,7 +92,7 @@ fn least(a: usize, b: usize) -> usize
     b
 }
 
-// The same in two parts, the second behind the first: up to the end of the part that has the place.
+// The same where the words lie in two parts, the second behind the first, up to the end of the part that has the place.
 fn pass_far(words: &[u64], more: &[u64], at: usize, n: usize, t: u64) -> usize
     requires { ⌜ n ≤ length (now words ++ now more) - at ⌝ }
     ensures { λ r. ⌜ Passed t (now (words .entry) ++ now (more .entry)) at n r ⌝ }
@@ -98,7 +103,7 @@ fn pass_far(words: &[u64], more: &[u64], at: usize, n: usize, t: u64) -> usize
     pass_blocks(more, at - words.len(), n, t)
 }
 
-// How many of n words bring no fault before one that does, word by word.
+// How many of n words bring no fault before one that does, one by one.
 fn pass_near(words: &[u64], more: &[u64], at: usize, n: usize, t: u64) -> usize
     requires { ⌜ n ≤ length (now words ++ now more) - at ⌝ }
     ensures { λ r. ⌜ Stopped t (now (words .entry) ++ now (more .entry)) at n r ⌝ }
@@ -113,8 +118,8 @@ fn pass_near(words: &[u64], more: &[u64], at: usize, n: usize, t: u64) -> usize
     i
 }
 
-// How many shots, of so many, are passed over before the next fault: as many words bring none. Fewer where the words end. The first words are looked at one
-// by one, since with a large p a fault is among them.
+// How many shots, of so many, are passed over before the next fault: as many words bring none. Fewer where the words end. The first words are taken one
+// by one, since with a large p a fault is among them, and so are those of the block that ends the blocks.
 pub fn next_skip(words: &[u64], more: &[u64], at: usize, shots: usize, t: u64) -> usize
     requires { ⌜ at ≤ length (now words ++ now more) ⌝ }
     ensures { λ r. ⌜ Skipped t (now (words .entry) ++ now (more .entry)) at shots r ⌝ }

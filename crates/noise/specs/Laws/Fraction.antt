@@ -2,7 +2,9 @@
 use mathlib.Core.Path.{_≡_, refl, sym, ap, _∙_, subst}
 use mathlib.Core.Bool.{true, false, _&&_, true≢false, false≢true}
 use Prim.Native.Nat.{ℕ, zero, suc, _+_, _-_, _*_, _/_, _%_, _^_, _<_, _≤_, min}
-use native.Mathlib.Nat.{lt-of-not-le, not-le-of-lt, lt-of-lt-of-le, lt-of-le-of-lt, le-of-eq, le-of-lt, mul-one, zero-mul, mul-assoc, mul-right-comm, mul-pos, mul-div-cancel, div-mul-le-self, div-lt-iff-lt-mul, le-div-iff-mul-le, mul-lt-mul-of-pos-right, lt-of-mul-lt-mul-right}
+use native.Mathlib.Nat.{lt-of-not-le, not-le-of-lt, lt-of-lt-of-le, lt-of-le-of-lt, le-of-eq, le-of-lt}
+use native.Mathlib.Nat.{mul-one, zero-mul, mul-assoc, mul-right-comm, mul-pos, mul-lt-mul-of-pos-right, lt-of-mul-lt-mul-right}
+use native.Mathlib.Nat.{mul-div-cancel, div-mul-le-self, div-lt-iff-lt-mul, le-div-iff-mul-le}
 use native.Mathlib.Omega.{arith}
 use lib.Dec.{T, ltb, leb, eqb, ltb→lt, leb→le, lt→ltb, lit<}
 use lib.Pow.{pow-add, pow-pos, pow-lt, pow-mono, shl-lt}
@@ -74,7 +76,9 @@ exact m k digits places =
     let all : 1074 ≡ i + suc k = omega arith in
     let unit : 2 ^ 1074 ≡ 2 ^ i * 2 ^ suc k = ap (λ (x : ℕ). 2 ^ x) all ∙ pow-add 2 i (suc k) in
     let same : m * 1 * 2 ^ 53 * 2 ^ 1074 ≡ m * 2 ^ (53 + i) * (2 ^ suc k * 1) =
-    ap (λ (x : ℕ). m * 1 * 2 ^ 53 * x) unit ∙ regroup m (2 ^ 53) (2 ^ i) (2 ^ suc k) ∙ ap (λ (x : ℕ). m * x * (2 ^ suc k * 1)) (sym (pow-add 2 53 i)) in
+    ap (λ (x : ℕ). m * 1 * 2 ^ 53 * x) unit
+    ∙ regroup m (2 ^ 53) (2 ^ i) (2 ^ suc k)
+    ∙ ap (λ (x : ℕ). m * x * (2 ^ suc k * 1)) (sym (pow-add 2 53 i)) in
     subst (HasValue (product (fin false m (negsuc k))) false (m * 1 * 2 ^ 53)) (mul-one (2 ^ suc k))
     (round-exact binary64 false (m * 1 * 2 ^ 53) (2 ^ suc k * 1) m (53 + i) (mul-pos (pow-pos (suc k)) (lit< tt)) digits room same)
 
@@ -131,7 +135,8 @@ below-range (fin true m e) a c less v = absurd (true≢false (v .0))
 below-range (fin false m e) a c less v =
     let d = down e in
     let h : m * up e < 2 ^ 53 * d =
-    lt-of-mul-lt-mul-right c (lt-of-le-of-lt (le-of-eq (v .1)) (lt-of-lt-of-le (mul-lt-mul-of-pos-right less (down-pos e)) (le-of-eq (mul-right-comm (2 ^ 53) c d)))) in
+    lt-of-mul-lt-mul-right c
+    (lt-of-le-of-lt (le-of-eq (v .1)) (lt-of-lt-of-le (mul-lt-mul-of-pos-right less (down-pos e)) (le-of-eq (mul-right-comm (2 ^ 53) c d)))) in
     lt→ltb (m * up e * 1) (2 ^ 64 * d) (omega arith)
 
 whole-part : (x : Float) (a c : ℕ) → 0 < c → a < 2 ^ 53 * c → HasValue x false a c → toUnsigned 64 x ≡ a / c
@@ -175,7 +180,8 @@ module _ {p : Float} (q : Fraction p) where
     threshold-next f =
         let above : w < ceiling a (q .c) = ceiling-above w a (q .c) (q .positive) (ltb-true (w * q .c) a (sym tested ∙ f)) in
         let quotient : a / q .c < w + 1 = omega (arith, cut) in
-        let least : ceiling a (q .c) ≤ w + 1 = ceiling-least (w + 1) a (q .c) (q .positive) (le-of-lt (div-lt-iff-lt-mul (q .positive) .0 quotient)) in
+        let next : a < (w + 1) * q .c = div-lt-iff-lt-mul (q .positive) .0 quotient in
+        let least : ceiling a (q .c) ≤ w + 1 = ceiling-least (w + 1) a (q .c) (q .positive) (le-of-lt next) in
         omega (arith, whole-within, q .threshold)
 
     pub threshold-whole : falls (w * 2048) p ≡ false → w ≡ thresholdOf p

@@ -1,5 +1,5 @@
 -- Words gone over for the next fault. Laws. Assumes nothing.
-use Prim.Native.Nat.{ℕ, zero, suc, _+_, _-_, _*_, _/_, _%_, _^_, _<_, _≤_, min}
+use Prim.Native.Nat.{ℕ, zero, suc, _+_, _-_, _/_, _%_, _^_, _<_, _≤_, min}
 use native.Mathlib.Nat.{zero-add, add-zero, add-assoc, sub-zero}
 use native.Mathlib.Numerals.{add-one}
 use native.Mathlib.Omega.{arith}
@@ -7,10 +7,10 @@ use mathlib.Core.Path.{_≡_, refl, sym, ap, subst, _∙_}
 use mathlib.Core.Bool.{Bool, true, false}
 use mathlib.Core.List.{List, _++_}
 use lib.Dec.{ltb, leb}
-use lib.Bits.{bitAnd, bitOr, or-add-and, and-le-l, and-le-r}
-use lib.ListN.{length, getD, drop, length-drop}
+use lib.Bits.{bitOr, or-add-and, and-le-l, and-le-r}
+use lib.ListN.{length, getD, drop}
 use lib.Ieee.{Float}
-use borrow.Author.Tests.{ltb-true, ltb-false, le-leb, lt-leb, leb-false}
+use borrow.Author.Tests.{ltb-true, ltb-false, le-leb, lt-leb}
 use Rattle.draws.specs.Draws.{falls}
 use Rattle.noise.specs.Words.{skipOf}
 use Rattle.noise.specs.Scan.{thresholdOf, Quiet, Passed, Stopped, Skipped}
@@ -53,7 +53,9 @@ module _ {t : ℕ} {words : List ℕ} {at : ℕ} where
           subst (λ (x : ℕ). falls (getD words x 0) p ≡ false) place (second .none p e (j - i) (omega arith))
 
   pub quiet-one : ((p : Float) → t ≡ thresholdOf p → falls (getD words at 0) p ≡ false) → Quiet t words at 1
-  quiet-one f = record { none = λ p e j h. let here : at + j ≡ at = omega arith in subst (λ (x : ℕ). falls (getD words x 0) p ≡ false) (sym here) (f p e) }
+  quiet-one f = record {
+    none = λ p e j h. let here : at ≡ at + j = omega arith in subst (λ (x : ℕ). falls (getD words x 0) p ≡ false) here (f p e);
+  }
 
   pub passed-none : {n : ℕ} → Passed t words at n 0
   passed-none = record { within = omega arith; quiet = quiet-none }
@@ -93,7 +95,9 @@ module _ (t : ℕ) (words more : List ℕ) (at : ℕ) {n r : ℕ} where
   pub passed-first : at < length words → (m : ℕ) → m ≡ min n (length words - at) → Passed t words at m r → Passed t (words ++ more) at n r
   passed-first l m e q = record {
     within = omega (arith, q .within);
-    quiet = record { none = λ p f j h. subst (λ (x : ℕ). falls x p ≡ false) (both-first words more (at + j) (omega (arith, q .within))) (q .quiet .none p f j h) };
+    quiet = record {
+      none = λ p f j h. subst (λ (x : ℕ). falls x p ≡ false) (both-first words more (at + j) (omega (arith, q .within))) (q .quiet .none p f j h);
+    };
   }
 
   pub passed-second : length words ≤ at → Passed t more (at - length words) n r → Passed t (words ++ more) at n r
@@ -150,7 +154,8 @@ module _ (p : Float) (words : List ℕ) (at n : ℕ) (long : n ≤ length words 
       go false l = omega (arith, skip-passed r h f, skip-done p words at r n (ltb-false r n l))
 
 -- of so many as are wanted, or as there are words
-skip-least : (p : Float) (words : List ℕ) (at most n : ℕ) → n ≡ min most (length words - at) → skipOf p n (drop at words) ≡ skipOf p most (drop at words)
+skip-least : (p : Float) (words : List ℕ) (at most n : ℕ) → n ≡ min most (length words - at)
+    → skipOf p n (drop at words) ≡ skipOf p most (drop at words)
 skip-least p words at most n e = go (ltb most (length words - at)) refl
   where
     go : (b : Bool) → ltb most (length words - at) ≡ b → skipOf p n (drop at words) ≡ skipOf p most (drop at words)
@@ -162,9 +167,11 @@ skip-least p words at most n e = go (ltb most (length words - at)) refl
         let few : length words - at ≤ most = ltb-false most (length words - at) l in
         skip-end p most words at n (omega (arith, few)) (omega (arith, few))
 
-pub stopped-skipped : {t : ℕ} {words : List ℕ} {at most n r : ℕ} → n ≡ min most (length words - at) → Stopped t words at n r → Skipped t words at most r
+pub stopped-skipped : {t : ℕ} {words : List ℕ} {at most n r : ℕ} → n ≡ min most (length words - at) → Stopped t words at n r
+    → Skipped t words at most r
 stopped-skipped {t} {words} {at} {most} {n} {r} e q = record {
   within = omega (arith, q .passed .within);
   is = λ p f.
-      skip-stopped p words at n (omega arith) r (q .passed .within) (q .passed .quiet .none p f) (λ l. q .falling l p f) ∙ skip-least p words at most n e;
+      skip-stopped p words at n (omega arith) r (q .passed .within) (q .passed .quiet .none p f) (λ l. q .falling l p f)
+      ∙ skip-least p words at most n e;
 }

@@ -34,7 +34,10 @@ module _ (n a c : ℕ) (C : 0 < c) where
   ceiling-below h = let next : suc n * c ≤ a + (c - 1) = le-div-iff-mul-le C .0 h in omega (arith, suc-mul n c)
 
   pub ceiling-least : a ≤ n * c → ceiling a c ≤ n
-  ceiling-least h = let next : a + (c - 1) < suc n * c = omega (arith, suc-mul n c) in let less : ceiling a c < suc n = div-lt-iff-lt-mul C .1 next in omega arith
+  ceiling-least h =
+      let next : a + (c - 1) < suc n * c = omega (arith, suc-mul n c) in
+      let less : ceiling a c < suc n = div-lt-iff-lt-mul C .1 next in
+      omega arith
 
 capped : (x t : ℕ) → x < 2 ^ 53 → (x < t → x < min t (2 ^ 53)) × (x < min t (2 ^ 53) → x < t)
 capped x t h = (λ k. omega arith, λ k. omega arith)

@@ -1,6 +1,5 @@
 -- `noise::scan::threshold` meets its contract.
 use mathlib.Core.Path.{sym, subst, _∙_}
-use Prim.Native.Nat.{_^_, _<_}
 use native.Mathlib.Omega.{arith}
 use lib.Dec.{T}
 use lib.Ieee.{binary64, fits}
