@@ -6,6 +6,7 @@ use mathlib.Core.Bool.{true, _||_}
 use mathlib.Core.List.{List, [], _∷_, _++_}
 use mathlib.Core.Option.{none, some}
 use Prim.Native.Nat.{ℕ, _+_, _^_, _<_, _≤_}
+use borrow.Author.Tests.{ne-eqb}
 use lib.ListN.{length}
 use Rattle.text.specs.Bytes.{bytes, until, extend, pieces, lines, unlines}
 use Rattle.text.specs.List.{withFirst, piecesOf, listQ, risesFrom, isRising, onlyRising, listL, oneMember, listC, commasBy, listTextBy}
@@ -22,7 +23,7 @@ use Rattle.job.specs.Float.{float, isProbability}
 use Rattle.job.specs.Job.{accepted, jobOf, checkJob}
 use Rattle.job.specs.Sound.{LineSound, instructionsOf}
 use Rattle.job.specs.Theorems.{size-said}
-use Rattle.job.specs.Reply.{writtenText, writtenBy}
+use Rattle.job.specs.Reply.{refusedText, writtenText, writtenBy}
 use Rattle.circuit.specs.Annotate.{supportOf, locatedQubits, addNew, firstFrom, noiseQubits, noiseBefore, noiseText, noiseLines, around, annotated, annotatedText, locatedOn, noiseOn, firstUnfit, locationsAt, locations}
 use Rattle.circuit.specs.Annotated.{annotatedList}
 use Rattle.circuit.specs.Correlation.{distributionSize, firstDifferingBy, firstDiffering}
@@ -54,6 +55,11 @@ unfolding noiseQubits locatedQubits members outside
 shared-members C T q = first-members [] (supportOf C ++ supportOf T) q ∙ members-append (supportOf C) (supportOf T) q
 
 -- ---- annotation
+
+-- A job that the tests refuse is refused by them, whatever annotation's own p is.
+pub refused-first : (job : List ℕ) (p : ℕ) (out : List ℕ) → (checkJob job .number ≡ 0 → ⊥) → annotateReply job p out ≡ refusedText (checkJob job) out
+unfolding annotateReply
+refused-first job p out refused = rw (ne-eqb _ _ refused) refl
 
 -- For an accepted job, a probability by its bits, and no line that 18 refuses:
 module _ (job : List ℕ) (passes : checkJob job .number ≡ 0) (p : ℕ) (small : p < 2 ^ 64) (probability : isProbability (float p) ≡ true)
