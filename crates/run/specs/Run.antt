@@ -29,6 +29,10 @@ pub record Memory : Type 0 where
   pub totals : List ℕ
   pub source : Source
 
+-- the same memory with another source
+abbrev pub withSource : Memory → Source → Memory
+withSource m other = record { x = m .x; z = m .z; deltas = m .deltas; totals = m .totals; source = other }
+
 -- the answer, and the words and the totals after the call
 pub record RunReply : Type 0 where
   pub answered : Answer

@@ -19,8 +19,7 @@ use Rattle.draws.specs.Known.{SpentAt, mainLeft}
 use Rattle.draws.specs.Left.{spentOn, leftAfter}
 use Rattle.draws.specs.Laws.Spent.{spent-at}
 use Rattle.draws.specs.Laws.Left.{left-spent, taken-enough, taken-needed}
-use Rattle.run.specs.Run.{Source, Memory, RunReply, outcomeWords, enoughWords, lentOf, untouched, runReply}
-use Rattle.backward.specs.Calls.{withSource}
+use Rattle.run.specs.Run.{Source, Memory, RunReply, outcomeWords, enoughWords, lentOf, untouched, runReply, withSource}
 use Rattle.backward.specs.Settling.{settleReply}
 use Rattle.backward.specs.SizeTheorems.{figure-enough}
 use Rattle.backward.specs.CallTheorems.{Demand3, demand-3-calls}

@@ -30,7 +30,7 @@ use Rattle.carry.specs.Laws.Same.{anti-left, same-backward}
 use Rattle.lines_from_last.specs.Line.{LineBefore}
 use Rattle.lines_from_last.specs.Laws.Left.{LinesLeft, all-left, one-done, left-known, gathered-more, none-left}
 use Rattle.lines_back.specs.Back.{Readable}
-use Rattle.single_faults.specs.Laws.Rows.{rowsBy, markBy, carriedTo, carriedMarks, carriedRowsOf, carriedRows}
+use Rattle.single_faults.specs.Carried.{rowsBy, markBy, carriedTo, carriedMarks, carriedRowsOf, carriedRows}
 use Rattle.groups.specs.Lent.{allCarried, startOf}
 use Rattle.groups_back.specs.Back.{carriedBy, GroupsBack}
 use Rattle.fault_rows.specs.Rows.{rowsBytes, RowsBefore}

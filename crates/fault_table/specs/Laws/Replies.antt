@@ -25,7 +25,8 @@ use Rattle.checker.specs.Examines.{Finds, Examines}
 use Rattle.draws.specs.Draws.{elementAt}
 use Rattle.single_faults.specs.Groups.{Groups, groupsOf, allRecorded}
 use Rattle.single_faults.specs.Table.{firstWide, tableText, tableAnswer, groupsAnswer, tableReply}
-use Rattle.single_faults.specs.Laws.Rows.{markBy, carriedTo, carriedMarks, carriedRowsOf, carriedRows, table-rows}
+use Rattle.single_faults.specs.Laws.Rows.{table-rows}
+use Rattle.single_faults.specs.Carried.{markBy, carriedTo, carriedMarks, carriedRowsOf, carriedRows}
 use Rattle.groups.specs.declared.Tested.the-variants as tested
 use Rattle.groups.specs.Lent.{groupingOf, allCarried, startOf, Startable}
 use Rattle.fault_rows.specs.Rows.{rowsBytes}

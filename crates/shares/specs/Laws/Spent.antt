@@ -13,7 +13,7 @@ use Rattle.job.specs.Job.{answer, jobOf, checkJob}
 use Rattle.job.specs.Reply.{TextReply, ofCall, refusedText, textFits, writtenText}
 use Rattle.job.specs.Laws.Numbers.{check-of-job}
 use Rattle.draws.specs.Draws.{Lent}
-use Rattle.draws.specs.Settle.{SettledLine, Settled, settle, settledText}
+use Rattle.draws.specs.Settle.{Settled, settle, settledText}
 use Rattle.draws.specs.Execute.{Ended, starts, execute}
 use Rattle.draws.specs.Known.{onSettled}
 use Rattle.draws.specs.Laws.Settling.{execute-settle}

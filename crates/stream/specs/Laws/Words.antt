@@ -10,7 +10,7 @@ use native.Mathlib.Numerals.{add-one}
 use lib.ListN.{length, take, set, getD, length-set}
 use lib.Seq.{take-suc-set, take-all}
 use Rattle.job.specs.Job.{answer}
-use Rattle.stream.specs.Stream.{left, right, step, wordsFrom, fillReply}
+use Rattle.stream.specs.Stream.{left, right, step, stepped, wordsFrom, fillReply}
 
 -- a word is one of 64 bits
 pub step-small : (state : ℕ) → state < 2 ^ 64 → step state < 2 ^ 64
@@ -21,11 +21,6 @@ step-small state h =
     let b = bitXor a (a / 2 ^ 7) in
     let hb : b < 2 ^ 64 = xor-lt 64 a (a / 2 ^ 7) ha (omega arith) in
     xor-lt 64 b (b * 2 ^ 17 % 2 ^ 64) hb (omega arith)
-
--- a state after so many steps
-unfoldable pub stepped : ℕ → ℕ → ℕ
-stepped zero state = state
-stepped (suc n) state = step (stepped n state)
 
 stepped-before : (n state : ℕ) → stepped n (step state) ≡ step (stepped n state)
 unfolding stepped
