@@ -52,8 +52,6 @@ pub record Moves (s : Share) (main marks : List ℕ) (places-handed : List ℕ) 
   pub common : ℕ
   pub own-within : own ≤ length (ownLeft (s .shares) (s .marks) (s .caller) main)
   pub common-within : common ≤ length (commonLeft (s .shares) (s .marks) main)
-  -- common words only where the own stretch is used up
-  pub own-first : 0 < common → own ≡ length (ownLeft (s .shares) (s .marks) (s .caller) main)
   pub marks-are : marks ≡ moved (moved (s .marks) (s .caller) own) (length (s .shares)) common
   pub handed-are : places-handed
       ≡ places (stretchFrom (s .shares) (s .caller) + getD (s .marks) (s .caller) 0) own ++ places (sum (s .shares) + getD (s .marks) (length (s .shares)) 0) common
@@ -104,7 +102,6 @@ module _ (j : Job) (s : Share) (from : Source) (f : Fits s (from .main)) where
         common = taken - of-own;
         own-within = omega arith;
         common-within = omega (arith, taken-few);
-        own-first = λ h. omega (arith, h);
         marks-are = refl;
         handed-are = first-places taken _ (length own) _ (length common) taken-few;
       }
