@@ -40,14 +40,14 @@ pub noise-apart : (l : Line) → distinct (noiseQubits l) ≡ true
 noise-apart l = qubits-apart l
 
 -- Where control and target share none, they are control's support and then target's.
-pub unshared-as-before : (C T : SparsePauli) → distinct (supportOf C ++ supportOf T) ≡ true → noiseQubits (Line.controlled C T) ≡ supportOf C ++ supportOf T
+pub unshared-both : (C T : SparsePauli) → distinct (supportOf C ++ supportOf T) ≡ true → noiseQubits (Line.controlled C T) ≡ supportOf C ++ supportOf T
 unfolding noiseQubits locatedQubits
-unshared-as-before C T d = first-same [] (supportOf C ++ supportOf T) d
+unshared-both C T d = first-same [] (supportOf C ++ supportOf T) d
 
 -- For the other lines of an accepted job they are the operands or the support.
-pub others-as-before : (h : Header) (r : ℕ) (l : Line) → LineSound h r l → ((C T : SparsePauli) → l ≡ Line.controlled C T → ⊥) → noiseQubits l ≡ locatedQubits l
+pub others-located : (h : Header) (r : ℕ) (l : Line) → LineSound h r l → ((C T : SparsePauli) → l ≡ Line.controlled C T → ⊥) → noiseQubits l ≡ locatedQubits l
 unfolding noiseQubits
-others-as-before h r l s other = first-same [] (locatedQubits l) (located-apart h r l s other)
+others-located h r l s other = first-same [] (locatedQubits l) (located-apart h r l s other)
 
 -- Their members are those of both supports.
 pub shared-members : (C T : SparsePauli) (q : ℕ) → members (noiseQubits (Line.controlled C T)) q ≡ members (supportOf C) q || members (supportOf T) q
@@ -100,9 +100,9 @@ module _ (job : List ℕ) (p : ℕ) (small : p < 2 ^ 64) (out : List ℕ) (done 
 -- ---- the correlation check
 
 -- For an accepted job it finds, by the sizes written, what it would find by those of the distributions.
-pub correlation-as-before : (job : List ℕ) → checkJob job .number ≡ 0
+pub correlation-by-distributions : (job : List ℕ) → checkJob job .number ≡ 0
     → firstDiffering [] (jobOf job .instructions) ≡ firstDifferingBy distributionSize [] (jobOf job .instructions)
-correlation-as-before job e = measured-same [] (jobOf job .instructions) (size-said job e)
+correlation-by-distributions job e = measured-same [] (jobOf job .instructions) (size-said job e)
 
 -- ---- a case of document 01, computed
 

@@ -1,4 +1,5 @@
--- Definitions. The whole reply of a run: its answer and every lent word that it may write. Assumes nothing.
+-- Definitions. The whole reply of a run: its answer and every lent word that it may write, those of the totals among them (document 02, note 5).
+-- Assumes nothing.
 use mathlib.Core.Bool.{Bool, cond, _&&_}
 use mathlib.Core.List.{List}
 use Prim.Native.Nat.{ℕ, _*_}

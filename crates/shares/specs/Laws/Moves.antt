@@ -14,7 +14,7 @@ use Rattle.job.specs.Job.{answer, Job, jobOf, checkJob}
 use Rattle.job.specs.Reply.{ofCall}
 use Rattle.job.specs.Laws.Numbers.{check-of-job}
 use Rattle.run.specs.Run.{Source}
-use Rattle.shares.specs.Shares.{Share, sum, stretchFrom, ownLeft, commonLeft, marksFit, mostCallers, eachWithin, sharesFit, callerFits, moved, marksAfter}
+use Rattle.shares.specs.Shares.{Share, sum, stretchFrom, ownLeft, commonLeft, marksFit, maxCallers, eachWithin, sharesFit, callerFits, moved, marksAfter}
 use Rattle.shares.specs.Replies.{shared, takenBy, takesWords, marksFor, Shared, tested, sharedReply}
 use Rattle.shares.specs.Account.{places, availablePlaces, handed, Passes}
 use Rattle.shares.specs.Laws.Places.{take-places}
@@ -34,7 +34,7 @@ unfolding sharesFit
 fits s main m f c =
     let common = both _ (leb (getD (s .marks) (length (s .shares)) 0) (length main - sum (s .shares))) f in
     let within = both _ (eachWithin (s .shares) (s .marks)) (common .0) in
-    let total = both (leb 1 (length (s .shares)) && leb (length (s .shares)) mostCallers) (leb (sum (s .shares)) (length main)) (within .0) in
+    let total = both (leb 1 (length (s .shares)) && leb (length (s .shares)) maxCallers) (leb (sum (s .shares)) (length main)) (within .0) in
     record {
       marked = ltb-true _ _ m;
       total = leb-true _ _ (total .1);
