@@ -114,7 +114,8 @@ pub enum Drawn {
     Spent,
 }
 
-// Injects the faults of a noise line, from shot to shot. The words are its part of the draws, in two pieces; the mask has the shots whose condition is satisfied.
+// Injects the faults of a noise line, from shot to shot. The words are its part of the draws, in two pieces; the mask has the shots whose condition
+// is satisfied.
 pub fn inject_faults(
     words: &[u64],
     more: &[u64],

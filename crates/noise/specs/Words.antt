@@ -14,7 +14,8 @@ skipOf p zero ws = 0
 skipOf p (suc most) [] = 0
 skipOf p (suc most) (w ∷ ws) = let more = suc (skipOf p most ws) in cond (falls w p) 0 more
 
--- what follows the part that a noise line reads from, where more words follow that part of the main list: a line with corr reads the second list alone
+-- what follows the part that a noise line reads from, where more words follow that part of the main list: a line with corr reads the second list
+-- alone
 unfoldable pub moreOf : Option ℕ → List ℕ → List ℕ
 moreOf none more = more
 moreOf (some c) more = []

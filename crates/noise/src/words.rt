@@ -60,8 +60,8 @@ pub fn part<'a>(
     }
 }
 
-// What follows that part where the main list has two: the second from the same position on, counted behind the first, or nothing, since a correlated line
-// reads the second list alone.
+// What follows that part where the main list has two: the second from the same position on, counted behind the first, or nothing, since a correlated
+// line reads the second list alone.
 pub fn more_part<'a>(
     more: &'a [u64],
     correlation: Correlation,

@@ -22,8 +22,8 @@ pub enum ShotDraw {
     Fault(u64, usize),
 }
 
-// One shot's draw, where the word at its place, if there is one, brings a fault. The words lie in two parts, the second behind the first. `satisfied` says
-// whether the condition is, in that shot.
+// One shot's draw, where the word at its place, if there is one, brings a fault. The words lie in two parts, the second behind the first. `satisfied`
+// says whether the condition is, in that shot.
 pub fn draw_shot(
     words: &[u64],
     more: &[u64],
