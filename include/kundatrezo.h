@@ -169,7 +169,6 @@ static inline int kundatrezo_float_state_ok(void)
 #define KUNDATREZO_SETTLE_STACK 45056 /* with a share, too */
 #define KUNDATREZO_CORRELATION_STACK 12288
 #define KUNDATREZO_FAULT_TABLE_STACK 16384
-#define KUNDATREZO_MAKE_STACK 16384
 #define KUNDATREZO_OTHER_STACK 8192 /* every other call */
 
 /* Words of a row: bit s % 64 of word s / 64 is shot s. */
