@@ -262,7 +262,7 @@ fn case(call: Call, fields: &Fields) -> Case {
         rows: words("rows"),
         words: words("words"),
     };
-    // Cases made before note 10 call settling's figure with 15 a lower bound; it is the exact one.
+    // Some cases call settling's figure with 15 `at_least`; it is the exact one (note 10).
     let figure = number("count") + number("figure") + number("at_least");
     let output = Output {
         answer: Answer { number: number("refusal"), line: number("line"), figure },
