@@ -288,7 +288,7 @@ fn case(call: Call, fields: &Fields) -> Case {
 }
 
 /// Fresh bytes with a text at their front.
-fn written_over(text: &[u8], length: usize) -> Vec<u8> {
+pub(crate) fn written_over(text: &[u8], length: usize) -> Vec<u8> {
     let mut bytes = fresh_bytes(length);
     bytes[..text.len()].copy_from_slice(text);
     bytes
