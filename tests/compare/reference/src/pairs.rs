@@ -110,11 +110,11 @@ impl Pairs {
         let undone = left(&[0b0001, 0b0100], &[0b0010, 0b1000], &[], &[]);
         self.case(Call::Run, job(2, &[GATE, LINE].concat()), undone);
         self.refused(Call::Run, job(1, GATE), 2, 6);
-        // Back from Z1: X0 Z1 over the controlled Pauli of X0 and X1, then Y0 X1 over ControlledY. Z0 is counted, X1 is not.
+        // Back from Z1: X0 over the controlled Pauli of X0 Z1 and Z0 X1, which meet twice, then X0 Y1 over ControlledY. Both injections are counted.
         let header = "op=job edition=2 qubits=2 outcomes=1 shots=1\n";
         let injected = "op=i shot=0 x=- z=0\nop=i shot=0 x=1 z=-\n";
-        let walked = format!("{header}{injected}{GATE}op=k x=0 z=- u=1 v=-\nop=o x=- z=1 id=0\n");
-        self.answers(Call::Walk, Input { set: vec![0], ..on(&walked) }, Answer::success(1));
+        let walked = format!("{header}{injected}{GATE}op=k x=0 z=1 u=1 v=0\nop=o x=- z=1 id=0\n");
+        self.answers(Call::Walk, Input { set: vec![0], ..on(&walked) }, Answer::success(2));
         let anticommuting = format!("{header}{GATE}op=k x=- z=1 u=1 v=1\n");
         self.refused(Call::Walk, Input { shot: 9, ..on(&anticommuting) }, 20, 3);
         self.refused(Call::Annotate, Input { p: NAN, ..on(&anticommuting) }, 20, 3);
@@ -128,12 +128,19 @@ impl Pairs {
         let once = format!("op=job qubits=1 outcomes=2 shots=3\n{noise}op=o x=- z=0 id=0\nop=t shot=1 id=0\n");
         // Of the words 0 is a fault, the others are none: those of the stretches of callers 0 and 1, then of the common part.
         let shared = |job: &str| {
-            let (main, shares, marks) = (vec![u64::MAX, 0, u64::MAX, 0, u64::MAX], vec![1, 2], vec![0, 0, 0, FRESH]);
+            let (main, shares, marks) = (vec![u64::MAX, 0, u64::MAX, 0, 0], vec![1, 2], vec![0, 0, 0, FRESH]);
             Input { main, shares, marks, caller: 1, ..run(job, 1, 2) }
         };
         // Faults in shots 0 and 2, and a flip in shot 1.
         let ran = left(&[0b101], &[0], &[0b111, 0], &[3, 0]);
-        self.case(Call::RunShared, shared(&once), Output { marks: vec![0, 2, 1, FRESH], ..ran });
+        let marks = vec![0, 2, 1, FRESH];
+        self.case(Call::RunShared, shared(&once), Output { marks: marks.clone(), ..ran.clone() });
+        // The settled job has the same totals.
+        let settled = once.replace(noise, "op=i shot=0 x=0 z=-\nop=i shot=2 x=0 z=-\n");
+        let (answer, bytes) = (Answer::success(settled.len() as u64), settled.clone().into_bytes());
+        let input = Input { out_len: bytes.len(), ..shared(&once) };
+        self.case(Call::SettleShared, input, Output { answer, bytes, marks, ..Output::default() });
+        self.case(Call::Run, run(&settled, 1, 2), ran);
         // The second noise line finds one more word.
         let spent = Output { answer: Answer { number: 14, line: 5, figure: 0 }, ..left(&[0], &[0], &[0, 0], &[0, 0]) };
         self.case(Call::RunShared, shared(&format!("{once}{noise}")), Output { marks: vec![0, 2, 2, FRESH], ..spent });
@@ -178,26 +185,31 @@ op=z q=0,1
         self.notes = "9 with 13";
         let job = "\
 op=job edition=2 qubits=5 outcomes=2 shots=1
-op=n p=0000000000000000 corr=- cond=- parity=0 d=2 q=0 size=3
+op=n p=0000000000000000 corr=- cond=- parity=0 d=3 n=4 size=4
+x=0 z=-
+x=- z=0
+x=1 z=-
+x=- z=1
 op=u g=15 q=0,1
 op=b q=0,1,2
 op=n p=0000000000000000 corr=- cond=- parity=0 d=1 x=1,2 z=- size=1
-op=z q=2,0
+op=z q=3,2
 op=o x=- z=1 id=0
-op=o x=1 z=0,2 id=1
+op=o x=0,1 z=2 id=1
 ";
         let table = |job: &str| Input { groups: vec![1, 0, 1, 1, 2, 0, 1], ..on(job) };
-        // X0 becomes X0 Y1, Z0 stays, and the reset leaves Y1 or nothing; of X1 X2 it leaves X1.
+        // X0, Z0, X1 and Z1 become X0 Y1, Z0, Z0 X1 and Z0 Z1; of X1 X2 the reset leaves X1.
         let rows = "\
 line=2 el=0 groups=110
-line=2 el=1 groups=000
+line=2 el=1 groups=011
 line=2 el=2 groups=110
-line=5 el=0 groups=101
+line=2 el=3 groups=000
+line=9 el=0 groups=101
 ";
         self.writes(Call::FaultTable, &table(job), rows);
-        self.refused(Call::FaultTable, table(&job.replace("edition=2 ", "")), 2, 3);
+        self.refused(Call::FaultTable, table(&job.replace("edition=2 ", "")), 2, 7);
         self.refused(Call::FaultTable, Input { groups: vec![1, 2], ..on(job) }, 17, 0);
-        self.refused(Call::FaultTable, table(&job.replace("d=1 x=1,2 z=- size=1", "d=2 q=0,1,2,3,4 size=1023")), 24, 5);
+        self.refused(Call::FaultTable, table(&job.replace("d=1 x=1,2 z=- size=1", "d=2 q=0,1,2,3,4 size=1023")), 24, 9);
     }
 
     /// Note 12 with 13: groups carried back over a table that crosses words.
