@@ -1,4 +1,4 @@
--- `shots::next_fault` meets its contract. The invariant: the next fault from here on is the next one from the start.
+-- `shots::fault_from` meets its contract. The invariant: the next fault from here on is the next one from the start.
 use Rattle.shots.specs.Laws.Shots.{falls-behind, quiet-within, Later, later-none, later-skip, later-quiet, found-done, found-spent, found-at}
 use borrow.Author.Needs.{needs}
 use lib.ListN.{length, length-append}
@@ -8,8 +8,8 @@ use mathlib.Core.Path.{_≡_}
 use Prim.Native.Nat.{_-_, _≤_}
 use lib.Ieee.{Float}
 use Rattle.noise.specs.Scan.{thresholdOf}
-use Rattle.shots.proofs.next_fault.Statement.{statement}
-use Rattle.shots.proofs.next_fault.Tie as tie
+use Rattle.shots.proofs.fault_from.Statement.{statement}
+use Rattle.shots.proofs.fault_from.Tie as tie
 
 abbrev Inv-loop : tie.InvT-loop
 Inv-loop words more at mask shots t chooser sums i₀ s₀ i s =
@@ -82,8 +82,8 @@ loop-again c =
 returns-4 : tie.Need-returns-4 Inv-loop μ-loop
 returns-4 c = λ p e. found-done (c .before .loop .inv .3 p e) (c .loop-test .left) (c .before .loop .inv .0)
 
-pub next-fault-spec : {M : Type 1} → statement M
-next-fault-spec =
+pub fault-from-spec : {M : Type 1} → statement M
+fault-from-spec =
     tie.close
     (tie.spec
     Inv-loop
