@@ -1,4 +1,5 @@
--- Words that bring no fault, the word at a place, what follows a line's part, and the position behind the words that a line has read. Definitions. Assumes nothing.
+-- Words that bring no fault, the word at a place, what follows a line's part, and the position behind the words that a line has read. Definitions.
+-- Assumes nothing.
 use Prim.Native.Nat.{ℕ, zero, suc, _+_, _<_, _≤_}
 use mathlib.Core.Path.{_≡_}
 use mathlib.Core.Bool.{cond}
