@@ -18,6 +18,12 @@ pub enum Correlation {
     Shared(u64),
 }
 
+// The word at a place, or that the words have ended there.
+pub enum NextWord {
+    Word(u64),
+    Spent,
+}
+
 // The noiseless bits of the first `count` of `outcomes` sum to `parity`. A count of 0 is no condition.
 pub struct OutcomeCondition {
     pub outcomes: [u64; 31],

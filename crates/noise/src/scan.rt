@@ -1,14 +1,16 @@
 // Words gone over for the next one that brings a fault. For that p becomes a threshold, a whole number: so a word is tested with no float, and eight
 // words with one branch.
+use crate::NextWord;
 use crate::words::count;
 use crate::words::is_fault;
+use crate::words::next_word;
 use crate::words::word_at;
 ghost use mathlib.Core.Path.{_≡_};
-ghost use mathlib.Core.Bool.{false};
+ghost use mathlib.Core.Bool.{true, false};
 ghost use mathlib.Core.List.{_++_};
 ghost use Prim.Native.Nat.{_+_, _-_, _^_, _≤_, min};
 ghost use lib.Dec.{leb};
-ghost use lib.ListN.{length};
+ghost use lib.ListN.{length, getD};
 ghost use lib.Ieee.{Float};
 ghost use Rattle.draws.specs.Draws.{falls};
 ghost use Rattle.noise.specs.Scan.{thresholdOf, Quiet, Passed, Stopped, Skipped};
@@ -49,6 +51,16 @@ fn difference(w: u64, t: u64) -> u64
     ensures { λ r. ⌜ ((p : Float) → t ≡ thresholdOf p → leb (2 ^ 63) r ≡ falls w p) ⌝ }
 {
     std::num::wrapping_sub_u64(w / 2048, t)
+}
+
+// Whether there is a next word, and it brings a fault.
+pub fn falls_next(words: &[u64], more: &[u64], at: usize, t: u64) -> bool
+    ensures { λ r. ⌜ (r ≡ true → (p : Float) → t ≡ thresholdOf p → falls (getD (now (words .entry) ++ now (more .entry)) at 0) p ≡ true) ⌝ }
+{
+    match next_word(words, more, at) {
+        NextWord::Word(w) => falls_below(w, t),
+        NextWord::Spent => false,
+    }
 }
 
 // ---- Words passed over

@@ -1,5 +1,6 @@
 // Words: as numbers from 0 to 1, and the part of the two lists of them that a noise line reads from.
 use crate::Correlation;
+use crate::NextWord;
 ghost use mathlib.Core.Path.{_≡_};
 ghost use mathlib.Core.Option.{none};
 ghost use mathlib.Core.List.{_++_};
@@ -7,7 +8,7 @@ ghost use Prim.Native.Nat.{_+_, _-_, _^_, _<_, _≤_};
 ghost use lib.ListN.{length, getD, drop};
 ghost use Rattle.draws.specs.Draws.{unitOf, falls, Lent, partOf};
 ghost use Rattle.noise.specs.Kinds.{correlationOf};
-ghost use Rattle.noise.specs.Words.{moreOf, positionAfter};
+ghost use Rattle.noise.specs.Words.{moreOf, positionAfter, WordRead};
 
 // u = floor(w / 2048) / 2^53. A number below 2^53 is cast without loss, and scaling by a power of two is exact.
 pub fn unit(w: u64) -> f64
@@ -103,4 +104,18 @@ pub fn word_at(words: &[u64], more: &[u64], at: usize) -> u64
         return words[at];
     }
     more[at - words.len()]
+}
+
+// The same where there may be none. It is one look: a count before it would be another.
+pub fn next_word(words: &[u64], more: &[u64], at: usize) -> NextWord
+    ensures { λ r. ⌜ WordRead (now (words .entry) ++ now (more .entry)) at r ⌝ }
+{
+    if at < words.len() {
+        return NextWord::Word(words[at]);
+    }
+    let i = at - words.len();
+    if i < more.len() {
+        return NextWord::Word(more[i]);
+    }
+    NextWord::Spent
 }

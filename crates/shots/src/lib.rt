@@ -2,6 +2,7 @@
 use choice::Choice;
 use choice::Chooser;
 use choice::element;
+use noise::scan::falls_next;
 use noise::scan::next_skip;
 use noise::words::count;
 use pauli::Shot;
@@ -65,7 +66,7 @@ pub enum NextFault {
 }
 
 // The next fault in the shots from one on, by the threshold of the line's p. The mask has the shots whose condition is satisfied.
-pub fn next_fault(
+fn fault_from(
     words: &[u64],
     more: &[u64],
     at: usize,
@@ -102,4 +103,35 @@ pub fn next_fault(
         s += 1;
     }
     NextFault::Done(i)
+}
+
+// The same with a look at the first shot by itself: with a p near 1 that has a fault, and what the loop prepares would cost more than the draw.
+pub fn next_fault(
+    words: &[u64],
+    more: &[u64],
+    at: usize,
+    mask: &[u64],
+    shot: Shot,
+    shots: usize,
+    t: u64,
+    chooser: Chooser,
+    sums: &[f64],
+) -> NextFault
+    requires { ⌜ (at ≤ length (now words ++ now more)) × (shot .0 ≤ shots) × (shots ≤ 64 * length (now mask)) × Sized chooser ⌝ }
+    ensures { λ r. ⌜ ((p : Float) → t ≡ thresholdOf p → FaultFound (now (words .entry) ++ now (more .entry)) at (now (mask .entry)) (shot .0) shots p (chooser .kind) (now (sums .entry)) r) ⌝ }
+{
+    if shot.0 < shots {
+        if falls_next(words, more, at, t) {
+            match draw_shot(words, more, at, chooser, sums, is_set(mask, shot)) {
+                ShotDraw::Spent => {
+                    return NextFault::Spent;
+                }
+                ShotDraw::Quiet(_) => {}
+                ShotDraw::Fault(e, next) => {
+                    return NextFault::At(shot, e, next);
+                }
+            }
+        }
+    }
+    fault_from(words, more, at, mask, shot, shots, t, chooser, sums)
 }

@@ -12,8 +12,10 @@ use Rattle.draws.specs.Draws.{falls, Lent, partOf}
 use Rattle.draws.specs.Laws.Spent.{drop-append}
 use Rattle.noise.specs.declared.Correlation.{Correlation}
 use Rattle.noise.specs.declared.Correlation.the-variants.{Uncorrelated, Shared}
+use Rattle.noise.specs.declared.NextWord.{NextWord}
+use Rattle.noise.specs.declared.NextWord.the-variants as next
 use Rattle.noise.specs.Kinds.{correlationOf}
-use Rattle.noise.specs.Words.{skipOf, moreOf}
+use Rattle.noise.specs.Words.{skipOf, moreOf, WordIs, WordRead}
 
 -- what a list holds from a place on, cut at its length
 pub tail-whole : (ws : List ℕ) (i : ℕ) → take (length ws - i) (drop i ws) ≡ drop i ws
@@ -47,6 +49,26 @@ pub both-second : (ws more : List ℕ) (i : ℕ) → length ws ≤ i → getD mo
 both-second ws more i h =
     let back : length ws + (i - length ws) ≡ i = omega arith in
     sym (getD-append-add ws more (i - length ws) 0) ∙ ap (λ (j : ℕ). getD (ws ++ more) j 0) back
+
+-- ---- the word at a place
+
+module _ {words : List ℕ} {at : ℕ} where
+  pub word-there : {w : ℕ} → at < length words → w ≡ getD words at 0 → WordRead words at (next.Word w)
+  unfolding WordIs
+  word-there h e = record { is = (h, e) }
+
+  pub words-ended : length words ≤ at → WordRead words at next.Spent
+  unfolding WordIs
+  words-ended h = record { is = h }
+
+  module _ {r : NextWord} (q : WordRead words at r) where
+    pub word-read : {w : ℕ} → r ≡ next.Word w → (at < length words) × (w ≡ getD words at 0)
+    unfolding WordIs
+    word-read e = rw e at (q .is)
+
+    pub none-read : r ≡ next.Spent → length words ≤ at
+    unfolding WordIs
+    none-read e = rw e at (q .is)
 
 -- ---- words that bring no fault
 
