@@ -112,10 +112,10 @@ struct kundatrezo_examination {
 #define KUNDATREZO_WALK 17        /* line 0 */
 #define KUNDATREZO_ANNOTATION 18  /* the first line whose noise does not fit a noise line */
 #define KUNDATREZO_SIZES 19       /* the later line */
-#define KUNDATREZO_CONTROL 20     /* the bad line; a test of the job, after 12 */
-#define KUNDATREZO_SIZE 21        /* the noise line; a test of the job, after 12 */
+#define KUNDATREZO_CONTROL 20     /* the bad line; a test of the line, after 12 */
+#define KUNDATREZO_SIZE 21        /* the noise line; a test of the line, after 12 and 20 */
 #define KUNDATREZO_SEED 22        /* line 0 */
-#define KUNDATREZO_EDITION 23     /* line 1; a test of the job, after 3 */
+#define KUNDATREZO_EDITION 23     /* line 1; a test of the header, after 3 */
 #define KUNDATREZO_GROUPS 24      /* line 0 for the number of groups; else the first noise line with too many qubits */
 #define KUNDATREZO_SHARES 25      /* line 0 */
 #define KUNDATREZO_CALLER 26      /* line 0 */
@@ -169,7 +169,6 @@ static inline int kundatrezo_float_state_ok(void)
 #define KUNDATREZO_SETTLE_STACK 45056 /* with a share, too */
 #define KUNDATREZO_CORRELATION_STACK 12288
 #define KUNDATREZO_FAULT_TABLE_STACK 16384
-#define KUNDATREZO_MAKE_STACK 16384
 #define KUNDATREZO_OTHER_STACK 8192 /* every other call */
 
 /* Words of a row: bit s % 64 of word s / 64 is shot s. */
@@ -308,10 +307,10 @@ struct kundatrezo_answer kundatrezo_correlation(const uint8_t *job, size_t job_l
 struct kundatrezo_answer kundatrezo_fill(uint64_t seed, uint64_t *words, size_t words_len);
 
 /* A job made from the same stream, by the rule of docs/MAKING.md: a header with these numbers, of an edition that the stream chooses, and as many lines behind
- * it as are asked for, the element lines of noise not counted. Every made job is accepted by kundatrezo_check, and every kind of line that these numbers allow
- * comes up for some seed. Numbers that a header may not hold are refused by KUNDATREZO_HEADER with line 0, then a seed of 0 by KUNDATREZO_SEED, then a text
- * that does not fit by KUNDATREZO_ROOM, whose figure is 0. Up to 1,000 lines always fit KUNDATREZO_MAX_BYTES. Bytes of out beyond the text stay, and a refusal
- * writes nothing. */
+ * it as are asked for, the element lines of noise not counted. Every made job is accepted by kundatrezo_check, and, for 1 to 1,000 lines with
+ * KUNDATREZO_MAX_BYTES lent, every kind of line that these numbers allow comes up for some seed. Numbers that a header may not hold are refused by
+ * KUNDATREZO_HEADER with line 0, then a seed of 0 by KUNDATREZO_SEED, then a text that does not fit by KUNDATREZO_ROOM, whose figure is 0. Up to 1,000 lines
+ * always fit KUNDATREZO_MAX_BYTES. Bytes of out beyond the text stay, and a refusal writes nothing. */
 struct kundatrezo_text_answer kundatrezo_make(uint64_t qubits, uint64_t outcomes, uint64_t shots, uint64_t lines, uint64_t seed, uint8_t *out,
                                               size_t out_len);
 

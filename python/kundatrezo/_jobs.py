@@ -273,7 +273,8 @@ class Job:
         return Job(out[: said.figure].tobytes())
 
     def locations(self) -> int:
-        """The number of fault locations: twice the qubits of the lines that `annotate` gives noise."""
+        """The number of fault locations: twice the qubits of the lines that `annotate` gives noise; a qubit that control and target share
+        counts for both."""
         said = call("locations", self.text)
         test(said.answer, self.text)
         return said.figure

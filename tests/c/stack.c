@@ -156,7 +156,7 @@ static const struct {
     {"correlation", correlation, KUNDATREZO_CORRELATION_STACK},
     {"line", line, KUNDATREZO_OTHER_STACK},
     {"fill", fill, KUNDATREZO_OTHER_STACK},
-    {"make", make, KUNDATREZO_MAKE_STACK},
+    {"make", make, KUNDATREZO_OTHER_STACK},
     {"by_shot", by_shot, KUNDATREZO_OTHER_STACK},
     {"by_outcome", by_outcome, KUNDATREZO_OTHER_STACK},
 };

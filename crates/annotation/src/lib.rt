@@ -9,10 +9,10 @@ ghost use Rattle.writer.specs.Reply.{textReply};
 pub mod around;
 
 use crate::around::put_annotated;
+use check_values::floats::Checked;
+use check_values::floats::probability;
 use checker::check;
 use job::Answer;
-use value_tests::floats::Checked;
-use value_tests::floats::probability;
 use writer::TextAnswer;
 use writer::refused;
 

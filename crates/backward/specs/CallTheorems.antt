@@ -15,10 +15,10 @@ use Rattle.job.specs.declared.CountReply.{CountReply}
 use Rattle.job.specs.Reply.{TextReply, textFits, writtenBy, writtenText, refusedText, refusedCount}
 use Rattle.draws.specs.Settle.{SettledLine, Settled, settledList, settledText, placedFrom}
 use Rattle.rows.specs.Words.{wordsPerRow, bitIn}
-use Rattle.run.specs.Run.{Source, Memory, outcomeWords, enoughWords, lentOf, spentReply, runReply}
+use Rattle.run.specs.Run.{Source, Memory, outcomeWords, enoughWords, lentOf, spentReply, runReply, withSource}
 use Rattle.backward.specs.Settling.{settleReply}
 use Rattle.backward.specs.Walking.{firstNoise, plainLines, walkable, walkReply}
-use Rattle.backward.specs.Calls.{settlingOf, countOf, withSource}
+use Rattle.backward.specs.Calls.{settlingOf, countOf}
 use Rattle.backward.specs.Theorems.{demand-3}
 use Rattle.backward.specs.Laws.Replies.{settle-writes, writes-these, run-ends}
 use Rattle.backward.specs.Laws.CallsAgree as calls

@@ -23,10 +23,6 @@ settlingOf job s = settle (lentOf (jobOf job .header) s) (jobOf job .instruction
 abbrev pub countOf : List ℕ → List SettledLine → ℕ → List ℕ → ℕ
 countOf job ls shot set = walk (settingOf (jobOf job .header) shot) (settledList ls) (members set) .count
 
--- the same memory with another source
-abbrev pub withSource : Memory → Source → Memory
-withSource m other = record { x = m .x; z = m .z; deltas = m .deltas; totals = m .totals; source = other }
-
 -- the bits of a shot in the words that a run leaves
 abbrev pub shotBits : List ℕ → Memory → ℕ → State
 shotBits job m shot =

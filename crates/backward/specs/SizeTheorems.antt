@@ -79,8 +79,8 @@ module _ (job : List ℕ) (s : Source) where
         let m = fifteen out short in
         sized-by other (m .lines) (reply-of other (m .passes) (m .enough) _ (m .settles)) ∙ sym (ap (λ (r : TextReply). r .figure) (m .reply))
 
-    -- So a buffer of that size succeeds, and one that is larger, whenever the text is within the limit: the whole text is written, and the figure is the
-    -- one that was given.
+    -- So a buffer of that size succeeds, and one that is larger, whenever the text is within the limit, and the figure is the one that was given (what is
+    -- written then: writes-settled).
     pub figure-enough : (other : List ℕ) → settleReply job s out .figure ≤ maxBytes → settleReply job s out .figure ≤ length other
         → (settleReply job s other .answered ≡ accepted) × (settleReply job s other .figure ≡ settleReply job s out .figure)
     figure-enough other within lent =

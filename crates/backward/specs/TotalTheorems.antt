@@ -14,9 +14,8 @@ use Rattle.draws.specs.Known.{runAll}
 use Rattle.draws.specs.Theorems.{executed-ended}
 use Rattle.rows.specs.Words.{wordsPerRow, bitIn}
 use Rattle.totals.specs.Ones.{onesTo}
-use Rattle.run.specs.Run.{Source, Memory, RunReply, outcomeWords, flipTotals, runReply}
+use Rattle.run.specs.Run.{Source, Memory, RunReply, outcomeWords, flipTotals, runReply, withSource}
 use Rattle.backward.specs.Settling.{settleReply}
-use Rattle.backward.specs.Calls.{withSource}
 use Rattle.backward.specs.CallTheorems.{written-run}
 use Rattle.backward.specs.Laws.Replies.{run-ends}
 use Rattle.backward.specs.Laws.Totals.{reply-total, reply-unrecorded}

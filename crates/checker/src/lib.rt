@@ -7,11 +7,11 @@ pub mod tests;
 
 use crate::tests::next;
 use crate::tests::refusal;
+use check_values::context::no_context;
 use instructions::next_line;
 use job::Answer;
 use job::Header;
 use template::values::WORDS;
-use value_tests::context::no_context;
 
 const MAX_BYTES: usize = 1048576;
 

@@ -1,9 +1,9 @@
 // The choice of an element. An element is known by its number, from 0.
 use job::depolarizing_size;
+use noise::NextWord;
 use noise::PauliDistribution;
-use noise::words::count;
+use noise::words::next_word;
 use noise::words::unit;
-use noise::words::word_at;
 ghost use mathlib.Core.Path.{_≡_};
 ghost use mathlib.Core.Bool.{_||_};
 ghost use mathlib.Core.List.{List, _++_};
@@ -58,16 +58,20 @@ pub fn choose(words: &[u64], more: &[u64], at: usize, c: u64, limit: u64) -> Cho
     requires { ⌜ limit ≡ limitOf c ⌝ }
     ensures { λ r. ⌜ Chose (now (words .entry) ++ now (more .entry)) (bounded c (drop at (now (words .entry) ++ now (more .entry)))) r ⌝ }
 {
-    let n = count(words, more);
     let mut i = at;
-    while i < n {
-        let w = word_at(words, more, i);
-        i += 1;
-        if w < limit {
-            return Choice::Chosen(w % c, i);
+    loop {
+        match next_word(words, more, i) {
+            NextWord::Word(w) => {
+                i += 1;
+                if w < limit {
+                    return Choice::Chosen(w % c, i);
+                }
+            }
+            NextWord::Spent => {
+                return Choice::Spent;
+            }
         }
     }
-    Choice::Spent
 }
 
 // ---- A choice by weights
@@ -172,11 +176,10 @@ fn place(sums: &[f64], u: f64) -> usize
 pub fn weigh(words: &[u64], more: &[u64], at: usize, sums: &[f64]) -> Choice
     ensures { λ r. ⌜ Weighed (now (words .entry) ++ now (more .entry)) at (now (sums .entry)) r ⌝ }
 {
-    if count(words, more) <= at {
-        return Choice::Spent;
+    match next_word(words, more, at) {
+        NextWord::Word(w) => Choice::Chosen(place(sums, unit(w)) as u64, at + 1),
+        NextWord::Spent => Choice::Spent,
     }
-    let i = place(sums, unit(word_at(words, more, at)));
-    Choice::Chosen(i as u64, at + 1)
 }
 
 // ---- A choice by the kind of distribution

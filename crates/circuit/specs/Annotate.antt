@@ -1,4 +1,5 @@
--- Definitions. Depolarizing annotation and the count of fault locations, as in document 01, "Around the engine". Assumes nothing.
+-- Definitions. Depolarizing annotation and the count of fault locations, as in document 01, "Around the engine"; which qubits a line's noise has, and the
+-- size that it says, as in document 02, notes 1 and 6. Assumes nothing.
 use mathlib.Core.Bool.{Bool, true, false, cond}
 use mathlib.Core.List.{List, [], _∷_, _++_}
 use mathlib.Core.Option.{Option, none, some}

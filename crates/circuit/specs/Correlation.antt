@@ -1,4 +1,4 @@
--- Definitions. The correlation check: one size per corr. Assumes nothing.
+-- Definitions. The correlation check: one size per corr, as the lines say it (document 02, note 6). Assumes nothing.
 use mathlib.Core.Bool.{Bool, true, cond}
 use mathlib.Core.List.{List, [], _∷_, _++_}
 use mathlib.Core.Option.{Option, none, some}
@@ -30,9 +30,9 @@ unfoldable pub correlationOf : Instruction → Option ℕ
 correlationOf (Instruction.line l) = none
 correlationOf (Instruction.noise n) = n .correlation
 
-unfoldable pub elementCount : Instruction → ℕ
-elementCount (Instruction.line l) = 0
-elementCount (Instruction.noise n) = n .size
+unfoldable pub saidSize : Instruction → ℕ
+saidSize (Instruction.line l) = 0
+saidSize (Instruction.noise n) = n .size
 
 -- the size of its distribution, worked out
 unfoldable pub distributionSize : Instruction → ℕ
@@ -50,4 +50,4 @@ firstDifferingBy measure seen (i ∷ is) =
 
 -- 19: sizes of one corr differ; the later line. The sizes are those written.
 abbrev pub firstDiffering : List Seen → List Placed → Option ℕ
-firstDiffering = firstDifferingBy elementCount
+firstDiffering = firstDifferingBy saidSize

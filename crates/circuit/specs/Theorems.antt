@@ -6,6 +6,7 @@ use mathlib.Core.Bool.{true, _||_}
 use mathlib.Core.List.{List, [], _∷_, _++_}
 use mathlib.Core.Option.{none, some}
 use Prim.Native.Nat.{ℕ, _+_, _^_, _<_, _≤_}
+use borrow.Author.Tests.{ne-eqb}
 use lib.ListN.{length}
 use Rattle.text.specs.Bytes.{bytes, until, extend, pieces, lines, unlines}
 use Rattle.text.specs.List.{withFirst, piecesOf, listQ, risesFrom, isRising, onlyRising, listL, oneMember, listC, commasBy, listTextBy}
@@ -22,7 +23,7 @@ use Rattle.job.specs.Float.{float, isProbability}
 use Rattle.job.specs.Job.{accepted, jobOf, checkJob}
 use Rattle.job.specs.Sound.{LineSound, instructionsOf}
 use Rattle.job.specs.Theorems.{size-said}
-use Rattle.job.specs.Reply.{writtenText, writtenBy}
+use Rattle.job.specs.Reply.{refusedText, writtenText, writtenBy}
 use Rattle.circuit.specs.Annotate.{supportOf, locatedQubits, addNew, firstFrom, noiseQubits, noiseBefore, noiseText, noiseLines, around, annotated, annotatedText, locatedOn, noiseOn, firstUnfit, locationsAt, locations}
 use Rattle.circuit.specs.Annotated.{annotatedList}
 use Rattle.circuit.specs.Correlation.{distributionSize, firstDifferingBy, firstDiffering}
@@ -39,14 +40,14 @@ pub noise-apart : (l : Line) → distinct (noiseQubits l) ≡ true
 noise-apart l = qubits-apart l
 
 -- Where control and target share none, they are control's support and then target's.
-pub unshared-as-before : (C T : SparsePauli) → distinct (supportOf C ++ supportOf T) ≡ true → noiseQubits (Line.controlled C T) ≡ supportOf C ++ supportOf T
+pub unshared-both : (C T : SparsePauli) → distinct (supportOf C ++ supportOf T) ≡ true → noiseQubits (Line.controlled C T) ≡ supportOf C ++ supportOf T
 unfolding noiseQubits locatedQubits
-unshared-as-before C T d = first-same [] (supportOf C ++ supportOf T) d
+unshared-both C T d = first-same [] (supportOf C ++ supportOf T) d
 
 -- For the other lines of an accepted job they are the operands or the support.
-pub others-as-before : (h : Header) (r : ℕ) (l : Line) → LineSound h r l → ((C T : SparsePauli) → l ≡ Line.controlled C T → ⊥) → noiseQubits l ≡ locatedQubits l
+pub others-located : (h : Header) (r : ℕ) (l : Line) → LineSound h r l → ((C T : SparsePauli) → l ≡ Line.controlled C T → ⊥) → noiseQubits l ≡ locatedQubits l
 unfolding noiseQubits
-others-as-before h r l s other = first-same [] (locatedQubits l) (located-apart h r l s other)
+others-located h r l s other = first-same [] (locatedQubits l) (located-apart h r l s other)
 
 -- Their members are those of both supports.
 pub shared-members : (C T : SparsePauli) (q : ℕ) → members (noiseQubits (Line.controlled C T)) q ≡ members (supportOf C) q || members (supportOf T) q
@@ -54,6 +55,11 @@ unfolding noiseQubits locatedQubits members outside
 shared-members C T q = first-members [] (supportOf C ++ supportOf T) q ∙ members-append (supportOf C) (supportOf T) q
 
 -- ---- annotation
+
+-- A job that the tests refuse is refused by them, whatever annotation's own p is.
+pub refused-first : (job : List ℕ) (p : ℕ) (out : List ℕ) → (checkJob job .number ≡ 0 → ⊥) → annotateReply job p out ≡ refusedText (checkJob job) out
+unfolding annotateReply
+refused-first job p out refused = rw (ne-eqb _ _ refused) refl
 
 -- For an accepted job, a probability by its bits, and no line that 18 refuses:
 module _ (job : List ℕ) (passes : checkJob job .number ≡ 0) (p : ℕ) (small : p < 2 ^ 64) (probability : isProbability (float p) ≡ true)
@@ -94,9 +100,9 @@ module _ (job : List ℕ) (p : ℕ) (small : p < 2 ^ 64) (out : List ℕ) (done 
 -- ---- the correlation check
 
 -- For an accepted job it finds, by the sizes written, what it would find by those of the distributions.
-pub correlation-as-before : (job : List ℕ) → checkJob job .number ≡ 0
+pub correlation-by-distributions : (job : List ℕ) → checkJob job .number ≡ 0
     → firstDiffering [] (jobOf job .instructions) ≡ firstDifferingBy distributionSize [] (jobOf job .instructions)
-correlation-as-before job e = measured-same [] (jobOf job .instructions) (size-said job e)
+correlation-by-distributions job e = measured-same [] (jobOf job .instructions) (size-said job e)
 
 -- ---- a case of document 01, computed
 

@@ -8,7 +8,7 @@ use lib.ListN.{length, take}
 use Rattle.job.specs.Line.{Placed}
 use Rattle.instructions.specs.Lines.{Left, numbered}
 use Rattle.instructions.specs.Ahead.{instructionsAt}
-use Rattle.circuit.specs.Correlation.{Seen, sizeFits, correlationOf, elementCount, firstDiffering}
+use Rattle.circuit.specs.Correlation.{Seen, sizeFits, correlationOf, saidSize, firstDiffering}
 use Rattle.correlations.specs.declared.Collected.{Collected}
 use Rattle.correlations.specs.declared.Found.{Found}
 use Rattle.correlations.specs.declared.Looked.{Looked}
@@ -19,7 +19,7 @@ unfoldable pub unlike : List Seen → List Placed → Option ℕ
 unlike seen [] = none
 unlike seen (i ∷ is) =
     let later = unlike seen is in
-    cond (sizeFits seen (correlationOf (i .instruction)) (elementCount (i .instruction))) later (some (i .line))
+    cond (sizeFits seen (correlationOf (i .instruction)) (saidSize (i .instruction))) later (some (i .line))
 
 -- the earlier of two lines, of which there may be none
 unfoldable pub earliest : Option ℕ → Option ℕ → Option ℕ

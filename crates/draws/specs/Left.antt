@@ -1,12 +1,10 @@
 -- Definitions. What a job leaves of the main list, also where its draws are spent (document 02, note 14). Assumes nothing.
-use mathlib.Core.Path.{_≡_}
 use mathlib.Core.List.{List, [], _∷_}
 use mathlib.Core.Option.{Option, none, some}
 use Prim.Native.Nat.{ℕ}
-use Rattle.job.specs.Line.{Noise, Instruction, Placed}
+use Rattle.job.specs.Line.{Instruction, Placed}
 use Rattle.draws.specs.Draws.{Lent}
 use Rattle.draws.specs.Settle.{Step, stepOf}
-use Rattle.draws.specs.Known.{SpentAt}
 
 -- Where a noise line is spent, a word past the end was needed: of the main list, which is then used up, or of the second, and the main list is as the
 -- lines before left it.
@@ -26,7 +24,3 @@ leftThen i main (Step.lines ls left) later = later left
 unfoldable pub leftAfter : Lent → List Placed → List ℕ → List ℕ
 leftAfter lent [] main = main
 leftAfter lent (i ∷ is) main = leftThen (i .instruction) main (stepOf lent main (i .text) (i .instruction)) (leftAfter lent is)
-
--- A job stays within a list: drawn from that list alone, no noise line needs a word of the main list past its end.
-unfoldable pub StaysWithin : Lent → List Placed → List ℕ → Type 0
-StaysWithin lent is main = (k : ℕ) (s : SpentAt lent main is k) → s .noise .correlation ≡ none → ⊥

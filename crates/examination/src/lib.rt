@@ -3,7 +3,8 @@ ghost use mathlib.Core.Path.{_≡_};
 ghost use Rattle.examination.specs.Reply.{examineReply};
 use job::Answer;
 
-// The answer of the tests of a job; of an accepted job also its header's numbers, how many outcomes it records, and how many lines it has. Calls hand it to C as it is.
+// The answer of the tests of a job; of an accepted job also its header's numbers, how many outcomes it records, and how many lines it has. Calls hand
+// it to C as it is.
 #[repr(C)]
 pub struct Examination {
     pub answered: Answer,

@@ -5,7 +5,7 @@ ghost use Prim.Native.Nat.{ℕ, _+_, _≤_, _<_};
 ghost use lib.ListN.{length};
 ghost use Rattle.text.specs.Number.{decimal};
 ghost use Rattle.single_faults.specs.Table.{rowText};
-ghost use Rattle.single_faults.specs.Laws.Rows.{rowsBy};
+ghost use Rattle.single_faults.specs.Carried.{rowsBy};
 ghost use Rattle.fault_rows.specs.Rows.{rowBytes, rowsBytes, RowsBefore, keptAt};
 use writer::line::put_numbers;
 use writer::put_byte;

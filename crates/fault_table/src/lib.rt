@@ -13,7 +13,7 @@ ghost use Rattle.reader.specs.Parsed.{Said};
 ghost use Rattle.writer.specs.Reply.{textReply};
 ghost use Rattle.single_faults.specs.Groups.{Groups};
 ghost use Rattle.single_faults.specs.Table.{tableReply, tableAnswer, tableText, firstWide};
-ghost use Rattle.single_faults.specs.Laws.Rows.{carriedRows};
+ghost use Rattle.single_faults.specs.Carried.{carriedRows};
 ghost use Rattle.fault_rows.specs.Rows.{rowsBytes};
 ghost use Rattle.noise_rows.specs.Said.{sizeSaid};
 ghost use Rattle.fault_table.specs.Table.{Measures, keptAfter, TableReady, Grouped};

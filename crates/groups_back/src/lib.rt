@@ -7,7 +7,7 @@ ghost use lib.ListN.{length};
 ghost use Rattle.pauli.specs.Fixed.{asPauli};
 ghost use Rattle.reader.specs.declared.Form.the-variants as Forms;
 ghost use Rattle.lines_back.specs.Back.{Readable};
-ghost use Rattle.single_faults.specs.Laws.Rows.{markBy};
+ghost use Rattle.single_faults.specs.Carried.{markBy};
 ghost use Rattle.groups.specs.Lent.{carriedIn, allCarried};
 ghost use Rattle.groups_back.specs.Back.{stillForm, GroupBack, GroupsBack};
 use groups::GROUP_WORDS;

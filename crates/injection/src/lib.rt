@@ -4,6 +4,7 @@ use faults::elements::element_x;
 use faults::elements::element_z;
 use noise::PauliDistribution;
 use noise::PauliFault;
+use noise::scan::threshold;
 use pauli::Shot;
 use rows::Shape;
 use shots::NextFault;
@@ -113,7 +114,8 @@ pub enum Drawn {
     Spent,
 }
 
-// Injects the faults of a noise line, from shot to shot. The words are its part of the draws, in two pieces; the mask has the shots whose condition is satisfied.
+// Injects the faults of a noise line, from shot to shot. The words are its part of the draws, in two pieces; the mask has the shots whose condition
+// is satisfied.
 pub fn inject_faults(
     words: &[u64],
     more: &[u64],
@@ -130,12 +132,13 @@ pub fn inject_faults(
 {
     let p = fault.probability;
     let d = fault.distribution;
+    let t = threshold(p);
     let chooser = chooser_of(d);
     let shots = shape.shots;
     let mut at = 0;
     let mut shot = 0;
     loop {
-        match next_fault(words, more, at, mask, Shot(shot), shots, p, chooser, sums) {
+        match next_fault(words, more, at, mask, Shot(shot), shots, t, chooser, sums) {
             NextFault::Spent => {
                 return Drawn::Spent;
             }

@@ -40,7 +40,7 @@ maxEdition = 2
 -- ---- what the lines before say
 
 pub record Context : Type 0 where
-  -- whether there was a header, and its numbers (0 before)
+  -- whether there was a header, and its numbers (before it, those of noHeader)
   pub begun : Bool
   pub header : Header
   -- how many outcomes are recorded: their ids are those below, and this is the next one

@@ -1,5 +1,6 @@
--- Definitions. The forms of the lines: the table of document 01, "The job", with a template for each kind of line, and behind it what document 02 adds in
--- the second edition. A line is read by one table; which edition has its form is a test (Checks). Assumes nothing.
+-- Definitions. The forms of the lines: the table of document 01, "The job", with a template for each kind of line, of which document 02 changes those of
+-- noise (note 6: `size=`) and of Cliffords (note 12: a list of words), and behind it what it adds in the second edition (note 9). A line is read by one
+-- table; which edition has its form is a test (Checks). Assumes nothing.
 use Prim.Native.Nat.{ℕ}
 use Prim.Native.String.{String}
 use mathlib.Core.Bool.{Bool, cond, not, _&&_}
@@ -66,7 +67,8 @@ unfoldable pub unitaryLine : Option Gate → List ℕ → Option Written
 unitaryLine none qs = none
 unitaryLine (some g) qs = plain (Line.unitary g qs)
 
--- A wrong number of words for a k of 1 to 8 is no Clifford; k counts all entries of q. Above that the line is one, whatever the number of words.
+-- A wrong number of words for a k of 1 to 8 is no Clifford; k counts all entries of q. A line with a larger k is one, whatever the number of words; its k
+-- is tested (5).
 unfoldable pub cliffordLine : List ℕ → List ℕ → Option Written
 cliffordLine qs ws =
     cond (leb (length qs) maxCliffordQubits && not (eqb (length ws) (tableWords (length qs)))) none (plain (Line.clifford qs (tableOf ws)))

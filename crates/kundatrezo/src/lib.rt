@@ -188,7 +188,7 @@ pub extern "C" fn kundatrezo_locations(job: &[u8]) -> CountReply
     location_count::locations(job)
 }
 
-// Whether noise lines of one correlation all have as many elements.
+// Whether noise lines of one correlation all have one size, as their lines say it.
 #[no_mangle]
 pub extern "C" fn kundatrezo_correlation(job: &[u8]) -> Answer
     ensures { λ r. ⌜ r ≡ correlationReply (now (job .entry)) ⌝ }

@@ -1,6 +1,7 @@
 // A noise line by value, the words that it draws from, and its condition as a mask. Elements are chosen in the crate choice, and its shots gone through in the
 // crate shots.
 pub mod condition;
+pub mod scan;
 pub mod words;
 
 // The four kinds of distribution. The weighted one carries its total; its running sums lie in an array beside it.
@@ -15,6 +16,12 @@ pub enum PauliDistribution {
 pub enum Correlation {
     Uncorrelated,
     Shared(u64),
+}
+
+// The word at a place, or that the words have ended there.
+pub enum NextWord {
+    Word(u64),
+    Spent,
 }
 
 // The noiseless bits of the first `count` of `outcomes` sum to `parity`. A count of 0 is no condition.

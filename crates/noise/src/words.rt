@@ -1,5 +1,6 @@
 // Words: as numbers from 0 to 1, and the part of the two lists of them that a noise line reads from.
 use crate::Correlation;
+use crate::NextWord;
 ghost use mathlib.Core.Path.{_≡_};
 ghost use mathlib.Core.Option.{none};
 ghost use mathlib.Core.List.{_++_};
@@ -7,7 +8,7 @@ ghost use Prim.Native.Nat.{_+_, _-_, _^_, _<_, _≤_};
 ghost use lib.ListN.{length, getD, drop};
 ghost use Rattle.draws.specs.Draws.{unitOf, falls, Lent, partOf};
 ghost use Rattle.noise.specs.Kinds.{correlationOf};
-ghost use Rattle.noise.specs.Words.{skipOf, moreOf, positionAfter};
+ghost use Rattle.noise.specs.Words.{moreOf, positionAfter, WordRead};
 
 // u = floor(w / 2048) / 2^53. A number below 2^53 is cast without loss, and scaling by a power of two is exact.
 pub fn unit(w: u64) -> f64
@@ -60,8 +61,8 @@ pub fn part<'a>(
     }
 }
 
-// What follows that part where the main list has two: the second from the same position on, counted behind the first, or nothing, since a correlated line
-// reads the second list alone.
+// What follows that part where the main list has two: the second from the same position on, counted behind the first, or nothing, since a correlated
+// line reads the second list alone.
 pub fn more_part<'a>(
     more: &'a [u64],
     correlation: Correlation,
@@ -105,41 +106,16 @@ pub fn word_at(words: &[u64], more: &[u64], at: usize) -> u64
     more[at - words.len()]
 }
 
-// How many of n words, from a place on, bring no fault before one that does.
-fn skip_in(words: &[u64], at: usize, n: usize, p: f64) -> usize
-    requires { ⌜ n ≤ length (now words) - at ⌝ }
-    ensures { λ r. ⌜ r ≡ skipOf p n (drop at (now (words .entry))) ⌝ }
+// The same where there may be none. It is one look: a count before it would be another.
+pub fn next_word(words: &[u64], more: &[u64], at: usize) -> NextWord
+    ensures { λ r. ⌜ WordRead (now (words .entry) ++ now (more .entry)) at r ⌝ }
 {
-    let mut i = 0;
-    while i < n {
-        if is_fault(words[at + i], p) {
-            return i;
-        }
-        i += 1;
+    if at < words.len() {
+        return NextWord::Word(words[at]);
     }
-    i
-}
-
-// The same of as many words as there are shots, or fewer where the words end.
-fn skip_part(words: &[u64], at: usize, shots: usize, p: f64) -> usize
-    ensures { λ r. ⌜ r ≡ skipOf p shots (drop at (now (words .entry))) ⌝ }
-{
-    let left = behind(words.len(), at);
-    if left < shots {
-        return skip_in(words, at, left, p);
+    let i = at - words.len();
+    if i < more.len() {
+        return NextWord::Word(more[i]);
     }
-    skip_in(words, at, shots, p)
-}
-
-// How many shots, of so many, are passed over before the next fault: as many words bring none. Fewer where the words end.
-pub fn next_skip(words: &[u64], more: &[u64], at: usize, shots: usize, p: f64) -> usize
-    requires { ⌜ at ≤ length (now words ++ now more) ⌝ }
-    ensures { λ r. ⌜ r ≡ skipOf p shots (drop at (now (words .entry) ++ now (more .entry))) ⌝ }
-{
-    let skip = skip_part(words, at, shots, p);
-    let next = at + skip;
-    if next < words.len() {
-        return skip;
-    }
-    skip + skip_part(more, next - words.len(), shots - skip, p)
+    NextWord::Spent
 }

@@ -19,7 +19,7 @@ use Rattle.reader.specs.Parsed.{Said}
 use Rattle.draws.specs.Draws.{noPauli, elementAt}
 use Rattle.backward.specs.Walk.{Carried}
 use Rattle.single_faults.specs.Table.{mostSpread}
-use Rattle.single_faults.specs.Laws.Rows.{rowsBy, markBy}
+use Rattle.single_faults.specs.Carried.{rowsBy, markBy}
 use Rattle.groups.specs.Lent.{allCarried}
 use Rattle.fault_rows.specs.Rows.{rowsBytes, keptAt}
 

@@ -15,7 +15,7 @@ ghost use Rattle.job.specs.Grammar.{Written};
 ghost use Rattle.reader.specs.Parsed.{formOf, Said};
 ghost use Rattle.draws.specs.Draws.{depolarizingElement};
 ghost use Rattle.single_faults.specs.Table.{rowText};
-ghost use Rattle.single_faults.specs.Laws.Rows.{rowsBy};
+ghost use Rattle.single_faults.specs.Carried.{rowsBy};
 ghost use Rattle.groups.specs.Lent.{allCarried};
 ghost use Rattle.fault_rows.specs.Rows.{rowBytes, rowsBytes, RowsBefore};
 ghost use Rattle.noise_rows.specs.Said.{heldPauli, PauliHeld, wideSaid, isElement, marksBy, marksOf, KeptFor, elementsWith, ElementKnown, rowsSaid, RowsReady};

@@ -20,6 +20,7 @@ use faults::elements::element_members;
 use faults::elements::element_x;
 use noise::PauliDistribution;
 use noise::PauliFault;
+use noise::scan::threshold;
 use noise::words::count;
 use noise::words::more_part;
 use noise::words::part;
@@ -103,12 +104,13 @@ fn put_faults(
 {
     let p = fault.probability;
     let d = fault.distribution;
+    let t = threshold(p);
     let chooser = chooser_of(d);
     let mut place = from;
     let mut at = 0;
     let mut shot = 0;
     loop {
-        match next_fault(words, more, at, mask, Shot(shot), shots, p, chooser, sums) {
+        match next_fault(words, more, at, mask, Shot(shot), shots, t, chooser, sums) {
             NextFault::Spent => {
                 return Drawn::Spent(count(words, more));
             }

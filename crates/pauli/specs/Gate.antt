@@ -1,4 +1,4 @@
--- The gates with their codes, and what each does to a Pauli, forwards and back. Assumes nothing.
+-- Definitions. The gates with their codes, and what each does to a Pauli, forwards and back. Assumes nothing.
 use mathlib.Core.List.{List, [], _∷_}
 use mathlib.Core.Option.{Option, none, some}
 use Prim.Native.Nat.{ℕ, zero, suc}

@@ -1,4 +1,4 @@
--- Paulis up to their phase, as document 01 has them: the qubits with an X part and the qubits with a Z part; Y has both. Assumes nothing.
+-- Definitions. Paulis up to their phase, as document 01 has them: the qubits with an X part and the qubits with a Z part; Y has both. Assumes nothing.
 use mathlib.Core.Bool.{Bool}
 use mathlib.Core.List.{List}
 use Prim.Native.Nat.{ℕ}

@@ -1,5 +1,5 @@
--- Bits in lent 64-bit words: a row per qubit or outcome, rows in order. Shot s is bit s mod 64 of word s/64 of its row; bits past the last shot
--- are 0. Assumes nothing.
+-- Definitions. Bits in lent 64-bit words: a row per qubit or outcome, rows in order. Shot s is bit s mod 64 of word s/64 of its row; bits past the last
+-- shot are 0. Assumes nothing.
 use mathlib.Core.Bool.{Bool, cond, _&&_}
 use mathlib.Core.List.{List, [], _∷_}
 use Prim.Native.Nat.{ℕ, zero, suc, _+_, _*_, _/_, _%_}

@@ -1,4 +1,5 @@
--- Definitions. The whole reply of a run: its answer and every lent word that it may write. Assumes nothing.
+-- Definitions. The whole reply of a run: its answer and every lent word that it may write, those of the totals among them (document 02, note 5).
+-- Assumes nothing.
 use mathlib.Core.Bool.{Bool, cond, _&&_}
 use mathlib.Core.List.{List}
 use Prim.Native.Nat.{ℕ, _*_}
@@ -28,6 +29,10 @@ pub record Memory : Type 0 where
   pub deltas : List ℕ
   pub totals : List ℕ
   pub source : Source
+
+-- the same memory with another source
+abbrev pub withSource : Memory → Source → Memory
+withSource m other = record { x = m .x; z = m .z; deltas = m .deltas; totals = m .totals; source = other }
 
 -- the answer, and the words and the totals after the call
 pub record RunReply : Type 0 where

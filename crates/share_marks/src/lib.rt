@@ -5,7 +5,7 @@ ghost use lib.ListN.{length, getD, take};
 ghost use Rattle.shares.specs.Shares.{sum, ownLeft, commonLeft, moved, eachWithin, sharesFit};
 ghost use Rattle.share_marks.specs.Fit.{Fit, shareNumber};
 
-const MOST_CALLERS: usize = 8;
+const MAX_CALLERS: usize = 8;
 
 // The sum of the first n shares, or one more than `most` where it passes that.
 fn sum_up_to(shares: &[u64], n: usize, most: usize) -> usize
@@ -49,7 +49,7 @@ fn shares_fit(main: &[u64], shares: &[u64], marks: &[u64]) -> bool
     if callers < 1 {
         return false;
     }
-    if MOST_CALLERS < callers {
+    if MAX_CALLERS < callers {
         return false;
     }
     let total = sum_up_to(shares, callers, main.len());

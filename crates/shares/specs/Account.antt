@@ -2,15 +2,17 @@
 use mathlib.Core.Path.{_≡_}
 use mathlib.Core.Bool.{Bool, true, false, cond, _&&_}
 use mathlib.Core.List.{List, [], _∷_, _++_, map}
+use mathlib.Core.Option.{none}
 use Prim.Native.Nat.{ℕ, zero, suc, _+_, _-_, _≤_, _<_}
 use lib.Dec.{eqb, leb}
 use lib.ListN.{length, getD, take, replicate}
 use Rattle.job.specs.declared.Answer.{Answer}
+use Rattle.job.specs.Line.{Placed}
 use Rattle.job.specs.Job.{Job, jobOf, checkJob}
 use Rattle.job.specs.Reply.{TextReply}
-use Rattle.draws.specs.Left.{StaysWithin}
-use Rattle.run.specs.Run.{Source, Memory, RunReply, outcomeWords, enoughWords, lentOf}
-use Rattle.backward.specs.Calls.{withSource}
+use Rattle.draws.specs.Draws.{Lent}
+use Rattle.draws.specs.Known.{SpentAt}
+use Rattle.run.specs.Run.{Source, Memory, RunReply, outcomeWords, enoughWords, lentOf, withSource}
 use Rattle.shares.specs.Shares.{Share, sum, stretchFrom, ownLeft, commonLeft, marksFit, eachWithin, sharesFit, callerFits}
 use Rattle.shares.specs.Replies.{shared, takenBy, takesWords, Shared, sharedRunReply, sharedSettleReply}
 
@@ -71,6 +73,10 @@ from main s = record { noiseless = s .noiseless; main = main; second = s .second
 
 abbrev pub withMain : List ℕ → Memory → Memory
 withMain main m = withSource m (from main (m .source))
+
+-- A job stays within a list: drawn from that list alone, no noise line needs a word of the main list past its end.
+unfoldable pub StaysWithin : Lent → List Placed → List ℕ → Type 0
+StaysWithin lent is words = (k : ℕ) (s : SpentAt lent words is k) → s .noise .correlation ≡ none → ⊥
 
 -- of the caller's own call, and what follows it; or of what follows another's
 unfoldable pub TakesAlike : Bool → Type 0 → Type 0 → Type 0 → Type 0

@@ -8,8 +8,7 @@ use Rattle.job.specs.declared.Answer.{Answer}
 use Rattle.job.specs.Job.{answer, Job, jobOf, checkJob}
 use Rattle.job.specs.Reply.{TextReply, refusedText}
 use Rattle.draws.specs.Left.{leftAfter}
-use Rattle.run.specs.Run.{Source, Memory, RunReply, outcomeWords, enoughWords, lentOf, untouched, runReply}
-use Rattle.backward.specs.Calls.{withSource}
+use Rattle.run.specs.Run.{Source, Memory, RunReply, outcomeWords, enoughWords, lentOf, untouched, runReply, withSource}
 use Rattle.backward.specs.Settling.{settleReply}
 use Rattle.shares.specs.Shares.{Share, available, marksFit, sharesFit, callerFits, marksAfter}
 

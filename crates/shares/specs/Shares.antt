@@ -41,8 +41,8 @@ available s main = ownLeft (s .shares) (s .marks) (s .caller) main ++ commonLeft
 abbrev pub marksFit : Share → Bool
 marksFit s = ltb (length (s .shares)) (length (s .marks))
 
-abbrev pub mostCallers : ℕ
-mostCallers = 8
+abbrev pub maxCallers : ℕ
+maxCallers = 8
 
 -- no more is marked taken than a stretch holds
 unfoldable pub eachWithin : List ℕ → List ℕ → Bool
@@ -54,7 +54,7 @@ eachWithin (n ∷ shares) (k ∷ marks) = leb k n && eachWithin shares marks
 unfoldable pub sharesFit : Share → List ℕ → Bool
 sharesFit s main =
     leb 1 (length (s .shares))
-    && leb (length (s .shares)) mostCallers
+    && leb (length (s .shares)) maxCallers
     && leb (sum (s .shares)) (length main)
     && eachWithin (s .shares) (s .marks)
     && leb (getD (s .marks) (length (s .shares)) 0) (length main - sum (s .shares))

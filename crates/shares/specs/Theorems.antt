@@ -6,12 +6,12 @@ use mathlib.Core.List.{List, [], _∷_, _++_}
 use mathlib.Core.Option.{none}
 use Prim.Native.Nat.{ℕ, _+_, _≤_, _<_}
 use native.Mathlib.Omega.{arith}
-use borrow.Author.Tests.{eq-eqb}
+use borrow.Author.Tests.{eq-eqb, leb-true}
 use lib.Dec.{leb}
 use lib.ListN.{length, getD, take}
 use Rattle.text.specs.Laws.Values.{both}
 use Rattle.job.specs.Line.{Placed}
-use Rattle.job.specs.Job.{answer, Job, jobOf}
+use Rattle.job.specs.Job.{answer, accepted, maxBytes, Job, jobOf}
 use Rattle.job.specs.Reply.{TextReply, refusedText}
 use Rattle.draws.specs.Draws.{Lent}
 use Rattle.draws.specs.Settle.{settle}
@@ -19,9 +19,9 @@ use Rattle.draws.specs.Known.{SpentAt, mainLeft}
 use Rattle.draws.specs.Left.{spentOn, leftAfter}
 use Rattle.draws.specs.Laws.Spent.{spent-at}
 use Rattle.draws.specs.Laws.Left.{left-spent, taken-enough, taken-needed}
-use Rattle.run.specs.Run.{Source, Memory, RunReply, outcomeWords, enoughWords, lentOf, untouched, runReply}
-use Rattle.backward.specs.Calls.{withSource}
+use Rattle.run.specs.Run.{Source, Memory, RunReply, outcomeWords, enoughWords, lentOf, untouched, runReply, withSource}
 use Rattle.backward.specs.Settling.{settleReply}
+use Rattle.backward.specs.SizeTheorems.{figure-enough}
 use Rattle.backward.specs.CallTheorems.{Demand3, demand-3-calls}
 use Rattle.shares.specs.Shares.{Share, sum, stretchFrom, ownLeft, commonLeft, available, marksFit, marksAfter}
 use Rattle.shares.specs.Replies.{shared, takenBy, takesWords, tested, sharedReply, sharedRunReply, sharedSettleReply}
@@ -31,7 +31,7 @@ use Rattle.shares.specs.Laws.Words.{map-take, available-words, taken-lef
 use Rattle.shares.specs.Laws.Moves.{takes-zero, takes-none, takes-by, kept, moves}
 use Rattle.shares.specs.Laws.Sequences.{nothing-taken, through-within, through-marked, through-left, common-none, others-none}
 use Rattle.shares.specs.Laws.Alone.{call-same, agree-through, alike-through}
-use Rattle.shares.specs.Laws.Spent.{run-passed, run-settles}
+use Rattle.shares.specs.Laws.Spent.{run-passed, run-settles, settling-passed, short-passed, settling-settles}
 
 -- ---- the plain call on the words available
 
@@ -189,6 +189,34 @@ run-spent job m s k e =
     let p = run-passed job m s (ap takesWords e) in
     spent-at _ _ _ k (run-settles job (withSource m (shared s (m .source))) (p .tests) (both (enoughWords (jobOf job .header) m) (marksFit s) (p .lent) .0) k
     (ap (λ (r : RunReply). r .answered) (sym (shared-run-is-plain job m s p)) ∙ e))
+
+-- So is settling.
+pub settling-spent : (job : List ℕ) (from : Source) (out : List ℕ) (s : Share) (k : ℕ) → sharedSettleReply job from out s .reply .answered ≡ answer 14 k
+    → SpentAt (lentOf (jobOf job .header) from) (available s (from .main)) (jobOf job .instructions) k
+unfolding takesWords
+settling-spent job from out s k e =
+    let p = settling-passed job from out s (ap takesWords e) in
+    let enough = leb-true _ _ (both (leb (outcomeWords (jobOf job .header)) (length (from .noiseless))) (marksFit s) (p .lent) .0) in
+    spent-at _ _ _ k (settling-settles job (shared s from) out (p .tests) enough k
+    (ap (λ (r : TextReply). r .answered) (sym (shared-settle-is-plain job from out s p)) ∙ e))
+
+-- ---- number 15
+
+-- Where settling with a share answers 15 and its text is within the limit, the same call with as many bytes as its figure says, or more, and with the marks
+-- that it left succeeds with that figure.
+pub figure-enough-shared : (job : List ℕ) (from : Source) (out : List ℕ) (s : Share) → sharedSettleReply job from out s .reply .answered .number ≡ 15
+    → sharedSettleReply job from out s .reply .figure ≤ maxBytes → (other : List ℕ) → sharedSettleReply job from out s .reply .figure ≤ length other
+    → let again = sharedSettleReply job from other (record { shares = s .shares; marks = sharedSettleReply job from out s .marks; caller = s .caller }) .reply in
+    (again .answered ≡ accepted) × (again .figure ≡ sharedSettleReply job from out s .reply .figure)
+figure-enough-shared job from out s short within other lent =
+    let p = short-passed job from out s short in
+    let plain = shared-settle-is-plain job from out s p in
+    let again = shared-settle-is-plain job from other s p in
+    let same : sharedSettleReply job from out s .reply .figure ≡ settleReply job (shared s from) out .figure = ap (λ (r : TextReply). r .figure) plain in
+    let kept : sharedSettleReply job from out s .marks ≡ s .marks =
+    refused-settling-takes-none job from out s (λ zero. absurd (omega (arith, zero, short))) (λ spent. absurd (omega (arith, spent, short))) in
+    let enough = figure-enough job (shared s from) out (sym (ap (λ (r : TextReply). r .answered .number) plain) ∙ short) other (omega (arith, same, within)) (omega (arith, same, lent)) in
+    rw kept (ap (λ (r : TextReply). r .answered) again ∙ enough .0, ap (λ (r : TextReply). r .figure) again ∙ enough .1 ∙ sym same)
 
 -- ---- demand 3
 

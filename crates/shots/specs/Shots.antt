@@ -35,11 +35,11 @@ nextOf (draw.Fault e next) = next
 abbrev pub FallsAt : Float → List ℕ → ℕ → Type 0
 FallsAt p words at = at < length words → falls (getD words at 0) p ≡ true
 
--- One shot's draw, from a place of the words on: for every noise line that the values stand for, and all noiseless bits in which its condition is
--- satisfied or not, as was said.
-pub record ShotDrawn (words : List ℕ) (at : ℕ) (p : Float) (d : PauliDistribution) (sums : List Float) (satisfied : Bool) (r : Draw) : Type 0 where
+-- One shot's draw, from a place of the words on: for every noise line that the values stand for, by whose p the word there brings a fault, and all noiseless
+-- bits in which its condition is satisfied or not, as was said.
+pub record ShotDrawn (words : List ℕ) (at : ℕ) (d : PauliDistribution) (sums : List Float) (satisfied : Bool) (r : Draw) : Type 0 where
   pub within : nextOf r ≤ length words
-  pub is : (n : Noise) (bits : Bits) → Represents n p d sums → isSatisfied (n .condition) bits ≡ satisfied
+  pub is : {p : Float} → FallsAt p words at → (n : Noise) (bits : Bits) → Represents n p d sums → isSatisfied (n .condition) bits ≡ satisfied
       → drawOf words r ≡ drawShot n bits (drop at words)
 
 -- ---- the next fault

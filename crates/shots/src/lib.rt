@@ -2,8 +2,9 @@
 use choice::Choice;
 use choice::Chooser;
 use choice::element;
+use noise::scan::falls_next;
+use noise::scan::next_skip;
 use noise::words::count;
-use noise::words::next_skip;
 use pauli::Shot;
 ghost use mathlib.Core.Path.{_≡_};
 ghost use mathlib.Core.List.{_++_};
@@ -11,8 +12,9 @@ ghost use Prim.Native.Nat.{_*_, _/_, _%_, _<_, _≤_};
 ghost use lib.ListN.{length, getD};
 ghost use lib.Ieee.{Float};
 ghost use Rattle.pauli.specs.Bits.{bit};
+ghost use Rattle.noise.specs.Scan.{thresholdOf};
 ghost use Rattle.choice.specs.Choice.{Sized};
-ghost use Rattle.shots.specs.Shots.{FallsAt, ShotDrawn, FaultFound};
+ghost use Rattle.shots.specs.Shots.{ShotDrawn, FaultFound};
 
 // What one shot draws: no fault, or an element, each with the place of the next word; or a word was needed past the end.
 pub enum ShotDraw {
@@ -21,8 +23,8 @@ pub enum ShotDraw {
     Fault(u64, usize),
 }
 
-// One shot's draw, where the word at its place, if there is one, brings a fault. The words lie in two parts, the second behind the first. `satisfied` says
-// whether the condition is, in that shot.
+// One shot's draw, where the word at its place, if there is one, brings a fault. The words lie in two parts, the second behind the first. `satisfied`
+// says whether the condition is, in that shot.
 pub fn draw_shot(
     words: &[u64],
     more: &[u64],
@@ -32,7 +34,7 @@ pub fn draw_shot(
     satisfied: bool,
 ) -> ShotDraw
     requires { ⌜ Sized chooser ⌝ }
-    ensures { λ r. ⌜ ((p : Float) → FallsAt p (now (words .entry) ++ now (more .entry)) at → ShotDrawn (now (words .entry) ++ now (more .entry)) at p (chooser .kind) (now (sums .entry)) satisfied r) ⌝ }
+    ensures { λ r. ⌜ ShotDrawn (now (words .entry) ++ now (more .entry)) at (chooser .kind) (now (sums .entry)) satisfied r ⌝ }
 {
     if count(words, more) <= at {
         return ShotDraw::Spent;
@@ -63,25 +65,25 @@ pub enum NextFault {
     At(Shot, u64, usize),
 }
 
-// The next fault in the shots from one on. The mask has the shots whose condition is satisfied.
-pub fn next_fault(
+// The next fault in the shots from one on, by the threshold of the line's p. The mask has the shots whose condition is satisfied.
+fn fault_from(
     words: &[u64],
     more: &[u64],
     at: usize,
     mask: &[u64],
     shot: Shot,
     shots: usize,
-    p: f64,
+    t: u64,
     chooser: Chooser,
     sums: &[f64],
 ) -> NextFault
     requires { ⌜ (at ≤ length (now words ++ now more)) × (shot .0 ≤ shots) × (shots ≤ 64 * length (now mask)) × Sized chooser ⌝ }
-    ensures { λ r. ⌜ FaultFound (now (words .entry) ++ now (more .entry)) at (now (mask .entry)) (shot .0) shots p (chooser .kind) (now (sums .entry)) r ⌝ }
+    ensures { λ r. ⌜ ((p : Float) → t ≡ thresholdOf p → FaultFound (now (words .entry) ++ now (more .entry)) at (now (mask .entry)) (shot .0) shots p (chooser .kind) (now (sums .entry)) r) ⌝ }
 {
     let mut i = at;
     let mut s = shot.0;
     while s < shots {
-        let skip = next_skip(words, more, i, shots - s, p);
+        let skip = next_skip(words, more, i, shots - s, t);
         i += skip;
         s += skip;
         if s == shots {
@@ -101,4 +103,35 @@ pub fn next_fault(
         s += 1;
     }
     NextFault::Done(i)
+}
+
+// The same with a look at the first shot by itself: with a p near 1 that has a fault, and what the loop prepares would cost more than the draw.
+pub fn next_fault(
+    words: &[u64],
+    more: &[u64],
+    at: usize,
+    mask: &[u64],
+    shot: Shot,
+    shots: usize,
+    t: u64,
+    chooser: Chooser,
+    sums: &[f64],
+) -> NextFault
+    requires { ⌜ (at ≤ length (now words ++ now more)) × (shot .0 ≤ shots) × (shots ≤ 64 * length (now mask)) × Sized chooser ⌝ }
+    ensures { λ r. ⌜ ((p : Float) → t ≡ thresholdOf p → FaultFound (now (words .entry) ++ now (more .entry)) at (now (mask .entry)) (shot .0) shots p (chooser .kind) (now (sums .entry)) r) ⌝ }
+{
+    if shot.0 < shots {
+        if falls_next(words, more, at, t) {
+            match draw_shot(words, more, at, chooser, sums, is_set(mask, shot)) {
+                ShotDraw::Spent => {
+                    return NextFault::Spent;
+                }
+                ShotDraw::Quiet(_) => {}
+                ShotDraw::Fault(e, next) => {
+                    return NextFault::At(shot, e, next);
+                }
+            }
+        }
+    }
+    fault_from(words, more, at, mask, shot, shots, t, chooser, sums)
 }

@@ -1,5 +1,5 @@
--- Theorems about the table of single faults: at most sixteen groups; what a forward run with the one injection gives is what the group, carried back once to the noise line, says
--- of the element; any shot gives the same; and so does the call that runs a job with that one injection. Assumes nothing.
+-- Theorems about the table of single faults: at most sixteen groups; what a forward run with the one injection gives is what the group, carried back once to
+-- the noise line, says of the element; any shot gives the same; and so does the call that runs a job with that one injection. Assumes nothing.
 use mathlib.Core.Path.{_≡_, refl, sym, ap, subst, _∙_}
 use mathlib.Core.Bool.{Bool, true, false, cond, _&&_}
 use mathlib.Core.List.{List, [], _∷_, _++_}

@@ -1,5 +1,5 @@
 -- Definitions. The ten starred cases of document 01, "Printed session", as one table of inputs and values, from the bytes of a job to the bytes or
--- the count that comes of it; and cases of document 02's table of single faults. Assumes nothing.
+-- the count that comes of it; and cases of document 02: sizes of noise lines (note 6) and the table of single faults (note 13). Assumes nothing.
 use mathlib.Core.Bool.{Bool, true, false, _&&_}
 use mathlib.Core.List.{List, [], _∷_, _++_}
 use Prim.Native.Nat.{ℕ, _-_, _^_}

@@ -20,6 +20,11 @@ right k state = bitXor state (state / 2 ^ k)
 unfoldable pub step : ℕ → ℕ
 step state = left 17 (right 7 (left 13 state))
 
+-- a state after so many steps
+unfoldable pub stepped : ℕ → ℕ → ℕ
+stepped zero state = state
+stepped (suc n) state = step (stepped n state)
+
 -- so many words from a state on; the state itself is none of them
 unfoldable pub wordsFrom : ℕ → ℕ → List ℕ
 wordsFrom zero state = []

@@ -3,8 +3,8 @@ use mathlib.Core.Path.{_≡_, refl}
 use mathlib.Core.List.{List}
 use Prim.Native.Nat.{ℕ, suc, _<_}
 use lib.ListN.{length, getD}
-use Rattle.stream.specs.Stream.{left, right, step, fillReply}
-use Rattle.stream.specs.Laws.Words.{stepped, words-stepped, fill-refused, fill-done}
+use Rattle.stream.specs.Stream.{left, right, step, stepped, fillReply}
+use Rattle.stream.specs.Laws.Words.{words-stepped, fill-refused, fill-done}
 
 -- From state 1 the first word is 1,082,269,761.
 pub first-word : step 1 ≡ 1082269761

@@ -1,4 +1,4 @@
--- What a call that writes text says, and the lent bytes after it, as one reply. Assumes nothing.
+-- Definitions. What a call that writes text says, and the lent bytes after it, as one reply. Assumes nothing.
 use mathlib.Core.List.{List}
 use Prim.Native.Nat.{ℕ}
 use Rattle.job.specs.Reply.{TextReply}

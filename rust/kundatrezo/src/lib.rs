@@ -288,7 +288,7 @@ pub fn walk(job: &[u8], shot: u64, set: &[u64]) -> Answer<u64> {
 }
 
 /// Write the job with depolarizing noise of probability `p` before each measurement and after each gate at the front of `out`, and say how many bytes
-/// it has.
+/// it has. A qubit that control and target of an `op=k` line share stands in its noise line once, with the control's.
 ///
 /// # Errors
 ///

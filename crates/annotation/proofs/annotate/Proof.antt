@@ -1,7 +1,7 @@
 -- `annotation::annotate` meets its contract. Assumes nothing.
 use mathlib.Core.Path.{sym, ap, _∙_}
 use Rattle.job.specs.declared.Answer.{Answer}
-use Rattle.value_tests.specs.Laws.Floats.{only-accepted, only-refused}
+use Rattle.check_values.specs.Laws.Floats.{only-accepted, only-refused}
 use Rattle.annotation.specs.Laws.Replies.{refused-reply, probability-reply, accepted-reply}
 use borrow.Author.Needs.{needs}
 use Rattle.annotation.proofs.annotate.Statement.{statement}

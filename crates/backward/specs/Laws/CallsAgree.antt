@@ -26,10 +26,10 @@ use Rattle.draws.specs.Theorems.{executed-spent, executed-ended}
 use Rattle.draws.specs.SettledTheorems.{settled-accepted, settled-job, settled-recorded, settled-again}
 use Rattle.rows.specs.Words.{wordsPerRow, bitIn, pack}
 use Rattle.rows.specs.Laws.Pack.{length-pack, pack-bit}
-use Rattle.run.specs.Run.{Source, Memory, frameWords, outcomeWords, enoughWords, lentOf, RunReply, spentReply, finishedReply, endedReply, runReply}
+use Rattle.run.specs.Run.{Source, Memory, frameWords, outcomeWords, enoughWords, lentOf, RunReply, spentReply, finishedReply, endedReply, runReply, withSource}
 use Rattle.backward.specs.Walk.{walk}
 use Rattle.backward.specs.Settling.{settledAnswer, settleReply}
-use Rattle.backward.specs.Calls.{settlingOf, withSource}
+use Rattle.backward.specs.Calls.{settlingOf}
 use Rattle.backward.specs.Laws.Replies.{settle-reply, settle-refused, settled-fits, run-reply, Ran, run-cases, RunsTo, run-ends}
 use Rattle.backward.specs.Walking.{noiseFirst, firstNoise, lineFirst, plainLines, walkable, walkAnswer, walkReply}
 

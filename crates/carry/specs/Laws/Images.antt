@@ -46,9 +46,6 @@ module _ (n : ℕ) (qs : List ℕ) (below : allBelow n qs ≡ true) (d : distinc
 
 -- ---- what is put at the operands
 
-given-none : (b : Bool) → given b none ≡ none
-given-none b = fun-ext (λ i. simp bitwise)
-
 -- one operand more
 one-more : (q : ℕ) (a b : Bool) (s t : Bits)
     → when a (X-at q) ∗ when b (Z-at q) ∗ record { x = s; z = t } ≡ record { x = given a (only q) △ s; z = given b (only q) △ t }

@@ -58,9 +58,6 @@ pub parts-put : (s : Bits) (new : Bits) (qs : List ℕ) → distinct qs ≡ true
 unfolding _∩_ _△_
 parts-put s new qs d = fun-ext (λ q. where-is qs q (off q) (on q))
   where
-    sum : Bits
-    sum j = s (getD qs j 0) ⊕ new j
-
     off : (q : ℕ) → outside qs q ≡ true → s q ⊕ placed (λ j. s (getD qs j 0) ⊕ new j) qs q ≡ (s q && outside qs q) ⊕ placed new qs q
     off q o = rw (placed-off (λ j. s (getD qs j 0) ⊕ new j) qs q o, placed-off new qs q o, o) (simp f2)
 

@@ -7,7 +7,7 @@ use lib.Ieee.{Float}
 use Rattle.job.specs.Grammar.{Written}
 use Rattle.job.specs.Checks.{Context, headerFits, next, refusalOf}
 use Rattle.job.specs.Laws.Tests.{refusal-passes}
-use Rattle.value_tests.specs.Contexts.{totalIf}
+use Rattle.check_values.specs.Contexts.{totalIf}
 use Rattle.instructions.specs.Reading.{hasTotal}
 
 module _ (c : Context) (last : Bool) (w : Written) (e : refusalOf c last (some w) ≡ 0) where

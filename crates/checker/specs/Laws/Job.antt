@@ -26,8 +26,8 @@ use Rattle.instructions.specs.Reading.{lineAt, NextLine}
 use Rattle.instructions.specs.Laws.Meaning.{said-by}
 use Rattle.checker.specs.declared.Examined.{Examined}
 use Rattle.checker.specs.Examines.{Examines}
-use Rattle.value_tests.specs.declared.context.Context.{Context as Known}
-use Rattle.value_tests.specs.Contexts.{contextOf}
+use Rattle.check_values.specs.declared.context.Context.{Context as Known}
+use Rattle.check_values.specs.Contexts.{contextOf}
 
 -- ---- one line of those that are left
 

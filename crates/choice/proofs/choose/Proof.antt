@@ -1,60 +1,58 @@
 -- `choice::choose` meets its contract. The invariant: the choice from here on is the choice from the start.
 use mathlib.Core.Path.{_≡_, refl, sym, _∙_}
 use mathlib.Core.List.{_++_}
-use Prim.Native.Nat.{_-_, _≤_, _<_}
+use Prim.Native.Nat.{_-_, _<_}
 use native.Mathlib.Omega.{arith}
-use lib.ListN.{length, drop}
+use lib.ListN.{length, length-append, drop}
 use borrow.Author.Needs.{needs}
 use borrow.Author.Tests.{lt-ltb, le-ltb}
 use Rattle.draws.specs.Draws.{bounded}
+use Rattle.noise.specs.Laws.Words.{word-read, none-read}
 use Rattle.choice.specs.Laws.Choice.{chose, chose-none, below-limit, choose-takes, choose-rejects, choose-ends}
 use Rattle.choice.proofs.choose.Statement.{statement}
 use Rattle.choice.proofs.choose.Tie as tie
 
 abbrev Inv-loop : tie.InvT-loop
-Inv-loop words more at c limit n i₀ i = bounded c (drop i (words ++ more)) ≡ bounded c (drop at (words ++ more))
+Inv-loop words more at c limit i₀ i = bounded c (drop i (words ++ more)) ≡ bounded c (drop at (words ++ more))
 
 abbrev μ-loop : tie.MeasureT-loop
-μ-loop words more at c limit n i₀ i = n - i
-
-count-requires : tie.Need-count-requires Inv-loop μ-loop
-count-requires c κs = search needs
+μ-loop words more at c limit i₀ i = length (words ++ more) - i
 
 loop-holds : tie.Need-loop-holds Inv-loop μ-loop
 loop-holds c = refl
 
-word-at-requires : tie.Need-word-at-requires Inv-loop μ-loop
-word-at-requires c κs = omega (arith, c .before .before .count .ensures)
+next-word-requires : tie.Need-next-word-requires Inv-loop μ-loop
+next-word-requires c κs = search needs
+
+enum-known-w : tie.Need-enum-known-w Inv-loop μ-loop
+enum-known-w c = search needs
 
 add-i : tie.Need-add-i Inv-loop μ-loop
-add-i c = omega arith
+add-i c =
+    let a = c .before .before .before .before .before .before .before .args in
+    omega (arith, word-read (c .before .before .before .next-word .ensures) (c .before .w .given .1) .0, length-append (a .words .now) (a .more .now), c .before .before .before .before .before .before .before .good)
 
 rem-t10 : tie.Need-rem-t10 Inv-loop μ-loop
-rem-t10 c = below-limit _ _ _ (c .before .before .before .before .before .before .before .pre) (c .if1 .taken)
+rem-t10 c = below-limit _ _ _ (c .before .before .before .before .before .before .before .before .pre) (c .if1 .taken)
 
 returns : tie.Need-returns Inv-loop μ-loop
 returns c =
-    let a = c .before .before .before .before .before .before .before .args in
-    let inside : c .before .before .before .loop .i < length (a .words .now ++ a .more .now) = omega (arith, c .before .before .before .before .count .ensures) in
-    chose _ _
-    (sym (c .before .before .before .loop .inv) ∙ choose-takes _ _ _ _ _ (c .before .before .before .before .before .before .before .pre) (c .before .word-at .ensures) inside (lt-ltb _ _ (c .if1 .taken)))
-    (omega (arith, c .before .before .before .before .count .ensures))
+    let read = word-read (c .before .before .before .before .next-word .ensures) (c .before .before .w .given .1) in
+    chose _ _ (sym (c .before .before .before .before .before .loop .inv) ∙ choose-takes _ _ _ _ _ (c .before .before .before .before .before .before .before .before .pre) (read .1) (read .0) (lt-ltb _ _ (c .if1 .taken))) (omega (arith, read .0))
 
 loop-less : tie.Need-loop-less Inv-loop μ-loop
-loop-less c = omega arith
+loop-less c = omega (arith, word-read (c .before .before .before .before .next-word .ensures) (c .before .before .w .given .1) .0)
 
 loop-again : tie.Need-loop-again Inv-loop μ-loop
 loop-again c =
-    let a = c .before .before .before .before .before .before .before .args in
-    let inside : c .before .before .before .loop .i < length (a .words .now ++ a .more .now) = omega (arith, c .before .before .before .before .count .ensures) in
-    sym (choose-rejects _ _ _ _ _ (c .before .before .before .before .before .before .before .pre) (c .before .word-at .ensures) inside (le-ltb _ _ (c .if1 .left)))
-    ∙ c .before .before .before .loop .inv
+    let read = word-read (c .before .before .before .before .next-word .ensures) (c .before .before .w .given .1) in
+    sym (choose-rejects _ _ _ _ _ (c .before .before .before .before .before .before .before .before .pre) (read .1) (read .0) (le-ltb _ _ (c .if1 .left))) ∙ c .before .before .before .before .before .loop .inv
+
+enum-told : tie.Need-enum-told Inv-loop μ-loop
+enum-told c = search needs
 
 returns-2 : tie.Need-returns-2 Inv-loop μ-loop
-returns-2 c =
-    let a = c .before .before .before .before .before .args in
-    let ends : length (a .words .now ++ a .more .now) ≤ c .before .loop .i = omega (arith, c .before .before .count .ensures) in
-    chose-none (sym (c .before .loop .inv) ∙ choose-ends _ _ _ ends)
+returns-2 c = chose-none (sym (c .before .before .before .loop .inv) ∙ choose-ends _ _ _ (none-read (c .before .before .next-word .ensures) (c .enum-told .given .1)))
 
 pub choose-spec : {M : Type 1} → statement M
 choose-spec =
@@ -62,12 +60,13 @@ choose-spec =
     (tie.spec
     Inv-loop
     μ-loop
-    count-requires
     loop-holds
-    word-at-requires
+    next-word-requires
+    enum-known-w
     add-i
     rem-t10
     returns
     loop-less
     loop-again
+    enum-told
     returns-2)

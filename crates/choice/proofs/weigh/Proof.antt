@@ -1,21 +1,20 @@
 -- `choice::weigh` meets its contract.
-use Rattle.choice.specs.Laws.Choice.{weighed, weighed-none}
-use Rattle.draws.specs.Known.{rustPlace}
-use lib.Ieee.{Float}
-use native.Mathlib.Omega.{arith}
 use mathlib.Core.Path.{ap, _∙_}
+use native.Mathlib.Omega.{arith}
+use lib.ListN.{length-append}
+use lib.Ieee.{Float}
 use borrow.Author.Needs.{needs}
+use Rattle.draws.specs.Known.{rustPlace}
+use Rattle.noise.specs.Laws.Words.{word-read, none-read}
+use Rattle.choice.specs.Laws.Choice.{weighed, weighed-none}
 use Rattle.choice.proofs.weigh.Statement.{statement}
 use Rattle.choice.proofs.weigh.Tie as tie
 
-count-requires : tie.Need-count-requires
-count-requires c κs = search needs
+next-word-requires : tie.Need-next-word-requires
+next-word-requires c κs = search needs
 
-returns : tie.Need-returns
-returns c = weighed-none _ (omega (arith, c .before .count .ensures))
-
-word-at-requires : tie.Need-word-at-requires
-word-at-requires c κs = omega (arith, c .before .count .ensures)
+enum-known-w : tie.Need-enum-known-w
+enum-known-w c = search needs
 
 unit-requires : tie.Need-unit-requires
 unit-requires c κs = search needs
@@ -23,13 +22,22 @@ unit-requires c κs = search needs
 place-requires : tie.Need-place-requires
 place-requires c κs = search needs
 
-add-t6 : tie.Need-add-t6
-add-t6 c = search needs
+add-t11 : tie.Need-add-t11
+add-t11 c =
+    let a = c .before .before .before .before .before .before .before .before .before .args in
+    omega (arith, word-read (c .before .before .before .before .before .next-word .ensures) (c .before .before .before .w .given .1) .0, length-append (a .words .now) (a .more .now), c .before .before .before .before .before .before .before .before .before .good)
+
+enum-told : tie.Need-enum-told
+enum-told c = search needs
+
+returns : tie.Need-returns
+returns c =
+    let a = c .before .before .before .before .before .before .before .before .before .args in
+    let read = word-read (c .before .before .before .before .before .next-word .ensures) (c .before .before .before .w .given .1) in
+    weighed (a .at) (read .0) _ (read .1) (omega arith) _ (c .place .ensures ∙ ap (λ (u : Float). rustPlace u (a .sums .now)) (c .before .unit .ensures))
 
 returns-2 : tie.Need-returns-2
-returns-2 c =
-    let a = c .before .before .before .before .before .before .before .before .args in
-    weighed (a .at) (omega (arith, c .before .before .before .before .count .ensures)) _ (c .before .before .word-at .ensures) (omega arith) _ (c .place .ensures ∙ ap (λ (u : Float). rustPlace u (a .sums .now)) (c .before .unit .ensures))
+returns-2 c = weighed-none _ (none-read (c .before .before .next-word .ensures) (c .enum-told .given .1))
 
 pub weigh-spec : {M : Type 1} → statement M
-weigh-spec = tie.close (tie.spec count-requires returns word-at-requires unit-requires place-requires add-t6 returns-2)
+weigh-spec = tie.close (tie.spec next-word-requires enum-known-w unit-requires place-requires add-t11 enum-told returns returns-2)

@@ -3,16 +3,16 @@ use mathlib.Core.Path.{_≡_, refl}
 use mathlib.Core.List.{List, [], _∷_}
 use Rattle.job.specs.Line.{Instruction, Placed}
 use Rattle.job.specs.Sound.{Every, SizeSaid}
-use Rattle.circuit.specs.Correlation.{Seen, correlationOf, seenAfter, elementCount, distributionSize, firstDifferingBy}
+use Rattle.circuit.specs.Correlation.{Seen, correlationOf, seenAfter, saidSize, distributionSize, firstDifferingBy}
 
 -- the size that an instruction says, and its distribution's
-said-same : (i : Instruction) → SizeSaid i → elementCount i ≡ distributionSize i
-unfolding SizeSaid elementCount distributionSize
+said-same : (i : Instruction) → SizeSaid i → saidSize i ≡ distributionSize i
+unfolding SizeSaid saidSize distributionSize
 said-same (Instruction.line l) s = refl
 said-same (Instruction.noise n) s = s
 
 pub measured-same : (seen : List Seen) (is : List Placed) → Every (λ (p : Placed). SizeSaid (p .instruction)) is
-    → firstDifferingBy elementCount seen is ≡ firstDifferingBy distributionSize seen is
+    → firstDifferingBy saidSize seen is ≡ firstDifferingBy distributionSize seen is
 unfolding firstDifferingBy
 measured-same seen [] s = refl
 measured-same seen (p ∷ is) s =

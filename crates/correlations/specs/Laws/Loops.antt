@@ -26,7 +26,7 @@ use Rattle.instructions.specs.Ahead.{instructionsAt}
 use Rattle.instructions.specs.Lines.{Left, numbered}
 use Rattle.instructions.specs.Laws.Steps.{none-left}
 use Rattle.instructions.specs.Laws.Lines.{numbered-some, here, line-read, left-all, left-more}
-use Rattle.circuit.specs.Correlation.{Seen, sizeFits, seenAfter, correlationOf, elementCount, firstDifferingBy, firstDiffering}
+use Rattle.circuit.specs.Correlation.{Seen, sizeFits, seenAfter, correlationOf, saidSize, firstDifferingBy, firstDiffering}
 use Rattle.circuit.specs.Replies.{correlationAnswer, correlationReply}
 use Rattle.correlations.specs.declared.Looked.{Looked}
 use Rattle.correlations.specs.declared.Collected.{Collected}
@@ -52,8 +52,8 @@ module _ (k : ℕ) (l : List ℕ) (ls : List (List ℕ)) (w : Written) (reads : 
       go : (w : Written) → firstDiffering seen (gather k l (some w) (gathered (suc k) ls) .instructions)
           ≡ cond (sizeFits seen (correlationIn w) (sizeIn w)) (firstDiffering (seenAfter seen (correlationIn w) (sizeIn w)) behind) (some k)
       go (Written.header h) = unfold gather correlationIn sizeIn sizeFits seenAfter in refl
-      go (Written.line i) = unfold gather correlationIn sizeIn firstDifferingBy correlationOf elementCount in refl
-      go (Written.noise n) = unfold gather correlationIn sizeIn firstDifferingBy correlationOf elementCount noiseOf in refl
+      go (Written.line i) = unfold gather correlationIn sizeIn firstDifferingBy correlationOf saidSize in refl
+      go (Written.noise n) = unfold gather correlationIn sizeIn firstDifferingBy correlationOf saidSize noiseOf in refl
       go (Written.element v P) = unfold gather correlationIn sizeIn sizeFits seenAfter in refl
 
   gathered-unlike : unlike seen (gathered k (l ∷ ls) .instructions) ≡ cond (sizeFits seen (correlationIn w) (sizeIn w)) (unlike seen behind) (some k)
@@ -62,8 +62,8 @@ module _ (k : ℕ) (l : List ℕ) (ls : List (List ℕ)) (w : Written) (reads : 
     where
       go : (w : Written) → unlike seen (gather k l (some w) (gathered (suc k) ls) .instructions) ≡ cond (sizeFits seen (correlationIn w) (sizeIn w)) (unlike seen behind) (some k)
       go (Written.header h) = unfold gather correlationIn sizeIn sizeFits in refl
-      go (Written.line i) = unfold gather correlationIn sizeIn unlike correlationOf elementCount in refl
-      go (Written.noise n) = unfold gather correlationIn sizeIn unlike correlationOf elementCount noiseOf in refl
+      go (Written.line i) = unfold gather correlationIn sizeIn unlike correlationOf saidSize in refl
+      go (Written.noise n) = unfold gather correlationIn sizeIn unlike correlationOf saidSize noiseOf in refl
       go (Written.element v P) = unfold gather correlationIn sizeIn sizeFits in refl
 
 -- ---- a line that was read

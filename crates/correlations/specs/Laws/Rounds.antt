@@ -10,7 +10,7 @@ use lib.Dec.{eqb}
 use Rattle.job.specs.Line.{Placed}
 use Rattle.job.specs.Grammar.{Written, readLine}
 use Rattle.job.specs.Job.{Gathered, gather, gathered}
-use Rattle.circuit.specs.Correlation.{Seen, seenAfter, sizeFits, correlationOf, elementCount, firstDifferingBy, firstDiffering}
+use Rattle.circuit.specs.Correlation.{Seen, seenAfter, sizeFits, correlationOf, saidSize, firstDifferingBy, firstDiffering}
 use Rattle.instructions.specs.Lines.{numbered}
 use Rattle.instructions.specs.Laws.Lines.{numbered-some}
 use Rattle.correlations.specs.Sizes.{sizeFor, lookFor, lookOf, grown}
@@ -40,7 +40,7 @@ unfolding firstDifferingBy
 differing-same a b [] e = refl
 differing-same a b (i ∷ is) e =
     let o = correlationOf (i .instruction) in
-    let s = elementCount (i .instruction) in
+    let s = saidSize (i .instruction) in
     rw (same-fits a b o s e, differing-same (seenAfter a o s) (seenAfter b o s) is (same-after a b o s e))
 
 -- a correlation that was seen changes nothing
@@ -118,15 +118,15 @@ unlike-from : (k : ℕ) (seen : List Seen) (is : List Placed) → LinesFrom k is
 unfolding unlike
 unlike-from k seen [] f = tt
 unlike-from k seen (i ∷ is) f =
-    at-least k (i .line) (sizeFits seen (correlationOf (i .instruction)) (elementCount (i .instruction))) (unlike seen is) (f .0) (unlike-from (i .line) seen is (f .1))
+    at-least k (i .line) (sizeFits seen (correlationOf (i .instruction)) (saidSize (i .instruction))) (unlike seen is) (f .0) (unlike-from (i .line) seen is (f .1))
 
 differing-from : (k : ℕ) (seen : List Seen) (is : List Placed) → LinesFrom k is → AtLeast k (firstDiffering seen is)
 unfolding firstDifferingBy
 differing-from k seen [] f = tt
 differing-from k seen (i ∷ is) f =
-    let more = seenAfter seen (correlationOf (i .instruction)) (elementCount (i .instruction)) in
-    at-least k (i .line) (sizeFits seen (correlationOf (i .instruction)) (elementCount (i .instruction))) (firstDiffering more is) (f .0)
-    (differing-from (i .line) (seenAfter seen (correlationOf (i .instruction)) (elementCount (i .instruction))) is (f .1))
+    let more = seenAfter seen (correlationOf (i .instruction)) (saidSize (i .instruction)) in
+    at-least k (i .line) (sizeFits seen (correlationOf (i .instruction)) (saidSize (i .instruction))) (firstDiffering more is) (f .0)
+    (differing-from (i .line) (seenAfter seen (correlationOf (i .instruction)) (saidSize (i .instruction))) is (f .1))
 
 earliest-first : (k : ℕ) (o : Option ℕ) → AtLeast k o → earliest (some k) o ≡ some k
 unfolding earliest
@@ -199,7 +199,7 @@ module _ (a : List Seen) where
   apart : (b : List Seen) (k : ℕ) (is : List Placed) → LinesFrom k is → Consistent a b → firstDiffering (a ++ b) is ≡ earliest (unlike a is) (firstDiffering b is)
   unfolding firstDifferingBy unlike earliest
   apart b k [] f n = refl
-  apart b k (i ∷ is) f n = apart-step b (i .line) (elementCount (i .instruction)) is (correlationOf (i .instruction)) (f .1) n (λ b′ n′. apart b′ (i .line) is (f .1) n′)
+  apart b k (i ∷ is) f n = apart-step b (i .line) (saidSize (i .instruction)) is (correlationOf (i .instruction)) (f .1) n (λ b′ n′. apart b′ (i .line) is (f .1) n′)
 
   -- the lines that differ from the table, and those that differ from each other
   pub round-parts : (k : ℕ) (is : List Placed) → LinesFrom k is → firstDiffering a is ≡ earliest (unlike a is) (firstDiffering [] is)

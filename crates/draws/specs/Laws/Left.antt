@@ -8,11 +8,11 @@ use lib.ListN.{length, take, drop, length-append, length-drop, take-append-drop}
 use lib.Seq.{take-append-seam}
 use Rattle.job.specs.declared.Header.{Header}
 use Rattle.job.specs.Line.{Noise, Instruction, Placed}
-use Rattle.draws.specs.Draws.{Lent, Fault, Draws, drawLine, partOf}
+use Rattle.draws.specs.Draws.{Lent, Draws, drawLine, partOf}
 use Rattle.draws.specs.Settle.{SettledLine, Step, stepOf, Settled, prefixed, settleThen, settle}
 use Rattle.draws.specs.Known.{SpentAt, leftBy, mainLeft}
-use Rattle.draws.specs.Left.{spentOn, leftSpent, leftThen, leftAfter, StaysWithin}
-use Rattle.draws.specs.Laws.Words.{Took, took-more, StepTook, step-took, step-spent, step-drawn, main-read, main-kept, spent-past}
+use Rattle.draws.specs.Left.{spentOn, leftSpent, leftThen, leftAfter}
+use Rattle.draws.specs.Laws.Words.{Took, took-more, StepTook, step-took, step-spent, step-drawn, main-read, spent-past}
 use Rattle.draws.specs.Execute.{States, Executed, executeOne}
 use Rattle.draws.specs.Laws.Settling.{onStep, one-settled}
 use Rattle.draws.specs.Laws.Spent.{Suffix, settle-goes, spent-here, spent-later}
@@ -149,8 +149,7 @@ pub record Stays (lent : Lent) (is : List Placed) (own : List ℕ) : Type 0 wher
   pub left : (more : List ℕ) → leftAfter lent is (own ++ more) ≡ rest ++ more
   pub same : (more : List ℕ) → settle lent is (own ++ more) ≡ settle lent is own
 
-pub stays : (lent : Lent) (is : List Placed) (own : List ℕ) → StaysWithin lent is own → Stays lent is own
-unfolding StaysWithin
+pub stays : (lent : Lent) (is : List Placed) (own : List ℕ) → ((k : ℕ) (s : SpentAt lent own is k) → s .noise .correlation ≡ none → ⊥) → Stays lent is own
 stays lent is own w = go (uses lent is own)
   where
     go : Uses lent is own → Stays lent is own

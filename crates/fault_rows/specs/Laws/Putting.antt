@@ -15,7 +15,7 @@ use Rattle.writer.specs.Laws.Lists.{decimal-length}
 use Rattle.writer.specs.Laws.Placing.{puts-more, placed-sets}
 use Rattle.writer.specs.Laws.Lines.{numbers-lent}
 use Rattle.single_faults.specs.Table.{rowText}
-use Rattle.single_faults.specs.Laws.Rows.{rowsBy}
+use Rattle.single_faults.specs.Carried.{rowsBy}
 use Rattle.fault_rows.specs.Rows.{rowBytes, rowsBytes, RowsBefore}
 
 -- ---- bytes

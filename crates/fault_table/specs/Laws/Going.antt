@@ -9,6 +9,7 @@ use lib.ListN.{length, take, drop, drop-of-length-le}
 use Rattle.pauli.specs.Pauli.{anticommutes}
 use Rattle.text.specs.Bytes.{unlines, lines}
 use Rattle.text.specs.Template.{Value}
+use Rattle.text.specs.Laws.Written.{unlines-append}
 use Rattle.template.specs.Values.{Whole}
 use Rattle.job.specs.declared.Header.{Header}
 use Rattle.job.specs.Line.{SparsePauli, pauliOf, Line, WeightedPauli, sizeOf, Instruction, Placed}
@@ -30,7 +31,7 @@ use Rattle.carry.specs.Laws.Same.{anti-left, same-backward}
 use Rattle.lines_from_last.specs.Line.{LineBefore}
 use Rattle.lines_from_last.specs.Laws.Left.{LinesLeft, all-left, one-done, left-known, gathered-more, none-left}
 use Rattle.lines_back.specs.Back.{Readable}
-use Rattle.single_faults.specs.Laws.Rows.{rowsBy, markBy, carriedTo, carriedMarks, carriedRowsOf, carriedRows}
+use Rattle.single_faults.specs.Carried.{rowsBy, markBy, carriedTo, carriedMarks, carriedRowsOf, carriedRows}
 use Rattle.groups.specs.Lent.{allCarried, startOf}
 use Rattle.groups_back.specs.Back.{carriedBy, GroupsBack}
 use Rattle.fault_rows.specs.Rows.{rowsBytes, RowsBefore}
@@ -40,7 +41,7 @@ use Rattle.noise_rows.specs.Laws.Keeping.{marks-long}
 use Rattle.noise_rows.specs.Laws.Kinds.{rows-same}
 use Rattle.fault_table.specs.Table.{tableBytes, keptAfter, TableReady}
 use Rattle.fault_table.specs.Laws.Measuring.{all-at}
-use Rattle.fault_table.specs.Laws.Lines.{said-bytes, bytes-append, pauli-more, noise-there, noise-fits, unlines-append}
+use Rattle.fault_table.specs.Laws.Lines.{said-bytes, bytes-append, pauli-more, noise-there, noise-fits}
 
 -- ---- a line in front of others
 

@@ -7,7 +7,6 @@ use mathlib.Core.List.{List, [], _∷_, _++_, append-assoc}
 use mathlib.Core.Option.{Option, none, some}
 use borrow.Author.Tests.{leb-false}
 use lib.ListN.{length}
-use Rattle.text.specs.Bytes.{LF, unlines}
 use Rattle.job.specs.declared.Header.{Header}
 use Rattle.job.specs.Line.{SparsePauli, WeightedPauli, Distribution, sizeOf, Instruction, Placed}
 use Rattle.job.specs.Grammar.{Kind, NoiseLine, Written}
@@ -151,10 +150,3 @@ module _ (job : List ℕ) (passes : checkJob job .number ≡ 0) where
           size = s .size;
           narrow = not-wide-here (wideKind (n .kind)) k (firstWide (g .instructions)) here;
         }
-
--- ---- texts
-
-pub unlines-append : (a b : List (List ℕ)) → unlines (a ++ b) ≡ unlines a ++ unlines b
-unfolding unlines
-unlines-append [] b = refl
-unlines-append (l ∷ a) b = ap (λ (t : List ℕ). l ++ LF ∷ t) (unlines-append a b) ∙ sym (append-assoc l (LF ∷ unlines a) (unlines b))

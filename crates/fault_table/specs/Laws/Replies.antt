@@ -10,6 +10,7 @@ use borrow.Author.Tests.{le-leb, lt-leb, eq-eqb, ne-eqb}
 use lib.ListN.{length, take, drop, replicate, length-append, length-replicate, replicate-append-replicate}
 use lib.Seq.{take-at, length-take-le}
 use Rattle.text.specs.Bytes.{unlines}
+use Rattle.text.specs.Laws.Written.{unlines-append}
 use Rattle.job.specs.declared.Header.{Header}
 use Rattle.job.specs.declared.Answer.{Answer}
 use Rattle.job.specs.Line.{pauliOf, sizeOf, Instruction, Placed}
@@ -25,14 +26,14 @@ use Rattle.checker.specs.Examines.{Finds, Examines}
 use Rattle.draws.specs.Draws.{elementAt}
 use Rattle.single_faults.specs.Groups.{Groups, groupsOf, allRecorded}
 use Rattle.single_faults.specs.Table.{firstWide, tableText, tableAnswer, groupsAnswer, tableReply}
-use Rattle.single_faults.specs.Laws.Rows.{markBy, carriedTo, carriedMarks, carriedRowsOf, carriedRows, table-rows}
+use Rattle.single_faults.specs.Laws.Rows.{table-rows}
+use Rattle.single_faults.specs.Carried.{markBy, carriedTo, carriedMarks, carriedRowsOf, carriedRows}
 use Rattle.groups.specs.declared.Tested.the-variants as tested
 use Rattle.groups.specs.Lent.{groupingOf, allCarried, startOf, Startable}
 use Rattle.fault_rows.specs.Rows.{rowsBytes}
 use Rattle.fault_rows.specs.Laws.Putting.{rows-length}
 use Rattle.fault_table.specs.declared.Measured.{Measured}
 use Rattle.fault_table.specs.Table.{instructionBytes, tableBytes, Measures, Grouped, TableReady}
-use Rattle.fault_table.specs.Laws.Lines.{unlines-append}
 
 -- ---- the table's bytes
 

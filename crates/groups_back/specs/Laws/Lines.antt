@@ -27,7 +27,7 @@ use Rattle.backward.specs.Walk.{Carried, carry, Walk, backward}
 use Rattle.carry.specs.Full.{full}
 use Rattle.lines_back.specs.declared.Walk.{Walk as WalkWords}
 use Rattle.lines_back.specs.Back.{Back, Readable, carriedOf, writtenBack, LineBack}
-use Rattle.single_faults.specs.Laws.Rows.{markBy}
+use Rattle.single_faults.specs.Carried.{markBy}
 use Rattle.groups.specs.Lent.{carriedIn, allCarried}
 use Rattle.groups.specs.Laws.Words.{partly, partly-length, partly-before, partly-from, all-first}
 use Rattle.groups_back.specs.Back.{carriedBy, GroupBack, GroupsBack, stillForm}

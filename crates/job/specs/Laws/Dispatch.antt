@@ -1,6 +1,6 @@
 -- A line's mark, one byte, names the one form that the line can have, so that code which looks at the mark reads by one template. Assumes nothing.
 use Prim.Native.Nat.{ℕ, _+_}
-use mathlib.Core.Path.{_≡_, refl, ap, _∙_}
+use mathlib.Core.Path.{_≡_, refl, ap}
 use mathlib.Core.Bool.{Bool, true, false, cond, not, _&&_}
 use mathlib.Core.List.{List, [], _∷_}
 use mathlib.Core.Option.{Option, none, some}
@@ -8,10 +8,10 @@ use borrow.Author.Tests.{ltb-true, eqb-true, eqb-false, not-true}
 use lib.Dec.{eqb, ltb}
 use lib.ListN.{getD}
 use Rattle.text.specs.Bytes.{bytes, behind}
-use Rattle.text.specs.Template.{Value, valuesOf, numberAt, listAt}
+use Rattle.text.specs.Template.{Value, valuesOf}
 use Rattle.text.specs.Laws.Values.{both}
 use Rattle.text.specs.Laws.Places.{literals, same-place}
-use Rattle.job.specs.Grammar.{Kind, Written, noiseLine, Form, forms, said, orLater, readBy, readLine}
+use Rattle.job.specs.Grammar.{Written, Form, forms, said, orLater, readBy, readLine}
 use Rattle.job.specs.Marks.{markOf, readAs, formFrom, formByMark}
 
 -- ---- marks
@@ -105,9 +105,3 @@ read-marked (f ∷ fs) l m =
 pub read-by-mark : (l : List ℕ) → readLine l ≡ readAs (formByMark (markOf l)) l
 unfolding readLine
 read-by-mark l = read-marked forms l forms-marked
-
--- an example: at a known mark the form computes
-depolarizing-read : (l : List ℕ) → markOf l ≡ 50
-    → readLine l ≡ said (λ v. noiseLine (Kind.depolarizing (listAt 2 v)) (numberAt 2 v) v) (valuesOf (bytes "op=n p=H corr=C cond=L parity=B d=2 q=Q size=N") l)
-unfolding formFrom markOf behind forms bytes
-depolarizing-read l e = read-by-mark l ∙ rw e

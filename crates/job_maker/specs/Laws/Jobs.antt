@@ -10,6 +10,7 @@ use lib.Dec.{eqb}
 use lib.ListN.{length, length-append}
 use Rattle.text.specs.Bytes.{LF, bytes, unlines}
 use Rattle.text.specs.Template.{Value, lineText}
+use Rattle.text.specs.Laws.Written.{unlines-append}
 use Rattle.job.specs.declared.Header.{Header}
 use Rattle.job.specs.Sound.{HeaderSound}
 use Rattle.writer.specs.Placed.{Puts}
@@ -81,11 +82,6 @@ header-length h = omega (arith, length-append (headerText h) (LF ∷ []), go (eq
     go false = omega (arith, line-length (bytes "op=job qubits=N outcomes=N shots=N") numbers)
 
 -- ---- the loop over the lines
-
-unlines-append : (a b : List (List ℕ)) → unlines (a ++ b) ≡ unlines a ++ unlines b
-unfolding unlines
-unlines-append [] b = refl
-unlines-append (l ∷ a) b = ap (λ (r : List ℕ). l ++ LF ∷ r) (unlines-append a b) ∙ sym (append-assoc l (LF ∷ unlines a) (unlines b))
 
 texts-first : (h : Header) (n i recorded state : ℕ) → i < n
     → unlines (madeTexts h (n - i) recorded state)

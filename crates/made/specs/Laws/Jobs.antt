@@ -11,6 +11,7 @@ use lib.ListN.{length, drop, length-append}
 use Rattle.text.specs.Bytes.{LF, unlines}
 use Rattle.text.specs.Template.{Value, lineText}
 use Rattle.text.specs.Written.{Free, AllFree}
+use Rattle.text.specs.Laws.Written.{unlines-append}
 use Rattle.job.specs.declared.Header.{Header}
 use Rattle.job.specs.Line.{Instruction}
 use Rattle.job.specs.Grammar.{Written, headerWith, readLine}
@@ -128,9 +129,7 @@ pub record MadeKnown (h : Header) (r n : ℕ) (ts : List (List ℕ)) : Type 0 wh
   pub short : length (unlines ts) ≤ 1048 * n
 
 pub unlines-length : (a b : List (List ℕ)) → length (unlines (a ++ b)) ≡ length (unlines a) + length (unlines b)
-unfolding unlines
-unlines-length [] b = omega arith
-unlines-length (l ∷ a) b = omega (arith, unlines-length a b, length-append l (LF ∷ unlines (a ++ b)), length-append l (LF ∷ unlines a))
+unlines-length a b = ap length (unlines-append a b) ∙ length-append (unlines a) (unlines b)
 
 unfoldable pub made-more : {h : Header} {r : ℕ} {Is : Instruction → Type 0} {m : Making.Made} {n : ℕ} {ts : List (List ℕ)} → Makes h r Is m → MadeKnown h (m .recorded) n ts
     → MadeKnown h r (suc n) (m .texts ++ ts)

@@ -1,6 +1,5 @@
 -- The part of a list that a noise line reads from, in two pieces, and words that bring no fault. Laws. Assumes nothing.
 use Prim.Native.Nat.{ℕ, zero, suc, _+_, _-_, _%_, _^_, _<_, _≤_}
-use native.Mathlib.Nat.{sub-zero, suc-sub-suc, suc-add}
 use native.Mathlib.Omega.{arith}
 use mathlib.Core.Path.{_≡_, refl, sym, ap, _∙_}
 use mathlib.Core.Bool.{Bool, true, false, cond}
@@ -13,8 +12,10 @@ use Rattle.draws.specs.Draws.{falls, Lent, partOf}
 use Rattle.draws.specs.Laws.Spent.{drop-append}
 use Rattle.noise.specs.declared.Correlation.{Correlation}
 use Rattle.noise.specs.declared.Correlation.the-variants.{Uncorrelated, Shared}
+use Rattle.noise.specs.declared.NextWord.{NextWord}
+use Rattle.noise.specs.declared.NextWord.the-variants as next
 use Rattle.noise.specs.Kinds.{correlationOf}
-use Rattle.noise.specs.Words.{skipOf, moreOf}
+use Rattle.noise.specs.Words.{skipOf, moreOf, WordIs, WordRead}
 
 -- what a list holds from a place on, cut at its length
 pub tail-whole : (ws : List ℕ) (i : ℕ) → take (length ws - i) (drop i ws) ≡ drop i ws
@@ -49,24 +50,32 @@ both-second ws more i h =
     let back : length ws + (i - length ws) ≡ i = omega arith in
     sym (getD-append-add ws more (i - length ws) 0) ∙ ap (λ (j : ℕ). getD (ws ++ more) j 0) back
 
+-- ---- the word at a place
+
+module _ {words : List ℕ} {at : ℕ} where
+  pub word-there : {w : ℕ} → at < length words → w ≡ getD words at 0 → WordRead words at (next.Word w)
+  unfolding WordIs
+  word-there h e = record { is = (h, e) }
+
+  pub words-ended : length words ≤ at → WordRead words at next.Spent
+  unfolding WordIs
+  words-ended h = record { is = h }
+
+  module _ {r : NextWord} (q : WordRead words at r) where
+    pub word-read : {w : ℕ} → r ≡ next.Word w → (at < length words) × (w ≡ getD words at 0)
+    unfolding WordIs
+    word-read e = rw e at (q .is)
+
+    pub none-read : r ≡ next.Spent → length words ≤ at
+    unfolding WordIs
+    none-read e = rw e at (q .is)
+
 -- ---- words that bring no fault
 
 skip-nil : (p : Float) (most : ℕ) → skipOf p most [] ≡ 0
 unfolding skipOf
 skip-nil p zero = refl
 skip-nil p (suc most) = refl
-
--- neither more than so many, nor more than there are
-pub skip-within : (p : Float) (most : ℕ) (ws : List ℕ) → (skipOf p most ws ≤ most) × (skipOf p most ws ≤ length ws)
-unfolding skipOf
-skip-within p zero ws = omega arith
-skip-within p (suc most) [] = omega arith
-skip-within p (suc most) (w ∷ ws) = go (falls w p) (skip-within p most ws)
-  where
-    go : (b : Bool) → (skipOf p most ws ≤ most) × (skipOf p most ws ≤ length ws)
-        → (cond b 0 (suc (skipOf p most ws)) ≤ suc most) × (cond b 0 (suc (skipOf p most ws)) ≤ suc (length ws))
-    go true ih = omega arith
-    go false ih = omega arith
 
 -- so many as there are words are the most
 skip-all : (p : Float) (most : ℕ) (ws : List ℕ) → length ws ≤ most → skipOf p (length ws) ws ≡ skipOf p most ws
@@ -92,49 +101,6 @@ skip-falls p (suc most) (w ∷ ws) h l = go (falls w p) refl (skip-falls p most 
         → falls (getD (w ∷ ws) (cond b 0 (suc (skipOf p most ws))) 0) p ≡ true
     go true f ih a b = f
     go false f ih a b = ih (omega arith) (omega arith)
-
--- a fault in the first part, or none, and then those of the second
-skip-stays : (p : Float) (most : ℕ) (ws more : List ℕ) → skipOf p most ws < length ws → skipOf p most ws ≡ skipOf p most (ws ++ more)
-unfolding skipOf
-skip-stays p zero ws more h = refl
-skip-stays p (suc most) [] more h = absurd (omega arith)
-skip-stays p (suc most) (w ∷ ws) more h = go (falls w p) (skip-stays p most ws more) h
-  where
-    go : (b : Bool) → (skipOf p most ws < length ws → skipOf p most ws ≡ skipOf p most (ws ++ more))
-        → cond b 0 (suc (skipOf p most ws)) < suc (length ws) → cond b 0 (suc (skipOf p most ws)) ≡ cond b 0 (suc (skipOf p most (ws ++ more)))
-    go true ih l = refl
-    go false ih l = ap suc (ih (omega arith))
-
-skip-past : (p : Float) (most : ℕ) (ws more : List ℕ) → length ws ≤ skipOf p most ws
-    → skipOf p most ws + skipOf p (most - skipOf p most ws) more ≡ skipOf p most (ws ++ more)
-unfolding skipOf
-skip-past p zero [] more h = refl
-skip-past p zero (w ∷ ws) more h = absurd (omega arith)
-skip-past p (suc most) [] more h = rw sub-zero (omega arith)
-skip-past p (suc most) (w ∷ ws) more h = go (falls w p) (skip-past p most ws more) h
-  where
-    go : (b : Bool) → (length ws ≤ skipOf p most ws → skipOf p most ws + skipOf p (most - skipOf p most ws) more ≡ skipOf p most (ws ++ more))
-        → suc (length ws) ≤ cond b 0 (suc (skipOf p most ws))
-        → cond b 0 (suc (skipOf p most ws)) + skipOf p (suc most - cond b 0 (suc (skipOf p most ws))) more ≡ cond b 0 (suc (skipOf p most (ws ++ more)))
-    go true ih l = absurd (omega arith)
-    go false ih l = rw (suc-sub-suc, suc-add) (ap suc (ih (omega arith)))
-
-module _ (p : Float) (ws : List ℕ) (at most k : ℕ) (is : k ≡ skipOf p most (drop at ws)) where
-  pub skip-fits : (k ≤ most) × (k ≤ length ws - at)
-  skip-fits = omega (arith, skip-within p most (drop at ws), length-drop at ws)
-
-module _ (p : Float) (ws more : List ℕ) (at most k : ℕ) (is : k ≡ skipOf p most (drop at ws)) where
-  pub skip-here : at + k < length ws → k ≡ skipOf p most (drop at (ws ++ more))
-  skip-here h =
-      is ∙ skip-stays p most (drop at ws) (drop (at - length ws) more) (omega (arith, is, length-drop at ws)) ∙ ap (skipOf p most) (sym (drop-append at ws more))
-
-  pub skip-on : length ws ≤ at + k → (j : ℕ) → j ≡ skipOf p (most - k) (drop (at + k - length ws) more) → k + j ≡ skipOf p most (drop at (ws ++ more))
-  skip-on h j next =
-      let whole : skipOf p most (drop at ws) + skipOf p (most - skipOf p most (drop at ws)) (drop (at - length ws) more) ≡ skipOf p most (drop at (ws ++ more)) =
-      skip-past p most (drop at ws) (drop (at - length ws) more) (omega (arith, is, length-drop at ws)) ∙ ap (skipOf p most) (sym (drop-append at ws more)) in
-      let same : at + k - length ws ≡ at - length ws = omega (arith, skip-fits p ws at most k is) in
-      ap (λ (x : ℕ). k + x) (next ∙ ap (λ (x : ℕ). skipOf p (most - k) (drop x more)) same)
-      ∙ ap (λ (x : ℕ). x + skipOf p (most - x) (drop (at - length ws) more)) is ∙ whole
 
 module _ (p : Float) (ws : List ℕ) (at i n : ℕ) where
   -- no word is left, a fault, and a word that brings none

@@ -3,7 +3,7 @@ use types.Run.{miss}
 use native.Mathlib.Omega.{arith}
 use mathlib.Core.List.{[], _∷_}
 use Rattle.instructions.specs.Laws.Meaning.{othersThan}
-use Rattle.single_faults.specs.Laws.Rows.{rowsBy}
+use Rattle.single_faults.specs.Carried.{rowsBy}
 use Rattle.fault_rows.specs.Rows.{rowsBytes}
 use Rattle.noise_rows.specs.Laws.Kinds.{rows-as, single-held, single-room, single-rows, list-kept, list-few, list-below, spread-few, spread-room, spread-rows, listed-uniform, listed-weighted, no-rows}
 use borrow.Author.Needs.{needs}

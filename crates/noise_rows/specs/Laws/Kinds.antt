@@ -26,7 +26,7 @@ use Rattle.faults.specs.Laws.Line.{NoiseView, noise-view}
 use Rattle.draws.specs.Draws.{noPauli, elementAt, depolarizingElement}
 use Rattle.backward.specs.Walk.{Carried}
 use Rattle.single_faults.specs.Table.{rowText}
-use Rattle.single_faults.specs.Laws.Rows.{rowsBy}
+use Rattle.single_faults.specs.Carried.{rowsBy}
 use Rattle.groups.specs.Lent.{allCarried}
 use Rattle.fault_rows.specs.Rows.{keptAt, RowsBefore, rowsBytes}
 use Rattle.noise_rows.specs.Said.{heldPauli, PauliHeld, wideKind, wideSaid, sizeSaid, marksBy, marksOf, noElement, rowsSaid, NoiseFits, RowsReady}

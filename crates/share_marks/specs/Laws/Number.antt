@@ -7,7 +7,7 @@ use native.Mathlib.Omega.{arith}
 use borrow.Author.Tests.{le-leb, lt-leb, lt-ltb, le-ltb}
 use lib.Dec.{leb}
 use lib.ListN.{length, getD}
-use Rattle.shares.specs.Shares.{Share, sum, mostCallers, eachWithin, sharesFit}
+use Rattle.shares.specs.Shares.{Share, sum, maxCallers, eachWithin, sharesFit}
 use Rattle.share_marks.specs.Fit.{shareNumber}
 
 module _ (shares marks main : List ℕ) (caller : ℕ) where
@@ -21,11 +21,11 @@ module _ (shares marks main : List ℕ) (caller : ℕ) where
   no-callers h = rw (lt-leb 1 (length shares) h)
 
   module _ (some : 1 ≤ length shares) where
-    pub many-callers : mostCallers < length shares → false ≡ sharesFit share main
+    pub many-callers : maxCallers < length shares → false ≡ sharesFit share main
     unfolding sharesFit
     many-callers h = rw (le-leb 1 (length shares) some, lt-leb (length shares) 8 h)
 
-    module _ (few : length shares ≤ mostCallers) where
+    module _ (few : length shares ≤ maxCallers) where
       pub list-short : length main < sum shares → false ≡ sharesFit share main
       unfolding sharesFit
       list-short h = rw (le-leb 1 (length shares) some, le-leb (length shares) 8 few, lt-leb (sum shares) (length main) h)

@@ -5,8 +5,7 @@ use Prim.Native.Nat.{ℕ}
 use lib.ListN.{length}
 use Rattle.job.specs.declared.Answer.{Answer}
 use Rattle.job.specs.Job.{jobOf}
-use Rattle.run.specs.Run.{Memory, enoughWords, untouched}
-use Rattle.backward.specs.Calls.{withSource}
+use Rattle.run.specs.Run.{Memory, enoughWords, untouched, withSource}
 use Rattle.execution.specs.declared.Answered.{Answered}
 use Rattle.job_shape.specs.declared.Tested.{Tested}
 use Rattle.job_shape.specs.Tested.{Tests}

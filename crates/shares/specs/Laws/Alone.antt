@@ -16,15 +16,13 @@ use Rattle.draws.specs.Draws.{Lent}
 use Rattle.draws.specs.Settle.{Settled, settle}
 use Rattle.draws.specs.Execute.{Ended, starts, execute}
 use Rattle.draws.specs.Known.{onSettled}
-use Rattle.draws.specs.Left.{StaysWithin}
 use Rattle.draws.specs.Laws.Settling.{execute-settle}
 use Rattle.draws.specs.Laws.Left.{stays, own-taken}
-use Rattle.run.specs.Run.{Source, Memory, RunReply, outcomeWords, enoughWords, lentOf, untouched, spentReply, finishedReply, endedReply, runReply}
-use Rattle.backward.specs.Calls.{withSource}
+use Rattle.run.specs.Run.{Source, Memory, RunReply, outcomeWords, enoughWords, lentOf, untouched, spentReply, finishedReply, endedReply, runReply, withSource}
 use Rattle.backward.specs.Settling.{settledAnswer, settleReply}
 use Rattle.shares.specs.Shares.{ownLeft, commonLeft, available, marksFit, sharesFit, moved, marksAfter}
 use Rattle.shares.specs.Replies.{shared, takenBy, takesWords, marksFor, Shared, tested, sharedReply, sharedRunReply, sharedSettleReply}
-use Rattle.shares.specs.Account.{from, withMain, shareOf, Call, Reply, callerOf, callsOf, replyTo, marksBy, handedBy, marksThrough, StaysOwn, takes, TakesAlike, TakeAlike, RunOrStays, AllRunOrStay, Within}
+use Rattle.shares.specs.Account.{from, withMain, shareOf, Call, Reply, callerOf, callsOf, replyTo, marksBy, handedBy, marksThrough, StaysOwn, takes, TakesAlike, TakeAlike, RunOrStays, AllRunOrStay, Within, StaysWithin}
 use Rattle.shares.specs.Laws.Moves.{Called}
 use Rattle.shares.specs.Laws.Sequences.{getD-moved, getD-other, call-called, call-within}
 use Rattle.shares.specs.Laws.Spent.{run-takes}
@@ -126,7 +124,7 @@ module _ (main shares : List ℕ) (c : ℕ) where
     same-settled : (job : List ℕ) (s : Source) → StaysWithin (lentOf (jobOf job .header) s) (jobOf job .instructions) (ownLeft shares marks c main)
         → settle (lentOf (jobOf job .header) s) (jobOf job .instructions) (available (shareOf main shares c marks) main)
         ≡ settle (lentOf (jobOf job .header) s) (jobOf job .instructions) (available (shareOf main shares c other) main)
-    unfolding available
+    unfolding available StaysWithin
     same-settled job s w =
         let t = stays (lentOf (jobOf job .header) s) (jobOf job .instructions) (ownLeft shares marks c main) w in
         t .same (commonLeft shares marks main) ∙ sym (t .same (commonLeft shares other main))

@@ -14,7 +14,7 @@ use Rattle.job.specs.Job.{answer, Job, jobOf, checkJob}
 use Rattle.job.specs.Reply.{ofCall}
 use Rattle.job.specs.Laws.Numbers.{check-of-job}
 use Rattle.run.specs.Run.{Source}
-use Rattle.shares.specs.Shares.{Share, sum, stretchFrom, ownLeft, commonLeft, marksFit, mostCallers, eachWithin, sharesFit, callerFits, moved, marksAfter}
+use Rattle.shares.specs.Shares.{Share, sum, stretchFrom, ownLeft, commonLeft, marksFit, maxCallers, eachWithin, sharesFit, callerFits, moved, marksAfter}
 use Rattle.shares.specs.Replies.{shared, takenBy, takesWords, marksFor, Shared, tested, sharedReply}
 use Rattle.shares.specs.Account.{places, availablePlaces, handed, Passes}
 use Rattle.shares.specs.Laws.Places.{take-places}
@@ -34,7 +34,7 @@ unfolding sharesFit
 fits s main m f c =
     let common = both _ (leb (getD (s .marks) (length (s .shares)) 0) (length main - sum (s .shares))) f in
     let within = both _ (eachWithin (s .shares) (s .marks)) (common .0) in
-    let total = both (leb 1 (length (s .shares)) && leb (length (s .shares)) mostCallers) (leb (sum (s .shares)) (length main)) (within .0) in
+    let total = both (leb 1 (length (s .shares)) && leb (length (s .shares)) maxCallers) (leb (sum (s .shares)) (length main)) (within .0) in
     record {
       marked = ltb-true _ _ m;
       total = leb-true _ _ (total .1);
@@ -52,8 +52,6 @@ pub record Moves (s : Share) (main marks : List ℕ) (places-handed : List ℕ) 
   pub common : ℕ
   pub own-within : own ≤ length (ownLeft (s .shares) (s .marks) (s .caller) main)
   pub common-within : common ≤ length (commonLeft (s .shares) (s .marks) main)
-  -- common words only where the own stretch is used up
-  pub own-first : 0 < common → own ≡ length (ownLeft (s .shares) (s .marks) (s .caller) main)
   pub marks-are : marks ≡ moved (moved (s .marks) (s .caller) own) (length (s .shares)) common
   pub handed-are : places-handed
       ≡ places (stretchFrom (s .shares) (s .caller) + getD (s .marks) (s .caller) 0) own ++ places (sum (s .shares) + getD (s .marks) (length (s .shares)) 0) common
@@ -104,7 +102,6 @@ module _ (j : Job) (s : Share) (from : Source) (f : Fits s (from .main)) where
         common = taken - of-own;
         own-within = omega arith;
         common-within = omega (arith, taken-few);
-        own-first = λ h. omega (arith, h);
         marks-are = refl;
         handed-are = first-places taken _ (length own) _ (length common) taken-few;
       }
@@ -189,22 +186,29 @@ module _ {A : Type 0} (answered : A → Answer) (refuse : Answer → A) (refuses
       go true false f c t = refl
       go false l f c t = refl
 
-  -- A call that takes words has passed every test.
-  pub passed : takesWords (answered (r .reply)) ≡ true → Passes job enough s (from .main)
-  unfolding sharedReply tested takesWords
-  passed t = go (eqb (checkJob job .number) 0) refl (enough && marksFit s) refl (sharesFit s (from .main)) refl (callerFits s) refl t
+  -- A call whose answer no test gives has passed every test.
+  pub passed-by : (P : Answer → Bool) → P (answer 26 0) ≡ false → P (answer 25 0) ≡ false → P (answer 13 0) ≡ false → ((checkJob job .number ≡ 0 → ⊥) → P (checkJob job) ≡ false)
+      → P (answered (r .reply)) ≡ true → Passes job enough s (from .main)
+  unfolding sharedReply tested
+  passed-by P not26 not25 not13 not-tests t =
+      go (eqb (checkJob job .number) 0) refl (enough && marksFit s) refl (sharesFit s (from .main)) refl (callerFits s) refl t
     where
-      no : (a : Answer) → takesWords a ≡ false → takesWords (answered (refuse a)) ≡ true → ⊥
-      no a f t = true≢false (sym t ∙ ap takesWords (refuses a) ∙ f)
+      no : (a : Answer) → P a ≡ false → P (answered (refuse a)) ≡ true → ⊥
+      no a f t = true≢false (sym t ∙ ap P (refuses a) ∙ f)
 
       go : (p : Bool) → eqb (checkJob job .number) 0 ≡ p → (l : Bool) → (enough && marksFit s) ≡ l → (f : Bool) → sharesFit s (from .main) ≡ f → (c : Bool) → callerFits s ≡ c
-          → takesWords (answered (cond p (cond l (cond f (cond c plain (refuse (answer 26 0))) (refuse (answer 25 0))) (refuse (answer 13 0))) (refuse (checkJob job)))) ≡ true
+          → P (answered (cond p (cond l (cond f (cond c plain (refuse (answer 26 0))) (refuse (answer 25 0))) (refuse (answer 13 0))) (refuse (checkJob job)))) ≡ true
           → Passes job enough s (from .main)
       go true p true l true f true c t = record { tests = eqb-true _ 0 p; lent = l; shares = f; caller = c }
-      go true p true l true f false c t = absurd (no (answer 26 0) refl t)
-      go true p true l false f c′ c t = absurd (no (answer 25 0) refl t)
-      go true p false l f′ f c′ c t = absurd (no (answer 13 0) refl t)
-      go false p l′ l f′ f c′ c t = absurd (no (checkJob job) (own-number job (eqb-false _ 0 p)) t)
+      go true p true l true f false c t = absurd (no (answer 26 0) not26 t)
+      go true p true l false f c′ c t = absurd (no (answer 25 0) not25 t)
+      go true p false l f′ f c′ c t = absurd (no (answer 13 0) not13 t)
+      go false p l′ l f′ f c′ c t = absurd (no (checkJob job) (not-tests (eqb-false _ 0 p)) t)
+
+  -- So has one that takes words.
+  pub passed : takesWords (answered (r .reply)) ≡ true → Passes job enough s (from .main)
+  unfolding takesWords
+  passed = passed-by takesWords refl refl refl (own-number job)
 
   -- A call that takes words marks as many as its job takes.
   pub moves : takesWords (answered (r .reply)) ≡ true → r .marks ≡ marksAfter s (from .main) (takenBy (jobOf job) (shared s from))

@@ -13,13 +13,13 @@ count-requires : tie.Need-count-requires
 count-requires c κs = search needs
 
 returns : tie.Need-returns
-returns c = λ p falls. shot-spent _ _ _ _ _ _ (omega (arith, c .before .count .ensures))
+returns c = shot-spent _ _ _ _ _ (omega (arith, c .before .count .ensures))
 
 add-t11 : tie.Need-add-t11
 add-t11 c = search needs
 
 returns-2 : tie.Need-returns-2
-returns-2 c = λ p falls. shot-unsatisfied _ _ _ _ _ _ (omega (arith, c .before .before .count .ensures)) (not-true _ (c .if2 .taken))
+returns-2 c = shot-unsatisfied _ _ _ _ _ (omega (arith, c .before .before .count .ensures)) (not-true _ (c .if2 .taken))
 
 add-element : tie.Need-add-element
 add-element c = search needs
@@ -37,13 +37,13 @@ returns-3 : tie.Need-returns-3
 returns-3 c =
     let a = c .before .before .before .before .before .before .before .before .before .before .args in
     let inside : a .at < length (a .words .now ++ a .more .now) = omega (arith, c .before .before .before .before .before .before .count .ensures) in
-    λ p falls. shot-fault _ _ _ _ _ _ inside (falls inside) (not-false _ (c .before .before .before .before .if2 .left)) (c .before .before .before .element .ensures) _ _ (c .before .e .given .1)
+    shot-fault _ _ _ _ _ inside (not-false _ (c .before .before .before .before .if2 .left)) (c .before .before .before .element .ensures) _ _ (c .before .e .given .1)
 
 returns-4 : tie.Need-returns-4
 returns-4 c =
     let a = c .before .before .before .before .before .before .before .before .before .args in
     let inside : a .at < length (a .words .now ++ a .more .now) = omega (arith, c .before .before .before .before .before .count .ensures) in
-    λ p falls. shot-spent-on _ _ _ _ _ _ inside (falls inside) (not-false _ (c .before .before .before .if2 .left)) (c .before .before .element .ensures) (c .enum-told .given .1)
+    shot-spent-on _ _ _ _ _ inside (not-false _ (c .before .before .before .if2 .left)) (c .before .before .element .ensures) (c .enum-told .given .1)
 
 pub draw-shot-spec : {M : Type 1} → statement M
 draw-shot-spec =

@@ -1,102 +1,53 @@
--- `shots::next_fault` meets its contract. The invariant: the next fault from here on is the next one from the start.
-use Rattle.shots.specs.Laws.Shots.{skip-stays, falls-behind, quiet-within, Later, later-none, later-skip, later-quiet, found-done, found-spent, found-at}
-use borrow.Author.Needs.{needs}
-use lib.ListN.{length, length-append}
-use mathlib.Core.List.{_++_}
+-- `shots::next_fault` meets its contract: the first shot's draw as in `fault_from`, with no shot before it.
 use native.Mathlib.Omega.{arith}
-use Prim.Native.Nat.{_-_, _≤_}
+use borrow.Author.Needs.{needs}
+use Rattle.shots.specs.Laws.Shots.{later-none, found-spent, found-at}
 use Rattle.shots.proofs.next_fault.Statement.{statement}
 use Rattle.shots.proofs.next_fault.Tie as tie
 
-abbrev Inv-loop : tie.InvT-loop
-Inv-loop words more at mask shots p chooser sums i₀ s₀ i s = (i ≤ length (words ++ more)) × (s₀ ≤ s) × (s ≤ shots) × Later (words ++ more) mask shots p (chooser .kind) sums s₀ at s i
+falls-next-requires : tie.Need-falls-next-requires
+falls-next-requires c κs = search needs
 
-abbrev μ-loop : tie.MeasureT-loop
-μ-loop words more at mask shots p chooser sums i₀ s₀ i s = shots - s
+is-set-requires : tie.Need-is-set-requires
+is-set-requires c κs = search needs
 
-loop-holds : tie.Need-loop-holds Inv-loop μ-loop
-loop-holds c = (omega arith, omega arith, omega arith, later-none)
-
-sub-next-skip : tie.Need-sub-next-skip Inv-loop μ-loop
-sub-next-skip c = omega arith
-
-next-skip-requires : tie.Need-next-skip-requires Inv-loop μ-loop
-next-skip-requires c κs = omega arith
-
-add-i : tie.Need-add-i Inv-loop μ-loop
-add-i c = let a = c .before .before .before .before .before .before .before .args in record { fits = omega (arith, length-append (a .words .now) (a .more .now), c .before .before .before .before .before .before .before .good, skip-stays _ _ _ _ _ _ (c .before .before .loop .inv .2) (c .before .before .loop .inv .0) (c .next-skip .ensures)) }
-
-add-s : tie.Need-add-s Inv-loop μ-loop
-add-s c = omega (arith, skip-stays _ _ _ _ _ _ (c .before .before .loop .inv .2) (c .before .before .loop .inv .0) (c .next-skip .ensures))
-
-returns : tie.Need-returns Inv-loop μ-loop
-returns c =
-    let stays = skip-stays _ _ _ _ _ _ (c .before .before .before .loop .inv .2) (c .before .before .before .loop .inv .0) (c .before .next-skip .ensures) in
-    found-done (later-skip (c .before .before .before .loop .inv .3) _ (c .before .next-skip .ensures)) (omega arith) (stays .1)
-
-is-set-requires : tie.Need-is-set-requires Inv-loop μ-loop
-is-set-requires c κs = omega (arith, skip-stays _ _ _ _ _ _ (c .before .before .before .loop .inv .2) (c .before .before .before .loop .inv .0) (c .before .next-skip .ensures), c .before .before .before .before .before .before .before .before .pre .2)
-
-draw-shot-requires : tie.Need-draw-shot-requires Inv-loop μ-loop
+draw-shot-requires : tie.Need-draw-shot-requires
 draw-shot-requires c κs = search needs
 
-enum-told : tie.Need-enum-told Inv-loop μ-loop
+enum-told : tie.Need-enum-told
 enum-told c = search needs
 
-returns-2 : tie.Need-returns-2 Inv-loop μ-loop
-returns-2 c =
-    let stays = skip-stays _ _ _ _ _ _ (c .before .before .before .before .before .before .before .loop .inv .2) (c .before .before .before .before .before .before .before .loop .inv .0) (c .before .before .before .before .before .next-skip .ensures) in
-    found-spent (later-skip (c .before .before .before .before .before .before .before .loop .inv .3) _ (c .before .before .before .before .before .next-skip .ensures)) (omega arith) (c .before .before .before .is-set .ensures) (c .before .before .draw-shot .ensures (c .before .before .before .before .before .before .before .before .before .before .before .before .args .p) (falls-behind _ _ _ _ _ _ (c .before .before .before .before .before .next-skip .ensures) (omega arith))) (c .enum-told .given .1)
+returns : tie.Need-returns
+returns c =
+    λ p e. found-spent later-none (omega arith) (c .before .before .before .is-set .ensures) (λ inside. c .before .before .before .before .before .falls-next .ensures (c .before .before .before .before .if2 .taken) p e) (c .before .before .draw-shot .ensures) (c .enum-told .given .1)
 
-enum-known-next : tie.Need-enum-known-next Inv-loop μ-loop
-enum-known-next c = search needs
+enum-told-2 : tie.Need-enum-told-2
+enum-told-2 c = search needs
 
-enum-known-e : tie.Need-enum-known-e Inv-loop μ-loop
+enum-known-e : tie.Need-enum-known-e
 enum-known-e c = search needs
 
-returns-3 : tie.Need-returns-3 Inv-loop μ-loop
-returns-3 c =
-    let stays = skip-stays _ _ _ _ _ _ (c .before .before .before .before .before .before .before .before .loop .inv .2) (c .before .before .before .before .before .before .before .before .loop .inv .0) (c .before .before .before .before .before .before .next-skip .ensures) in
-    found-at (later-skip (c .before .before .before .before .before .before .before .before .loop .inv .3) _ (c .before .before .before .before .before .before .next-skip .ensures)) (omega arith) (c .before .before .before .before .is-set .ensures) (c .before .before .before .draw-shot .ensures (c .before .before .before .before .before .before .before .before .before .before .before .before .before .args .p) (falls-behind _ _ _ _ _ _ (c .before .before .before .before .before .before .next-skip .ensures) (omega arith))) _ _ (c .before .e .given .1) (omega arith)
+returns-2 : tie.Need-returns-2
+returns-2 c =
+    λ p e. found-at later-none (omega arith) (c .before .before .before .before .is-set .ensures) (λ inside. c .before .before .before .before .before .before .falls-next .ensures (c .before .before .before .before .before .if2 .taken) p e) (c .before .before .before .draw-shot .ensures) _ _ (c .before .e .given .1) (omega arith)
 
-add-s-2 : tie.Need-add-s-2 Inv-loop μ-loop
-add-s-2 c = omega (arith, skip-stays _ _ _ _ _ _ (c .before .before .before .before .before .before .before .before .loop .inv .2) (c .before .before .before .before .before .before .before .before .loop .inv .0) (c .before .before .before .before .before .before .next-skip .ensures))
+fault-from-requires : tie.Need-fault-from-requires
+fault-from-requires c κs = search needs
 
-loop-less : tie.Need-loop-less Inv-loop μ-loop
-loop-less c = omega (arith, skip-stays _ _ _ _ _ _ (c .before .before .before .before .before .before .before .before .loop .inv .2) (c .before .before .before .before .before .before .before .before .loop .inv .0) (c .before .before .before .before .before .before .next-skip .ensures))
-
-loop-again : tie.Need-loop-again Inv-loop μ-loop
-loop-again c =
-    let stays = skip-stays _ _ _ _ _ _ (c .before .before .before .before .before .before .before .before .loop .inv .2) (c .before .before .before .before .before .before .before .before .loop .inv .0) (c .before .before .before .before .before .before .next-skip .ensures) in (
-      quiet-within (c .before .before .before .draw-shot .ensures (c .before .before .before .before .before .before .before .before .before .before .before .before .before .args .p) (falls-behind _ _ _ _ _ _ (c .before .before .before .before .before .before .next-skip .ensures) (omega arith))) (c .before .next .given .1),
-      omega arith,
-      omega arith,
-      later-quiet (later-skip (c .before .before .before .before .before .before .before .before .loop .inv .3) _ (c .before .before .before .before .before .before .next-skip .ensures)) (omega arith) (c .before .before .before .before .is-set .ensures) (c .before .before .before .draw-shot .ensures (c .before .before .before .before .before .before .before .before .before .before .before .before .before .args .p) (falls-behind _ _ _ _ _ _ (c .before .before .before .before .before .before .next-skip .ensures) (omega arith))) _ (c .before .next .given .1),
-    )
-
-returns-4 : tie.Need-returns-4 Inv-loop μ-loop
-returns-4 c = found-done (c .before .loop .inv .3) (c .loop-test .left) (c .before .loop .inv .0)
+returns-3 : tie.Need-returns-3
+returns-3 c = search needs
 
 pub next-fault-spec : {M : Type 1} → statement M
 next-fault-spec =
     tie.close
     (tie.spec
-    Inv-loop
-    μ-loop
-    loop-holds
-    sub-next-skip
-    next-skip-requires
-    add-i
-    add-s
-    returns
+    falls-next-requires
     is-set-requires
     draw-shot-requires
     enum-told
-    returns-2
-    enum-known-next
+    returns
+    enum-told-2
     enum-known-e
-    returns-3
-    add-s-2
-    loop-less
-    loop-again
-    returns-4)
+    returns-2
+    fault-from-requires
+    returns-3)

@@ -25,66 +25,61 @@ use Rattle.noise.specs.Kinds.{Represents}
 use Rattle.choice.specs.Choice.{choiceOf, nextOf as nextOfChoice, ElementChosen}
 use Rattle.noise.specs.Condition.{Masks}
 use Rattle.noise.specs.Words.{skipOf}
-use Rattle.noise.specs.Laws.Words.{skip-within, skip-falls}
+use Rattle.noise.specs.Laws.Words.{skip-falls}
 use Rattle.shots.specs.Shots.{drawOf, nextOf, FallsAt, ShotDrawn, orLater, firstFault, faultOf as foundOf, wordAfter, InShots, FaultFound}
 
 -- ---- one shot
 
-module _ (words : List ℕ) (at : ℕ) (p : Float) (d : PauliDistribution) (sums : List Float) (satisfied : Bool) where
-  pub shot-spent : length words ≤ at → ShotDrawn words at p d sums satisfied draw.Spent
+module _ (words : List ℕ) (at : ℕ) (d : PauliDistribution) (sums : List Float) (satisfied : Bool) where
+  pub shot-spent : length words ≤ at → ShotDrawn words at d sums satisfied draw.Spent
   unfolding drawOf nextOf drawShot
-  shot-spent h = record { within = omega arith; is = λ n bits r m. rw (drop-of-length-le words h) }
+  shot-spent h = record { within = omega arith; is = λ f n bits r m. rw (drop-of-length-le words h) }
 
   module _ (h : at < length words) where
     -- its condition is not satisfied
-    pub shot-unsatisfied : satisfied ≡ false → ShotDrawn words at p d sums satisfied (draw.Quiet (at + 1))
+    pub shot-unsatisfied : satisfied ≡ false → ShotDrawn words at d sums satisfied (draw.Quiet (at + 1))
     unfolding drawOf nextOf drawShot
     shot-unsatisfied e =
         record {
           within = omega arith;
-          is = λ n bits r m. rw (drop-cons words at 0, add-one, m, e) (either _ (falls (getD words at 0) _));
+          is = λ f n bits r m. rw (drop-cons words at 0, add-one, m, e) (either _ (falls (getD words at 0) _));
         }
       where
         either : (o : ShotDraw) (b : Bool) → ShotDraw.drew none (drop (suc at) words) ≡ cond (b && false) o (ShotDraw.drew none (drop (suc at) words))
         either o true = refl
         either o false = refl
 
-    module _ (e : falls (getD words at 0) p ≡ true) (s : satisfied ≡ true) {a : Answer} (q : ElementChosen words (at + 1) d sums a) where
+    module _ (s : satisfied ≡ true) {a : Answer} (q : ElementChosen words (at + 1) d sums a) where
       -- the element that is chosen
-      element : (n : Noise) (bits : Bits) → Represents n p d sums → isSatisfied (n .condition) bits ≡ satisfied
+      element : {p : Float} → FallsAt p words at → (n : Noise) (bits : Bits) → Represents n p d sums → isSatisfied (n .condition) bits ≡ satisfied
           → faultOf (choiceOf words a) ≡ drawShot n bits (drop at words)
       unfolding drawShot
-      element n bits r m =
-          rw (drop-cons words at 0, ← r .probability, e, m, s)
+      element f n bits r m =
+          rw (drop-cons words at 0, ← r .probability, f h, m, s)
           (ap faultOf (q .is (n .distribution) (r .chooses) ∙ ap (λ (k : ℕ). chooseFrom (n .distribution) (drop k words)) (add-one at)))
 
-      pub shot-fault : (x next : ℕ) → a ≡ choice.Chosen x next → ShotDrawn words at p d sums satisfied (draw.Fault x next)
+      pub shot-fault : (x next : ℕ) → a ≡ choice.Chosen x next → ShotDrawn words at d sums satisfied (draw.Fault x next)
       unfolding drawOf nextOf choiceOf nextOfChoice faultOf
       shot-fault x next k =
           record {
             within = rw k at (q .within);
-            is = λ n bits r m. (rw k at (element n bits r m));
+            is = λ f n bits r m. (rw k at (element f n bits r m));
           }
 
-      pub shot-spent-on : a ≡ choice.Spent → ShotDrawn words at p d sums satisfied draw.Spent
+      pub shot-spent-on : a ≡ choice.Spent → ShotDrawn words at d sums satisfied draw.Spent
       unfolding drawOf nextOf choiceOf faultOf
       shot-spent-on k =
           record {
             within = omega arith;
-            is = λ n bits r m. (rw k at (element n bits r m));
+            is = λ f n bits r m. (rw k at (element f n bits r m));
           }
 
-pub quiet-within : {words : List ℕ} {at : ℕ} {p : Float} {d : PauliDistribution} {sums : List Float} {b : Bool} {a : Draw} {next : ℕ}
-    → ShotDrawn words at p d sums b a → a ≡ draw.Quiet next → next ≤ length words
+pub quiet-within : {words : List ℕ} {at : ℕ} {d : PauliDistribution} {sums : List Float} {b : Bool} {a : Draw} {next : ℕ}
+    → ShotDrawn words at d sums b a → a ≡ draw.Quiet next → next ≤ length words
 unfolding nextOf
 quiet-within q e = rw e at (q .within)
 
 -- ---- shots that are passed over
-
--- neither past the last shot nor past the last word
-pub skip-stays : (p : Float) (shots s : ℕ) (words : List ℕ) (i k : ℕ) → s ≤ shots → i ≤ length words → k ≡ skipOf p (shots - s) (drop i words)
-    → (s + k ≤ shots) × (i + k ≤ length words)
-skip-stays p shots s words i k h l e = omega (arith, skip-within p (shots - s) (drop i words), length-drop i words)
 
 -- the word behind those that are passed over, if a shot is left and the words have not ended, brings a fault
 pub falls-behind : (p : Float) (shots s : ℕ) (words : List ℕ) (i k : ℕ) → k ≡ skipOf p (shots - s) (drop i words) → s + k < shots → FallsAt p words (i + k)
@@ -155,7 +150,7 @@ module _ {words mask : List ℕ} {shots : ℕ} {p : Float} {d : PauliDistributio
           is = λ n lent w r f m. let none-left : shots - s ≡ 0 = omega arith in (rw none-left at (l .same n lent w r f m));
         }
 
-    module _ (h : s < shots) {b : Bool} (set : b ≡ bit (getD mask (s / 64) 0) (s % 64)) {a : Draw} (q : ShotDrawn words i p d sums b a) where
+    module _ (h : s < shots) {b : Bool} (set : b ≡ bit (getD mask (s / 64) 0) (s % 64)) {a : Draw} (falling : FallsAt p words i) (q : ShotDrawn words i d sums b a) where
       -- the shot's draw, and then those after it
       drawn : (n : Noise) (lent : Lent) (w : ℕ) → Represents n p d sums → shots ≤ 64 * w → Masks w mask (n .condition) (lent .noiseless)
           → orLater s (drawOf words a) (firstFault lent n (shots - (s + 1)) (s + 1)) ≡ firstFault lent n (shots - shot) shot (drop at words)
@@ -165,7 +160,7 @@ module _ {words mask : List ℕ} {shots : ℕ} {p : Float} {d : PauliDistributio
           let row : s / 64 < w = omega arith in
           let bits : isSatisfied (n .condition) (λ id. lent .noiseless id s) ≡ b =
           sym (m .shots s row) ∙ ap (λ (k : ℕ). bit (getD mask (k + s / 64) 0) (s % 64)) (zero-mul w) ∙ ap (λ (k : ℕ). bit (getD mask k 0) (s % 64)) (zero-add (s / 64)) ∙ sym set in
-          rw (q .is n (λ id. lent .noiseless id s) r bits)
+          rw (q .is falling n (λ id. lent .noiseless id s) r bits)
           (rw (← add-one s) at (sym (first-one lent n (shots - (s + 1)) s (drop i words))) ∙ (rw one at (l .same n lent w r f m)))
 
       pub later-quiet : (next : ℕ) → a ≡ draw.Quiet next → Later words mask shots p d sums shot at (s + 1) next

@@ -1,31 +1,15 @@
 -- The words of the stream by their places, and a turn of the loop that writes them. Assumes nothing.
 use mathlib.Core.Path.{_≡_, refl, sym, ap, _∙_}
 use mathlib.Core.List.{List, [], _++_, append-assoc, append-nil}
-use Prim.Native.Nat.{ℕ, zero, suc, _+_, _-_, _*_, _/_, _%_, _^_, _<_, _≤_}
+use Prim.Native.Nat.{ℕ, zero, suc, _+_, _-_, _<_, _≤_}
 use native.Mathlib.Omega.{arith}
 use native.Mathlib.Nat.{sub-zero}
 use borrow.Author.Tests.{eq-eqb, ne-eqb}
-use lib.Bits.{bitXor, xor-lt}
 use native.Mathlib.Numerals.{add-one}
 use lib.ListN.{length, take, set, getD, length-set}
 use lib.Seq.{take-suc-set, take-all}
 use Rattle.job.specs.Job.{answer}
-use Rattle.stream.specs.Stream.{left, right, step, wordsFrom, fillReply}
-
--- a word is one of 64 bits
-pub step-small : (state : ℕ) → state < 2 ^ 64 → step state < 2 ^ 64
-unfolding step left right
-step-small state h =
-    let a = bitXor state (state * 2 ^ 13 % 2 ^ 64) in
-    let ha : a < 2 ^ 64 = xor-lt 64 state (state * 2 ^ 13 % 2 ^ 64) h (omega arith) in
-    let b = bitXor a (a / 2 ^ 7) in
-    let hb : b < 2 ^ 64 = xor-lt 64 a (a / 2 ^ 7) ha (omega arith) in
-    xor-lt 64 b (b * 2 ^ 17 % 2 ^ 64) hb (omega arith)
-
--- a state after so many steps
-unfoldable pub stepped : ℕ → ℕ → ℕ
-stepped zero state = state
-stepped (suc n) state = step (stepped n state)
+use Rattle.stream.specs.Stream.{step, stepped, wordsFrom, fillReply}
 
 stepped-before : (n state : ℕ) → stepped n (step state) ≡ step (stepped n state)
 unfolding stepped

@@ -4,7 +4,7 @@ use native.Mathlib.Numerals.{add-one}
 use native.Mathlib.Omega.{arith}
 use mathlib.Core.Path.{_≡_, refl, sym, ap, _∙_}
 use mathlib.Core.Bool.{Bool, true, false, cond, not, _&&_, _||_, and-true, and-false, and-assoc, or-true}
-use mathlib.Core.List.{List, [], _∷_, _++_, append-nil}
+use mathlib.Core.List.{List, [], _∷_, _++_, append-assoc, append-nil}
 use mathlib.Core.Option.{Option, some}
 use borrow.Author.Tests.{ltb-true, ltb-false, lt-ltb, le-ltb, le-leb, eqb-true, eqb-false, eq-eqb, ne-eqb, not-true}
 use lib.Dec.{eqb, ltb}
@@ -343,6 +343,11 @@ line-free (t ∷ ts) ds o = let p = first-part t ts o in go (isLetter t) ds (p .
     go false ds n ih = unfold until in rw n (ap suc (ih ds))
 
 -- ---- texts of lines
+
+pub unlines-append : (a b : List (List ℕ)) → unlines (a ++ b) ≡ unlines a ++ unlines b
+unfolding unlines
+unlines-append [] b = refl
+unlines-append (l ∷ a) b = ap (λ (r : List ℕ). l ++ LF ∷ r) (unlines-append a b) ∙ sym (append-assoc l (LF ∷ unlines a) (unlines b))
 
 pub lines-unlines : (ls : List (List ℕ)) → AllFree LF ls → lines (unlines ls) ≡ ls
 unfolding unlines pieces

@@ -595,7 +595,9 @@ fn weighted(weights: &[&str]) -> String {
     weights.iter().map(|weight| format!("w={weight} x=- z=-")).collect::<Vec<_>>().join("\n")
 }
 
-fn numbers(range: std::ops::Range<u64>) -> String {
+/// A list of following numbers.
+#[must_use]
+pub fn numbers(range: std::ops::Range<u64>) -> String {
     range.map(|entry| entry.to_string()).collect::<Vec<_>>().join(",")
 }
 

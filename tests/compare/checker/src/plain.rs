@@ -133,7 +133,7 @@ pub fn deliver(text: &[u8], out: &mut [u8]) -> Answer {
     Answer::success(text.len() as u64)
 }
 
-/// Settling's end: as annotation's, but 15 has a figure too, here exactly the need.
+/// Settling's end: as annotation's, but 15 has a figure too, exactly the need (note 10).
 pub fn deliver_settled(text: &[u8], out: &mut [u8]) -> Answer {
     Answer { figure: text.len() as u64, ..deliver(text, out) }
 }

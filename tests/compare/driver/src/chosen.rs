@@ -9,7 +9,7 @@ use checker::plain::settled;
 use checker::plain::shares::Available;
 use checker::read::read;
 use generator::damage::damaged;
-use generator::inputs::{input, lent};
+use generator::inputs::{lent, usual};
 use generator::jobs::{DENSE, Shape, edition, job_of};
 use generator::random::Random;
 use reference::Reference;
@@ -50,8 +50,8 @@ pub fn chosen(call: Call, case: impl Fn(&Input, &Output) -> Vec<u8>) -> Vec<Vec<
     for seed in 1..=MOST_SEEDS {
         let random = &mut Random::new(seed);
         let mut input = match seed % 3 {
-            _ if !call.is_on_job() => input(random, call),
-            0 => input(random, call),
+            _ if !call.is_on_job() => usual(random, call),
+            0 => usual(random, call),
             1 => at_shots(random, call, 20, if call == Call::Walk { 0 } else { 6 }),
             _ => short_damaged(random, call),
         };
@@ -368,7 +368,7 @@ fn shown(call: Call, input: &Input, output: &Output) -> Vec<String> {
 }
 
 /// Why a share is refused, or what is taken of it.
-fn shown_by_share(input: &Input, output: &Output) -> Vec<&'static str> {
+pub fn shown_by_share(input: &Input, output: &Output) -> Vec<&'static str> {
     let (callers, length) = (input.shares.len(), input.main.len() as u128);
     let total: u128 = input.shares.iter().map(|&share| u128::from(share)).sum();
     let moved = |place: usize| input.marks.get(place) != output.marks.get(place);
@@ -415,17 +415,17 @@ fn shown_by_groups(mut list: &[u64], output: &Output) -> Vec<String> {
     match output.answer {
         Answer { number: 24, line: 0, .. } => all.push("24 of the groups".into()),
         Answer { number: 24, .. } => all.push("24 of a line".into()),
-        Answer { number: 0, figure, .. } => {
-            let text = String::from_utf8_lossy(&output.bytes[..usize_of(figure)]);
-            let has =
-                |character| text.lines().any(|row| row.rsplit('=').next().is_some_and(|sums| sums.contains(character)));
-            if has('0') && has('1') {
-                all.push("both characters".into());
-            }
-        }
+        Answer { number: 0, .. } if has_both_characters(output) => all.push("both characters".into()),
         _ => {}
     }
     all
+}
+
+/// Whether a table of single faults has groups that are flipped, and groups that are not.
+pub fn has_both_characters(output: &Output) -> bool {
+    let text = String::from_utf8_lossy(&output.bytes[..usize_of(output.answer.figure)]);
+    let has = |character| text.lines().any(|row| row.rsplit('=').next().is_some_and(|sums| sums.contains(character)));
+    has('0') && has('1')
 }
 
 fn length(list: &str, length: usize, need: usize) -> String {

@@ -1,6 +1,7 @@
 //! A call under test beside the reference, on random inputs.
 
 use crate::minimise::minimised;
+use crate::pairs::shown;
 use checker::calls::Calls;
 use generator::inputs::input;
 use generator::random::Random;
@@ -9,29 +10,46 @@ use reference::vectors::{Call, Input, Output, input_bytes};
 use std::collections::BTreeMap;
 use std::fmt;
 
-/// How often each number came; 0 stands for success.
+/// How often each of some things came.
 #[derive(Default)]
-pub struct Refusals(BTreeMap<u64, u64>);
+pub struct Counts<T>(BTreeMap<T, u64>);
 
-impl Refusals {
-    fn add(&mut self, other: &Refusals) {
-        for (number, count) in &other.0 {
-            *self.0.entry(*number).or_default() += count;
+impl<T: Ord> Counts<T> {
+    /// How often one came.
+    #[cfg(test)]
+    pub fn of(&self, thing: &T) -> u64 {
+        self.0.get(thing).copied().unwrap_or(0)
+    }
+
+    fn add(&mut self, other: Self) {
+        for (thing, count) in other.0 {
+            *self.0.entry(thing).or_default() += count;
         }
     }
 }
 
-impl fmt::Display for Refusals {
+impl<T: Ord> Extend<T> for Counts<T> {
+    fn extend<Things: IntoIterator<Item = T>>(&mut self, things: Things) {
+        for thing in things {
+            *self.0.entry(thing).or_default() += 1;
+        }
+    }
+}
+
+impl<T: fmt::Display> fmt::Display for Counts<T> {
     fn fmt(&self, f: &mut fmt::Formatter<'_>) -> fmt::Result {
-        let counts: Vec<_> = self.0.iter().map(|(number, count)| format!("{number}:{count}")).collect();
+        let counts: Vec<_> = self.0.iter().map(|(thing, count)| format!("{thing}:{count}")).collect();
         f.write_str(&counts.join(" "))
     }
 }
 
+/// How often each number came; 0 stands for success.
+pub type Refusals = Counts<u64>;
+
 /// Compare a call on `count` inputs, print what was found and add its refusals to `all`. Input k has the seed `seed` + k.
 pub fn passes(under_test: &dyn Calls, call: Call, count: u64, seed: u64, all: &mut Refusals) -> bool {
     let name = call.name();
-    let mut refusals = Refusals::default();
+    let (mut refusals, mut pairs) = (Refusals::default(), Counts::default());
     let (mut second, mut differences) = (0, 0);
     for seed in (0..count).map(|k| seed.wrapping_add(k)) {
         let input = input(&mut Random::new(seed), call);
@@ -40,7 +58,8 @@ pub fn passes(under_test: &dyn Calls, call: Call, count: u64, seed: u64, all: &m
             println!("{name}: skipped, its program isn't at hand");
             return true;
         };
-        *refusals.0.entry(number(&expected)).or_default() += 1;
+        refusals.extend([number(&expected)]);
+        pairs.extend(shown(call, &input, &expected));
         second += u64::from(input.job.starts_with(b"op=job edition=2 "));
         if expected != actual {
             differences += 1;
@@ -50,8 +69,9 @@ pub fn passes(under_test: &dyn Calls, call: Call, count: u64, seed: u64, all: &m
         }
     }
     let jobs = if call.is_on_job() { format!(", {second} of the second edition") } else { String::new() };
-    println!("{name}: {count} inputs{jobs}, refusals {refusals}, {differences} differences");
-    all.add(&refusals);
+    let notes = if pairs.0.is_empty() { String::new() } else { format!(", notes {pairs}") };
+    println!("{name}: {count} inputs{jobs}{notes}, refusals {refusals}, {differences} differences");
+    all.add(refusals);
     differences == 0
 }
 
@@ -115,7 +135,7 @@ mod tests {
         }
         println!("refusals of all calls: {refusals}");
         let numbers = [0].into_iter().chain(TESTS).chain(OF_CALLS);
-        let missing: Vec<u64> = numbers.filter(|number| !refusals.0.contains_key(number)).collect();
+        let missing: Vec<u64> = numbers.filter(|number| refusals.of(number) == 0).collect();
         assert_eq!(missing, []);
     }
 

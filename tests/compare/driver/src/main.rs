@@ -12,6 +12,7 @@ mod differences;
 mod linked;
 mod made;
 mod minimise;
+mod pairs;
 #[cfg(feature = "linked")]
 mod raw;
 mod replay;
@@ -37,6 +38,7 @@ usage: compare CALL N [SEED]      N random inputs of a call: check, run, settle,
        compare tables N [SEED]    N jobs with Clifford tables of five to eight qubits: runs, settled texts and walks; how many tables of each width
        compare shares N [SEED]    N sequences of calls with shares of one main list: as plain calls on the words available, and all words accounted for
        compare made N [SEED]      N made jobs: accepted, and what was asked for; every kind of line comes up among the small seeds
+       compare pairs              calls by which two notes of document 02 meet, worked out by hand
        compare vectors [CALL]     the stored vectors, or those of a call
        compare all N [SEED]       all of these
        compare write CALL N SEED  N vectors of a call, made by the reference, on standard output
@@ -69,6 +71,10 @@ fn main() -> ExitCode {
     let arguments: Vec<String> = std::env::args().skip(1).collect();
     let arguments: Vec<&str> = arguments.iter().map(String::as_str).collect();
     let passed = match arguments[..] {
+        ["pairs"] => {
+            say_under_test();
+            pairs::passes(UNDER_TEST.0)
+        }
         ["vectors"] => {
             say_under_test();
             stored::passes(UNDER_TEST.0)
@@ -124,6 +130,7 @@ fn counted(command: &str, count: &str, seed: Option<&str>) -> bool {
         passed &= comparison(UNDER_TEST.0, count, seed);
     }
     if command == "all" {
+        passed &= pairs::passes(UNDER_TEST.0);
         passed &= stored::passes(UNDER_TEST.0);
         println!("refusals of all calls: {refusals}");
         println!("{}", if passed { "0 differences" } else { "differences" });

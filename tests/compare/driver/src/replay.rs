@@ -4,7 +4,7 @@ use crate::chosen::chosen;
 use checker::calls::Answer;
 use checker::cases::cases;
 use checker::read::check;
-use generator::inputs::input;
+use generator::inputs::usual;
 use generator::random::Random;
 use reference::vectors::{CALLS, Call, Input, Output, fresh_bytes};
 use std::io::Write;
@@ -41,7 +41,7 @@ fn chosen_cases(call: Call) -> Vec<Vec<u8>> {
 
 /// Cases of `check`: the jobs of every limit, then random and damaged ones, answered by document 01's checks by hand.
 fn checks() -> Vec<Vec<u8>> {
-    let random = (1..).map(|seed| input(&mut Random::new(seed), Call::Check).job);
+    let random = (1..).map(|seed| usual(&mut Random::new(seed), Call::Check).job);
     let random = random.filter(|job| job.len() <= MOST_BYTES).take(RANDOM);
     let jobs = cases().into_iter().map(|case| case.job).chain(random);
     let checked = |job: Vec<u8>| {

@@ -1,7 +1,7 @@
 //! Clifford tables of five to eight qubits beside the published code (note 12 of document 02): runs of jobs with several of them, and walks back through
 //! them.
 
-use crate::differences::report;
+use crate::differences::{Counts, report};
 use checker::calls::Calls;
 use checker::job::{Header, Instruction};
 use checker::read::read;
@@ -10,12 +10,11 @@ use generator::jobs::{DENSE, Made, Shape, job_of};
 use generator::random::Random;
 use reference::Reference;
 use reference::vectors::{Call, Input};
-use std::collections::BTreeMap;
 
 /// Compare `count` jobs with tables of five qubits or more, and print what was found, and how many tables of each width were run to the job's end.
 pub fn passes(under_test: &dyn Calls, count: u64, seed: u64) -> bool {
     let (mut walks, mut differences) = (0, 0);
-    let mut widths: BTreeMap<usize, u64> = BTreeMap::new();
+    let mut widths = Counts::default();
     for seed in (0..count).map(|k| seed.wrapping_add(k)) {
         let random = &mut Random::new(seed);
         let made = job(random, seed % 2);
@@ -31,15 +30,14 @@ pub fn passes(under_test: &dyn Calls, count: u64, seed: u64) -> bool {
             }
             if expected.is_some_and(|output| output.answer.number == 0) {
                 match call {
-                    Call::Run => table_widths(&input).for_each(|width| *widths.entry(width).or_default() += 1),
+                    Call::Run => widths.extend(table_widths(&input)),
                     Call::Walk => walks += 1,
                     _ => {}
                 }
             }
         }
     }
-    let widths: Vec<String> = widths.iter().map(|(width, count)| format!("{width}:{count}")).collect();
-    println!("tables: {count} jobs, tables by qubits {}, {walks} walks, {differences} differences", widths.join(" "));
+    println!("tables: {count} jobs, tables by qubits {widths}, {walks} walks, {differences} differences");
     differences == 0
 }
 

@@ -1,6 +1,7 @@
 //! What calls are handed: a job, and lists and buffers of lengths that suit it, or nearly.
 
 use crate::damage::damaged;
+use crate::full::full;
 use crate::jobs::{ANY, DENSE, Made, Shape, edition, job};
 use crate::random::Random;
 use checker::calls::{Calls, Draws};
@@ -14,8 +15,13 @@ use checker::read::read;
 use checker::write;
 use reference::vectors::{Call, Input};
 
-/// A random input of a call.
+/// A random input of a call: of three jobs one has everything in it or is made from a seed.
 pub fn input(random: &mut Random, call: Call) -> Input {
+    if call.is_on_job() && random.one_in(3) { full(random, call) } else { usual(random, call) }
+}
+
+/// A random input on a job of the call's own shape. The stored lists of the programs that replay calls are chosen from these.
+pub fn usual(random: &mut Random, call: Call) -> Input {
     match call {
         Call::ByShot | Call::ByOutcome => return counted(random),
         Call::Fill => return seeded_list(random),

@@ -26,6 +26,8 @@ pub struct Shape {
     pub draws: bool,
     /// Most qubits of depolarizing noise, where all numbers up to it come alike.
     pub spread: Option<usize>,
+    /// Whether correlations are next to each other, so that the draws of all can lie in one list.
+    pub near_correlations: bool,
 }
 
 /// Any job of a header's limits.
@@ -38,6 +40,7 @@ pub const ANY: Shape = Shape {
     tables: 0,
     draws: true,
     spread: None,
+    near_correlations: false,
 };
 
 /// Jobs small enough to go through every set and shot.
@@ -50,6 +53,7 @@ pub const SMALL: Shape = Shape {
     tables: 0,
     draws: true,
     spread: None,
+    near_correlations: false,
 };
 
 /// Jobs with little room and many lines, so that what a line does is noticed by others.
@@ -62,6 +66,7 @@ pub const DENSE: Shape = Shape {
     tables: 0,
     draws: true,
     spread: None,
+    near_correlations: false,
 };
 
 /// A job as data.
@@ -343,6 +348,9 @@ impl Maker<'_> {
     }
 
     fn correlation(&mut self) -> u64 {
+        if self.shape.near_correlations {
+            return self.random.below(4);
+        }
         match self.random.below(8) {
             0 => self.random.word(),
             _ => self.random.pick(&[0, 1, 2, 3, 7, 1 << 63, u64::MAX - 1, u64::MAX]),

@@ -5,10 +5,12 @@
 //! - [`faults`]: jobs that differ in injections and flips alone.
 //! - [`damage`]: copies of them that the checks often refuse.
 //! - [`loads`]: large jobs for measuring.
+//! - [`full`]: jobs with everything in them, and jobs made from a seed.
 //! - [`inputs`]: what calls are lent, with lists that run out and buffers that are short.
 
 pub mod damage;
 pub mod faults;
+pub mod full;
 pub mod inputs;
 pub mod jobs;
 pub mod loads;

@@ -4,6 +4,7 @@
 //! runs of it. What it hasn't, the text of jobs and their checks, comes from `checker`.
 
 pub mod landed;
+pub mod pairs;
 pub mod stored;
 pub mod vectors;
 

@@ -262,7 +262,7 @@ fn case(call: Call, fields: &Fields) -> Case {
         rows: words("rows"),
         words: words("words"),
     };
-    // Cases made before note 10 call settling's figure with 15 a lower bound; it is the exact one.
+    // Some cases call settling's figure with 15 `at_least`; it is the exact one (note 10).
     let figure = number("count") + number("figure") + number("at_least");
     let output = Output {
         answer: Answer { number: number("refusal"), line: number("line"), figure },
@@ -288,7 +288,7 @@ fn case(call: Call, fields: &Fields) -> Case {
 }
 
 /// Fresh bytes with a text at their front.
-fn written_over(text: &[u8], length: usize) -> Vec<u8> {
+pub(crate) fn written_over(text: &[u8], length: usize) -> Vec<u8> {
     let mut bytes = fresh_bytes(length);
     bytes[..text.len()].copy_from_slice(text);
     bytes

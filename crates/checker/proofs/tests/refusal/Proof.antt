@@ -3,8 +3,8 @@ use mathlib.Core.Path.{refl, sym, ap, _∙_}
 use borrow.Author.Tests.{not-true, not-false}
 use mathlib.Core.Bool.{not, _&&_, true≢false}
 use Rattle.job.specs.Checks.{expected as Checks·expected, refusalOf}
-use Rattle.value_tests.specs.Contexts.{contextOf}
-use Rattle.value_tests.specs.Laws.Lowest.{fails, passes, left-false, right-false, both-true}
+use Rattle.check_values.specs.Contexts.{contextOf}
+use Rattle.check_values.specs.Laws.Lowest.{fails, passes, left-false, right-false, both-true}
 use borrow.Author.Needs.{needs}
 use Rattle.checker.proofs.tests.refusal.Statement.{statement}
 use Rattle.checker.proofs.tests.refusal.Tie as tie

@@ -1,0 +1,37 @@
+// The forms that the second edition adds: in a job of the first edition they are none.
+ghost use mathlib.Core.Path.{_≡_};
+ghost use mathlib.Core.List.{List};
+ghost use Rattle.text.specs.Template.{Value};
+ghost use Rattle.template.specs.Values.{Whole};
+ghost use Rattle.job.specs.Grammar.{Written};
+ghost use Rattle.job.specs.Checks.{isSecond, inEdition};
+ghost use Rattle.reader.specs.Parsed.{Said};
+ghost use Rattle.check_values.specs.Contexts.{contextOf};
+use check_values::context::Context;
+use reader::Form;
+use template::values::count;
+use template::values::number;
+
+// ControlledY's code is 15, the last.
+fn is_second(form: Form, f: &[u64]) -> bool
+    requires { ⌜ Whole (now f) ⌝ }
+    ensures { λ r. ⌜ ((vs : List Value) (w : Written) → Said form (now (f .entry)) vs w → r ≡ isSecond w) ⌝ }
+{
+    match form {
+        Form::Unitary => 14 < number(f, 0),
+        Form::Reset => count(f, 0) != 1,
+        Form::Barrier => true,
+        _ => false,
+    }
+}
+
+// Whether the job's edition has the line's form.
+pub fn in_edition(c: Context, form: Form, f: &[u64]) -> bool
+    requires { ⌜ Whole (now f) ⌝ }
+    ensures { λ r. ⌜ ((vs : List Value) (w : Written) → Said form (now (f .entry)) vs w → r ≡ inEdition (contextOf c) w) ⌝ }
+{
+    if c.header.edition == 2 {
+        return true;
+    }
+    !is_second(form, f)
+}

@@ -1,0 +1,114 @@
+// Of each kind of noise line the number that refuses it after 2 and 3, 0 where none does.
+ghost use mathlib.Core.Path.{_≡_};
+ghost use mathlib.Core.List.{List, [], _∷_};
+ghost use Prim.Native.Nat.{ℕ, _≤_, _<_};
+ghost use lib.Dec.{eqb};
+ghost use Rattle.text.specs.Template.{Value, numberAt, listAt};
+ghost use Rattle.template.specs.Fields.{Held};
+ghost use Rattle.job.specs.Float.{float, isProbability};
+ghost use Rattle.job.specs.Grammar.{Written};
+ghost use Rattle.job.specs.Checks.{test, outcomeTest, lowest, ownTests};
+ghost use Rattle.template.specs.Values.{Whole};
+ghost use Rattle.reader.specs.declared.Form.the-variants as form;
+ghost use Rattle.reader.specs.Parsed.{Said};
+ghost use Rattle.check_values.specs.Contexts.{contextOf};
+ghost use Rattle.check_noise.specs.Listed.{listedTests};
+use check_values::context::Context;
+use check_values::floats::Checked;
+use check_values::floats::probability;
+use check_values::lists::below;
+use check_values::lists::short;
+use check_values::lists::slot_distinct;
+use job::depolarizing_size;
+use template::values::count;
+use template::values::number;
+
+const MAX_ELEMENTS: u64 = 64;
+
+// 9 and 11, which every noise line has: cond in slot 1, p the first number.
+fn noise_number(c: Context, f: &[u64]) -> u64
+    requires { ⌜ Whole (now f) ⌝ }
+    ensures { λ r. ⌜ ((numbers lists : ℕ) (vs : List Value) → Held (now (f .entry)) numbers lists vs → 0 < numbers → 1 < lists → r ≡ lowest (outcomeTest (contextOf c) (listAt 1 vs) ∷ test 11 (isProbability (float (numberAt 0 vs))) ∷ [])) ⌝ }
+{
+    if !below(f, 1, 2, c.recorded) {
+        return 9;
+    }
+    let Checked::Accepted(_) = probability(number(f, 0)) else {
+        return 11;
+    };
+    0
+}
+
+// 21, which every noise line has: the size is number i.
+fn size_number(f: &[u64], i: usize, size: u64) -> u64
+    requires { ⌜ (i < 4) × Whole (now f) ⌝ }
+    ensures { λ r. ⌜ ((numbers lists : ℕ) (vs : List Value) → Held (now (f .entry)) numbers lists vs → i < numbers → r ≡ lowest (test 21 (eqb (numberAt i vs) size) ∷ [])) ⌝ }
+{
+    if number(f, i) != size {
+        return 21;
+    }
+    0
+}
+
+// 9, 11 and 21 of a noise line without element lines, where the size is the third number.
+fn alone_number(c: Context, f: &[u64], size: u64) -> u64
+    requires { ⌜ Whole (now f) ⌝ }
+    ensures { λ r. ⌜ ((lists : ℕ) (vs : List Value) → Held (now (f .entry)) 3 lists vs → 1 < lists → r ≡ lowest (outcomeTest (contextOf c) (listAt 1 vs) ∷ test 11 (isProbability (float (numberAt 0 vs))) ∷ test 21 (eqb (numberAt 2 vs) size) ∷ [])) ⌝ }
+{
+    let n = noise_number(c, f);
+    if n != 0 {
+        return n;
+    }
+    size_number(f, 2, size)
+}
+
+pub fn single_number(c: Context, f: &[u64]) -> u64
+    requires { ⌜ Whole (now f) ⌝ }
+    ensures { λ r. ⌜ ((vs : List Value) (w : Written) → Said form.Single (now (f .entry)) vs w → r ≡ lowest (ownTests (contextOf c) w)) ⌝ }
+{
+    if !below(f, 2, 4, c.header.qubits) {
+        return 4;
+    }
+    if !short(f, 1, 4) {
+        return 5;
+    }
+    alone_number(c, f, 1)
+}
+
+pub fn depolarizing_number(c: Context, f: &[u64]) -> u64
+    requires { ⌜ Whole (now f) ⌝ }
+    ensures { λ r. ⌜ ((vs : List Value) (w : Written) → Said form.Depolarizing (now (f .entry)) vs w → r ≡ lowest (ownTests (contextOf c) w)) ⌝ }
+{
+    if !below(f, 2, 3, c.header.qubits) {
+        return 4;
+    }
+    if !short(f, 1, 3) {
+        return 5;
+    }
+    if !slot_distinct(f, 2) {
+        return 5;
+    }
+    alone_number(c, f, depolarizing_size(count(f, 2)))
+}
+
+// d=3 and d=4: n is the third number, and the size the fourth.
+pub fn listed_number(c: Context, f: &[u64]) -> u64
+    requires { ⌜ Whole (now f) ⌝ }
+    ensures { λ r. ⌜ ((vs : List Value) → Held (now (f .entry)) 4 2 vs → r ≡ lowest (listedTests (contextOf c) vs)) ⌝ }
+{
+    if !short(f, 1, 2) {
+        return 5;
+    }
+    let n = noise_number(c, f);
+    if n != 0 {
+        return n;
+    }
+    let elements = number(f, 2);
+    if elements == 0 {
+        return 12;
+    }
+    if MAX_ELEMENTS < elements {
+        return 12;
+    }
+    size_number(f, 3, elements)
+}

@@ -1,0 +1,181 @@
+// The lists among the values of a line (crate template).
+ghost use mathlib.Core.Path.{_≡_};
+ghost use mathlib.Core.Bool.{true, _&&_};
+ghost use mathlib.Core.List.{List, [], _∷_};
+ghost use Prim.Native.Nat.{ℕ, _-_, _≤_, _<_};
+ghost use lib.ListN.{set};
+ghost use Rattle.pauli.specs.Bits.{sumOver, members as among};
+ghost use Rattle.text.specs.List.{isRising};
+ghost use Rattle.text.specs.Template.{Value, listAt};
+ghost use Rattle.template.specs.Values.{Whole, AllKept};
+ghost use Rattle.template.specs.Fields.{Held};
+ghost use Rattle.job.specs.Checks.{test, allBelow, eachBelow, eachShort, lowest, distinct as Checks·distinct};
+ghost use Rattle.check_values.specs.Slots.{listsFrom};
+ghost use Rattle.check_values.specs.Marks.{Unmarked, MarksOf};
+use template::values::count;
+use template::values::largest;
+use template::values::list;
+
+const MAX_MEMBERS: u64 = 31;
+
+const MAX_QUBITS: usize = 256;
+
+// Whether every member of the list in a slot is below n.
+fn slot_below(f: &[u64], slot: usize, n: u64) -> bool
+    requires { ⌜ (slot < 4) × Whole (now f) ⌝ }
+    ensures { λ r. ⌜ ((numbers lists : ℕ) (vs : List Value) → Held (now (f .entry)) numbers lists vs → slot < lists → r ≡ allBelow n (listAt slot vs)) ⌝ }
+{
+    if count(f, slot) == 0 {
+        return true;
+    }
+    largest(f, slot) < n
+}
+
+// Whether every member of the lists from slot a up to slot e is below n.
+pub fn below(f: &[u64], a: usize, e: usize, n: u64) -> bool
+    requires { ⌜ (e ≤ 4) × Whole (now f) ⌝ }
+    ensures { λ r. ⌜ ((numbers lists : ℕ) (vs : List Value) → Held (now (f .entry)) numbers lists vs → e ≤ lists → r ≡ eachBelow n (listsFrom a (e - a) vs)) ⌝ }
+{
+    let mut i = a;
+    while i < e {
+        if !slot_below(f, i, n) {
+            return false;
+        }
+        i += 1;
+    }
+    true
+}
+
+// Whether the lists from slot a up to slot e hold at most 31 each.
+pub fn short(f: &[u64], a: usize, e: usize) -> bool
+    requires { ⌜ (e ≤ 4) × Whole (now f) ⌝ }
+    ensures { λ r. ⌜ ((numbers lists : ℕ) (vs : List Value) → Held (now (f .entry)) numbers lists vs → e ≤ lists → r ≡ eachShort (listsFrom a (e - a) vs)) ⌝ }
+    ensures { λ r. ⌜ (r ≡ true → (i : ℕ) → a ≤ i → i < e → AllKept (now (f .entry)) i) ⌝ }
+{
+    let mut i = a;
+    while i < e {
+        if MAX_MEMBERS < count(f, i) {
+            return false;
+        }
+        i += 1;
+    }
+    true
+}
+
+// Whether n is among the members.
+pub fn contains(members: &[u64], n: u64) -> bool
+    ensures { λ r. ⌜ r ≡ among (now (members .entry)) n ⌝ }
+{
+    let mut i = 0;
+    while i < members.len() {
+        if members[i] == n {
+            return true;
+        }
+        i += 1;
+    }
+    false
+}
+
+// Whether no member stands twice.
+pub fn distinct(members: &[u64]) -> bool
+    ensures { λ r. ⌜ r ≡ Checks·distinct (now (members .entry)) ⌝ }
+{
+    let mut i = 0;
+    while i < members.len() {
+        let n = members[i];
+        let a = i + 1;
+        if contains(&members[a..], n) {
+            return false;
+        }
+        i += 1;
+    }
+    true
+}
+
+// Whether a list of at most 31 in a slot has no member twice.
+pub fn slot_distinct(f: &[u64], slot: usize) -> bool
+    requires { ⌜ (slot < 4) × Whole (now f) × AllKept (now f) slot ⌝ }
+    ensures { λ r. ⌜ ((numbers lists : ℕ) (vs : List Value) → Held (now (f .entry)) numbers lists vs → slot < lists → r ≡ Checks·distinct (listAt slot vs)) ⌝ }
+{
+    distinct(list(f, slot))
+}
+
+// Marks a number, if it has a mark.
+fn mark(marks: &mut [bool], n: usize)
+    ensures { λ _. ⌜ now (marks .exit) ≡ set (now (marks .entry)) n true ⌝ }
+{
+    if n < marks.len() {
+        marks[n] = true;
+    }
+}
+
+// Marks the members.
+fn mark_all(marks: &mut [bool], members: &[u64])
+    requires { ⌜ Unmarked (now marks) ⌝ }
+    ensures { λ _. ⌜ MarksOf (now (marks .exit)) (now (members .entry)) ⌝ }
+{
+    let mut i = 0;
+    while i < members.len() {
+        mark(marks, members[i] as usize);
+        i += 1;
+    }
+}
+
+// Whether n is among the members, by its mark; one that has none is looked for.
+fn is_marked(marks: &[bool], members: &[u64], n: u64) -> bool
+    requires { ⌜ MarksOf (now marks) (now members) ⌝ }
+    ensures { λ r. ⌜ r ≡ among (now (members .entry)) n ⌝ }
+{
+    let k = n as usize;
+    if k < marks.len() {
+        return marks[k];
+    }
+    contains(members, n)
+}
+
+// Whether two rising lists have an odd number of members in common. Every qubit of a job has a mark, so that no member is looked for and no turn waits for
+// the one before it.
+pub fn overlap_is_odd(a: &[u64], b: &[u64]) -> bool
+    ensures { λ r. ⌜ (isRising (now (a .entry)) ≡ true → isRising (now (b .entry)) ≡ true → r ≡ sumOver (now (a .entry)) (among (now (b .entry)))) ⌝ }
+{
+    let mut marks = [false; MAX_QUBITS];
+    mark_all(&mut marks, b);
+    let mut odd = false;
+    let mut i = 0;
+    while i < a.len() {
+        odd = odd != is_marked(&marks, b, a[i]);
+        i += 1;
+    }
+    odd
+}
+
+// The number that refuses Paulis: 4 and 5 of the lists from slot a up to slot e; n is the number of qubits.
+pub fn pauli_number(f: &[u64], a: usize, e: usize, n: u64) -> u64
+    requires { ⌜ (e ≤ 4) × Whole (now f) ⌝ }
+    ensures { λ r. ⌜ ((numbers lists : ℕ) (vs : List Value) → Held (now (f .entry)) numbers lists vs → e ≤ lists → r ≡ lowest (test 4 (eachBelow n (listsFrom a (e - a) vs)) ∷ test 5 (eachShort (listsFrom a (e - a) vs)) ∷ [])) ⌝ }
+{
+    if !below(f, a, e, n) {
+        return 4;
+    }
+    if !short(f, a, e) {
+        return 5;
+    }
+    0
+}
+
+// The number that refuses operands of no fixed number: 4 and 5 of the list in slot 0; n is the number of qubits.
+pub fn operands_number(f: &[u64], n: u64) -> u64
+    requires { ⌜ Whole (now f) ⌝ }
+    ensures { λ r. ⌜ ((numbers lists : ℕ) (vs : List Value) → Held (now (f .entry)) numbers lists vs → 1 ≤ lists → r ≡ lowest (test 4 (eachBelow n (listsFrom 0 1 vs)) ∷ test 5 (Checks·distinct (listAt 0 vs) && eachShort (listsFrom 0 1 vs)) ∷ [])) ⌝ }
+{
+    if !below(f, 0, 1, n) {
+        return 4;
+    }
+    if !short(f, 0, 1) {
+        return 5;
+    }
+    if !slot_distinct(f, 0) {
+        return 5;
+    }
+    0
+}

@@ -1,0 +1,14 @@
+-- `noise::scan::difference` meets its contract.
+use borrow.Author.Needs.{needs}
+use Rattle.noise.specs.Laws.Scan.{top-falls}
+use Rattle.noise.proofs.scan.difference.Statement.{statement}
+use Rattle.noise.proofs.scan.difference.Tie as tie
+
+wrapping-sub-u64-requires : tie.Need-wrapping-sub-u64-requires
+wrapping-sub-u64-requires c κs = search needs
+
+returns : tie.Need-returns
+returns c = λ p e. top-falls _ _ (c .before .fits .w .fits) p e _ (c .wrapping-sub-u64 .ok) (c .wrapping-sub-u64 .ensures)
+
+pub difference-spec : {M : Type 1} → statement M
+difference-spec = tie.close (tie.spec wrapping-sub-u64-requires returns)

@@ -1,0 +1,42 @@
+-- `noise::scan::pass_far` meets its contract.
+use native.Mathlib.Omega.{arith}
+use lib.ListN.{length-append}
+use borrow.Author.Needs.{needs}
+use Rattle.noise.specs.Laws.Scan.{passed-first, passed-second}
+use Rattle.noise.proofs.scan.pass_far.Statement.{statement}
+use Rattle.noise.proofs.scan.pass_far.Tie as tie
+
+sub-least : tie.Need-sub-least
+sub-least c = search needs
+
+least-requires : tie.Need-least-requires
+least-requires c κs = search needs
+
+pass-blocks-requires : tie.Need-pass-blocks-requires
+pass-blocks-requires c κs = search needs
+
+returns : tie.Need-returns
+returns c = passed-first _ _ _ _ (c .before .before .if1 .taken) _ (c .before .least .ensures) (c .pass-blocks .ensures)
+
+sub-pass-blocks : tie.Need-sub-pass-blocks
+sub-pass-blocks c = search needs
+
+pass-blocks-requires-2 : tie.Need-pass-blocks-requires-2
+pass-blocks-requires-2 c κs = let a = c .before .before .before .args in omega (arith, length-append (a .words .now) (a .more .now))
+
+returns-2 : tie.Need-returns-2
+returns-2 c =
+    let a = c .before .before .before .before .args in
+    passed-second (a .t) (a .words .now) (a .more .now) (a .at) (c .before .if1 .left) (c .pass-blocks2 .ensures)
+
+pub pass-far-spec : {M : Type 1} → statement M
+pass-far-spec =
+    tie.close
+    (tie.spec
+    sub-least
+    least-requires
+    pass-blocks-requires
+    returns
+    sub-pass-blocks
+    pass-blocks-requires-2
+    returns-2)
