@@ -12,6 +12,13 @@ ghost use Rattle.check_values.specs.Contexts.{contextOf};
 use check_values::context::Context;
 use job::Header;
 use reader::Form;
+use reader::slots::EDITION;
+use reader::slots::EDITION_OUTCOMES;
+use reader::slots::EDITION_QUBITS;
+use reader::slots::EDITION_SHOTS;
+use reader::slots::OUTCOMES;
+use reader::slots::QUBITS;
+use reader::slots::SHOTS;
 use template::values::number;
 
 const MAX_QUBITS: u64 = 256;
@@ -28,9 +35,9 @@ fn header_in(f: &[u64]) -> Header
 {
     Header {
         edition: 1,
-        qubits: number(f, 0),
-        outcomes: number(f, 1),
-        shots: number(f, 2),
+        qubits: number(f, QUBITS),
+        outcomes: number(f, OUTCOMES),
+        shots: number(f, SHOTS),
     }
 }
 
@@ -39,10 +46,10 @@ fn edition_in(f: &[u64]) -> Header
     ensures { λ r. ⌜ r ≡ editionBy (heldNumber (now (f .entry))) ⌝ }
 {
     Header {
-        edition: number(f, 0),
-        qubits: number(f, 1),
-        outcomes: number(f, 2),
-        shots: number(f, 3),
+        edition: number(f, EDITION),
+        qubits: number(f, EDITION_QUBITS),
+        outcomes: number(f, EDITION_OUTCOMES),
+        shots: number(f, EDITION_SHOTS),
     }
 }
 

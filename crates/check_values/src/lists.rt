@@ -1,6 +1,6 @@
 // The lists among the values of a line (crate template).
 ghost use mathlib.Core.Path.{_≡_};
-ghost use mathlib.Core.Bool.{true, _&&_};
+ghost use mathlib.Core.Bool.{true};
 ghost use mathlib.Core.List.{List, [], _∷_};
 ghost use Prim.Native.Nat.{ℕ, _-_, _≤_, _<_};
 ghost use lib.ListN.{set};
@@ -158,23 +158,6 @@ pub fn pauli_number(f: &[u64], a: usize, e: usize, n: u64) -> u64
         return 4;
     }
     if !short(f, a, e) {
-        return 5;
-    }
-    0
-}
-
-// The number that refuses operands of no fixed number: 4 and 5 of the list in slot 0; n is the number of qubits.
-pub fn operands_number(f: &[u64], n: u64) -> u64
-    requires { ⌜ Whole (now f) ⌝ }
-    ensures { λ r. ⌜ ((numbers lists : ℕ) (vs : List Value) → Held (now (f .entry)) numbers lists vs → 1 ≤ lists → r ≡ lowest (test 4 (eachBelow n (listsFrom 0 1 vs)) ∷ test 5 (Checks·distinct (listAt 0 vs) && eachShort (listsFrom 0 1 vs)) ∷ [])) ⌝ }
-{
-    if !below(f, 0, 1, n) {
-        return 4;
-    }
-    if !short(f, 0, 1) {
-        return 5;
-    }
-    if !slot_distinct(f, 0) {
         return 5;
     }
     0

@@ -23,6 +23,9 @@ use instructions::is_noise;
 use instructions::next_line;
 use job::Answer;
 use reader::Form;
+use reader::slots::CORRELATION;
+use reader::slots::LISTED_SIZE;
+use reader::slots::SIZE;
 use template::values::WORDS;
 use template::values::count;
 use template::values::member;
@@ -39,18 +42,18 @@ fn is_correlated(form: Form, f: &[u64]) -> bool
     if !is_noise(form) {
         return false;
     }
-    count(f, 0) != 0
+    count(f, CORRELATION) != 0
 }
 
-// The size that a noise line says: its third number, or the fourth where n stands before it.
+// The size that a noise line says.
 pub fn size(form: Form, f: &[u64]) -> u64
     requires { ⌜ Whole (now f) ⌝ }
     ensures { λ r. ⌜ ((vs : List Value) (n : NoiseLine) → Said form (now (f .entry)) vs (Written.noise n) → r ≡ n .size) ⌝ }
 {
     match form {
-        Form::Uniform => number(f, 3),
-        Form::Weighted => number(f, 3),
-        _ => number(f, 2),
+        Form::Uniform => number(f, LISTED_SIZE),
+        Form::Weighted => number(f, LISTED_SIZE),
+        _ => number(f, SIZE),
     }
 }
 
@@ -88,7 +91,7 @@ fn look(form: Form, f: &[u64], seen: &[u64], sizes: &[u64]) -> Looked
             size: 0,
         };
     }
-    let correlation = member(f, 0, 0);
+    let correlation = member(f, CORRELATION, 0);
     let size = size(form, f);
     let i = place(seen, correlation);
     if i == seen.len() {

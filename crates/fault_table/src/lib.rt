@@ -19,6 +19,8 @@ ghost use Rattle.noise_rows.specs.Said.{sizeSaid};
 ghost use Rattle.fault_table.specs.Table.{Measures, keptAfter, TableReady, Grouped};
 use checker::examine;
 use correlations::size;
+use fault_rows::KEPT_BYTES;
+use fault_rows::KEPT_ELEMENTS;
 use fault_rows::rows_length;
 use groups::GROUP_WORDS;
 use groups::Tested;
@@ -103,7 +105,7 @@ fn put_table(out: &mut [u8], job: &[u8], lines: u64, state: &mut [u64], groups: 
     ensures { λ _. ⌜ ((q : TableReady (now (job .entry)) lines (now (state .entry)) groups (now (out .entry))) → now (out .exit) ≡ unlines (carriedRows (jobOf (now (job .entry)) .header) (q .are) (jobOf (now (job .entry)) .instructions))) ⌝ }
 {
     let mut values = [0u64; WORDS];
-    let mut kept = [0u8; 1024];
+    let mut kept = [0u8; KEPT_ELEMENTS * KEPT_BYTES];
     let mut n = 0;
     let mut place = out.len();
     let mut e = job.len();
@@ -145,7 +147,7 @@ fn table_accepted(job: &[u8], lines: u64, list: &[u64], groups: usize, out: &mut
     if MAX_BYTES < bytes {
         return refusal(15, 0);
     }
-    let mut words = [0u64; 384];
+    let mut words = [0u64; MAX_GROUPS * GROUP_WORDS];
     let end = groups * GROUP_WORDS;
     groups::start(list, &mut words[..end]);
     put_table(&mut out[..bytes], job, lines, &mut words[..end], groups);

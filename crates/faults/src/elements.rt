@@ -9,6 +9,8 @@ ghost use Rattle.job.specs.Float.{float, zeroFloat, isWeight};
 ghost use Rattle.faults.specs.Elements.{Inside, xCount, zCount, elementX, elementZ, elementCounts, elementMembers, kept};
 ghost use Rattle.faults.specs.Prepared.{ElementLines, Gathered};
 use instructions::next_line;
+use reader::slots::WEIGHT;
+use reader::slots::X;
 use template::values::KEPT;
 use template::values::WORDS;
 use template::values::count;
@@ -125,8 +127,8 @@ pub fn gather(
     let mut e = 0;
     while e < n {
         let line = next_line(job, at, &mut values);
-        keep_element(&mut *elements, e, &values, 0);
-        weights[e] = weight_of(weighted, number(&values, 0));
+        keep_element(&mut *elements, e, &values, X);
+        weights[e] = weight_of(weighted, number(&values, WEIGHT));
         at = line.end + 1;
         e += 1;
     }

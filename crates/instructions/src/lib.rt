@@ -16,6 +16,7 @@ ghost use Rattle.instructions.specs.Ahead.{hasWeights};
 use line_reader::line_at;
 use reader::Form;
 use reader::read_line;
+use reader::slots::ELEMENTS;
 use template::values::number;
 
 // A line that was read: its form, and the place of the LF that ends it. The next line begins behind that.
@@ -53,8 +54,8 @@ pub fn element_lines(form: Form, f: &[u64]) -> usize
     ensures { λ r. ⌜ ((vs : List Value) (n : NoiseLine) → Said form (now (f .entry)) vs (Written.noise n) → r ≡ elementLines (n .kind)) ⌝ }
 {
     match form {
-        Form::Uniform => number(f, 2) as usize,
-        Form::Weighted => number(f, 2) as usize,
+        Form::Uniform => number(f, ELEMENTS) as usize,
+        Form::Weighted => number(f, ELEMENTS) as usize,
         _ => 0,
     }
 }

@@ -39,7 +39,7 @@ fn put_depolarizing(out: &mut [u8], place: usize, shot: Shot, qubits: &[u64], e:
     ensures { λ r. ⌜ Puts place (injectText (shot .0) (depolarizingElement (now (qubits .entry)) e) ++ LF ∷ []) (now (out .entry)) (now (out .exit)) r ⌝ }
 {
     let v = e + 1;
-    let mut members = [0u64; 62];
+    let mut members = [0u64; 2 * KEPT];
     let x = select(&mut members[..KEPT], qubits, v);
     let z = select(&mut members[KEPT..], qubits, v / 2);
     let counts = [x as u64, z as u64];

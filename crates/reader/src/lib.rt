@@ -10,6 +10,14 @@ ghost use Rattle.template.specs.Fields.{ReadOn, ReadNext, ReadAs};
 ghost use Rattle.reader.specs.declared.Form.the-variants as Forms;
 ghost use Rattle.reader.specs.Parsed.{formOf, Parsed};
 ghost use Rattle.reader.specs.Tried.{Tried, FormBy, NoiseBegun, only, formIf, noiseForms, headerForms, pauliPart, noiseBegin};
+
+pub mod slots;
+
+use crate::slots::CONDITION;
+use crate::slots::GATE;
+use crate::slots::OPERANDS;
+use crate::slots::PARITY;
+use crate::slots::TABLE;
 use tables::words_fit;
 use template::Progress;
 use template::literal;
@@ -95,7 +103,7 @@ fn unitary(line: &[u8], fields: &mut [u64]) -> Form
     if !gate_form(line, &mut *fields) {
         return Form::Unread;
     }
-    if 15 < number(fields, 0) {
+    if 15 < number(fields, GATE) {
         return Form::Unread;
     }
     Form::Unitary
@@ -186,7 +194,7 @@ fn noise(line: &[u8], fields: &mut [u64]) -> Form
     if line.len() <= at {
         return Form::Unread;
     }
-    if parity_alone(count(fields, 1), number(fields, 1)) {
+    if parity_alone(count(fields, CONDITION), number(fields, PARITY)) {
         return Form::Unread;
     }
     noise_kind(line, line[at], p, fields)
@@ -233,7 +241,7 @@ fn clifford(line: &[u8], fields: &mut [u64]) -> Form
     if !table_form(line, &mut *fields) {
         return Form::Unread;
     }
-    if !words_fit(count(fields, 0), count(fields, 1)) {
+    if !words_fit(count(fields, OPERANDS), count(fields, TABLE)) {
         return Form::Unread;
     }
     Form::Clifford

@@ -23,6 +23,7 @@ use numbers::lists::list_q;
 use numbers::number;
 use numbers::pieces::find;
 use values::COUNTS;
+use values::EACH;
 use values::KEPT;
 use values::LARGEST;
 use values::MEMBERS;
@@ -70,7 +71,7 @@ fn put_number(v: Value, n: usize, l: usize, fields: &mut [u64]) -> Put
     let Value::Of(x) = v else {
         return not_put();
     };
-    if 4 <= n {
+    if EACH <= n {
         return not_put();
     }
     fields[n] = x;
@@ -97,7 +98,7 @@ fn put_list(t: u8, s: &[u8], n: usize, l: usize, fields: &mut [u64]) -> Put
     requires { ⌜ Whole (now fields) ⌝ }
     ensures { λ r. ⌜ PutAs 0 1 (aList (listBy t (now (s .entry)))) n l r (now (fields .entry)) (now (fields .exit)) ⌝ }
 {
-    if 4 <= l {
+    if EACH <= l {
         return not_put();
     }
     let a = MEMBERS + l * KEPT;

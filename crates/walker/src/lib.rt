@@ -27,6 +27,7 @@ use pauli::Pauli;
 use pauli::QubitId;
 use pauli::Shot;
 use reader::read_line;
+use reader::slots::SHOT;
 use template::read_on;
 use template::values::WORDS;
 use template::values::number;
@@ -42,7 +43,7 @@ fn other_shot(line: &[u8], shot: Shot, values: &mut [u64]) -> bool
     if !p.ok {
         return false;
     }
-    number(values, 0) as usize != shot.0
+    number(values, SHOT) as usize != shot.0
 }
 
 // Whether a line is passed over without being read to its end: a Pauli, an allocation, a barrier, or an injection in another shot, of which there are many.

@@ -1,13 +1,13 @@
--- `check_values::lists::operands_number` meets its contract. Assumes nothing.
+-- `check_lines::operands_number` meets its contract. Assumes nothing.
 use native.Mathlib.Omega.{arith}
 use mathlib.Core.Path.{sym, _∙_}
 use borrow.Author.Tests.{not-true, not-false}
 use Rattle.text.specs.Template.{listAt}
 use Rattle.job.specs.Checks.{distinct}
 use Rattle.check_values.specs.Laws.Lowest.{none-bad, fails, passes, left-false, right-false, both-true}
 use borrow.Author.Needs.{needs}
-use Rattle.check_values.proofs.lists.operands_number.Statement.{statement}
-use Rattle.check_values.proofs.lists.operands_number.Tie as tie
+use Rattle.check_lines.proofs.operands_number.Statement.{statement}
+use Rattle.check_lines.proofs.operands_number.Tie as tie
 
 below-requires : tie.Need-below-requires
 below-requires c κs = search needs
