@@ -2,4 +2,5 @@
 pub mod Pieces
 pub mod Read
 pub mod Lists
+pub mod Members
 pub mod Hex
