@@ -26,7 +26,7 @@ fn well_ended(job: &[u8]) -> bool
     if MAX_BYTES < n {
         return false;
     }
-    job[n - 1] == 10
+    job[n - 1] == b'\n'
 }
 
 // The answer of the tests of a job; of an accepted job also its header's numbers, how many outcomes it records, and how many lines it has.

@@ -56,7 +56,7 @@ pub fn put_row(out: &mut [u8], place: usize, line: u64, e: u64, marks: &[u8]) ->
     let numbers = [line, e];
     let next = put_numbers(&mut *out, begin, b"line=N el=N groups=", &numbers);
     let end = put_bytes(&mut *out, next, marks);
-    put_byte(out, end, 10);
+    put_byte(out, end, b'\n');
     begin
 }
 

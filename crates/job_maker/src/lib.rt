@@ -34,7 +34,7 @@ fn put_header(out: &mut [u8], h: Header) -> usize
             b"op=job edition=N qubits=N outcomes=N shots=N",
             &numbers,
         );
-        return put_byte(out, at, 10);
+        return put_byte(out, at, b'\n');
     }
     let at = put_numbers(
         &mut *out,
@@ -42,7 +42,7 @@ fn put_header(out: &mut [u8], h: Header) -> usize
         b"op=job qubits=N outcomes=N shots=N",
         &numbers[1..],
     );
-    put_byte(out, at, 10)
+    put_byte(out, at, b'\n')
 }
 
 // The text of a job; where it passes the bytes that a job may have, a beginning of it that passes them. Answers the place behind it.

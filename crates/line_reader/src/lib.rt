@@ -17,7 +17,7 @@ pub fn line_from<'a>(job: &'a [u8], at: usize) -> &'a [u8]
     ensures { λ r. ⌜ now r ≡ lineFrom (now (job .entry)) at ⌝ }
 {
     if at < job.len() {
-        let end = find(job, at, 10);
+        let end = find(job, at, b'\n');
         &job[at..end]
     } else {
         &job[job.len()..]

@@ -15,7 +15,7 @@ fn has_lf(job: &[u8], from: usize) -> bool
     let mut found = false;
     let mut k = 0;
     while k < 8 {
-        found = found | (job[from + k] == 10);
+        found = found | (job[from + k] == b'\n');
         k += 1;
     }
     found
@@ -43,10 +43,10 @@ pub fn line_start(job: &[u8], e: usize) -> usize
 {
     let mut i = skip_blocks(job, e);
     while 1 < i {
-        if job[i - 1] == 10 {
+        if job[i - 1] == b'\n' {
             return i;
         }
-        if job[i - 2] == 10 {
+        if job[i - 2] == b'\n' {
             return i - 1;
         }
         i -= 2;
@@ -54,7 +54,7 @@ pub fn line_start(job: &[u8], e: usize) -> usize
     if i == 0 {
         return 0;
     }
-    if job[0] == 10 {
+    if job[0] == b'\n' {
         return 1;
     }
     0

@@ -27,7 +27,7 @@ fn proper(s: &[u8]) -> bool
     if s.len() == 1 {
         return true;
     }
-    s[0] != 48
+    s[0] != b'0'
 }
 
 // Whether v * 10 + d is below 2^64, for a digit d.
@@ -55,13 +55,13 @@ pub fn number(s: &[u8]) -> Value
     let mut i = 0;
     while i < s.len() {
         let b = s[i];
-        if b < 48 {
+        if b < b'0' {
             return Value::Bad;
         }
-        if 57 < b {
+        if b'9' < b {
             return Value::Bad;
         }
-        let d = (b - 48) as u64;
+        let d = (b - b'0') as u64;
         if !fits(v, d) {
             return Value::Bad;
         }
@@ -84,7 +84,7 @@ fn not_hex(b: u8) -> u8
     ensures { λ r. ⌜ r ≡ cond (ltb (hexDigit b) 16) 0 1 ⌝ }
 {
     let d = hex_value(b);
-    (48 + d + 39 * ((d + 6) / 16) != b) as u8
+    (b'0' + d + 39 * ((d + 6) / 16) != b) as u8
 }
 
 // Whether 16 bytes are lower-case hexadecimal digits. None is looked for, so that all are tested at once.
@@ -128,8 +128,8 @@ pub fn bit(s: &[u8]) -> Value
         return Value::Bad;
     }
     match s[0] {
-        48 => Value::Of(0),
-        49 => Value::Of(1),
+        b'0' => Value::Of(0),
+        b'1' => Value::Of(1),
         _ => Value::Bad,
     }
 }

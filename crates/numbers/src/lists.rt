@@ -113,10 +113,10 @@ fn not_short() -> Short
 fn is_digit(b: u8) -> bool
     ensures { λ r. ⌜ r ≡ isDecimal b ⌝ }
 {
-    if b < 48 {
+    if b < b'0' {
         return false;
     }
-    b <= 57
+    b <= b'9'
 }
 
 // The short number that four bytes begin with.
@@ -126,8 +126,8 @@ fn short_number(a: u8, b: u8, c: u8, d: u8) -> Short
     if !is_digit(a) {
         return not_short();
     }
-    let one = (a - 48) as u64;
-    if b == 44 {
+    let one = (a - b'0') as u64;
+    if b == b',' {
         return Short {
             digits: 1,
             value: one,
@@ -136,11 +136,11 @@ fn short_number(a: u8, b: u8, c: u8, d: u8) -> Short
     if !is_digit(b) {
         return not_short();
     }
-    if a == 48 {
+    if a == b'0' {
         return not_short();
     }
-    let two = one * 10 + (b - 48) as u64;
-    if c == 44 {
+    let two = one * 10 + (b - b'0') as u64;
+    if c == b',' {
         return Short {
             digits: 2,
             value: two,
@@ -149,12 +149,12 @@ fn short_number(a: u8, b: u8, c: u8, d: u8) -> Short
     if !is_digit(c) {
         return not_short();
     }
-    if d != 44 {
+    if d != b',' {
         return not_short();
     }
     Short {
         digits: 3,
-        value: two * 10 + (c - 48) as u64,
+        value: two * 10 + (c - b'0') as u64,
     }
 }
 
@@ -169,7 +169,7 @@ fn cut_member(s: &[u8], at: usize, hex: bool) -> Member
     requires { ⌜ at ≤ length (now s) ⌝ }
     ensures { λ r. ⌜ MemberAt hex (now (s .entry)) at r ⌝ }
 {
-    let end = find(s, at, 44);
+    let end = find(s, at, b',');
     let value = piece(&s[at..end], hex);
     Member { value, end }
 }
@@ -241,7 +241,7 @@ fn is_dash(s: &[u8]) -> bool
     if s.len() != 1 {
         return false;
     }
-    s[0] == 45
+    s[0] == b'-'
 }
 
 // L: a strictly rising list, `-` when empty.

@@ -151,10 +151,10 @@ fn noise_kind(line: &[u8], digit: u8, p: Progress, fields: &mut [u64]) -> Form
     ensures { λ r. ⌜ Tried noiseForms (now (line .entry)) r (now (fields .exit)) ⌝ }
 {
     match digit {
-        49 => single(line, p, fields),
-        50 => depolarizing(line, p, fields),
-        51 => uniform(line, p, fields),
-        52 => weighted(line, p, fields),
+        b'1' => single(line, p, fields),
+        b'2' => depolarizing(line, p, fields),
+        b'3' => uniform(line, p, fields),
+        b'4' => weighted(line, p, fields),
         _ => Form::Unread,
     }
 }
@@ -384,21 +384,21 @@ fn operation(line: &[u8], letter: u8, fields: &mut [u64]) -> Form
     ensures { λ r. ⌜ Parsed (now (line .entry)) r (now (fields .exit)) ⌝ }
 {
     match letter {
-        117 => unitary(line, fields),
-        110 => noise(line, fields),
-        105 => inject(line, fields),
-        111 => measure(line, fields),
-        107 => controlled(line, fields),
-        101 => exponential(line, fields),
-        112 => pauli(line, fields),
-        102 => conditional(line, fields),
-        99 => clifford(line, fields),
-        109 => permute(line, fields),
-        114 => allocate(line, fields),
-        116 => flip(line, fields),
-        122 => reset(line, fields),
-        98 => barrier(line, fields),
-        106 => header(line, fields),
+        b'u' => unitary(line, fields),
+        b'n' => noise(line, fields),
+        b'i' => inject(line, fields),
+        b'o' => measure(line, fields),
+        b'k' => controlled(line, fields),
+        b'e' => exponential(line, fields),
+        b'p' => pauli(line, fields),
+        b'f' => conditional(line, fields),
+        b'c' => clifford(line, fields),
+        b'm' => permute(line, fields),
+        b'r' => allocate(line, fields),
+        b't' => flip(line, fields),
+        b'z' => reset(line, fields),
+        b'b' => barrier(line, fields),
+        b'j' => header(line, fields),
         _ => Form::Unread,
     }
 }
@@ -412,9 +412,9 @@ pub fn read_line(line: &[u8], fields: &mut [u64]) -> Form
         return Form::Unread;
     }
     match line[0] {
-        111 => operation(line, line[3], fields),
-        120 => element(line, fields),
-        119 => weighted_element(line, fields),
+        b'o' => operation(line, line[3], fields),
+        b'x' => element(line, fields),
+        b'w' => weighted_element(line, fields),
         _ => Form::Unread,
     }
 }

@@ -84,7 +84,7 @@ fn add(list: &[u8], g: Gathered, dst: &mut [u8]) -> Gathered
 {
     let mut fields = [0u64; values::WORDS];
     let at = g.at;
-    let e = find(list, at, 10);
+    let e = find(list, at, b'\n');
     if !is_add(&list[at..e], &mut fields) {
         return g;
     }
@@ -125,7 +125,7 @@ pub fn next_case(list: &[u8], from: usize, dst: &mut [u8]) -> Case
     ensures { λ r. ⌜ (r .held ≤ length (now (dst .entry))) × (r .at ≤ r .end) × (r .end ≤ length (now (list .entry))) × (from < r .next) × (r .next ≤ length (now (list .entry))) ⌝ }
 {
     let g = gather(list, from, dst);
-    let end = find(list, g.at, 10);
+    let end = find(list, g.at, b'\n');
     let mut next = end;
     if end < list.len() {
         next = end + 1;

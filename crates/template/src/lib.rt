@@ -87,9 +87,9 @@ fn list(t: u8, s: &[u8], out: &mut [u64]) -> Listed
     ensures { λ r. ⌜ ListRead (listBy t (now (s .entry))) r (now (out .entry)) (now (out .exit)) ⌝ }
 {
     match t {
-        76 => list_l(s, out),
-        81 => list_q(s, out),
-        84 => list_by(s, true, out),
+        b'L' => list_l(s, out),
+        b'Q' => list_q(s, out),
+        b'T' => list_by(s, true, out),
         _ => list_c(s, out),
     }
 }
@@ -122,13 +122,13 @@ fn put_value(t: u8, s: &[u8], n: usize, l: usize, fields: &mut [u64]) -> Put
     ensures { λ r. ⌜ PutAs (numberLetter t) (listLetter t) (valueOf t (now (s .entry))) n l r (now (fields .entry)) (now (fields .exit)) ⌝ }
 {
     match t {
-        78 => put_number(number(s), n, l, fields),
-        72 => put_number(hex16(s), n, l, fields),
-        66 => put_number(bit(s), n, l, fields),
-        76 => put_list(t, s, n, l, fields),
-        81 => put_list(t, s, n, l, fields),
-        84 => put_list(t, s, n, l, fields),
-        67 => put_list(t, s, n, l, fields),
+        b'N' => put_number(number(s), n, l, fields),
+        b'H' => put_number(hex16(s), n, l, fields),
+        b'B' => put_number(bit(s), n, l, fields),
+        b'L' => put_list(t, s, n, l, fields),
+        b'Q' => put_list(t, s, n, l, fields),
+        b'T' => put_list(t, s, n, l, fields),
+        b'C' => put_list(t, s, n, l, fields),
         _ => not_put(),
     }
 }
@@ -137,10 +137,10 @@ fn put_value(t: u8, s: &[u8], n: usize, l: usize, fields: &mut [u64]) -> Put
 pub fn is_letter(t: u8) -> bool
     ensures { λ r. ⌜ r ≡ isLetter t ⌝ }
 {
-    if t < 65 {
+    if t < b'A' {
         return false;
     }
-    t <= 90
+    t <= b'Z'
 }
 
 // ---- A line by the parts of its template
@@ -195,7 +195,7 @@ pub fn value(line: &[u8], p: Progress, t: u8, fields: &mut [u64]) -> Progress
         return p;
     }
     let at = p.at;
-    let e = find(line, at, 32);
+    let e = find(line, at, b' ');
     let q = put_value(t, &line[at..e], p.numbers, p.lists, fields);
     Progress {
         ok: q.ok,
@@ -246,7 +246,7 @@ pub fn read_on(
             at += 1;
             continue;
         }
-        let e = find(line, at, 32);
+        let e = find(line, at, b' ');
         let p = put_value(t, &line[at..e], n, l, &mut *fields);
         if !p.ok {
             return refused();

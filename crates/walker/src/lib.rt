@@ -54,14 +54,14 @@ fn passed_over(line: &[u8], shot: Shot, values: &mut [u64]) -> bool
     if line.len() < 4 {
         return false;
     }
-    if line[0] != 111 {
+    if line[0] != b'o' {
         return false;
     }
     match line[3] {
-        105 => other_shot(line, shot, values),
-        112 => true,
-        114 => true,
-        98 => true,
+        b'i' => other_shot(line, shot, values),
+        b'p' => true,
+        b'r' => true,
+        b'b' => true,
         _ => false,
     }
 }
@@ -73,10 +73,10 @@ fn is_gate(line: &[u8]) -> bool
     if line.len() < 4 {
         return false;
     }
-    if line[0] != 111 {
+    if line[0] != b'o' {
         return false;
     }
-    line[3] == 117
+    line[3] == b'u'
 }
 
 // A gate line of an accepted job, of which there are many: read without testing its form again.
