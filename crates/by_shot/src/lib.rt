@@ -11,10 +11,8 @@ use blocks::exchange;
 use blocks::gather;
 use blocks::scatter;
 use job::Answer;
-
-const MAX_OUTCOMES: u64 = 1024;
-
-const MAX_SHOTS: u64 = 4096;
+use job::limits::MAX_OUTCOMES;
+use job::limits::MAX_SHOTS;
 
 // ---- The blocks
 

@@ -11,6 +11,10 @@ ghost use Rattle.reader.specs.Parsed.{Said};
 ghost use Rattle.check_values.specs.Contexts.{contextOf};
 use check_values::context::Context;
 use job::Header;
+use job::limits::MAX_EDITION;
+use job::limits::MAX_OUTCOMES;
+use job::limits::MAX_QUBITS;
+use job::limits::MAX_SHOTS;
 use reader::Form;
 use reader::slots::EDITION;
 use reader::slots::EDITION_OUTCOMES;
@@ -20,14 +24,6 @@ use reader::slots::OUTCOMES;
 use reader::slots::QUBITS;
 use reader::slots::SHOTS;
 use template::values::number;
-
-const MAX_QUBITS: u64 = 256;
-
-const MAX_OUTCOMES: u64 = 1024;
-
-const MAX_SHOTS: u64 = 4096;
-
-const MAX_EDITION: u64 = 2;
 
 fn header_in(f: &[u64]) -> Header
     requires { ⌜ Whole (now f) ⌝ }

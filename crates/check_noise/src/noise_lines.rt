@@ -20,6 +20,7 @@ use check_values::lists::below;
 use check_values::lists::short;
 use check_values::lists::slot_distinct;
 use job::depolarizing_size;
+use job::limits::MAX_ELEMENTS;
 use reader::slots::CONDITION;
 use reader::slots::CONDITION_END;
 use reader::slots::DEPOLARIZED;
@@ -32,8 +33,6 @@ use reader::slots::SINGLE_X;
 use reader::slots::SIZE;
 use template::values::count;
 use template::values::number;
-
-const MAX_ELEMENTS: u64 = 64;
 
 // 9 and 11, which every noise line has.
 fn noise_number(c: Context, f: &[u64]) -> u64

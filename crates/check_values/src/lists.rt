@@ -12,13 +12,11 @@ ghost use Rattle.template.specs.Fields.{Held};
 ghost use Rattle.job.specs.Checks.{test, allBelow, eachBelow, eachShort, lowest, distinct as Checks·distinct};
 ghost use Rattle.check_values.specs.Slots.{listsFrom};
 ghost use Rattle.check_values.specs.Marks.{Unmarked, MarksOf};
+use job::limits::MAX_MEMBERS;
+use job::limits::MAX_QUBITS;
 use template::values::count;
 use template::values::largest;
 use template::values::list;
-
-const MAX_MEMBERS: u64 = 31;
-
-const MAX_QUBITS: usize = 256;
 
 // Whether every member of the list in a slot is below n.
 fn slot_below(f: &[u64], slot: usize, n: u64) -> bool
@@ -138,7 +136,7 @@ fn is_marked(marks: &[bool], members: &[u64], n: u64) -> bool
 pub fn overlap_is_odd(a: &[u64], b: &[u64]) -> bool
     ensures { λ r. ⌜ (isRising (now (a .entry)) ≡ true → isRising (now (b .entry)) ≡ true → r ≡ sumOver (now (a .entry)) (among (now (b .entry)))) ⌝ }
 {
-    let mut marks = [false; MAX_QUBITS];
+    let mut marks = [false; MAX_QUBITS as usize];
     mark_all(&mut marks, b);
     let mut odd = false;
     let mut i = 0;

@@ -11,9 +11,8 @@ use check_values::context::no_context;
 use instructions::next_line;
 use job::Answer;
 use job::Header;
+use job::limits::MAX_BYTES;
 use template::values::WORDS;
-
-const MAX_BYTES: usize = 1048576;
 
 // Not empty, not too long, LF at the end.
 fn well_ended(job: &[u8]) -> bool

@@ -7,6 +7,8 @@ use instructions::Next;
 use instructions::is_noise;
 use instructions::next_line;
 use job::Answer;
+use job::limits::MAX_ELEMENTS;
+use job::limits::MAX_WIDTH;
 use lines::apply_line;
 use noise::Place;
 use noise::words::count;
@@ -56,8 +58,8 @@ fn apply_noise<'a>(
     requires { ⌜ NoiseReady (now job) place line (now values) (now noiseless) shape × NoiseRoom shape (now values) (now elements) (now x) (now z) × (place .position ≤ length (now main ++ now more)) ⌝ }
     ensures { λ r. ⌜ NoiseDone (now (job .entry)) place line (now (values .entry)) shape (now (noiseless .entry)) (now (main .entry) ++ now (more .entry)) (now (second .entry)) base (now (x .entry)) (now (z .entry)) (now (x .exit)) (now (z .exit)) r ⌝ }
 {
-    let mut sums = [0.0; 64];
-    let mut mask = [0u64; 64];
+    let mut sums = [0.0; MAX_ELEMENTS as usize];
+    let mut mask = [0u64; MAX_WIDTH];
     let r = prepare(
         job,
         line,

@@ -29,6 +29,7 @@ use groups_back::line_on_groups;
 use instructions::is_noise;
 use instructions::next_line;
 use job::Answer;
+use job::limits::MAX_BYTES;
 use lines_from_last::line_start;
 use noise_rows::is_wide;
 use noise_rows::keep_marks;
@@ -38,8 +39,6 @@ use reader::read_line;
 use template::values::WORDS;
 use writer::TextAnswer;
 use writer::refused;
-
-const MAX_BYTES: usize = 1048576;
 
 const MAX_GROUPS: usize = 16;
 

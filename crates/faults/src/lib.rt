@@ -18,6 +18,7 @@ use choice::total;
 use instructions::Next;
 use instructions::element_lines;
 use instructions::has_weights;
+use job::limits::MAX_ELEMENTS;
 use noise::OutcomeCondition;
 use noise::PauliFault;
 use noise::condition::condition_mask;
@@ -86,7 +87,7 @@ pub fn prepare(
 {
     let form = line.form;
     let n = element_lines(form, values);
-    let mut weights = [0.0; 64];
+    let mut weights = [0.0; MAX_ELEMENTS as usize];
     let r = read_fault(
         job,
         line,

@@ -3,6 +3,8 @@
 ghost use mathlib.Core.Path.{_≡_};
 ghost use Prim.Native.Nat.{_-_, _^_, _<_};
 
+pub mod limits;
+
 // The header's numbers; the edition is 1 where the header has none.
 pub struct Header {
     pub edition: u64,

@@ -15,6 +15,7 @@ use instruction_text::Moved;
 use instruction_text::Reached;
 use instruction_text::put_instruction;
 use job::Answer;
+use job::limits::MAX_BYTES;
 use job_shape::Tested;
 use noise::Place;
 use numbers::pieces::find;
@@ -23,8 +24,6 @@ use template::values::WORDS;
 use writer::TextAnswer;
 use writer::put_bytes;
 use writer::refused;
-
-const MAX_BYTES: usize = 1048576;
 
 // The text is so long; or the line of the noise whose draws were spent. Each with the words of the main list that were taken.
 pub enum TextLength {
