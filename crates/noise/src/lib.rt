@@ -4,7 +4,8 @@ pub mod condition;
 pub mod scan;
 pub mod words;
 
-// The four kinds of distribution. The weighted one carries its total; its running sums lie in an array beside it.
+// The four kinds of distribution: one element; every Pauli on so many qubits but the identity; so many elements that are alike; elements with weights,
+// which carries their total. Elements, and the running sums of weights, lie in arrays beside it.
 pub enum PauliDistribution {
     Single,
     Depolarizing(u64),

@@ -14,7 +14,8 @@ use Rattle.job.specs.Checks.{Context, next, expected, inEdition, headerF
 use Rattle.job.specs.Job.{answer, accepted, isLast, nextOf, checkLines}
 use Rattle.job.specs.Contexts.{Accepted}
 use Rattle.job.specs.Laws.Tests.{AllPass, refusal-passes, passes-lowest}
-use Rattle.job.specs.Laws.Forms.{WrittenFits, SaidFits, line-fits}
+use Rattle.job.specs.Fits.{WrittenFits, SaidFits}
+use Rattle.job.specs.Laws.Forms.{line-fits}
 
 -- the number of a line among others
 abbrev pub numberAfter : Context → List ℕ → List (List ℕ) → ℕ
