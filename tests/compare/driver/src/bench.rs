@@ -8,7 +8,7 @@
 
 use crate::block;
 use checker::calls::{Asked, Calls, Draws, Rows, Share};
-use checker::job::{Job, MAX_BYTES, MAX_GROUPS, usize_of};
+use checker::job::{Instruction, Job, MAX_BYTES, MAX_GROUPS, usize_of};
 use checker::plain::by_shot::Shape;
 use checker::plain::{Plain, settled};
 use checker::read::read;
@@ -187,13 +187,16 @@ impl Load {
         let shots = usize::try_from(made.header.shots).expect("a checked number");
         let noiseless = words(made.header.outcome_words());
         let second = words(2 * shots + 64);
-        let mut main = words(made.instructions.len() * (shots + 64));
-        let load = |main| Load { bytes: bytes.clone(), main, second: second.clone(), noiseless: noiseless.clone() };
-        let all = load(main.clone());
-        let job = all.job();
-        let read = settled(&job, all.draws(), &all.noiseless).expect("enough words").words_read;
-        main.truncate(usize::try_from(read).expect("below the list's length"));
-        load(main)
+        let noisy = made.instructions.iter().filter(|i| matches!(i, Instruction::Noise(_))).count();
+        let mut load = Load { bytes, main: Vec::new(), second, noiseless };
+        // a shot without a fault reads one word; where many have one, more words are made until they suffice
+        let read = (0..16).find_map(|_| {
+            load.main.extend(words(noisy * (shots + 64) + 1));
+            Some(settled(&load.job(), load.draws(), &load.noiseless).ok()?.words_read)
+        });
+        let read = read.expect("enough words");
+        load.main.truncate(usize::try_from(read).expect("below the list's length"));
+        load
     }
 
     fn job(&self) -> Job<'_> {
