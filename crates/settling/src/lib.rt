@@ -16,8 +16,8 @@ use instruction_text::Reached;
 use instruction_text::put_instruction;
 use job::Answer;
 use job_shape::Tested;
+use job_shape::behind_header;
 use noise::Place;
-use numbers::pieces::find;
 use rows::Shape;
 use template::values::WORDS;
 use writer::TextAnswer;
@@ -54,11 +54,11 @@ fn put_settled<'a>(
 {
     let mut values = [0u64; WORDS];
     let mut elements = [0u64; ALL_WORDS];
-    let end = find(job, 0, 10) + 1;
-    let text = put_bytes(&mut *out, 0, &job[..end]);
+    let from = behind_header(job);
+    let text = put_bytes(&mut *out, 0, &job[..from]);
     let mut here = Reached {
         place: Place {
-            byte: end,
+            byte: from,
             line: 2,
             position: 0,
         },
