@@ -145,7 +145,11 @@ pub fn inject_faults(
             NextFault::Done(next) => {
                 return Drawn::Done(next);
             }
-            NextFault::At(s, e, next) => {
+            NextFault::At {
+                shot: s,
+                element: e,
+                next,
+            } => {
                 inject_element(x, z, shape, s, d, elements, e);
                 at = next;
                 shot = s.0 + 1;

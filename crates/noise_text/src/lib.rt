@@ -84,7 +84,7 @@ fn put_element(
 // A word was needed past the end, with the place where the list of words is left; or the places of the next word and of the next byte.
 pub enum Drawn {
     Spent(usize),
-    Done(usize, usize),
+    Done { next_word: usize, next_byte: usize },
 }
 
 // The injections of the faults that the words bring.
@@ -115,9 +115,16 @@ fn put_faults(
                 return Drawn::Spent(count(words, more));
             }
             NextFault::Done(next) => {
-                return Drawn::Done(next, place);
+                return Drawn::Done {
+                    next_word: next,
+                    next_byte: place,
+                };
             }
-            NextFault::At(s, e, next) => {
+            NextFault::At {
+                shot: s,
+                element: e,
+                next,
+            } => {
                 place = put_element(&mut *out, place, s, d, elements, e);
                 at = next;
                 shot = s.0 + 1;
@@ -145,15 +152,22 @@ pub fn put_noise<'a>(
     ensures { λ r. ⌜ ((q : ReadyOf (fault .probability) (fault .distribution) (now (sums .entry)) (now (mask .entry)) (now (elements .entry)) shots (fault .correlation) (now (second .entry)) base) (text : List ℕ) → StepPut (now (main .entry) ++ now (more .entry)) place shots (now (out .entry)) (leftSpent (Instruction.noise (q .ready .noise)) (drop position (now (main .entry) ++ now (more .entry)))) (stepOf (q .ready .lent) (drop position (now (main .entry) ++ now (more .entry))) text (Instruction.noise (q .ready .noise))) (now (out .exit)) r) ⌝ }
 {
     if fault.probability <= 0.0 {
-        return Drawn::Done(position, place);
+        return Drawn::Done {
+            next_word: position,
+            next_byte: place,
+        };
     }
     let correlation = fault.correlation;
     let words = part(main, second, correlation, base, position);
     let rest = more_part(more, correlation, position, main.len());
     match put_faults(out, place, words, rest, mask, shots, fault, sums, elements) {
         Drawn::Spent(read) => Drawn::Spent(position_after(correlation, position, read)),
-        Drawn::Done(read, next) => {
-            Drawn::Done(position_after(correlation, position, read), next)
-        }
+        Drawn::Done {
+            next_word: read,
+            next_byte,
+        } => Drawn::Done {
+            next_word: position_after(correlation, position, read),
+            next_byte,
+        },
     }
 }

@@ -28,8 +28,8 @@ const MAX_BYTES: usize = 1048576;
 
 // The text is so long; or the line of the noise whose draws were spent. Each with the words of the main list that were taken.
 pub enum TextLength {
-    Length(usize, usize),
-    SpentAt(u64, usize),
+    Length { bytes: usize, taken: usize },
+    SpentAt { line: u64, taken: usize },
 }
 
 // An answer, and how many words of the main list were taken for it.
@@ -79,14 +79,20 @@ fn put_settled<'a>(
             base,
         ) {
             Moved::Spent(position) => {
-                return TextLength::SpentAt(here.place.line, position);
+                return TextLength::SpentAt {
+                    line: here.place.line,
+                    taken: position,
+                };
             }
             Moved::To(next) => {
                 here = next;
             }
         }
     }
-    TextLength::Length(here.text, here.place.position)
+    TextLength::Length {
+        bytes: here.text,
+        taken: here.place.position,
+    }
 }
 
 // Whether a text of so many bytes fits the lent ones and the limit.
@@ -156,14 +162,14 @@ pub fn settle_tested<'a>(
         second,
         base,
     ) {
-        TextLength::SpentAt(k, taken) => Answered {
+        TextLength::SpentAt { line: k, taken } => Answered {
             answer: refused(Answer {
                 number: 14,
                 line: k,
             }),
             taken,
         },
-        TextLength::Length(need, taken) => {
+        TextLength::Length { bytes: need, taken } => {
             if !text_fits(need, out.len()) {
                 return Answered {
                     answer: measured(15, need),

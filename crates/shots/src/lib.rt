@@ -20,7 +20,7 @@ ghost use Rattle.shots.specs.Shots.{ShotDrawn, FaultFound};
 pub enum ShotDraw {
     Spent,
     Quiet(usize),
-    Fault(u64, usize),
+    Fault { element: u64, next: usize },
 }
 
 // One shot's draw, where the word at its place, if there is one, brings a fault. The words lie in two parts, the second behind the first. `satisfied`
@@ -43,7 +43,7 @@ pub fn draw_shot(
         return ShotDraw::Quiet(at + 1);
     }
     match element(words, more, at + 1, chooser, sums) {
-        Choice::Chosen(e, next) => ShotDraw::Fault(e, next),
+        Choice::Chosen { element: e, next } => ShotDraw::Fault { element: e, next },
         Choice::Spent => ShotDraw::Spent,
     }
 }
@@ -62,7 +62,11 @@ pub fn is_set(mask: &[u64], shot: Shot) -> bool
 pub enum NextFault {
     Spent,
     Done(usize),
-    At(Shot, u64, usize),
+    At {
+        shot: Shot,
+        element: u64,
+        next: usize,
+    },
 }
 
 // The next fault in the shots from one on, by the threshold of the line's p. The mask has the shots whose condition is satisfied.
@@ -96,8 +100,12 @@ fn fault_from(
             ShotDraw::Quiet(next) => {
                 i = next;
             }
-            ShotDraw::Fault(e, next) => {
-                return NextFault::At(Shot(s), e, next);
+            ShotDraw::Fault { element: e, next } => {
+                return NextFault::At {
+                    shot: Shot(s),
+                    element: e,
+                    next,
+                };
             }
         }
         s += 1;
@@ -127,8 +135,12 @@ pub fn next_fault(
                     return NextFault::Spent;
                 }
                 ShotDraw::Quiet(_) => {}
-                ShotDraw::Fault(e, next) => {
-                    return NextFault::At(shot, e, next);
+                ShotDraw::Fault { element: e, next } => {
+                    return NextFault::At {
+                        shot,
+                        element: e,
+                        next,
+                    };
                 }
             }
         }
