@@ -14,13 +14,11 @@ ghost use Rattle.noise_text.specs.Injections.{StepPut, injected, Ready, 
 pub mod lists;
 
 use crate::lists::select;
-use choice::chooser_of;
 use faults::elements::element_counts;
 use faults::elements::element_members;
 use faults::elements::element_x;
 use noise::PauliDistribution;
 use noise::PauliFault;
-use noise::scan::threshold;
 use noise::words::count;
 use noise::words::more_part;
 use noise::words::part;
@@ -28,6 +26,7 @@ use noise::words::position_after;
 use pauli::Shot;
 use shots::NextFault;
 use shots::next_fault;
+use shots::rule_of;
 use template::values::KEPT;
 use writer::noise_lines::put_inject;
 
@@ -104,13 +103,12 @@ fn put_faults(
 {
     let p = fault.probability;
     let d = fault.distribution;
-    let t = threshold(p);
-    let chooser = chooser_of(d);
+    let rule = rule_of(p, d);
     let mut place = from;
     let mut at = 0;
     let mut shot = 0;
     loop {
-        match next_fault(words, more, at, mask, Shot(shot), shots, t, chooser, sums) {
+        match next_fault(words, more, at, mask, Shot(shot), shots, rule, sums) {
             NextFault::Spent => {
                 return Drawn::Spent(count(words, more));
             }
