@@ -21,7 +21,7 @@ use Rattle.job_shape.specs.Header.{behindHeader}
 use Rattle.rows.specs.Shape.{shapeOf}
 use Rattle.run.specs.Run.{Memory, frameWords, outcomeWords, enoughWords, untouched, runReply}
 use Rattle.execution.specs.declared.Answered.{Answered}
-use Rattle.execution.specs.Went.{headerOf}
+use Rattle.execution.specs.Steps.{headerOf}
 use Rattle.needed_words.specs.Needed.{NeededReady, NeededRun}
 use Rattle.job_shape.specs.Laws.Tested.{passed-both}
 use Rattle.job_shape.specs.Laws.Header.{header-started}
