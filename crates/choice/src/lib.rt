@@ -17,7 +17,7 @@ ghost use Rattle.choice.specs.Choice.{Chose, Weighed, Sized, ElementChos
 
 // An element, with the place of the next word; or a word was needed past the end.
 pub enum Choice {
-    Chosen(u64, usize),
+    Chosen { element: u64, next: usize },
     Spent,
 }
 
@@ -64,7 +64,10 @@ pub fn choose(words: &[u64], more: &[u64], at: usize, c: u64, limit: u64) -> Cho
             NextWord::Word(w) => {
                 i += 1;
                 if w < limit {
-                    return Choice::Chosen(w % c, i);
+                    return Choice::Chosen {
+                        element: w % c,
+                        next: i,
+                    };
                 }
             }
             NextWord::Spent => {
@@ -177,7 +180,10 @@ pub fn weigh(words: &[u64], more: &[u64], at: usize, sums: &[f64]) -> Choice
     ensures { λ r. ⌜ Weighed (now (words .entry) ++ now (more .entry)) at (now (sums .entry)) r ⌝ }
 {
     match next_word(words, more, at) {
-        NextWord::Word(w) => Choice::Chosen(place(sums, unit(w)) as u64, at + 1),
+        NextWord::Word(w) => Choice::Chosen {
+            element: place(sums, unit(w)) as u64,
+            next: at + 1,
+        },
         NextWord::Spent => Choice::Spent,
     }
 }
@@ -204,7 +210,10 @@ pub fn element(words: &[u64], more: &[u64], at: usize, chooser: Chooser, sums: &
 {
     let d = chooser.kind;
     match d {
-        PauliDistribution::Single => Choice::Chosen(0, at),
+        PauliDistribution::Single => Choice::Chosen {
+            element: 0,
+            next: at,
+        },
         PauliDistribution::Depolarizing(_) => choose(words, more, at, chooser.size, chooser.limit),
         PauliDistribution::Uniform(_) => choose(words, more, at, chooser.size, chooser.limit),
         PauliDistribution::Weighted(_) => weigh(words, more, at, sums),

@@ -22,7 +22,7 @@ ghost use Prim.Native.Nat.{ℕ, _*_, _≤_};
 ghost use lib.ListN.{length};
 ghost use Rattle.instructions.specs.Ahead.{Ahead};
 ghost use Rattle.totals.specs.Held.{TotalsHeld};
-ghost use Rattle.execution.specs.Went.{headerOf, RowsFor, NoiseReady, NoiseRoom, NoiseDone, StepReady, Stepped, Executes};
+ghost use Rattle.execution.specs.Steps.{headerOf, RowsFor, NoiseReady, NoiseRoom, NoiseDone, StepReady, Stepped, Executes};
 
 // 31 rows of at most 64 words.
 const SCRATCH_WORDS: usize = 1984;

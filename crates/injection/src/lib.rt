@@ -1,14 +1,13 @@
 // The faults of a noise line, injected in their shots.
-use choice::chooser_of;
 use faults::elements::element_x;
 use faults::elements::element_z;
 use noise::PauliDistribution;
 use noise::PauliFault;
-use noise::scan::threshold;
 use pauli::Shot;
 use rows::Shape;
 use shots::NextFault;
 use shots::next_fault;
+use shots::rule_of;
 ghost use mathlib.Core.Path.{_≡_};
 ghost use mathlib.Core.Bool.{true, cond};
 ghost use mathlib.Core.List.{List, _++_};
@@ -132,20 +131,23 @@ pub fn inject_faults(
 {
     let p = fault.probability;
     let d = fault.distribution;
-    let t = threshold(p);
-    let chooser = chooser_of(d);
+    let rule = rule_of(p, d);
     let shots = shape.shots;
     let mut at = 0;
     let mut shot = 0;
     loop {
-        match next_fault(words, more, at, mask, Shot(shot), shots, t, chooser, sums) {
+        match next_fault(words, more, at, mask, Shot(shot), shots, rule, sums) {
             NextFault::Spent => {
                 return Drawn::Spent;
             }
             NextFault::Done(next) => {
                 return Drawn::Done(next);
             }
-            NextFault::At(s, e, next) => {
+            NextFault::At {
+                shot: s,
+                element: e,
+                next,
+            } => {
                 inject_element(x, z, shape, s, d, elements, e);
                 at = next;
                 shot = s.0 + 1;

@@ -80,7 +80,10 @@ fn put_noise_line<'a>(
         place.position,
     ) {
         Drawn::Spent(position) => Moved::Spent(position),
-        Drawn::Done(position, text) => Moved::To(Reached {
+        Drawn::Done {
+            next_word: position,
+            next_byte: text,
+        } => Moved::To(Reached {
             place: Place {
                 byte: ready.next,
                 line: place.line + 1 + lines as u64,

@@ -2,11 +2,12 @@
 use execution::Answered;
 use job::Answer;
 use job_shape::Tested;
+use job_shape::behind_header;
 use needed_words::run_needed;
-use numbers::pieces::find;
 use rows::Shape;
 ghost use mathlib.Core.Path.{_≡_};
 ghost use mathlib.Core.List.{_++_};
+ghost use Prim.Native.Nat.{_*_, _^_, _<_};
 ghost use Rattle.run.specs.Run.{Source, Memory, RunReply, runReply};
 ghost use Rattle.job.specs.Job.{jobOf};
 ghost use Rattle.job_shape.specs.Tested.{Tests};
@@ -22,32 +23,27 @@ pub struct Lengths {
     pub noiseless: usize,
 }
 
-// Whether so many words are lent: a frame's of the X and of the Z part, the outcomes' of the deltas and of the noiseless bits; and a total for each outcome.
-fn enough(
-    frame: usize,
-    outcomes: usize,
-    rows: usize,
-    x: usize,
-    z: usize,
-    deltas: usize,
-    totals: usize,
-    noiseless: usize,
-) -> bool
-    ensures { λ r. ⌜ r ≡ suffice frame outcomes rows x z deltas totals noiseless ⌝ }
+// Whether so many words are lent as a run of that shape needs: for each qubit a row of the X and of the Z part, for each outcome a row of the deltas and
+// of the noiseless bits, and a total.
+fn enough(shape: Shape, lent: Lengths) -> bool
+    requires { ⌜ (shape .qubits * shape .width < 2 ^ 64) × (shape .outcomes * shape .width < 2 ^ 64) ⌝ }
+    ensures { λ r. ⌜ r ≡ suffice shape lent ⌝ }
 {
-    if x < frame {
+    let frame = shape.qubits * shape.width;
+    let outcomes = shape.outcomes * shape.width;
+    if lent.x < frame {
         return false;
     }
-    if z < frame {
+    if lent.z < frame {
         return false;
     }
-    if deltas < outcomes {
+    if lent.deltas < outcomes {
         return false;
     }
-    if totals < rows {
+    if lent.totals < shape.outcomes {
         return false;
     }
-    outcomes <= noiseless
+    outcomes <= lent.noiseless
 }
 
 // 13: lent words too few.
@@ -70,16 +66,7 @@ pub fn tested(job: &[u8], lent: Lengths) -> Tested
         return r;
     }
     let shape = r.shape;
-    if !enough(
-        shape.qubits * shape.width,
-        shape.outcomes * shape.width,
-        shape.outcomes,
-        lent.x,
-        lent.z,
-        lent.deltas,
-        lent.totals,
-        lent.noiseless,
-    ) {
+    if !enough(shape, lent) {
         return Tested {
             answer: too_few(),
             shape,
@@ -107,7 +94,7 @@ pub fn run_tested<'a>(
 {
     let frame = shape.qubits * shape.width;
     let outcomes = shape.outcomes * shape.width;
-    let from = find(job, 0, 10) + 1;
+    let from = behind_header(job);
     run_needed(
         job,
         from,

@@ -34,7 +34,7 @@ use Rattle.injection.specs.Injected.{LineReady, FaultsReady, executedAs, placeO
 use Rattle.injection.specs.Laws.Holds.{holds-some}
 use Rattle.execution.specs.declared.Moved.{Moved}
 use Rattle.execution.specs.declared.Moved.the-variants.{To, Spent}
-use Rattle.execution.specs.Went.{headerOf, lentBy, Ending, endingOf, WentBy, Went, NoiseReady, NoiseRoom, NoiseDone}
+use Rattle.execution.specs.Steps.{headerOf, lentBy, Ending, endingOf, EndsBy, EndsAs, NoiseReady, NoiseRoom, NoiseDone}
 
 -- ---- what the noise comes to
 
@@ -90,9 +90,9 @@ module _ {job : List ℕ} (place : Place) (next : Next) {values noiseless : List
     noise-went : {elements : List ℕ} {sums : List Float} {mask : List ℕ} {r : Prepared} → PreparedAs q elements sums mask r
         → (x z : List ℕ) (position : ℕ) (t : States) → position ≤ length main → Holds (shape .width) x z deltas t
         → executeOne (headerOf job shape) lent (drop (place .position) main) (Instruction.noise (noiseIn q)) states ≡ Executed.went t (drop position main)
-        → Went job shape lent main comes (suc (length (q .rest))) (place .line) x z deltas
+        → EndsAs job shape lent main comes (suc (length (q .rest))) (place .line) x z deltas
         (To (record { byte = r .next; line = place .line + 1 + r .lines; position = position }))
-    unfolding WentBy
+    unfolding EndsBy
     noise-went {r = r} ready x z position t within holds e =
         let rest : instructionsAt job (place .line + 1 + r .lines) (r .next) ≡ q .rest = rw line at (ready .instructions) in
         record {
@@ -109,8 +109,8 @@ module _ {job : List ℕ} (place : Place) (next : Next) {values noiseless : List
 
     noise-spent : (x z : List ℕ) (position : ℕ) → position ≤ length main → drop position main ≡ spentOn (noiseIn q .correlation) (drop (place .position) main)
         → executeOne (headerOf job shape) lent (drop (place .position) main) (Instruction.noise (noiseIn q)) states ≡ Executed.spent
-        → Went job shape lent main comes (suc (length (q .rest))) (place .line) x z deltas (Spent position)
-    unfolding WentBy
+        → EndsAs job shape lent main comes (suc (length (q .rest))) (place .line) x z deltas (Spent position)
+    unfolding EndsBy
     noise-spent x z position within left e =
         let s = head-spent (headerOf job shape) lent main (noiseIn q) text (q .rest) (place .line) (place .position) states e in
         record { by = record { ends = s .0; within = within; leaves = left ∙ s .1 } }

@@ -54,7 +54,7 @@ abbrev pub endingOf : Header → Lent → List Placed → List ℕ → States �
 endingOf h lent is main states = record { ends = execute h lent is main states; left = leftAfter lent is main }
 
 -- Where execution of what is left comes to `all`, it goes on from another place, with fewer instructions than so many and the states that the words hold.
-pub record WentTo (job : List ℕ) (shape : Shape) (lent : Lent) (main : List ℕ) (all : Ending) (count : ℕ) (x z d : List ℕ) (next : Place) : Type 0 where
+pub record GoesOnFrom (job : List ℕ) (shape : Shape) (lent : Lent) (main : List ℕ) (all : Ending) (count : ℕ) (x z d : List ℕ) (next : Place) : Type 0 where
   pub recorded : ℕ
   pub ahead : Ahead job (headerOf job shape) recorded (next .line) (next .byte)
   pub fewer : length (instructionsAt job (next .line) (next .byte)) < count
@@ -69,12 +69,13 @@ pub record SpentIn (main : List ℕ) (all : Ending) (k position : ℕ) : Type 0 
   pub within : position ≤ length main
   pub leaves : drop position main ≡ all .left
 
-unfoldable pub WentBy : List ℕ → Shape → Lent → List ℕ → Ending → ℕ → ℕ → List ℕ → List ℕ → List ℕ → Moved → Type 0
-WentBy job shape lent main all count k x z d (To next) = WentTo job shape lent main all count x z d next
-WentBy job shape lent main all count k x z d (Spent position) = SpentIn main all k position
+-- so that what is left ends as `all`, either way
+unfoldable pub EndsBy : List ℕ → Shape → Lent → List ℕ → Ending → ℕ → ℕ → List ℕ → List ℕ → List ℕ → Moved → Type 0
+EndsBy job shape lent main all count k x z d (To next) = GoesOnFrom job shape lent main all count x z d next
+EndsBy job shape lent main all count k x z d (Spent position) = SpentIn main all k position
 
-pub record Went (job : List ℕ) (shape : Shape) (lent : Lent) (main : List ℕ) (all : Ending) (count k : ℕ) (x z d : List ℕ) (r : Moved) : Type 0 where
-  pub by : WentBy job shape lent main all count k x z d r
+pub record EndsAs (job : List ℕ) (shape : Shape) (lent : Lent) (main : List ℕ) (all : Ending) (count k : ℕ) (x z d : List ℕ) (r : Moved) : Type 0 where
+  pub by : EndsBy job shape lent main all count k x z d r
 
 -- a noise line at a place was read; its element lines begin behind it
 pub record NoiseReady (job : List ℕ) (place : Place) (line : Next) (values noiseless : List ℕ) (shape : Shape) : Type 0 where
@@ -95,7 +96,7 @@ pub record NoiseDone (job : List ℕ) (place : Place) (line : Next) (values : Li
     (x z x′ z′ : List ℕ) (r : Moved) : Type 0 where
   pub by : (q : NoiseLines job (line .end + 1) (line .form) values noiseless (shape .width)) → q .header ≡ headerOf job shape → q .line ≡ place .line + 1
       → (text deltas : List ℕ) (states : States) → Holds (shape .width) x z deltas states
-      → Went job shape (lentBy shape noiseless second base) main
+      → EndsAs job shape (lentBy shape noiseless second base) main
       (endingOf (headerOf job shape) (lentBy shape noiseless second base) (placedAt (place .line) text (Instruction.noise (noiseIn q)) ∷ q .rest) (drop (place .position) main) states)
       (suc (length (q .rest))) (place .line) x′ z′ deltas r
 
@@ -111,7 +112,7 @@ pub record StepReady (job : List ℕ) (shape : Shape) (place : Place) (values el
 pub record Stepped (job : List ℕ) (shape : Shape) (noiseless main second : List ℕ) (base : ℕ) (place : Place) (x z d x′ z′ d′ : List ℕ) (r : Moved) : Type 0
   where
     pub by : (recorded : ℕ) → Ahead job (headerOf job shape) recorded (place .line) (place .byte) → (states : States) → Holds (shape .width) x z d states
-        → Went job shape (lentBy shape noiseless second base) main
+        → EndsAs job shape (lentBy shape noiseless second base) main
         (endingOf (headerOf job shape) (lentBy shape noiseless second base) (instructionsAt job (place .line) (place .byte)) (drop (place .position) main) states)
         (length (instructionsAt job (place .line) (place .byte))) (place .line) x′ z′ d′ r
 
