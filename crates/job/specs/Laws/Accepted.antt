@@ -55,13 +55,6 @@ zero-passes k c (l ∷ ls) z = go (eqb (numberAfter c l ls) 0) refl z (zero-pass
     go true e z ih = ih z
     go false e z ih = absurd (eqb-false (numberAfter c l ls) 0 e z)
 
--- whether lines are accepted does not depend on the number of the first
-pub passes-anywhere : (k m : ℕ) (c : Context) (ls : List (List ℕ)) → checkLines k c ls ≡ accepted → checkLines m c ls ≡ accepted
-passes-anywhere k m c [] p = unfold checkLines in refl
-passes-anywhere k m c (l ∷ ls) p =
-    let parts = passes-first k c l ls p in
-    checks-good m c l ls (parts .0) ∙ passes-anywhere (suc k) (suc m) (nextOf c (readLine l)) ls (parts .1)
-
 -- ---- what a good line is known for
 
 -- what a line says that passes all of its tests, with these lines behind it

@@ -67,7 +67,7 @@ forms-fit : Every FormFits forms
 unfolding FormFits forms bytes numberLettersIn listLettersIn NumberFits ListFits SaidFits WrittenFits LineFits KindFits SmallOption
 forms-fit =
     also (λ v h. tt)
-    (also (λ v h. gate-fits (gateOf (numberAt 0 v)) (listAt 0 v) (h .list 0))
+    (also (λ v h. gate-fits _ (listAt 0 v) (h .list 0))
     (also (λ v h. clifford-fits (listAt 0 v) (listAt 1 v) (h .list 0))
     (also (λ v h. pauli-fits 0 1 v (h .list 0) (h .list 1))
     (also (λ v h. pauli-fits 0 1 v (h .list 0) (h .list 1))
