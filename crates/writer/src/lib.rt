@@ -7,8 +7,10 @@ ghost use lib.ListN.{length};
 ghost use Rattle.text.specs.Number.{decimal, hexByte, hexadecimal};
 ghost use Rattle.text.specs.List.{commas, listText};
 ghost use Rattle.writer.specs.Placed.{Puts};
+use crate::lengths::digits;
 use job::Answer;
 
+pub mod lengths;
 pub mod line;
 pub mod noise_lines;
 
@@ -64,22 +66,25 @@ pub fn put_bytes(out: &mut [u8], at: usize, s: &[u8]) -> usize
     at + s.len()
 }
 
-// In decimal.
+// In decimal. Past the end of the lent bytes the digits are counted and not made.
 pub fn put_number(out: &mut [u8], at: usize, n: u64) -> usize
     requires { ⌜ at + length (decimal n) < 2 ^ 64 ⌝ }
     ensures { λ r. ⌜ Puts at (decimal n) (now (out .entry)) (now (out .exit)) r ⌝ }
 {
-    let mut digits = [0u8; 20];
+    if out.len() <= at {
+        return at + digits(n);
+    }
+    let mut text = [0u8; 20];
     let mut i = 20;
     let mut rest = n;
     while 9 < rest {
         i -= 1;
-        digits[i] = 48 + (rest % 10) as u8;
+        text[i] = 48 + (rest % 10) as u8;
         rest /= 10;
     }
     i -= 1;
-    digits[i] = 48 + rest as u8;
-    put_bytes(out, at, &digits[i..])
+    text[i] = 48 + rest as u8;
+    put_bytes(out, at, &text[i..])
 }
 
 fn hex_byte(d: u64) -> u8
