@@ -79,11 +79,11 @@ pub fn put_number(out: &mut [u8], at: usize, n: u64) -> usize
     let mut rest = n;
     while 9 < rest {
         i -= 1;
-        text[i] = 48 + (rest % 10) as u8;
+        text[i] = b'0' + (rest % 10) as u8;
         rest /= 10;
     }
     i -= 1;
-    text[i] = 48 + rest as u8;
+    text[i] = b'0' + rest as u8;
     put_bytes(out, at, &text[i..])
 }
 
@@ -92,8 +92,9 @@ fn hex_byte(d: u64) -> u8
     ensures { λ r. ⌜ r ≡ hexByte d ⌝ }
 {
     if d < 10 {
-        return 48 + d as u8;
+        return b'0' + d as u8;
     }
+    // ten before b'a'
     87 + d as u8
 }
 
@@ -121,7 +122,7 @@ fn put_commas(out: &mut [u8], at: usize, l: &[u64]) -> usize
     let mut next = at;
     let mut i = 0;
     while i < l.len() {
-        next = put_byte(&mut *out, next, 44);
+        next = put_byte(&mut *out, next, b',');
         next = put_number(&mut *out, next, l[i]);
         i += 1;
     }
@@ -134,7 +135,7 @@ pub fn put_list(out: &mut [u8], at: usize, l: &[u64]) -> usize
     ensures { λ r. ⌜ Puts at (listText (now (l .entry))) (now (out .entry)) (now (out .exit)) r ⌝ }
 {
     if l.len() == 0 {
-        return put_byte(out, at, 45);
+        return put_byte(out, at, b'-');
     }
     let next = put_number(&mut *out, at, l[0]);
     put_commas(out, next, &l[1..])

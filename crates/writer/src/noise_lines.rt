@@ -46,7 +46,7 @@ pub fn put_inject(out: &mut [u8], at: usize, shot: Shot, counts: &[u64], members
         counts,
         members,
     );
-    put_byte(out, next, 10)
+    put_byte(out, next, b'\n')
 }
 
 // How each line of annotation's noise begins, the same for all lines of a call: `op=n p=H corr=- cond=- parity=0 d=2`
@@ -67,5 +67,5 @@ pub fn put_depolarizing(out: &mut [u8], at: usize, start: &[u8], qubits: &[u64])
     let numbers = [depolarizing_size(k)];
     let counts = [k];
     let end = put_line(&mut *out, next, b" q=Q size=N", &numbers, &counts, qubits);
-    put_byte(out, end, 10)
+    put_byte(out, end, b'\n')
 }
