@@ -37,5 +37,5 @@ pub fn test(job: &[u8]) -> Tested
 pub fn behind_header(job: &[u8]) -> usize
     ensures { λ r. ⌜ r ≡ behindHeader (now (job .entry)) ⌝ }
 {
-    find(job, 0, 10) + 1
+    find(job, 0, b'\n') + 1
 }
