@@ -4,3 +4,4 @@ pub mod Read
 pub mod Lists
 pub mod Members
 pub mod Hex
+pub mod Rising

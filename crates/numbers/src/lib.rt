@@ -1,6 +1,7 @@
 // Numbers and lists as text, and bytes cut at a separator. The definitions are in the crate text.
 pub mod lists;
 pub mod pieces;
+pub mod rising;
 
 ghost use mathlib.Core.Path.{_≡_};
 ghost use mathlib.Core.Bool.{cond};

@@ -7,7 +7,6 @@ ghost use Prim.Native.Nat.{ℕ, _+_, _^_, _<_};
 ghost use lib.ListN.{length, getD};
 ghost use Rattle.pauli.specs.Fixed.{inSet, AllBelow};
 ghost use Rattle.text.specs.Bytes.{lines as Bytes·lines};
-ghost use Rattle.text.specs.List.{isRising};
 ghost use Rattle.job.specs.Grammar.{Written, readLine};
 ghost use Rattle.job.specs.Checks.{allBelow};
 ghost use Rattle.job.specs.Job.{checkJob};
@@ -23,6 +22,7 @@ use lines_back::Walk;
 use lines_back::line_back;
 use lines_back::with_observable;
 use lines_from_last::line_start;
+use numbers::rising::is_rising;
 use pauli::Pauli;
 use pauli::QubitId;
 use pauli::Shot;
@@ -145,20 +145,6 @@ fn refused(number: u64, line: u64) -> CountReply
         answered: Answer { number, line },
         count: 0,
     }
-}
-
-// Whether numbers rise strictly.
-pub fn is_rising(numbers: &[u64]) -> bool
-    ensures { λ r. ⌜ r ≡ isRising (now (numbers .entry)) ⌝ }
-{
-    let mut i = 1;
-    while i < numbers.len() {
-        if numbers[i] <= numbers[i - 1] {
-            return false;
-        }
-        i += 1;
-    }
-    true
 }
 
 // Whether all numbers are below n.

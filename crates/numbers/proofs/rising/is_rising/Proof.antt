@@ -1,12 +1,12 @@
--- `walker::is_rising` meets its contract. Assumes nothing.
+-- `numbers::rising::is_rising` meets its contract. Assumes nothing.
 use Prim.Native.Nat.{_-_, _<_}
 use native.Mathlib.Omega.{arith}
 use mathlib.Core.Path.{_≡_, refl, sym, _∙_}
 use lib.ListN.{length, drop}
 use Rattle.text.specs.List.{isRising}
-use Rattle.walker.specs.Laws.Answers.{rising-fails, rising-next, rising-end}
-use Rattle.walker.proofs.is_rising.Statement.{statement}
-use Rattle.walker.proofs.is_rising.Tie as tie
+use Rattle.numbers.specs.Laws.Rising.{rising-fails, rising-next, rising-end}
+use Rattle.numbers.proofs.rising.is_rising.Statement.{statement}
+use Rattle.numbers.proofs.rising.is_rising.Tie as tie
 
 abbrev Inv-loop : tie.InvT-loop
 Inv-loop numbers i₀ i = (0 < i) × (isRising numbers ≡ isRising (drop (i - 1) numbers))
