@@ -131,8 +131,8 @@ fn is_marked(marks: &[bool], members: &[u64], n: u64) -> bool
     contains(members, n)
 }
 
-// Whether two rising lists have an odd number of members in common. Every qubit of a job has a mark, so that no member is looked for and no turn waits for
-// the one before it.
+// Whether two rising lists have an odd number of members in common. Every qubit of a job has a mark, so that no member is looked for and no turn
+// waits for the one before it.
 pub fn overlap_is_odd(a: &[u64], b: &[u64]) -> bool
     ensures { λ r. ⌜ (isRising (now (a .entry)) ≡ true → isRising (now (b .entry)) ≡ true → r ≡ sumOver (now (a .entry)) (among (now (b .entry)))) ⌝ }
 {

@@ -107,8 +107,8 @@ pub fn running_sums(sums: &mut [f64], weights: &[f64], total: f64)
     sums[weights.len() - 1] = 1.0;
 }
 
-// A running sum beside its weight, so that `place` needs one comparison: -1.0, which is below every u, if the weight isn't positive, and 1.0, which is
-// below none, if it is the last that is.
+// A running sum beside its weight, so that `place` needs one comparison: -1.0, which is below every u, if the weight isn't positive, and 1.0, which
+// is below none, if it is the last that is.
 fn mark(weight: f64, sum: f64, later: bool) -> f64
     ensures { λ r. ⌜ r ≡ marked weight sum later ⌝ }
 {

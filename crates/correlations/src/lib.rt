@@ -157,7 +157,8 @@ fn remember(l: Looked, n: usize, seen: &mut [u64], sizes: &mut [u64], links: &mu
     n + 1
 }
 
-// How far the table went: a line that differs (0 for none); or how many correlations it holds, and the line that it has no room for, or the job's end.
+// How far the table went: a line that differs (0 for none); or how many correlations it holds, and the line that it has no room for,
+// or the job's end.
 struct Collected {
     differing: u64,
     n: usize,

@@ -152,7 +152,8 @@ fn step<'a>(
     })
 }
 
-// The instructions behind the header, which ends before a place of the job. The room for elements and the scratch are made once, since they are large.
+// The instructions behind the header, which ends before a place of the job.
+// The room for elements and the scratch are made once, since they are large.
 pub fn execute<'a>(
     job: &[u8],
     from: usize,

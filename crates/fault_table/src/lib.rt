@@ -1,5 +1,5 @@
-// The table of single faults. Each group is carried back one time for all elements: the job's lines are read from the last to the first, each once for all
-// groups, and the table is written from its end.
+// The table of single faults. Each group is carried back one time for all elements: the job's lines are read from the last to the first, each once
+// for all groups, and the table is written from its end.
 ghost use mathlib.Core.Path.{_≡_};
 ghost use mathlib.Core.List.{List};
 ghost use Prim.Native.Nat.{ℕ, _+_, _^_, _<_, _≤_};
@@ -129,8 +129,8 @@ fn refusal(number: u64, line: u64) -> TextAnswer
     refused(Answer { number, line })
 }
 
-// The table of an accepted job, and of groups that passed 17 and their 24: 24 at a noise line, then 15. It is measured first, since nothing is written
-// with a refusal.
+// The table of an accepted job, and of groups that passed 17 and their 24: 24 at a noise line, then 15. It is measured first, since nothing is
+// written with a refusal.
 fn table_accepted(job: &[u8], lines: u64, list: &[u64], groups: usize, out: &mut [u8]) -> TextAnswer
     requires { ⌜ Grouped (now job) lines (now list) groups ⌝ }
     ensures { λ r. ⌜ ((q : Grouped (now (job .entry)) lines (now (list .entry)) groups) → textReply r (now (out .exit)) ≡ tableAnswer (tableText (jobOf (now (job .entry))) (q .are)) (firstWide (jobOf (now (job .entry)) .instructions)) (now (out .entry))) ⌝ }

@@ -1,5 +1,5 @@
-// The elements of a distribution in lent words. Each begins with the counts of its two lists, and has 31 words for the members of each. The qubits of a
-// depolarizing distribution stand as the first list of element 0.
+// The elements of a distribution in lent words. Each begins with the counts of its two lists, and has 31 words for the members of each. The qubits of
+// a depolarizing distribution stand as the first list of element 0.
 ghost use mathlib.Core.Path.{_≡_};
 ghost use mathlib.Core.Bool.{Bool, true, cond};
 ghost use Prim.Native.Nat.{_*_, _≤_, _<_};

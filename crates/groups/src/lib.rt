@@ -1,5 +1,5 @@
-// The groups of outcomes that a caller lends in one list: each group's length, then its ids. What is carried back of each lies in lent words, 24 a group:
-// the X part and the Z part of its observable, 4 words each, and its set, 16 words.
+// The groups of outcomes that a caller lends in one list: each group's length, then its ids. What is carried back of each lies in lent words, 24 a
+// group: the X part and the Z part of its observable, 4 words each, and its set, 16 words.
 ghost use mathlib.Core.Path.{_≡_};
 ghost use mathlib.Core.List.{map};
 ghost use lib.ListN.{replicate, length};

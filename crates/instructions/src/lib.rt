@@ -1,4 +1,5 @@
-// An accepted job read line by line gives its instructions one after the other. The layers above know a line by its form and its values, not by its text.
+// An accepted job read line by line gives its instructions one after the other.
+// The layers above know a line by its form and its values, not by its text.
 ghost use mathlib.Core.Path.{_≡_};
 ghost use mathlib.Core.Bool.{true};
 ghost use mathlib.Core.List.{List};

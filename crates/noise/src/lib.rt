@@ -1,11 +1,11 @@
-// A noise line by value, the words that it draws from, and its condition as a mask. Elements are chosen in the crate choice, and its shots gone through in the
-// crate shots.
+// A noise line by value, the words that it draws from, and its condition as a mask. Elements are chosen in the crate choice, and its shots gone
+// through in the crate shots.
 pub mod condition;
 pub mod scan;
 pub mod words;
 
-// The four kinds of distribution: one element; every Pauli on so many qubits but the identity; so many elements that are alike; elements with weights,
-// which carries their total. Elements, and the running sums of weights, lie in arrays beside it.
+// The four kinds of distribution: one element; every Pauli on so many qubits but the identity; so many elements that are alike; elements with
+// weights, whose total it carries. Elements, and the running sums of weights, lie in arrays beside it.
 pub enum PauliDistribution {
     Single,
     Depolarizing(u64),
@@ -40,7 +40,8 @@ pub struct PauliFault {
     pub condition: OutcomeCondition,
 }
 
-// Where a pass over a job's instructions stands: the next byte of the job, the number of its line, from 1, and the position of the next word of the main list.
+// Where a pass over a job's instructions stands: the next byte of the job, the number of its line, from 1,
+// and the position of the next word of the main list.
 pub struct Place {
     pub byte: usize,
     pub line: u64,

@@ -1,5 +1,5 @@
-// The rows of a noise line, by what is carried back of each group. Going back, element lines are met before their noise line: their characters are kept
-// until it comes.
+// The rows of a noise line, by what is carried back of each group. Going back, element lines are met before their noise line: their characters are
+// kept until it comes.
 ghost use mathlib.Core.Path.{_≡_};
 ghost use mathlib.Core.Bool.{true};
 ghost use mathlib.Core.List.{List, [], _∷_};

@@ -79,8 +79,8 @@ fn hex_value(b: u8) -> u8
     (b % 16 + 9 * (b / 64)) % 16
 }
 
-// 0 for a lower-case hexadecimal digit, 1 for any other byte: whether it is the byte of its digit. Digits follow no pattern, so that a branch would often be
-// foretold wrongly; this has none.
+// 0 for a lower-case hexadecimal digit, 1 for any other byte: whether it is the byte of its digit. Digits follow no pattern, so that a branch would
+// often be foretold wrongly; this has none.
 fn not_hex(b: u8) -> u8
     ensures { λ r. ⌜ r ≡ cond (ltb (hexDigit b) 16) 0 1 ⌝ }
 {

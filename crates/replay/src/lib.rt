@@ -1,6 +1,6 @@
 // Stored cases, for the program that replays them: how a list of them is read. A list is a row of records. A record is a line; a record
-// `add bytes=N times=N` is its line and the N bytes after it. The records `add` make up the bytes of a case, each its bytes so many times, one behind the
-// other; the record after them names the call, and says what it must answer.
+// `add bytes=N times=N` is its line and the N bytes after it. The records `add` make up the bytes of a case, each its bytes so many times, one behind
+// the other; the record after them names the call, and says what it must answer.
 ghost use mathlib.Core.Path.{_≡_};
 ghost use Prim.Native.Nat.{_+_, _≤_, _<_};
 ghost use lib.ListN.{length};
@@ -138,7 +138,8 @@ pub fn next_case(list: &[u8], from: usize, dst: &mut [u8]) -> Case
     }
 }
 
-// The words that some bytes are, a line of 16 hexadecimal digits each, at the front of dst, up to the first that is none or has no room; how many there are.
+// The words that some bytes are, a line of 16 hexadecimal digits each, at the front of dst, up to the first that is none or has no room;
+// how many there are.
 pub fn words(src: &[u8], dst: &mut [u64]) -> usize
     ensures { λ r. ⌜ r ≤ length (now (dst .entry)) ⌝ }
 {

@@ -23,8 +23,8 @@ pub struct Lengths {
     pub noiseless: usize,
 }
 
-// Whether so many words are lent as a run of that shape needs: for each qubit a row of the X and of the Z part, for each outcome a row of the deltas and
-// of the noiseless bits, and a total.
+// Whether so many words are lent as a run of that shape needs: for each qubit a row of the X and of the Z part, for each outcome a row of the deltas
+// and of the noiseless bits, and a total.
 fn enough(shape: Shape, lent: Lengths) -> bool
     requires { ⌜ (shape .qubits * shape .width < 2 ^ 64) × (shape .outcomes * shape .width < 2 ^ 64) ⌝ }
     ensures { λ r. ⌜ r ≡ suffice shape lent ⌝ }
@@ -111,8 +111,8 @@ pub fn run_tested<'a>(
     )
 }
 
-// A run of a job over lent words: the X and Z parts of the frames, the deltas and their totals, which are written, the noiseless bits, the main and the
-// second list of draws, and the base of the second. The words beyond those that are needed stay, and a refusal other than 14 writes nothing.
+// A run of a job over lent words: the X and Z parts of the frames, the deltas and their totals, which are written, the noiseless bits, the main and
+// the second list of draws, and the base of the second. The words beyond those that are needed stay, and a refusal other than 14 writes nothing.
 pub fn run<'a>(
     job: &[u8],
     x: &mut [u64],

@@ -19,8 +19,8 @@ ghost use Rattle.noise.specs.Kinds.{Small};
 ghost use Rattle.choice.specs.Choice.{Sized};
 ghost use Rattle.shots.specs.Shots.{RuleOf, ShotDrawn, FaultFound};
 
-// How words become the faults of a line, the same in all its shots: by the threshold of its p a word brings a fault or none, and the chooser finds the
-// element.
+// How words become the faults of a line, the same in all its shots: by the threshold of its p a word brings a fault or none, and the chooser finds
+// the element.
 pub struct DrawRule {
     pub threshold: u64,
     pub chooser: Chooser,

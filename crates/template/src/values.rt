@@ -1,5 +1,5 @@
-// The values of a line in lent words: its numbers, at most 4; of each of its lists, at most 4, how many members it has, the largest of them (0 of none), and
-// the members, of which the first 31 are kept.
+// The values of a line in lent words: its numbers, at most 4; of each of its lists, at most 4, how many members it has, the largest of them (0 of
+// none), and the members, of which the first 31 are kept.
 ghost use mathlib.Core.Path.{_≡_};
 ghost use Prim.Native.Nat.{_≤_, _<_};
 ghost use Rattle.template.specs.Values.{Whole, AllKept, heldNumber, heldCount, heldLargest, heldMember, heldList, keptMembers};

@@ -1,4 +1,5 @@
-// The walk back over a job without noise: for a set of outcomes and a shot, the count of the injections and flips that change the sum of the set's deltas.
+// The walk back over a job without noise: for a set of outcomes and a shot,
+// the count of the injections and flips that change the sum of the set's deltas.
 ghost use mathlib.Core.Path.{_≡_};
 ghost use mathlib.Core.Bool.{true};
 ghost use mathlib.Core.List.{List};
@@ -46,7 +47,8 @@ fn other_shot(line: &[u8], shot: Shot, values: &mut [u64]) -> bool
     number(values, SHOT) as usize != shot.0
 }
 
-// Whether a line is passed over without being read to its end: a Pauli, an allocation, a barrier, or an injection in another shot, of which there are many.
+// Whether a line is passed over without being read to its end:
+// a Pauli, an allocation, a barrier, or an injection in another shot, of which there are many.
 fn passed_over(line: &[u8], shot: Shot, values: &mut [u64]) -> bool
     requires { ⌜ Whole (now values) ⌝ }
     ensures { λ r. ⌜ (r ≡ true → (v : Written) → readLine (now (line .entry)) ≡ some v → PassedOver (shot .0) v) ⌝ }
