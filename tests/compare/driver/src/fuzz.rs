@@ -115,7 +115,7 @@ impl<'a> Fuzz<'a> {
             self.attempt(input);
         }
         let jobs = checker::cases::cases().into_iter().map(|case| case.job);
-        for job in jobs.chain([many_correlations(), long_settled()]) {
+        for job in jobs.chain([many_correlations(false), many_correlations(true), long_settled()]) {
             self.begin_with(Input { job, ..Input::default() });
         }
         for call in CALLS {
@@ -310,11 +310,12 @@ impl<'a> Fuzz<'a> {
     }
 }
 
-/// A job with more correlations than the library's table holds at a time.
-fn many_correlations() -> Vec<u8> {
-    let line = |corr: u64| format!("op=n p=0000000000000000 corr={corr} cond=- parity=0 d=2 q=0 size=3\n");
-    let lines: String = (0..262).chain([1, 258]).map(line).collect();
-    format!("op=job qubits=2 outcomes=0 shots=1\n{lines}").into_bytes()
+/// A job with more correlations than the library's table holds at a time; if they differ, in size too, one of the first and one of the last.
+fn many_correlations(differ: bool) -> Vec<u8> {
+    let line = |corr: u64, list: &str| format!("op=n p=0000000000000000 corr={corr} cond=- parity=0 d=2 {list}\n");
+    let few: String = (0..262).map(|corr| line(corr, "q=0 size=3")).collect();
+    let again: String = [258, 1].map(|corr| line(corr, if differ { "q=0,1 size=15" } else { "q=1 size=3" })).concat();
+    format!("op=job qubits=2 outcomes=0 shots=1\n{few}{again}").into_bytes()
 }
 
 /// A short job whose settled text is longer than a text may be.
