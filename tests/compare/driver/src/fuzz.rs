@@ -218,9 +218,11 @@ impl<'a> Fuzz<'a> {
         if input.out_len == 0 { 0 } else { (text + input.out_len).saturating_sub(4) }
     }
 
+    /// Count a difference; the first of a call is printed and its input stored, since the seed alone need not lead to it again.
     fn differ(&mut self, call: Call, input: &Input) {
         self.differences += 1;
         if self.differing.insert(call.name()) {
+            self.store(input);
             println!("after {:.1} s and {} inputs:", self.start.elapsed().as_secs_f64(), self.inputs);
             report(&self.calls, call, self.seed, input);
         }
