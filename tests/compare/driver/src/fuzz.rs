@@ -243,10 +243,10 @@ impl<'a> Fuzz<'a> {
             let line = usize::try_from(number).ok().and_then(|number| lines.get(number.checked_sub(1)?));
             let start = line.map_or(input.job.len(), |line| line.as_ptr() as usize - input.job.as_ptr() as usize);
             let length = line.map_or(0, |line| line.strip_suffix(b"\n").unwrap_or(line).len());
-            crate::raw::line(&input.job, number) == (start, length)
+            self.calls.with_job(&input.job, |job| crate::raw::line(job, number)) == (start, length)
         };
         let lines_are_so = [0, 1, near, count, count + 1, u64::MAX].into_iter().all(line_is_so);
-        if crate::linked::examined(&input.job) != expected || !lines_are_so {
+        if self.calls.with_job(&input.job, crate::linked::examined) != expected || !lines_are_so {
             self.differences += 1;
             if self.differing.insert("examine") {
                 println!("an examination or a line differs, lines {}, expected {expected:?}, of", !lines_are_so);
