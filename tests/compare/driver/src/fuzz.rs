@@ -115,7 +115,7 @@ impl<'a> Fuzz<'a> {
             self.attempt(input);
         }
         let jobs = checker::cases::cases().into_iter().map(|case| case.job);
-        for job in jobs.chain([many_correlations(), long_settled()]) {
+        for job in jobs.chain([many_correlations(false), many_correlations(true), long_settled()]) {
             self.begin_with(Input { job, ..Input::default() });
         }
         for call in CALLS {
@@ -218,9 +218,11 @@ impl<'a> Fuzz<'a> {
         if input.out_len == 0 { 0 } else { (text + input.out_len).saturating_sub(4) }
     }
 
+    /// Count a difference; the first of a call is printed and its input stored, since the seed alone need not lead to it again.
     fn differ(&mut self, call: Call, input: &Input) {
         self.differences += 1;
         if self.differing.insert(call.name()) {
+            self.store(input);
             println!("after {:.1} s and {} inputs:", self.start.elapsed().as_secs_f64(), self.inputs);
             report(&self.calls, call, self.seed, input);
         }
@@ -241,10 +243,10 @@ impl<'a> Fuzz<'a> {
             let line = usize::try_from(number).ok().and_then(|number| lines.get(number.checked_sub(1)?));
             let start = line.map_or(input.job.len(), |line| line.as_ptr() as usize - input.job.as_ptr() as usize);
             let length = line.map_or(0, |line| line.strip_suffix(b"\n").unwrap_or(line).len());
-            crate::raw::line(&input.job, number) == (start, length)
+            self.calls.with_job(&input.job, |job| crate::raw::line(job, number)) == (start, length)
         };
         let lines_are_so = [0, 1, near, count, count + 1, u64::MAX].into_iter().all(line_is_so);
-        if crate::linked::examined(&input.job) != expected || !lines_are_so {
+        if self.calls.with_job(&input.job, crate::linked::examined) != expected || !lines_are_so {
             self.differences += 1;
             if self.differing.insert("examine") {
                 println!("an examination or a line differs, lines {}, expected {expected:?}, of", !lines_are_so);
@@ -310,11 +312,12 @@ impl<'a> Fuzz<'a> {
     }
 }
 
-/// A job with more correlations than the library's table holds at a time.
-fn many_correlations() -> Vec<u8> {
-    let line = |corr: u64| format!("op=n p=0000000000000000 corr={corr} cond=- parity=0 d=2 q=0 size=3\n");
-    let lines: String = (0..262).chain([1, 258]).map(line).collect();
-    format!("op=job qubits=2 outcomes=0 shots=1\n{lines}").into_bytes()
+/// A job with more correlations than the library's table holds at a time; if they differ, in size too, one of the first and one of the last.
+fn many_correlations(differ: bool) -> Vec<u8> {
+    let line = |corr: u64, list: &str| format!("op=n p=0000000000000000 corr={corr} cond=- parity=0 d=2 {list}\n");
+    let few: String = (0..262).map(|corr| line(corr, "q=0 size=3")).collect();
+    let again: String = [258, 1].map(|corr| line(corr, if differ { "q=0,1 size=15" } else { "q=1 size=3" })).concat();
+    format!("op=job qubits=2 outcomes=0 shots=1\n{few}{again}").into_bytes()
 }
 
 /// A short job whose settled text is longer than a text may be.

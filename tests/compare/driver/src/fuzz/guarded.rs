@@ -115,6 +115,12 @@ impl<'a> Guarded<'a> {
         if stays { answer } else { Answer { number: CHANGED, ..answer } }
     }
 
+    /// Look at a job between guards.
+    pub fn with_job<T>(&self, job: &[u8], look: impl FnOnce(&[u8]) -> T) -> T {
+        self.lists.set(0);
+        look(self.read(job).list())
+    }
+
     /// A call on a job that writes nothing.
     fn only_read(&self, job: &[u8], make: impl FnOnce(&[u8]) -> Answer) -> Answer {
         self.call(|| {
