@@ -99,7 +99,7 @@ pub fn header_after(c: Context, form: Form, f: &[u64]) -> Header
     }
 }
 
-// 23
+// 23: an edition that there is not.
 pub fn edition_number(edition: u64) -> u64
     ensures { λ r. ⌜ r ≡ lowest (test 23 (knownEdition edition) ∷ []) ⌝ }
 {

@@ -151,7 +151,7 @@ pub fn permute_number(c: Context, f: &[u64]) -> u64
     0
 }
 
-// 8
+// 8: an outcome that is not the next one, or not below the header's number of them.
 pub fn id_number(c: Context, id: u64) -> u64
     ensures { λ r. ⌜ r ≡ lowest (idTest (contextOf c) id ∷ []) ⌝ }
 {

@@ -60,7 +60,7 @@ fn element_due(c: Context, weight: bool) -> bool
     !c.weighted
 }
 
-// Whether a line of this form may stand here: an element line where one is due, and else another.
+// Whether a line of this form may stand here: an element line where one is due, and else another. The values are for the contract alone.
 pub fn expected(c: Context, form: Form, f: &[u64]) -> bool
     ensures { λ r. ⌜ (isUnread form ≡ true → r ≡ false) × ((vs : List Value) (w : Written) → Said form (now (f .entry)) vs w → r ≡ Checks·expected (contextOf c) w) ⌝ }
 {

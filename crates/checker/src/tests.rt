@@ -1,4 +1,4 @@
-// Tests 2 to 12, 20, 21 and 23 of a line, and the context after one that passed.
+// Tests 2 to 12, 20, 21 and 23 of a line, and the context after one that passed. docs/REFUSALS.md says what each number means.
 ghost use mathlib.Core.Path.{_≡_};
 ghost use mathlib.Core.Bool.{Bool, true};
 ghost use mathlib.Core.List.{List};
@@ -43,6 +43,7 @@ use reader::slots::PAULI_END;
 use reader::slots::X;
 use template::values::number;
 
+// The number by which the tests of its own form refuse a line, 0 where none does.
 fn own_number(c: Context, form: Form, f: &[u64]) -> u64
     requires { ⌜ Whole (now f) ⌝ }
     ensures { λ r. ⌜ ((vs : List Value) (w : Written) → Said form (now (f .entry)) vs w → Checks·expected (contextOf c) w ≡ true → r ≡ lowest (ownTests (contextOf c) w)) ⌝ }
@@ -73,7 +74,7 @@ fn own_number(c: Context, form: Form, f: &[u64]) -> u64
     }
 }
 
-// The number that refuses a line, 0 where none does.
+// The number that refuses a line, 0 where none does. `last` says whether it is the job's last.
 pub fn refusal(c: Context, last: bool, form: Form, f: &[u64]) -> u64
     requires { ⌜ Whole (now f) ⌝ }
     ensures { λ r. ⌜ (isUnread form ≡ true → r ≡ 2) × ((vs : List Value) (w : Written) → Said form (now (f .entry)) vs w → r ≡ refusalOf (contextOf c) last (some w)) ⌝ }
@@ -93,6 +94,7 @@ pub fn refusal(c: Context, last: bool, form: Form, f: &[u64]) -> u64
     own_number(c, form, f)
 }
 
+// The context behind a line that passed: a header has come, with it or before it.
 pub fn next(c: Context, form: Form, f: &[u64]) -> Context
     requires { ⌜ Whole (now f) × (c .recorded + 1 < 2 ^ 64) ⌝ }
     ensures { λ r. ⌜ ((last : Bool) (vs : List Value) (w : Written) → Said form (now (f .entry)) vs w → refusalOf (contextOf c) last (some w) ≡ 0 → contextOf r ≡ Checks·next (contextOf c) w) ⌝ }

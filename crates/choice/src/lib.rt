@@ -28,18 +28,20 @@ pub struct Chooser {
     pub limit: u64,
 }
 
+const MAX_WORD: u64 = 0xffffffffffffffff;
+
 // ---- A choice in which each element is as likely as another
 
-// How many elements are chosen from so: none where the kind chooses otherwise.
+// How many elements such a choice is among; 0 for the kinds that choose otherwise.
 fn bound(d: PauliDistribution) -> u64
     requires { ⌜ Small d ⌝ }
     ensures { λ r. ⌜ r ≡ boundOf d ⌝ }
 {
     match d {
         PauliDistribution::Single => 0,
-        PauliDistribution::Depolarizing(k) => depolarizing_size(k),
-        PauliDistribution::Uniform(n) => n,
-        PauliDistribution::Weighted(_) => 0,
+        PauliDistribution::Depolarizing { qubits: k } => depolarizing_size(k),
+        PauliDistribution::Uniform { elements: n } => n,
+        PauliDistribution::Weighted { total: _ } => 0,
     }
 }
 
@@ -50,7 +52,7 @@ fn limit(c: u64) -> u64
     if c == 0 {
         return 0;
     }
-    18446744073709551615 - 18446744073709551615 % c
+    MAX_WORD - MAX_WORD % c
 }
 
 // The first word that is not rejected, mod c. The limit is handed in, since it takes a division.
@@ -152,7 +154,7 @@ pub fn fill_sums(d: PauliDistribution, sums: &mut [f64], weights: &[f64])
     ensures { λ _. ⌜ SumsOf d (now (weights .entry)) (now (sums .exit)) ⌝ }
 {
     match d {
-        PauliDistribution::Weighted(total) => {
+        PauliDistribution::Weighted { total } => {
             running_sums(&mut *sums, weights, total);
             mark_sums(sums, weights)
         }
@@ -214,8 +216,20 @@ pub fn element(words: &[u64], more: &[u64], at: usize, chooser: Chooser, sums: &
             element: 0,
             next: at,
         },
-        PauliDistribution::Depolarizing(_) => choose(words, more, at, chooser.size, chooser.limit),
-        PauliDistribution::Uniform(_) => choose(words, more, at, chooser.size, chooser.limit),
-        PauliDistribution::Weighted(_) => weigh(words, more, at, sums),
+        PauliDistribution::Depolarizing { qubits: _ } => choose(
+            words,
+            more,
+            at,
+            chooser.size,
+            chooser.limit,
+        ),
+        PauliDistribution::Uniform { elements: _ } => choose(
+            words,
+            more,
+            at,
+            chooser.size,
+            chooser.limit,
+        ),
+        PauliDistribution::Weighted { total: _ } => weigh(words, more, at, sums),
     }
 }

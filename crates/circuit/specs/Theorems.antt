@@ -125,10 +125,10 @@ pub correlated-case : firstDiffering []
     ∷ noiseAt 3 (some 0) 3
     ∷ noiseAt 4 none 15
     ∷ noiseAt 5 (some 7) 15
-    ∷ noiseAt 6 (some 0) 3
-    ∷ noiseAt 7 (some 7) 3
+    ∷ noiseAt 6 (some 0) 15
+    ∷ noiseAt 7 (some 7) 15
     ∷ [])
-    ≡ some 7
+    ≡ some 6
 unfolding firstDifferingBy correlationOf saidSize sizeFits agrees seenAfter
 correlated-case = refl
 

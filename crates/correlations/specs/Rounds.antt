@@ -15,7 +15,7 @@ use Rattle.instructions.specs.Ahead.{instructionsAt}
 use Rattle.circuit.specs.Correlation.{Seen, sizeFits, correlationOf, saidSize, firstDiffering}
 use Rattle.correlations.specs.declared.Collected.{Collected}
 use Rattle.correlations.specs.declared.Found.{Found}
-use Rattle.correlations.specs.declared.Looked.{Looked}
+use Rattle.correlations.specs.declared.Compared.{Compared}
 use Rattle.correlations.specs.Sizes.{correlationIn, sizeIn, tableOf, lookOf, grown}
 use Rattle.correlations.specs.Links.{Unseen, Table}
 
@@ -33,12 +33,12 @@ earliest (some a) none = some a
 earliest (some a) (some b) = some (min a b)
 
 -- what a line comes to beside a table
-pub record Looks (form : Form) (fields seen sizes : List ℕ) (r : Looked) : Type 0 where
+pub record Looks (form : Form) (fields seen sizes : List ℕ) (r : Compared) : Type 0 where
   pub is : (vs : List Value) (w : Written) → Said form fields vs w → r ≡ lookOf (tableOf seen sizes) (correlationIn w) (sizeIn w)
   pub fresh : r .fresh ≡ true → Unseen (r .correlation) seen
 
 -- a table after it took in what is new
-pub record Remembers (l : Looked) (n : ℕ) (seen sizes : List ℕ) (r : ℕ) (seen-after sizes-after links-after : List ℕ) : Type 0 where
+pub record Remembers (l : Compared) (n : ℕ) (seen sizes : List ℕ) (r : ℕ) (seen-after sizes-after links-after : List ℕ) : Type 0 where
   pub few : r ≤ n + 1
   pub holds : Table r seen-after sizes-after links-after
   pub table : tableOf (take r seen-after) (take r sizes-after) ≡ grown (tableOf (take n seen) (take n sizes)) l

@@ -93,19 +93,19 @@ fn place(seen: &[u64], links: &[u16], correlation: u64) -> usize
 }
 
 // A line's correlation and size beside the table: whether they fit, and whether the correlation is new.
-struct Looked {
+struct Compared {
     fits: bool,
     fresh: bool,
     correlation: u64,
     size: u64,
 }
 
-fn look(form: Form, f: &[u64], seen: &[u64], sizes: &[u64], links: &[u16]) -> Looked
+fn look(form: Form, f: &[u64], seen: &[u64], sizes: &[u64], links: &[u16]) -> Compared
     requires { ⌜ Whole (now f) × (length (now seen) ≡ length (now sizes)) × Linked (now seen) (now links) ⌝ }
     ensures { λ r. ⌜ Looks form (now (f .entry)) (now (seen .entry)) (now (sizes .entry)) r ⌝ }
 {
     if !is_correlated(form, f) {
-        return Looked {
+        return Compared {
             fits: true,
             fresh: false,
             correlation: 0,
@@ -116,14 +116,14 @@ fn look(form: Form, f: &[u64], seen: &[u64], sizes: &[u64], links: &[u16]) -> Lo
     let size = size(form, f);
     let i = place(seen, links, correlation);
     if i == seen.len() {
-        return Looked {
+        return Compared {
             fits: true,
             fresh: true,
             correlation,
             size,
         };
     }
-    Looked {
+    Compared {
         fits: sizes[i] == size,
         fresh: false,
         correlation,
@@ -132,7 +132,7 @@ fn look(form: Form, f: &[u64], seen: &[u64], sizes: &[u64], links: &[u16]) -> Lo
 }
 
 // Whether the table has no room for what is new.
-fn is_full(l: Looked, n: usize, room: usize) -> bool
+fn is_full(l: Compared, n: usize, room: usize) -> bool
     ensures { λ r. ⌜ r ≡ (l .fresh && eqb n room) ⌝ }
 {
     if !l.fresh {
@@ -142,7 +142,7 @@ fn is_full(l: Looked, n: usize, room: usize) -> bool
 }
 
 // The table with what is new, and how many it holds.
-fn remember(l: Looked, n: usize, seen: &mut [u64], sizes: &mut [u64], links: &mut [u16]) -> usize
+fn remember(l: Compared, n: usize, seen: &mut [u64], sizes: &mut [u64], links: &mut [u16]) -> usize
     requires { ⌜ Table n (now seen) (now sizes) (now links) × (l .fresh ≡ true → (n < length (now seen)) × Unseen (l .correlation) (take n (now seen))) ⌝ }
     ensures { λ r. ⌜ Remembers l n (now (seen .entry)) (now (sizes .entry)) r (now (seen .exit)) (now (sizes .exit)) (now (links .exit)) ⌝ }
 {

@@ -24,13 +24,13 @@ ghost use Rattle.instructions.specs.Ahead.{Ahead};
 ghost use Rattle.totals.specs.Held.{TotalsHeld};
 ghost use Rattle.execution.specs.Steps.{headerOf, RowsFor, NoiseReady, NoiseRoom, NoiseDone, StepReady, Stepped, Executes};
 
-// 31 rows of at most 64 words.
-const SCRATCH_WORDS: usize = 1984;
+// As many rows as a line has operands.
+const SCRATCH_WORDS: usize = 31 * MAX_WIDTH;
 
-// The place of the next instruction; or the draws were spent, with the position in the main list where it leaves it.
+// The place of the next instruction; or the draws were spent, and the main list was read up to a position.
 pub enum Moved {
     To(Place),
-    Spent(usize),
+    Spent { position: usize },
 }
 
 // An answer, and how many words of the main list were taken for it.
@@ -94,8 +94,10 @@ fn apply_noise<'a>(
         z,
         shape,
     );
-    let Drawn::Done(read) = drawn else {
-        return Moved::Spent(position_after(correlation, place.position, count(words, rest)));
+    let Drawn::Done { next: read } = drawn else {
+        return Moved::Spent {
+            position: position_after(correlation, place.position, count(words, rest)),
+        };
     };
     Moved::To(Place {
         byte: next.byte,
@@ -198,7 +200,7 @@ pub fn execute<'a>(
             base,
         );
         match moved {
-            Moved::Spent(position) => {
+            Moved::Spent { position } => {
                 return Answered {
                     answer: Answer {
                         number: 14,

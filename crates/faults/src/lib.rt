@@ -23,7 +23,7 @@ use noise::OutcomeCondition;
 use noise::PauliFault;
 use noise::condition::condition_mask;
 use reader::Form;
-use reader::slots::SINGLE_X;
+use reader::slots::OWN_LISTS;
 
 // A noise line by value, the number of its element lines and the place behind them.
 pub struct Prepared {
@@ -49,7 +49,7 @@ fn read_fault(
     let from = line.end + 1;
     let weighted = has_weights(form);
     // Element 0 is the Pauli of d=1, or has the qubits of d=2 as its first list. d=3 and d=4 have neither: `gather` writes over what is kept here.
-    keep_element(&mut *elements, 0, values, SINGLE_X);
+    keep_element(&mut *elements, 0, values, OWN_LISTS);
     let next = gather(job, from, n, weighted, elements, &mut *weights);
     let fault = fault_of(form, values, total(weights));
     let distribution = fault.distribution;

@@ -31,9 +31,13 @@ fn distribution_of(form: Form, values: &[u64], total: f64) -> PauliDistribution
     ensures { λ r. ⌜ ((vs : List Value) (n : NoiseLine) → Said form (now (values .entry)) vs (Written.noise n) → r ≡ kindBy (n .kind) total) ⌝ }
 {
     match form {
-        Form::Depolarizing => PauliDistribution::Depolarizing(count(values, DEPOLARIZED)),
-        Form::Uniform => PauliDistribution::Uniform(number(values, ELEMENTS)),
-        Form::Weighted => PauliDistribution::Weighted(total),
+        Form::Depolarizing => PauliDistribution::Depolarizing {
+            qubits: count(values, DEPOLARIZED),
+        },
+        Form::Uniform => PauliDistribution::Uniform {
+            elements: number(values, ELEMENTS),
+        },
+        Form::Weighted => PauliDistribution::Weighted { total },
         _ => PauliDistribution::Single,
     }
 }
@@ -45,7 +49,9 @@ fn correlation_of(values: &[u64]) -> Correlation
     if count(values, CORRELATION) == 0 {
         return Correlation::Uncorrelated;
     }
-    Correlation::Shared(member(values, CORRELATION, 0))
+    Correlation::Shared {
+        correlation: member(values, CORRELATION, 0),
+    }
 }
 
 fn condition_of(values: &[u64]) -> OutcomeCondition

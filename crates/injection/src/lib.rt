@@ -98,7 +98,7 @@ pub fn inject_element(
     ensures { λ _. ⌜ ElementInjected (shape .width) (shape .qubits) (shot .0) d (now (elements .entry)) e (now (x .entry)) (now (z .entry)) (now (x .exit)) (now (z .exit)) ⌝ }
 {
     match d {
-        PauliDistribution::Depolarizing(_) => {
+        PauliDistribution::Depolarizing { qubits: _ } => {
             inject_depolarizing(x, z, shape, shot, element_x(elements, 0), e)
         }
         _ => inject_listed(x, z, shape, shot, elements, e as usize),
@@ -109,7 +109,7 @@ pub fn inject_element(
 
 // The faults of all shots were injected, with the place of the next word; or a word was needed past the end.
 pub enum Drawn {
-    Done(usize),
+    Done { next: usize },
     Spent,
 }
 
@@ -140,8 +140,8 @@ pub fn inject_faults(
             NextFault::Spent => {
                 return Drawn::Spent;
             }
-            NextFault::Done(next) => {
-                return Drawn::Done(next);
+            NextFault::Done { next } => {
+                return Drawn::Done { next };
             }
             NextFault::At {
                 shot: s,

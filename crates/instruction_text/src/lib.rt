@@ -28,7 +28,7 @@ pub struct Reached {
 
 // The instruction's draws were spent, with the position in the main list where it leaves it; or how far the pass came with it.
 pub enum Moved {
-    Spent(usize),
+    Spent { position: usize },
     To(Reached),
 }
 
@@ -79,7 +79,7 @@ fn put_noise_line<'a>(
         base,
         place.position,
     ) {
-        Drawn::Spent(position) => Moved::Spent(position),
+        Drawn::Spent { end_word: position } => Moved::Spent { position },
         Drawn::Done {
             next_word: position,
             next_byte: text,

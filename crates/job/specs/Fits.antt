@@ -1,5 +1,5 @@
--- What a line is known for by its form alone: L rises, Q is not empty, numbers and H are below 2^64. Definitions, for laws and for contracts inside. Assumes
--- nothing.
+-- What a line is known for by its form alone: L rises, Q is not empty, the numbers that later laws need are below 2^64. Definitions, for laws and for
+-- contracts inside. Assumes nothing.
 use Prim.Native.Nat.{ℕ, _^_, _<_}
 use mathlib.Core.Path.{_≡_}
 use mathlib.Core.Bool.{false}

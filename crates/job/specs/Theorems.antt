@@ -139,7 +139,7 @@ header-known job e =
 pub one-form : (l : List ℕ) → readLine l ≡ readAs (formByMark (markOf l)) l
 one-form = read-by-mark
 
--- Code 15 is the last gate's; a line with another code above it has no form.
+-- Code 15 is the last gate's: a line with code 16 has no form.
 pub last-gate : (readLine (bytes "op=u g=15 q=0,1") ≡ some (Written.line (Line.unitary Gate.ControlledY (0 ∷ 1 ∷ [])))) × (readLine (bytes "op=u g=16 q=0,1") ≡ none)
 unfolding bytes until extend pieces withFirst piecesOf listQ allDecimal decimalFrom numberOf aNumber aList valueOf andThen sameByte atEnd valuesOf numbersIn listsIn gates gateFrom gateOf unitaryLine forms said orLater readBy readLine
 last-gate = (refl, refl)

@@ -8,15 +8,15 @@ pub mod words;
 // weights, whose total it carries. Elements, and the running sums of weights, lie in arrays beside it.
 pub enum PauliDistribution {
     Single,
-    Depolarizing(u64),
-    Uniform(u64),
-    Weighted(f64),
+    Depolarizing { qubits: u64 },
+    Uniform { elements: u64 },
+    Weighted { total: f64 },
 }
 
 // Words come from the main list, or from the second at the place that a correlation names.
 pub enum Correlation {
     Uncorrelated,
-    Shared(u64),
+    Shared { correlation: u64 },
 }
 
 // The word at a place, or that the words have ended there.
@@ -32,7 +32,7 @@ pub struct OutcomeCondition {
     pub parity: u64,
 }
 
-// A noise line's probability, kind and condition travel together.
+// What a noise line says: its probability, distribution, correlation and condition travel together. What falls in a shot is one element of it.
 pub struct PauliFault {
     pub probability: f64,
     pub distribution: PauliDistribution,

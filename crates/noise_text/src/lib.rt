@@ -71,7 +71,7 @@ fn put_element(
     ensures { λ r. ⌜ Puts place (injectText (shot .0) (elementIn d (now (elements .entry)) e) ++ LF ∷ []) (now (out .entry)) (now (out .exit)) r ⌝ }
 {
     match d {
-        PauliDistribution::Depolarizing(_) => {
+        PauliDistribution::Depolarizing { qubits: _ } => {
             put_depolarizing(out, place, shot, element_x(elements, 0), e)
         }
         _ => put_kept(out, place, shot, elements, e as usize),
@@ -80,9 +80,9 @@ fn put_element(
 
 // ---- A noise line
 
-// A word was needed past the end, with the place where the list of words is left; or the places of the next word and of the next byte.
+// A word was needed past the end, `end_word`; or the places of the next word and of the next byte.
 pub enum Drawn {
-    Spent(usize),
+    Spent { end_word: usize },
     Done { next_word: usize, next_byte: usize },
 }
 
@@ -110,9 +110,11 @@ fn put_faults(
     loop {
         match next_fault(words, more, at, mask, Shot(shot), shots, rule, sums) {
             NextFault::Spent => {
-                return Drawn::Spent(count(words, more));
+                return Drawn::Spent {
+                    end_word: count(words, more),
+                };
             }
-            NextFault::Done(next) => {
+            NextFault::Done { next } => {
                 return Drawn::Done {
                     next_word: next,
                     next_byte: place,
@@ -159,7 +161,9 @@ pub fn put_noise<'a>(
     let words = part(main, second, correlation, base, position);
     let rest = more_part(more, correlation, position, main.len());
     match put_faults(out, place, words, rest, mask, shots, fault, sums, elements) {
-        Drawn::Spent(read) => Drawn::Spent(position_after(correlation, position, read)),
+        Drawn::Spent { end_word: read } => Drawn::Spent {
+            end_word: position_after(correlation, position, read),
+        },
         Drawn::Done {
             next_word: read,
             next_byte,

@@ -20,7 +20,7 @@ unfoldable pub read : Value → Option ℕ
 read (Of n) = some n
 read Bad = none
 
--- these bytes begin with a number of so many digits, at most three, and a comma
+-- these bytes begin with a number of so many digits, at most three, up to a comma or the end
 pub record ShortIn (digits value : ℕ) (l : List ℕ) : Type 0 where
   pub few : digits ≤ 3
   pub ends : until comma l ≡ digits

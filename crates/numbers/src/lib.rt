@@ -31,15 +31,18 @@ fn proper(s: &[u8]) -> bool
     s[0] != b'0'
 }
 
+// (2^64 - 1) / 10, of which the rest is 5.
+const TENTH: u64 = 1844674407370955161;
+
 // Whether v * 10 + d is below 2^64, for a digit d.
 fn fits(v: u64, d: u64) -> bool
     requires { ⌜ d ≤ 9 ⌝ }
     ensures { λ r. ⌜ r ≡ ltb (v * 10 + d) (2 ^ 64) ⌝ }
 {
-    if v < 1844674407370955161 {
+    if v < TENTH {
         return true;
     }
-    if 1844674407370955161 < v {
+    if TENTH < v {
         return false;
     }
     d <= 5

@@ -75,6 +75,8 @@ fn ended(line: &[u8], p: Progress, form: Form) -> Form
     Form::Unread
 }
 
+// Below, a name such as `x` or `size` is how far a line was read with that field; its value is then in the lent words.
+
 // A line read on by the two lists of a Pauli.
 fn pauli_lists(line: &[u8], p: Progress, fields: &mut [u64]) -> Progress
     requires { ⌜ (p .at ≤ length (now line)) × Whole (now fields) ⌝ }
@@ -159,7 +161,7 @@ fn noise_kind(line: &[u8], digit: u8, p: Progress, fields: &mut [u64]) -> Form
     }
 }
 
-// Where the condition is none, the parity is 0.
+// Whether there is a parity of 1 without a condition, which no noise line has.
 fn parity_alone(count: u64, parity: u64) -> bool
     ensures { λ r. ⌜ r ≡ (eqb count 0 && isOne parity) ⌝ }
 {

@@ -90,14 +90,17 @@ pub const CONDITION: usize = 1;
 
 pub const CONDITION_END: usize = CONDITION + 1;
 
-// d=1: the Pauli.
-pub const SINGLE_X: usize = 2;
+// Where the lists of d=1 and d=2 begin.
+pub const OWN_LISTS: usize = CONDITION_END;
 
-pub const SINGLE_Z: usize = 3;
+// d=1: the Pauli.
+pub const SINGLE_X: usize = OWN_LISTS;
+
+pub const SINGLE_Z: usize = SINGLE_X + 1;
 
 pub const SINGLE_END: usize = SINGLE_Z + 1;
 
 // d=2: the qubits.
-pub const DEPOLARIZED: usize = 2;
+pub const DEPOLARIZED: usize = OWN_LISTS;
 
 pub const DEPOLARIZED_END: usize = DEPOLARIZED + 1;

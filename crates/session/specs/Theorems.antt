@@ -15,7 +15,7 @@ unfolding deltaLines
 delta-lines h deltas zero id = refl
 delta-lines h deltas (suc n) id = ap suc (delta-lines h deltas n (suc id))
 
--- Behind the line of the header's numbers there is one for each outcome that the job records, and for no other.
+-- Behind the line of the header's numbers there are as many as the job records outcomes.
 pub session-length : (j : Job) (deltas : List ℕ) → length (sessionLines j deltas) ≡ suc (recordedIn (j .instructions))
 unfolding sessionLines
 session-length j deltas = ap suc (delta-lines (j .header) deltas (recordedIn (j .instructions)) 0)

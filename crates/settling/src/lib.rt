@@ -77,7 +77,7 @@ fn put_settled<'a>(
             second,
             base,
         ) {
-            Moved::Spent(position) => {
+            Moved::Spent { position } => {
                 return TextLength::SpentAt {
                     line: here.place.line,
                     taken: position,

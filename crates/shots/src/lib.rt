@@ -40,7 +40,7 @@ pub fn rule_of(p: f64, d: PauliDistribution) -> DrawRule
 // What one shot draws: no fault, or an element, each with the place of the next word; or a word was needed past the end.
 pub enum ShotDraw {
     Spent,
-    Quiet(usize),
+    Quiet { next: usize },
     Fault { element: u64, next: usize },
 }
 
@@ -61,7 +61,7 @@ pub fn draw_shot(
         return ShotDraw::Spent;
     }
     if !satisfied {
-        return ShotDraw::Quiet(at + 1);
+        return ShotDraw::Quiet { next: at + 1 };
     }
     match element(words, more, at + 1, chooser, sums) {
         Choice::Chosen { element: e, next } => ShotDraw::Fault { element: e, next },
@@ -82,7 +82,9 @@ pub fn is_set(mask: &[u64], shot: Shot) -> bool
 // word; or a word was needed past the end.
 pub enum NextFault {
     Spent,
-    Done(usize),
+    Done {
+        next: usize,
+    },
     At {
         shot: Shot,
         element: u64,
@@ -90,7 +92,7 @@ pub enum NextFault {
     },
 }
 
-// The next fault in the shots from one on, by the rule of the line. The mask has the shots whose condition is satisfied.
+// The next fault in the shots from `shot` on, by the rule of the line. The mask has the shots whose condition is satisfied.
 fn fault_from(
     words: &[u64],
     more: &[u64],
@@ -113,13 +115,13 @@ fn fault_from(
         i += skip;
         s += skip;
         if s == shots {
-            return NextFault::Done(i);
+            return NextFault::Done { next: i };
         }
         match draw_shot(words, more, i, chooser, sums, is_set(mask, Shot(s))) {
             ShotDraw::Spent => {
                 return NextFault::Spent;
             }
-            ShotDraw::Quiet(next) => {
+            ShotDraw::Quiet { next } => {
                 i = next;
             }
             ShotDraw::Fault { element: e, next } => {
@@ -132,7 +134,7 @@ fn fault_from(
         }
         s += 1;
     }
-    NextFault::Done(i)
+    NextFault::Done { next: i }
 }
 
 // The same with a look at the first shot by itself: with a p near 1 that has a fault, and what the loop prepares would cost more than the draw.
@@ -156,7 +158,7 @@ pub fn next_fault(
                 ShotDraw::Spent => {
                     return NextFault::Spent;
                 }
-                ShotDraw::Quiet(_) => {}
+                ShotDraw::Quiet { next: _ } => {}
                 ShotDraw::Fault { element: e, next } => {
                     return NextFault::At {
                         shot,

@@ -8,7 +8,7 @@ ghost use lib.ListN.{length};
 ghost use Rattle.text.specs.Template.{aNumber, aList, valueOf, isLetter};
 ghost use Rattle.numbers.specs.Read.{read, ListRead};
 ghost use Rattle.template.specs.Values.{Whole};
-ghost use Rattle.template.specs.Fields.{listBy, numberLetter, listLetter, PutAs, started, isPlain, ReadNext, ReadOn, ReadAs};
+ghost use Rattle.template.specs.Fields.{listBy, numberLetter, listLetter, StoresAs, started, isPlain, ReadNext, ReadOn, ReadAs};
 
 pub mod values;
 
@@ -48,25 +48,25 @@ fn refused() -> Progress
 }
 
 // How many numbers and lists a line had, with one value more; or that it is none.
-struct Put {
+struct Stored {
     ok: bool,
     numbers: usize,
     lists: usize,
 }
 
-fn not_put() -> Put
+fn not_put() -> Stored
     ensures { λ r. ⌜ r .ok ≡ false ⌝ }
 {
-    Put {
+    Stored {
         ok: false,
         numbers: 0,
         lists: 0,
     }
 }
 
-fn put_number(v: Value, n: usize, l: usize, fields: &mut [u64]) -> Put
+fn put_number(v: Value, n: usize, l: usize, fields: &mut [u64]) -> Stored
     requires { ⌜ Whole (now fields) ⌝ }
-    ensures { λ r. ⌜ PutAs 1 0 (aNumber (read v)) n l r (now (fields .entry)) (now (fields .exit)) ⌝ }
+    ensures { λ r. ⌜ StoresAs 1 0 (aNumber (read v)) n l r (now (fields .entry)) (now (fields .exit)) ⌝ }
 {
     let Value::Of(x) = v else {
         return not_put();
@@ -75,7 +75,7 @@ fn put_number(v: Value, n: usize, l: usize, fields: &mut [u64]) -> Put
         return not_put();
     }
     fields[n] = x;
-    Put {
+    Stored {
         ok: true,
         numbers: n + 1,
         lists: l,
@@ -94,9 +94,9 @@ fn list(t: u8, s: &[u8], out: &mut [u64]) -> Listed
     }
 }
 
-fn put_list(t: u8, s: &[u8], n: usize, l: usize, fields: &mut [u64]) -> Put
+fn put_list(t: u8, s: &[u8], n: usize, l: usize, fields: &mut [u64]) -> Stored
     requires { ⌜ Whole (now fields) ⌝ }
-    ensures { λ r. ⌜ PutAs 0 1 (aList (listBy t (now (s .entry)))) n l r (now (fields .entry)) (now (fields .exit)) ⌝ }
+    ensures { λ r. ⌜ StoresAs 0 1 (aList (listBy t (now (s .entry)))) n l r (now (fields .entry)) (now (fields .exit)) ⌝ }
 {
     if EACH <= l {
         return not_put();
@@ -109,7 +109,7 @@ fn put_list(t: u8, s: &[u8], n: usize, l: usize, fields: &mut [u64]) -> Put
     }
     fields[COUNTS + l] = r.count as u64;
     fields[LARGEST + l] = r.largest;
-    Put {
+    Stored {
         ok: true,
         numbers: n,
         lists: l + 1,
@@ -117,9 +117,9 @@ fn put_list(t: u8, s: &[u8], n: usize, l: usize, fields: &mut [u64]) -> Put
 }
 
 // One value more, which the bytes s are by the letter t of a template.
-fn put_value(t: u8, s: &[u8], n: usize, l: usize, fields: &mut [u64]) -> Put
+fn put_value(t: u8, s: &[u8], n: usize, l: usize, fields: &mut [u64]) -> Stored
     requires { ⌜ Whole (now fields) ⌝ }
-    ensures { λ r. ⌜ PutAs (numberLetter t) (listLetter t) (valueOf t (now (s .entry))) n l r (now (fields .entry)) (now (fields .exit)) ⌝ }
+    ensures { λ r. ⌜ StoresAs (numberLetter t) (listLetter t) (valueOf t (now (s .entry))) n l r (now (fields .entry)) (now (fields .exit)) ⌝ }
 {
     match t {
         b'N' => put_number(number(s), n, l, fields),

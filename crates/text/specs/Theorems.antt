@@ -42,7 +42,7 @@ leading-zero b l = numbers.leading-zero b l
 pub too-large : (l : List ℕ) → 2 ^ 64 ≤ decimalFrom 0 l → numberOf l ≡ none
 too-large l h = numbers.number-large l h
 
--- A list that rises has no member twice in a row.
+-- A list that begins with a member twice does not rise.
 pub strictly-rising : (a : ℕ) (l : List ℕ) → isRising (a ∷ a ∷ l) ≡ false
 unfolding isRising risesFrom
 strictly-rising a l = rw (le-ltb a a (omega arith))

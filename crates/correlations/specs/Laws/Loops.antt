@@ -28,7 +28,7 @@ use Rattle.instructions.specs.Laws.Steps.{none-left}
 use Rattle.instructions.specs.Laws.Lines.{numbered-some, here, line-read, left-all, left-more}
 use Rattle.circuit.specs.Correlation.{Seen, sizeFits, seenAfter, correlationOf, saidSize, firstDifferingBy, firstDiffering}
 use Rattle.circuit.specs.Replies.{correlationAnswer, correlationReply}
-use Rattle.correlations.specs.declared.Looked.{Looked}
+use Rattle.correlations.specs.declared.Compared.{Compared}
 use Rattle.correlations.specs.declared.Collected.{Collected}
 use Rattle.correlations.specs.declared.Found.{Found}
 use Rattle.correlations.specs.Sizes.{correlationIn, sizeIn, present, tableOf, lookFor, lookOf, grown}
@@ -75,7 +75,7 @@ module _ {job : List ℕ} {k at : ℕ} (a : Left job k at) {next : Next} {fields
   said = here a n .written
 
   -- what the code found of the line beside a table
-  module _ (seen : List Seen) {l : Looked} (looks : (vs : List Value) (w : Written) → Said (next .form) fields vs w → l ≡ lookOf seen (correlationIn w) (sizeIn w)) where
+  module _ (seen : List Seen) {l : Compared} (looks : (vs : List Value) (w : Written) → Said (next .form) fields vs w → l ≡ lookOf seen (correlationIn w) (sizeIn w)) where
     look : l ≡ lookOf seen (correlationIn said) (sizeIn said)
     look = looks (line-read a n .values) said (line-read a n .said)
 
@@ -124,7 +124,7 @@ full b n room e = eqb-true n room (both b (eqb n room) e .1)
 pub not-full : (b : Bool) (n room : ℕ) → n ≤ room → (b && eqb n room) ≡ false → b ≡ true → n < room
 not-full b n room h e f = let other : eqb n room ≡ false = rw f at e in omega (arith, eqb-false n room other)
 
-module _ {l : Looked} {n : ℕ} {seen sizes links : List ℕ} (t : Table n seen sizes links) where
+module _ {l : Compared} {n : ℕ} {seen sizes links : List ℕ} (t : Table n seen sizes links) where
   pub remember-none : l .fresh ≡ false → Remembers l n seen sizes n seen sizes links
   remember-none e = record { few = omega arith; holds = t; table = rw e }
 
@@ -144,7 +144,7 @@ unfolding tableOf
 collect-none a t = record { left = a; holds = t; onward = omega arith; same = refl }
 
 module _ {job : List ℕ} {number from k at n : ℕ} {seen sizes links : List ℕ} (c : Collecting job number from k at n seen sizes links) where
-  module _ {next : Next} {fields : List ℕ} (line : NextLine job at next fields) {l : Looked}
+  module _ {next : Next} {fields : List ℕ} (line : NextLine job at next fields) {l : Compared}
       (looks : Looks (next .form) fields (take n seen) (take n sizes) l) where
     pub collect-stops : l .fits ≡ false → Collects job number from (record { differing = k; n = n; at = at; number = k }) seen sizes links
     collect-stops h =
@@ -177,7 +177,7 @@ pub compare-none : {job : List ℕ} {number from : ℕ} {seen : List Seen} → L
 compare-none a = record { left = a; same = refl }
 
 module _ {job : List ℕ} {number from k at : ℕ} {seen : List Seen} (c : Comparing job number from k at seen) where
-  module _ {next : Next} {fields : List ℕ} (line : NextLine job at next fields) {l : Looked}
+  module _ {next : Next} {fields : List ℕ} (line : NextLine job at next fields) {l : Compared}
       (looks : (vs : List Value) (w : Written) → Said (next .form) fields vs w → l ≡ lookOf seen (correlationIn w) (sizeIn w)) where
     pub compare-stops : l .fits ≡ false → numbered k ≡ unlike seen (instructionsAt job number from)
     compare-stops h =
