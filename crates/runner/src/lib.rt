@@ -29,21 +29,21 @@ fn enough(shape: Shape, lent: Lengths) -> bool
     requires { ⌜ (shape .qubits * shape .width < 2 ^ 64) × (shape .outcomes * shape .width < 2 ^ 64) ⌝ }
     ensures { λ r. ⌜ r ≡ suffice shape lent ⌝ }
 {
-    let frame = shape.qubits * shape.width;
-    let outcomes = shape.outcomes * shape.width;
-    if lent.x < frame {
+    let frame_words = shape.qubits * shape.width;
+    let outcome_words = shape.outcomes * shape.width;
+    if lent.x < frame_words {
         return false;
     }
-    if lent.z < frame {
+    if lent.z < frame_words {
         return false;
     }
-    if lent.deltas < outcomes {
+    if lent.deltas < outcome_words {
         return false;
     }
     if lent.totals < shape.outcomes {
         return false;
     }
-    outcomes <= lent.noiseless
+    outcome_words <= lent.noiseless
 }
 
 // 13: lent words too few.
@@ -92,15 +92,15 @@ pub fn run_tested<'a>(
     requires { ⌜ RunReady (now job) shape (now x) (now z) (now deltas) (now totals) (now noiseless) ⌝ }
     ensures { λ r. ⌜ RanTo (now (job .entry)) (record { x = now (x .entry); z = now (z .entry); deltas = now (deltas .entry); totals = now (totals .entry); source = record { noiseless = now (noiseless .entry); main = now (main .entry) ++ now (more .entry); second = now (second .entry); base = base } }) (now (x .exit)) (now (z .exit)) (now (deltas .exit)) (now (totals .exit)) r ⌝ }
 {
-    let frame = shape.qubits * shape.width;
-    let outcomes = shape.outcomes * shape.width;
+    let frame_words = shape.qubits * shape.width;
+    let outcome_words = shape.outcomes * shape.width;
     let from = behind_header(job);
     run_needed(
         job,
         from,
-        &mut x[..frame],
-        &mut z[..frame],
-        &mut deltas[..outcomes],
+        &mut x[..frame_words],
+        &mut z[..frame_words],
+        &mut deltas[..outcome_words],
         &mut totals[..shape.outcomes],
         shape,
         noiseless,

@@ -3,11 +3,11 @@ use Rattle.runner.specs.Laws.Replies.{short-x, short-z, short-deltas, sh
 use Rattle.runner.proofs.enough.Statement.{statement}
 use Rattle.runner.proofs.enough.Tie as tie
 
-mul-frame : tie.Need-mul-frame
-mul-frame c = record { fits = c .before .pre .0 }
+mul-frame-words : tie.Need-mul-frame-words
+mul-frame-words c = record { fits = c .before .pre .0 }
 
-mul-outcomes : tie.Need-mul-outcomes
-mul-outcomes c = record { fits = c .before .before .pre .1 }
+mul-outcome-words : tie.Need-mul-outcome-words
+mul-outcome-words c = record { fits = c .before .before .pre .1 }
 
 returns : tie.Need-returns
 returns c = short-x _ _ (c .if1 .taken)
@@ -25,4 +25,4 @@ returns-5 : tie.Need-returns-5
 returns-5 c = by-noiseless _ _ (c .before .before .before .before .before .before .before .before .if1 .left) (c .before .before .before .before .before .before .if2 .left) (c .before .before .before .before .if3 .left) (c .before .if4 .left)
 
 pub enough-spec : {M : Type 1} → statement M
-enough-spec = tie.close (tie.spec mul-frame mul-outcomes returns returns-2 returns-3 returns-4 returns-5)
+enough-spec = tie.close (tie.spec mul-frame-words mul-outcome-words returns returns-2 returns-3 returns-4 returns-5)

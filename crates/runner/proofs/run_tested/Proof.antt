@@ -8,11 +8,11 @@ use borrow.Author.Needs.{needs}
 use Rattle.runner.proofs.run_tested.Statement.{statement}
 use Rattle.runner.proofs.run_tested.Tie as tie
 
-mul-frame : tie.Need-mul-frame
-mul-frame c = let r = range _ (c .before .before .before .before .before .before .before .before .before .before .pre .passes) in rw (c .before .before .before .before .before .before .before .before .before .before .pre .shaped) record { fits = row-words _ _ (omega (arith, r .few-qubits)) (r .few-shots) }
+mul-frame-words : tie.Need-mul-frame-words
+mul-frame-words c = let r = range _ (c .before .before .before .before .before .before .before .before .before .before .pre .passes) in rw (c .before .before .before .before .before .before .before .before .before .before .pre .shaped) record { fits = row-words _ _ (omega (arith, r .few-qubits)) (r .few-shots) }
 
-mul-outcomes : tie.Need-mul-outcomes
-mul-outcomes c = let r = range _ (c .before .before .before .before .before .before .before .before .before .before .before .pre .passes) in rw (c .before .before .before .before .before .before .before .before .before .before .before .pre .shaped) record { fits = row-words _ _ (r .few-outcomes) (r .few-shots) }
+mul-outcome-words : tie.Need-mul-outcome-words
+mul-outcome-words c = let r = range _ (c .before .before .before .before .before .before .before .before .before .before .before .pre .passes) in rw (c .before .before .before .before .before .before .before .before .before .before .before .pre .shaped) record { fits = row-words _ _ (r .few-outcomes) (r .few-shots) }
 
 behind-header-requires : tie.Need-behind-header-requires
 behind-header-requires c κs = search needs
@@ -73,8 +73,8 @@ pub run-tested-spec : {M : Type 1} → statement M
 run-tested-spec =
     tie.close
     (tie.spec
-    mul-frame
-    mul-outcomes
+    mul-frame-words
+    mul-outcome-words
     behind-header-requires
     slice-relend-prefix-run-needed
     slice-aggregate-run-needed
