@@ -167,7 +167,7 @@ static inline int kundatrezo_float_state_ok(void)
 /* The bytes of stack that a call takes at most, those of memcpy and memset and of binding them included. The tests measure them. */
 #define KUNDATREZO_RUN_STACK 69632    /* with totals and with a share, too */
 #define KUNDATREZO_SETTLE_STACK 45056 /* with a share, too */
-#define KUNDATREZO_CORRELATION_STACK 12288
+#define KUNDATREZO_CORRELATION_STACK 98304
 #define KUNDATREZO_FAULT_TABLE_STACK 16384
 #define KUNDATREZO_OTHER_STACK 8192 /* every other call */
 

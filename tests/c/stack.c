@@ -105,7 +105,18 @@ static uint64_t groups[] = {1, 0, 1, 1, 1, 2, 1, 3, 2, 0, 1, 2, 1, 2, 2, 2, 3, 3
 
 static void fault_table(void) { kundatrezo_fault_table(WITH_NARROW_NOISE, groups, sizeof groups / sizeof *groups, out, sizeof out); }
 
-static void correlation(void) { kundatrezo_correlation(NOISY); }
+/* more bytes than the small table of the correlation check is for */
+static uint8_t long_job[20000];
+static size_t long_job_len;
+
+static void add_to_long_job(const char *text)
+{
+    /* by hand: memcpy is to be bound by the call */
+    for (volatile uint8_t *place = long_job + long_job_len; *text != 0; long_job_len++)
+        *place++ = (uint8_t)*text++;
+}
+
+static void correlation(void) { kundatrezo_correlation(long_job, long_job_len); }
 
 static void line(void) { kundatrezo_line(NOISY, 20); }
 
@@ -192,13 +203,16 @@ static int accepted(void)
     struct kundatrezo_text_answer tabled = kundatrezo_fault_table(WITH_NARROW_NOISE, groups, sizeof groups / sizeof *groups, out, sizeof out);
     struct kundatrezo_answer shots = kundatrezo_by_shot(130, 129, main_words, 390, second, 387);
     struct kundatrezo_answer outcomes = kundatrezo_by_outcome(130, 129, main_words, 387, second, 390);
-    return shots.number == 0 && outcomes.number == 0 && kundatrezo_correlation(NOISY).number == 0 && walked.answer.number == 0 && settled.answer.number == 0 && annotated.answer.number == 0 &&
+    return shots.number == 0 && outcomes.number == 0 && kundatrezo_correlation(long_job, long_job_len).number == 0 && walked.answer.number == 0 && settled.answer.number == 0 && annotated.answer.number == 0 &&
            tabled.answer.number == 0 && shared.answer.number == 0 && kundatrezo_make(256, 1024, 4096, 1000, 1, out, sizeof out).answer.number == 0;
 }
 
 int main(void)
 {
     int failed = 0;
+    add_to_long_job(noisy);
+    while (long_job_len < 19000)
+        add_to_long_job("op=u g=4 q=0\n");
     for (size_t i = 0; i < sizeof calls / sizeof *calls; i++)
         failed |= exceeds_in_a_process(i);
     if (failed)

@@ -1,5 +1,5 @@
-// A run, the settling of the same job and a walk back on the settled text, and whether they agree: the sum of a set's deltas in a shot equals modulo 2 the
-// count of the walk.
+// A run, the settling of the same job and a walk back on the settled text, and whether they agree: the sum of a set's deltas in a shot equals modulo
+// 2 the count of the walk.
 ghost use mathlib.Core.Path.{_≡_};
 ghost use mathlib.Core.Bool.{true, false};
 ghost use Prim.Native.Nat.{_/_, _<_};
@@ -22,8 +22,8 @@ pub enum Call {
     Walk,
 }
 
-// The last call that was made, which is the first that refused, if any did, and its answer. Where none refused: the sum modulo 2 of the set's deltas in the
-// shot, the walk's count, and whether these are equal modulo 2. The figure is the byte figure of settling.
+// The last call that was made, which is the first that refused, if any did, and its answer. Where none refused: the sum modulo 2 of the set's deltas
+// in the shot, the walk's count, and whether these are equal modulo 2. The figure is the byte figure of settling.
 pub struct Agreement {
     pub call: Call,
     pub answer: Answer,
@@ -73,8 +73,9 @@ fn delta_sum(deltas: &[u64], w: usize, shot: Shot, set: &[u64]) -> u64
     (word >> (s % 64)) % 2
 }
 
-// Runs a job, settles it with the same draws and noiseless bits, walks back on the settled text for a set of outcomes and a shot, and compares. The lent
-// words and bytes are left as the calls leave them; after a refusal no further call is made. Where none refuses the answer is always that they agree.
+// Runs a job, settles it with the same draws and noiseless bits, walks back on the settled text for a set of outcomes and a shot, and compares. The
+// lent words and bytes are left as the calls leave them; after a refusal no further call is made.
+// Where none refuses the answer is always that they agree.
 pub fn agree<'a>(
     job: &[u8],
     x: &mut [u64],

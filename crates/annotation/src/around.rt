@@ -17,6 +17,8 @@ use instructions::next_line;
 use line_qubits::fit;
 use line_qubits::noise_qubits;
 use reader::Form;
+use template::values::EACH;
+use template::values::KEPT;
 use template::values::WORDS;
 use writer::noise_lines::put_depolarizing;
 use writer::noise_lines::put_start;
@@ -75,7 +77,7 @@ pub fn put_annotated(out: &mut [u8], job: &[u8], p: u64) -> Progress
     ensures { λ r. ⌜ Annotates (now (job .entry)) p r (now (out .entry)) (now (out .exit)) ⌝ }
 {
     let mut fields = [0u64; WORDS];
-    let mut qubits = [0u64; 124];
+    let mut qubits = [0u64; EACH * KEPT];
     let mut start = [0u8; 50];
     put_start(&mut start, p);
     let mut at = 0;

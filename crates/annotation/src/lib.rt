@@ -13,10 +13,9 @@ use check_values::floats::Checked;
 use check_values::floats::probability;
 use checker::check;
 use job::Answer;
+use job::limits::MAX_BYTES;
 use writer::TextAnswer;
 use writer::refused;
-
-const MAX_BYTES: usize = 1048576;
 
 // Annotates an accepted job. The text is measured first, over no bytes, since nothing is written with a refusal.
 fn annotate_accepted(job: &[u8], p: u64, out: &mut [u8]) -> TextAnswer

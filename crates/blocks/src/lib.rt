@@ -1,7 +1,7 @@
 // Blocks of 64 words of 64 bits: rows and columns change places, in six rounds.
-// A round of width h takes the rows and columns in groups of 2h, and in each square of 2h by 2h exchanges the two quarters of h by h off its diagonal.
-// After the rounds of widths 32 to h whole squares of h by h stand in their new places, with their inside as it was; after width 1 each bit does.
-// (H. S. Warren, Hacker's Delight, section 7-3.)
+// A round of width h takes the rows and columns in groups of 2h, and in each square of 2h by 2h exchanges the two quarters of h by h off its
+// diagonal. After the rounds of widths 32 to h whole squares of h by h stand in their new places, with their inside as it was; after width 1 each bit
+// does. (H. S. Warren, Hacker's Delight, section 7-3.)
 ghost use mathlib.Core.Path.{_≡_};
 ghost use mathlib.Core.Bool.{true};
 ghost use Prim.Native.Nat.{_+_, _*_, _/_, _<_, _≤_};

@@ -1,6 +1,6 @@
 // Outcomes by shot, and the way back: rows and columns of a matrix of bits change places, block by block of 64 by 64.
-// Bits past the last column of the source go to rows of a block that are not stored. Rows of a block past the last row of the source are 0, and so are
-// the bits that they become.
+// Bits past the last column of the source go to rows of a block that are not stored. Rows of a block past the last row of the source are 0, and so
+// are the bits that they become.
 ghost use mathlib.Core.Path.{_≡_};
 ghost use Prim.Native.Nat.{_+_, _*_, _<_, _≤_};
 ghost use lib.ListN.{length};
@@ -11,10 +11,8 @@ use blocks::exchange;
 use blocks::gather;
 use blocks::scatter;
 use job::Answer;
-
-const MAX_OUTCOMES: u64 = 1024;
-
-const MAX_SHOTS: u64 = 4096;
+use job::limits::MAX_OUTCOMES;
+use job::limits::MAX_SHOTS;
 
 // ---- The blocks
 

@@ -9,6 +9,8 @@ ghost use Rattle.reader.specs.Parsed.{Said};
 ghost use Rattle.check_values.specs.Contexts.{contextOf};
 use check_values::context::Context;
 use reader::Form;
+use reader::slots::GATE;
+use reader::slots::OPERANDS;
 use template::values::count;
 use template::values::number;
 
@@ -18,8 +20,8 @@ fn is_second(form: Form, f: &[u64]) -> bool
     ensures { λ r. ⌜ ((vs : List Value) (w : Written) → Said form (now (f .entry)) vs w → r ≡ isSecond w) ⌝ }
 {
     match form {
-        Form::Unitary => 14 < number(f, 0),
-        Form::Reset => count(f, 0) != 1,
+        Form::Unitary => 14 < number(f, GATE),
+        Form::Reset => count(f, OPERANDS) != 1,
         Form::Barrier => true,
         _ => false,
     }

@@ -11,16 +11,19 @@ ghost use Rattle.reader.specs.Parsed.{Said};
 ghost use Rattle.check_values.specs.Contexts.{contextOf};
 use check_values::context::Context;
 use job::Header;
+use job::limits::MAX_EDITION;
+use job::limits::MAX_OUTCOMES;
+use job::limits::MAX_QUBITS;
+use job::limits::MAX_SHOTS;
 use reader::Form;
+use reader::slots::EDITION;
+use reader::slots::EDITION_OUTCOMES;
+use reader::slots::EDITION_QUBITS;
+use reader::slots::EDITION_SHOTS;
+use reader::slots::OUTCOMES;
+use reader::slots::QUBITS;
+use reader::slots::SHOTS;
 use template::values::number;
-
-const MAX_QUBITS: u64 = 256;
-
-const MAX_OUTCOMES: u64 = 1024;
-
-const MAX_SHOTS: u64 = 4096;
-
-const MAX_EDITION: u64 = 2;
 
 fn header_in(f: &[u64]) -> Header
     requires { ⌜ Whole (now f) ⌝ }
@@ -28,9 +31,9 @@ fn header_in(f: &[u64]) -> Header
 {
     Header {
         edition: 1,
-        qubits: number(f, 0),
-        outcomes: number(f, 1),
-        shots: number(f, 2),
+        qubits: number(f, QUBITS),
+        outcomes: number(f, OUTCOMES),
+        shots: number(f, SHOTS),
     }
 }
 
@@ -39,10 +42,10 @@ fn edition_in(f: &[u64]) -> Header
     ensures { λ r. ⌜ r ≡ editionBy (heldNumber (now (f .entry))) ⌝ }
 {
     Header {
-        edition: number(f, 0),
-        qubits: number(f, 1),
-        outcomes: number(f, 2),
-        shots: number(f, 3),
+        edition: number(f, EDITION),
+        qubits: number(f, EDITION_QUBITS),
+        outcomes: number(f, EDITION_OUTCOMES),
+        shots: number(f, EDITION_SHOTS),
     }
 }
 
@@ -96,7 +99,7 @@ pub fn header_after(c: Context, form: Form, f: &[u64]) -> Header
     }
 }
 
-// 23
+// 23: an edition that there is not.
 pub fn edition_number(edition: u64) -> u64
     ensures { λ r. ⌜ r ≡ lowest (test 23 (knownEdition edition) ∷ []) ⌝ }
 {

@@ -1,15 +1,18 @@
 // Tests of the header, and of each other kind of line but noise the number that refuses it after 2 and 3, 0 where none does.
 ghost use mathlib.Core.Path.{_≡_};
+ghost use mathlib.Core.Bool.{_&&_};
 ghost use mathlib.Core.List.{List, [], _∷_};
 ghost use mathlib.Core.Option.{some};
-ghost use Prim.Native.Nat.{_+_, _^_, _≤_, _<_};
-ghost use Rattle.text.specs.Template.{Value};
+ghost use Prim.Native.Nat.{ℕ, _+_, _^_, _≤_, _<_};
+ghost use Rattle.text.specs.Template.{Value, listAt};
 ghost use Rattle.template.specs.Values.{Whole};
+ghost use Rattle.template.specs.Fields.{Held};
 ghost use Rattle.job.specs.Grammar.{Written};
-ghost use Rattle.job.specs.Checks.{idTest, lowest, ownTests, next as Checks·next};
+ghost use Rattle.job.specs.Checks.{test, idTest, eachBelow, eachShort, lowest, ownTests, distinct, next as Checks·next};
 ghost use Rattle.reader.specs.declared.Form.the-variants as form;
 ghost use Rattle.reader.specs.Parsed.{formOf, Said};
 ghost use Rattle.check_values.specs.Contexts.{contextOf};
+ghost use Rattle.check_values.specs.Slots.{listsFrom};
 
 pub mod editions;
 pub mod header;
@@ -22,6 +25,25 @@ use check_values::lists::pauli_number;
 use check_values::lists::short;
 use check_values::lists::slot_distinct;
 use reader::Form;
+use reader::slots::FLIPPED;
+use reader::slots::GATE;
+use reader::slots::ID;
+use reader::slots::IDS;
+use reader::slots::IDS_END;
+use reader::slots::OPERANDS;
+use reader::slots::OPERANDS_END;
+use reader::slots::PAULI_END;
+use reader::slots::PERMUTED;
+use reader::slots::PERMUTED_END;
+use reader::slots::PLACES;
+use reader::slots::PLACES_END;
+use reader::slots::SHOT;
+use reader::slots::TABLE;
+use reader::slots::TARGET_END;
+use reader::slots::TARGET_X;
+use reader::slots::TARGET_Z;
+use reader::slots::X;
+use reader::slots::Z;
 use tables::MAX_CLIFFORD_QUBITS;
 use tables::table_words;
 use template::values::count;
@@ -29,17 +51,34 @@ use template::values::kept;
 use template::values::list;
 use template::values::number;
 
+// The number that refuses operands of no fixed number: 4 and 5; n is the number of qubits.
+pub fn operands_number(f: &[u64], n: u64) -> u64
+    requires { ⌜ Whole (now f) ⌝ }
+    ensures { λ r. ⌜ ((numbers lists : ℕ) (vs : List Value) → Held (now (f .entry)) numbers lists vs → 1 ≤ lists → r ≡ lowest (test 4 (eachBelow n (listsFrom 0 1 vs)) ∷ test 5 (distinct (listAt 0 vs) && eachShort (listsFrom 0 1 vs)) ∷ [])) ⌝ }
+{
+    if !below(f, OPERANDS, OPERANDS_END, n) {
+        return 4;
+    }
+    if !short(f, OPERANDS, OPERANDS_END) {
+        return 5;
+    }
+    if !slot_distinct(f, OPERANDS) {
+        return 5;
+    }
+    0
+}
+
 pub fn unitary_number(c: Context, f: &[u64]) -> u64
     requires { ⌜ Whole (now f) ⌝ }
     ensures { λ r. ⌜ ((vs : List Value) (w : Written) → Said form.Unitary (now (f .entry)) vs w → r ≡ lowest (ownTests (contextOf c) w)) ⌝ }
 {
-    if !below(f, 0, 1, c.header.qubits) {
+    if !below(f, OPERANDS, OPERANDS_END, c.header.qubits) {
         return 4;
     }
-    if count(f, 0) != pauli::operands(number(f, 0)) as u64 {
+    if count(f, OPERANDS) != pauli::operands(number(f, GATE)) as u64 {
         return 5;
     }
-    if !slot_distinct(f, 0) {
+    if !slot_distinct(f, OPERANDS) {
         return 5;
     }
     0
@@ -49,18 +88,18 @@ pub fn clifford_number(c: Context, f: &[u64]) -> u64
     requires { ⌜ Whole (now f) ⌝ }
     ensures { λ r. ⌜ ((vs : List Value) (w : Written) → Said form.Clifford (now (f .entry)) vs w → r ≡ lowest (ownTests (contextOf c) w)) ⌝ }
 {
-    if !below(f, 0, 1, c.header.qubits) {
+    if !below(f, OPERANDS, OPERANDS_END, c.header.qubits) {
         return 4;
     }
-    let k = count(f, 0);
+    let k = count(f, OPERANDS);
     if MAX_CLIFFORD_QUBITS < k {
         return 5;
     }
-    if !slot_distinct(f, 0) {
+    if !slot_distinct(f, OPERANDS) {
         return 5;
     }
     let n = table_words(k as usize);
-    let words = kept(f, 1);
+    let words = kept(f, TABLE);
     if !is_clifford(&words[..n], k as usize) {
         return 7;
     }
@@ -72,14 +111,14 @@ pub fn controlled_number(c: Context, f: &[u64]) -> u64
     requires { ⌜ Whole (now f) ⌝ }
     ensures { λ r. ⌜ ((vs : List Value) (w : Written) → Said form.Controlled (now (f .entry)) vs w → r ≡ lowest (ownTests (contextOf c) w)) ⌝ }
 {
-    if !below(f, 0, 4, c.header.qubits) {
+    if !below(f, X, TARGET_END, c.header.qubits) {
         return 4;
     }
-    if !short(f, 0, 4) {
+    if !short(f, X, TARGET_END) {
         return 5;
     }
-    let x_on_z = overlap_is_odd(list(f, 0), list(f, 3));
-    let z_on_x = overlap_is_odd(list(f, 1), list(f, 2));
+    let x_on_z = overlap_is_odd(list(f, X), list(f, TARGET_Z));
+    let z_on_x = overlap_is_odd(list(f, Z), list(f, TARGET_X));
     if x_on_z != z_on_x {
         return 20;
     }
@@ -90,29 +129,29 @@ pub fn permute_number(c: Context, f: &[u64]) -> u64
     requires { ⌜ Whole (now f) ⌝ }
     ensures { λ r. ⌜ ((vs : List Value) (w : Written) → Said form.Permute (now (f .entry)) vs w → r ≡ lowest (ownTests (contextOf c) w)) ⌝ }
 {
-    if !below(f, 1, 2, c.header.qubits) {
+    if !below(f, PERMUTED, PERMUTED_END, c.header.qubits) {
         return 4;
     }
-    if !short(f, 0, 2) {
+    if !short(f, PLACES, PERMUTED_END) {
         return 5;
     }
-    let k = count(f, 1);
-    if !slot_distinct(f, 1) {
+    let k = count(f, PERMUTED);
+    if !slot_distinct(f, PERMUTED) {
         return 5;
     }
-    if count(f, 0) != k {
+    if count(f, PLACES) != k {
         return 6;
     }
-    if !below(f, 0, 1, k) {
+    if !below(f, PLACES, PLACES_END, k) {
         return 6;
     }
-    if !slot_distinct(f, 0) {
+    if !slot_distinct(f, PLACES) {
         return 6;
     }
     0
 }
 
-// 8
+// 8: an outcome that is not the next one, or not below the header's number of them.
 pub fn id_number(c: Context, id: u64) -> u64
     ensures { λ r. ⌜ r ≡ lowest (idTest (contextOf c) id ∷ []) ⌝ }
 {
@@ -129,24 +168,24 @@ pub fn measure_number(c: Context, f: &[u64]) -> u64
     requires { ⌜ Whole (now f) ⌝ }
     ensures { λ r. ⌜ ((vs : List Value) (w : Written) → Said form.Measure (now (f .entry)) vs w → r ≡ lowest (ownTests (contextOf c) w)) ⌝ }
 {
-    let n = pauli_number(f, 0, 2, c.header.qubits);
+    let n = pauli_number(f, X, PAULI_END, c.header.qubits);
     if n != 0 {
         return n;
     }
-    id_number(c, number(f, 0))
+    id_number(c, number(f, ID))
 }
 
 pub fn conditional_number(c: Context, f: &[u64]) -> u64
     requires { ⌜ Whole (now f) ⌝ }
     ensures { λ r. ⌜ ((vs : List Value) (w : Written) → Said form.Conditional (now (f .entry)) vs w → r ≡ lowest (ownTests (contextOf c) w)) ⌝ }
 {
-    if !below(f, 0, 2, c.header.qubits) {
+    if !below(f, X, PAULI_END, c.header.qubits) {
         return 4;
     }
-    if !short(f, 0, 3) {
+    if !short(f, X, IDS_END) {
         return 5;
     }
-    if !below(f, 2, 3, c.recorded) {
+    if !below(f, IDS, IDS_END, c.recorded) {
         return 9;
     }
     0
@@ -156,11 +195,11 @@ pub fn inject_number(c: Context, f: &[u64]) -> u64
     requires { ⌜ Whole (now f) ⌝ }
     ensures { λ r. ⌜ ((vs : List Value) (w : Written) → Said form.Inject (now (f .entry)) vs w → r ≡ lowest (ownTests (contextOf c) w)) ⌝ }
 {
-    let n = pauli_number(f, 0, 2, c.header.qubits);
+    let n = pauli_number(f, X, PAULI_END, c.header.qubits);
     if n != 0 {
         return n;
     }
-    if c.header.shots <= number(f, 0) {
+    if c.header.shots <= number(f, SHOT) {
         return 10;
     }
     0
@@ -170,10 +209,10 @@ pub fn flip_number(c: Context, f: &[u64]) -> u64
     requires { ⌜ Whole (now f) ⌝ }
     ensures { λ r. ⌜ ((vs : List Value) (w : Written) → Said form.Flip (now (f .entry)) vs w → r ≡ lowest (ownTests (contextOf c) w)) ⌝ }
 {
-    if c.recorded <= number(f, 1) {
+    if c.recorded <= number(f, FLIPPED) {
         return 9;
     }
-    if c.header.shots <= number(f, 0) {
+    if c.header.shots <= number(f, SHOT) {
         return 10;
     }
     0

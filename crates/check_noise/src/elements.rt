@@ -20,6 +20,10 @@ use check_values::floats::is_total;
 use check_values::floats::weight;
 use check_values::lists::pauli_number;
 use reader::Form;
+use reader::slots::ELEMENTS;
+use reader::slots::PAULI_END;
+use reader::slots::WEIGHT;
+use reader::slots::X;
 use template::values::number;
 
 // The number that refuses an element line with a weight, after 2 and 3.
@@ -27,11 +31,11 @@ pub fn weighted_element_number(c: Context, f: &[u64]) -> u64
     requires { ⌜ Whole (now f) ⌝ }
     ensures { λ r. ⌜ ((vs : List Value) (w : Written) → Said form.WeightedElement (now (f .entry)) vs w → c .weighted ≡ true → r ≡ lowest (ownTests (contextOf c) w)) ⌝ }
 {
-    let n = pauli_number(f, 0, 2, c.header.qubits);
+    let n = pauli_number(f, X, PAULI_END, c.header.qubits);
     if n != 0 {
         return n;
     }
-    let Checked::Accepted(w) = weight(number(f, 0)) else {
+    let Checked::Accepted(w) = weight(number(f, WEIGHT)) else {
         return 12;
     };
     if c.due != 1 {
@@ -56,7 +60,7 @@ fn element_due(c: Context, weight: bool) -> bool
     !c.weighted
 }
 
-// Whether a line of this form may stand here: an element line where one is due, and else another.
+// Whether a line of this form may stand here: an element line where one is due, and else another. The values are for the contract alone.
 pub fn expected(c: Context, form: Form, f: &[u64]) -> bool
     ensures { λ r. ⌜ (isUnread form ≡ true → r ≡ false) × ((vs : List Value) (w : Written) → Said form (now (f .entry)) vs w → r ≡ Checks·expected (contextOf c) w) ⌝ }
 {
@@ -83,8 +87,8 @@ pub fn due_after(c: Context, form: Form, f: &[u64]) -> u64
     ensures { λ r. ⌜ ((vs : List Value) (w : Written) → Said form (now (f .entry)) vs w → r ≡ Checks·next (contextOf c) w .due) ⌝ }
 {
     match form {
-        Form::Uniform => number(f, 2),
-        Form::Weighted => number(f, 2),
+        Form::Uniform => number(f, ELEMENTS),
+        Form::Weighted => number(f, ELEMENTS),
         Form::Element => one_less(c.due),
         Form::WeightedElement => one_less(c.due),
         _ => 0,
@@ -110,7 +114,7 @@ pub fn total_after(c: Context, form: Form, f: &[u64]) -> f64
     let Form::WeightedElement = form else {
         return 0.0;
     };
-    match weight(number(f, 0)) {
+    match weight(number(f, WEIGHT)) {
         Checked::Accepted(w) => c.total + w,
         Checked::Refused => c.total,
     }

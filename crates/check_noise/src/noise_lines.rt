@@ -20,20 +20,29 @@ use check_values::lists::below;
 use check_values::lists::short;
 use check_values::lists::slot_distinct;
 use job::depolarizing_size;
+use job::limits::MAX_ELEMENTS;
+use reader::slots::CONDITION;
+use reader::slots::CONDITION_END;
+use reader::slots::DEPOLARIZED;
+use reader::slots::DEPOLARIZED_END;
+use reader::slots::ELEMENTS;
+use reader::slots::LISTED_SIZE;
+use reader::slots::PROBABILITY;
+use reader::slots::SINGLE_END;
+use reader::slots::SINGLE_X;
+use reader::slots::SIZE;
 use template::values::count;
 use template::values::number;
 
-const MAX_ELEMENTS: u64 = 64;
-
-// 9 and 11, which every noise line has: cond in slot 1, p the first number.
+// 9 and 11, which every noise line has.
 fn noise_number(c: Context, f: &[u64]) -> u64
     requires { ⌜ Whole (now f) ⌝ }
     ensures { λ r. ⌜ ((numbers lists : ℕ) (vs : List Value) → Held (now (f .entry)) numbers lists vs → 0 < numbers → 1 < lists → r ≡ lowest (outcomeTest (contextOf c) (listAt 1 vs) ∷ test 11 (isProbability (float (numberAt 0 vs))) ∷ [])) ⌝ }
 {
-    if !below(f, 1, 2, c.recorded) {
+    if !below(f, CONDITION, CONDITION_END, c.recorded) {
         return 9;
     }
-    let Checked::Accepted(_) = probability(number(f, 0)) else {
+    let Checked::Accepted(_) = probability(number(f, PROBABILITY)) else {
         return 11;
     };
     0
@@ -50,7 +59,7 @@ fn size_number(f: &[u64], i: usize, size: u64) -> u64
     0
 }
 
-// 9, 11 and 21 of a noise line without element lines, where the size is the third number.
+// 9, 11 and 21 of a noise line without element lines.
 fn alone_number(c: Context, f: &[u64], size: u64) -> u64
     requires { ⌜ Whole (now f) ⌝ }
     ensures { λ r. ⌜ ((lists : ℕ) (vs : List Value) → Held (now (f .entry)) 3 lists vs → 1 < lists → r ≡ lowest (outcomeTest (contextOf c) (listAt 1 vs) ∷ test 11 (isProbability (float (numberAt 0 vs))) ∷ test 21 (eqb (numberAt 2 vs) size) ∷ [])) ⌝ }
@@ -59,17 +68,17 @@ fn alone_number(c: Context, f: &[u64], size: u64) -> u64
     if n != 0 {
         return n;
     }
-    size_number(f, 2, size)
+    size_number(f, SIZE, size)
 }
 
 pub fn single_number(c: Context, f: &[u64]) -> u64
     requires { ⌜ Whole (now f) ⌝ }
     ensures { λ r. ⌜ ((vs : List Value) (w : Written) → Said form.Single (now (f .entry)) vs w → r ≡ lowest (ownTests (contextOf c) w)) ⌝ }
 {
-    if !below(f, 2, 4, c.header.qubits) {
+    if !below(f, SINGLE_X, SINGLE_END, c.header.qubits) {
         return 4;
     }
-    if !short(f, 1, 4) {
+    if !short(f, CONDITION, SINGLE_END) {
         return 5;
     }
     alone_number(c, f, 1)
@@ -79,36 +88,36 @@ pub fn depolarizing_number(c: Context, f: &[u64]) -> u64
     requires { ⌜ Whole (now f) ⌝ }
     ensures { λ r. ⌜ ((vs : List Value) (w : Written) → Said form.Depolarizing (now (f .entry)) vs w → r ≡ lowest (ownTests (contextOf c) w)) ⌝ }
 {
-    if !below(f, 2, 3, c.header.qubits) {
+    if !below(f, DEPOLARIZED, DEPOLARIZED_END, c.header.qubits) {
         return 4;
     }
-    if !short(f, 1, 3) {
+    if !short(f, CONDITION, DEPOLARIZED_END) {
         return 5;
     }
-    if !slot_distinct(f, 2) {
+    if !slot_distinct(f, DEPOLARIZED) {
         return 5;
     }
-    alone_number(c, f, depolarizing_size(count(f, 2)))
+    alone_number(c, f, depolarizing_size(count(f, DEPOLARIZED)))
 }
 
-// d=3 and d=4: n is the third number, and the size the fourth.
+// d=3 and d=4.
 pub fn listed_number(c: Context, f: &[u64]) -> u64
     requires { ⌜ Whole (now f) ⌝ }
     ensures { λ r. ⌜ ((vs : List Value) → Held (now (f .entry)) 4 2 vs → r ≡ lowest (listedTests (contextOf c) vs)) ⌝ }
 {
-    if !short(f, 1, 2) {
+    if !short(f, CONDITION, CONDITION_END) {
         return 5;
     }
     let n = noise_number(c, f);
     if n != 0 {
         return n;
     }
-    let elements = number(f, 2);
+    let elements = number(f, ELEMENTS);
     if elements == 0 {
         return 12;
     }
     if MAX_ELEMENTS < elements {
         return 12;
     }
-    size_number(f, 3, elements)
+    size_number(f, LISTED_SIZE, elements)
 }

@@ -4,8 +4,8 @@ ghost use Rattle.job.specs.Checks.{noContext};
 ghost use Rattle.check_values.specs.Contexts.{contextOf};
 use job::Header;
 
-// What the lines before say: whether there was a header, and its numbers; how many outcomes are recorded; how many element lines are due, whether they
-// have weights, and the sum of the weights so far.
+// What the lines before say: whether there was a header, and its numbers; how many outcomes are recorded; how many element lines are due, whether
+// they have weights, and the sum of the weights so far.
 pub struct Context {
     pub begun: bool,
     pub header: Header,

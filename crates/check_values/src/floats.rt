@@ -11,11 +11,16 @@ pub enum Checked {
     Refused,
 }
 
+// The bits of the sign, and of infinity; those of a NaN without its sign are above.
+const SIGN: u64 = 0x8000000000000000;
+
+const INFINITY: u64 = 0x7ff0000000000000;
+
 // The float of some bits: refused where they are a NaN's, at which `f64::from_bits` is undefined.
 pub fn number(bits: u64) -> Checked
     ensures { λ r. ⌜ r ≡ onlyIf (not (isNan (float bits))) (float bits) ⌝ }
 {
-    if 9218868437227405312 < bits % 9223372036854775808 {
+    if INFINITY < bits % SIGN {
         return Checked::Refused;
     }
     Checked::Accepted(f64::from_bits(bits))
@@ -41,7 +46,7 @@ pub fn is_weight(x: f64) -> bool
     if x < 0.0 {
         return false;
     }
-    x < f64::from_bits(9218868437227405312)
+    x < f64::from_bits(INFINITY)
 }
 
 // A weight from its bits.
@@ -62,7 +67,7 @@ pub fn is_total(t: f64) -> bool
     ensures { λ r. ⌜ r ≡ isTotal t ⌝ }
 {
     if 0.0 < t {
-        return t < f64::from_bits(9218868437227405312);
+        return t < f64::from_bits(INFINITY);
     }
     false
 }

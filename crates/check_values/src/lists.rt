@@ -1,6 +1,6 @@
 // The lists among the values of a line (crate template).
 ghost use mathlib.Core.Path.{_≡_};
-ghost use mathlib.Core.Bool.{true, _&&_};
+ghost use mathlib.Core.Bool.{true};
 ghost use mathlib.Core.List.{List, [], _∷_};
 ghost use Prim.Native.Nat.{ℕ, _-_, _≤_, _<_};
 ghost use lib.ListN.{set};
@@ -12,13 +12,11 @@ ghost use Rattle.template.specs.Fields.{Held};
 ghost use Rattle.job.specs.Checks.{test, allBelow, eachBelow, eachShort, lowest, distinct as Checks·distinct};
 ghost use Rattle.check_values.specs.Slots.{listsFrom};
 ghost use Rattle.check_values.specs.Marks.{Unmarked, MarksOf};
+use job::limits::MAX_MEMBERS;
+use job::limits::MAX_QUBITS;
 use template::values::count;
 use template::values::largest;
 use template::values::list;
-
-const MAX_MEMBERS: u64 = 31;
-
-const MAX_QUBITS: usize = 256;
 
 // Whether every member of the list in a slot is below n.
 fn slot_below(f: &[u64], slot: usize, n: u64) -> bool
@@ -133,12 +131,12 @@ fn is_marked(marks: &[bool], members: &[u64], n: u64) -> bool
     contains(members, n)
 }
 
-// Whether two rising lists have an odd number of members in common. Every qubit of a job has a mark, so that no member is looked for and no turn waits for
-// the one before it.
+// Whether two rising lists have an odd number of members in common. Every qubit of a job has a mark, so that no member is looked for and no turn
+// waits for the one before it.
 pub fn overlap_is_odd(a: &[u64], b: &[u64]) -> bool
     ensures { λ r. ⌜ (isRising (now (a .entry)) ≡ true → isRising (now (b .entry)) ≡ true → r ≡ sumOver (now (a .entry)) (among (now (b .entry)))) ⌝ }
 {
-    let mut marks = [false; MAX_QUBITS];
+    let mut marks = [false; MAX_QUBITS as usize];
     mark_all(&mut marks, b);
     let mut odd = false;
     let mut i = 0;
@@ -158,23 +156,6 @@ pub fn pauli_number(f: &[u64], a: usize, e: usize, n: u64) -> u64
         return 4;
     }
     if !short(f, a, e) {
-        return 5;
-    }
-    0
-}
-
-// The number that refuses operands of no fixed number: 4 and 5 of the list in slot 0; n is the number of qubits.
-pub fn operands_number(f: &[u64], n: u64) -> u64
-    requires { ⌜ Whole (now f) ⌝ }
-    ensures { λ r. ⌜ ((numbers lists : ℕ) (vs : List Value) → Held (now (f .entry)) numbers lists vs → 1 ≤ lists → r ≡ lowest (test 4 (eachBelow n (listsFrom 0 1 vs)) ∷ test 5 (Checks·distinct (listAt 0 vs) && eachShort (listsFrom 0 1 vs)) ∷ [])) ⌝ }
-{
-    if !below(f, 0, 1, n) {
-        return 4;
-    }
-    if !short(f, 0, 1) {
-        return 5;
-    }
-    if !slot_distinct(f, 0) {
         return 5;
     }
     0

@@ -11,9 +11,8 @@ use check_values::context::no_context;
 use instructions::next_line;
 use job::Answer;
 use job::Header;
+use job::limits::MAX_BYTES;
 use template::values::WORDS;
-
-const MAX_BYTES: usize = 1048576;
 
 // Not empty, not too long, LF at the end.
 fn well_ended(job: &[u8]) -> bool
@@ -26,7 +25,7 @@ fn well_ended(job: &[u8]) -> bool
     if MAX_BYTES < n {
         return false;
     }
-    job[n - 1] == 10
+    job[n - 1] == b'\n'
 }
 
 // The answer of the tests of a job; of an accepted job also its header's numbers, how many outcomes it records, and how many lines it has.

@@ -1,4 +1,4 @@
-// Tests 2 to 12, 20 and 23 of a line, and the context after one that passed.
+// Tests 2 to 12, 20, 21 and 23 of a line, and the context after one that passed. docs/REFUSALS.md says what each number means.
 ghost use mathlib.Core.Path.{_≡_};
 ghost use mathlib.Core.Bool.{Bool, true};
 ghost use mathlib.Core.List.{List};
@@ -21,6 +21,7 @@ use check_lines::header::header_fits;
 use check_lines::id_number;
 use check_lines::inject_number;
 use check_lines::measure_number;
+use check_lines::operands_number;
 use check_lines::permute_number;
 use check_lines::recorded_after;
 use check_lines::unitary_number;
@@ -34,11 +35,15 @@ use check_noise::noise_lines::depolarizing_number;
 use check_noise::noise_lines::listed_number;
 use check_noise::noise_lines::single_number;
 use check_values::context::Context;
-use check_values::lists::operands_number;
 use check_values::lists::pauli_number;
 use reader::Form;
+use reader::slots::EDITION;
+use reader::slots::ID;
+use reader::slots::PAULI_END;
+use reader::slots::X;
 use template::values::number;
 
+// The number by which the tests of its own form refuse a line, 0 where none does.
 fn own_number(c: Context, form: Form, f: &[u64]) -> u64
     requires { ⌜ Whole (now f) ⌝ }
     ensures { λ r. ⌜ ((vs : List Value) (w : Written) → Said form (now (f .entry)) vs w → Checks·expected (contextOf c) w ≡ true → r ≡ lowest (ownTests (contextOf c) w)) ⌝ }
@@ -48,12 +53,12 @@ fn own_number(c: Context, form: Form, f: &[u64]) -> u64
         Form::Header => 0,
         Form::Unitary => unitary_number(c, f),
         Form::Clifford => clifford_number(c, f),
-        Form::Pauli => pauli_number(f, 0, 2, c.header.qubits),
-        Form::Exponential => pauli_number(f, 0, 2, c.header.qubits),
+        Form::Pauli => pauli_number(f, X, PAULI_END, c.header.qubits),
+        Form::Exponential => pauli_number(f, X, PAULI_END, c.header.qubits),
         Form::Controlled => controlled_number(c, f),
         Form::Permute => permute_number(c, f),
         Form::Measure => measure_number(c, f),
-        Form::Allocate => id_number(c, number(f, 0)),
+        Form::Allocate => id_number(c, number(f, ID)),
         Form::Conditional => conditional_number(c, f),
         Form::Reset => operands_number(f, c.header.qubits),
         Form::Inject => inject_number(c, f),
@@ -62,14 +67,14 @@ fn own_number(c: Context, form: Form, f: &[u64]) -> u64
         Form::Depolarizing => depolarizing_number(c, f),
         Form::Uniform => listed_number(c, f),
         Form::Weighted => listed_number(c, f),
-        Form::Element => pauli_number(f, 0, 2, c.header.qubits),
+        Form::Element => pauli_number(f, X, PAULI_END, c.header.qubits),
         Form::WeightedElement => weighted_element_number(c, f),
-        Form::EditionHeader => edition_number(number(f, 0)),
+        Form::EditionHeader => edition_number(number(f, EDITION)),
         Form::Barrier => operands_number(f, c.header.qubits),
     }
 }
 
-// The number that refuses a line, 0 where none does.
+// The number that refuses a line, 0 where none does. `last` says whether it is the job's last.
 pub fn refusal(c: Context, last: bool, form: Form, f: &[u64]) -> u64
     requires { ⌜ Whole (now f) ⌝ }
     ensures { λ r. ⌜ (isUnread form ≡ true → r ≡ 2) × ((vs : List Value) (w : Written) → Said form (now (f .entry)) vs w → r ≡ refusalOf (contextOf c) last (some w)) ⌝ }
@@ -89,6 +94,7 @@ pub fn refusal(c: Context, last: bool, form: Form, f: &[u64]) -> u64
     own_number(c, form, f)
 }
 
+// The context behind a line that passed: a header has come, with it or before it.
 pub fn next(c: Context, form: Form, f: &[u64]) -> Context
     requires { ⌜ Whole (now f) × (c .recorded + 1 < 2 ^ 64) ⌝ }
     ensures { λ r. ⌜ ((last : Bool) (vs : List Value) (w : Written) → Said form (now (f .entry)) vs w → refusalOf (contextOf c) last (some w) ≡ 0 → contextOf r ≡ Checks·next (contextOf c) w) ⌝ }

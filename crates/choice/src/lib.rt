@@ -17,7 +17,7 @@ ghost use Rattle.choice.specs.Choice.{Chose, Weighed, Sized, ElementChos
 
 // An element, with the place of the next word; or a word was needed past the end.
 pub enum Choice {
-    Chosen(u64, usize),
+    Chosen { element: u64, next: usize },
     Spent,
 }
 
@@ -28,18 +28,20 @@ pub struct Chooser {
     pub limit: u64,
 }
 
+const MAX_WORD: u64 = 0xffffffffffffffff;
+
 // ---- A choice in which each element is as likely as another
 
-// How many elements are chosen from so: none where the kind chooses otherwise.
+// How many elements such a choice is among; 0 for the kinds that choose otherwise.
 fn bound(d: PauliDistribution) -> u64
     requires { ⌜ Small d ⌝ }
     ensures { λ r. ⌜ r ≡ boundOf d ⌝ }
 {
     match d {
         PauliDistribution::Single => 0,
-        PauliDistribution::Depolarizing(k) => depolarizing_size(k),
-        PauliDistribution::Uniform(n) => n,
-        PauliDistribution::Weighted(_) => 0,
+        PauliDistribution::Depolarizing { qubits: k } => depolarizing_size(k),
+        PauliDistribution::Uniform { elements: n } => n,
+        PauliDistribution::Weighted { total: _ } => 0,
     }
 }
 
@@ -50,7 +52,7 @@ fn limit(c: u64) -> u64
     if c == 0 {
         return 0;
     }
-    18446744073709551615 - 18446744073709551615 % c
+    MAX_WORD - MAX_WORD % c
 }
 
 // The first word that is not rejected, mod c. The limit is handed in, since it takes a division.
@@ -64,7 +66,10 @@ pub fn choose(words: &[u64], more: &[u64], at: usize, c: u64, limit: u64) -> Cho
             NextWord::Word(w) => {
                 i += 1;
                 if w < limit {
-                    return Choice::Chosen(w % c, i);
+                    return Choice::Chosen {
+                        element: w % c,
+                        next: i,
+                    };
                 }
             }
             NextWord::Spent => {
@@ -104,8 +109,8 @@ pub fn running_sums(sums: &mut [f64], weights: &[f64], total: f64)
     sums[weights.len() - 1] = 1.0;
 }
 
-// A running sum beside its weight, so that `place` needs one comparison: -1.0, which is below every u, if the weight isn't positive, and 1.0, which is
-// below none, if it is the last that is.
+// A running sum beside its weight, so that `place` needs one comparison: -1.0, which is below every u, if the weight isn't positive, and 1.0, which
+// is below none, if it is the last that is.
 fn mark(weight: f64, sum: f64, later: bool) -> f64
     ensures { λ r. ⌜ r ≡ marked weight sum later ⌝ }
 {
@@ -149,7 +154,7 @@ pub fn fill_sums(d: PauliDistribution, sums: &mut [f64], weights: &[f64])
     ensures { λ _. ⌜ SumsOf d (now (weights .entry)) (now (sums .exit)) ⌝ }
 {
     match d {
-        PauliDistribution::Weighted(total) => {
+        PauliDistribution::Weighted { total } => {
             running_sums(&mut *sums, weights, total);
             mark_sums(sums, weights)
         }
@@ -177,7 +182,10 @@ pub fn weigh(words: &[u64], more: &[u64], at: usize, sums: &[f64]) -> Choice
     ensures { λ r. ⌜ Weighed (now (words .entry) ++ now (more .entry)) at (now (sums .entry)) r ⌝ }
 {
     match next_word(words, more, at) {
-        NextWord::Word(w) => Choice::Chosen(place(sums, unit(w)) as u64, at + 1),
+        NextWord::Word(w) => Choice::Chosen {
+            element: place(sums, unit(w)) as u64,
+            next: at + 1,
+        },
         NextWord::Spent => Choice::Spent,
     }
 }
@@ -204,9 +212,24 @@ pub fn element(words: &[u64], more: &[u64], at: usize, chooser: Chooser, sums: &
 {
     let d = chooser.kind;
     match d {
-        PauliDistribution::Single => Choice::Chosen(0, at),
-        PauliDistribution::Depolarizing(_) => choose(words, more, at, chooser.size, chooser.limit),
-        PauliDistribution::Uniform(_) => choose(words, more, at, chooser.size, chooser.limit),
-        PauliDistribution::Weighted(_) => weigh(words, more, at, sums),
+        PauliDistribution::Single => Choice::Chosen {
+            element: 0,
+            next: at,
+        },
+        PauliDistribution::Depolarizing { qubits: _ } => choose(
+            words,
+            more,
+            at,
+            chooser.size,
+            chooser.limit,
+        ),
+        PauliDistribution::Uniform { elements: _ } => choose(
+            words,
+            more,
+            at,
+            chooser.size,
+            chooser.limit,
+        ),
+        PauliDistribution::Weighted { total: _ } => weigh(words, more, at, sums),
     }
 }

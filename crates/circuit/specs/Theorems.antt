@@ -2,9 +2,9 @@
 -- sizes written is the one by the distributions. Their proofs stand in Laws.
 -- Assumes nothing.
 use mathlib.Core.Path.{_≡_, refl, _∙_}
-use mathlib.Core.Bool.{true, _||_}
+use mathlib.Core.Bool.{true, false, _||_}
 use mathlib.Core.List.{List, [], _∷_, _++_}
-use mathlib.Core.Option.{none, some}
+use mathlib.Core.Option.{Option, none, some}
 use Prim.Native.Nat.{ℕ, _+_, _^_, _<_, _≤_}
 use borrow.Author.Tests.{ne-eqb}
 use lib.ListN.{length}
@@ -15,7 +15,7 @@ use Rattle.text.specs.Template.{aNumber, aList, valueOf, andThen, sameByte, atE
 use Rattle.pauli.specs.Bits.{outside, members}
 use Rattle.pauli.specs.Gate.{gates, gateFrom, gateOf}
 use Rattle.job.specs.declared.Header.{Header}
-use Rattle.job.specs.Line.{SparsePauli, Line, sizeOf}
+use Rattle.job.specs.Line.{SparsePauli, Line, Distribution, sizeOf, Instruction, Placed}
 use Rattle.job.specs.Checks.{distinct}
 use Rattle.job.specs.Grammar.{unitaryLine, optional, noiseLine, forms, said, orLater, readBy, readLine}
 use Rattle.job.specs.Rising.{including, rising}
@@ -26,7 +26,7 @@ use Rattle.job.specs.Theorems.{size-said}
 use Rattle.job.specs.Reply.{refusedText, writtenText, writtenBy}
 use Rattle.circuit.specs.Annotate.{supportOf, locatedQubits, addNew, firstFrom, noiseQubits, noiseBefore, noiseText, noiseLines, around, annotated, annotatedText, locatedOn, noiseOn, firstUnfit, locationsAt, locations}
 use Rattle.circuit.specs.Annotated.{annotatedList}
-use Rattle.circuit.specs.Correlation.{distributionSize, firstDifferingBy, firstDiffering}
+use Rattle.circuit.specs.Correlation.{agrees, seenAfter, sizeFits, correlationOf, saidSize, distributionSize, firstDifferingBy, firstDiffering}
 use Rattle.circuit.specs.Replies.{annotateReply}
 use Rattle.circuit.specs.Laws.Replies.{annotate-writes}
 use Rattle.circuit.specs.Laws.First.{members-append, first-members, first-same}
@@ -103,6 +103,34 @@ module _ (job : List ℕ) (p : ℕ) (small : p < 2 ^ 64) (out : List ℕ) (done 
 pub correlation-by-distributions : (job : List ℕ) → checkJob job .number ≡ 0
     → firstDiffering [] (jobOf job .instructions) ≡ firstDifferingBy distributionSize [] (jobOf job .instructions)
 correlation-by-distributions job e = measured-same [] (jobOf job .instructions) (size-said job e)
+
+-- noise at a line, with its corr and the size that it says
+abbrev pub noiseAt : ℕ → Option ℕ → ℕ → Placed
+noiseAt k corr size =
+    record {
+      line = k;
+      text = [];
+      instruction = Instruction.noise record {
+        probability = 0;
+        correlation = corr;
+        condition = record { outcomes = []; parity = false };
+        distribution = Distribution.single record { x = []; z = [] };
+        size = size;
+      };
+    }
+
+-- Noise without a corr never takes part, corr 0 is a corr as any other, and of two lines that differ the later one is found.
+pub correlated-case : firstDiffering []
+    (noiseAt 2 none 1
+    ∷ noiseAt 3 (some 0) 3
+    ∷ noiseAt 4 none 15
+    ∷ noiseAt 5 (some 7) 15
+    ∷ noiseAt 6 (some 0) 15
+    ∷ noiseAt 7 (some 7) 15
+    ∷ [])
+    ≡ some 6
+unfolding firstDifferingBy correlationOf saidSize sizeFits agrees seenAfter
+correlated-case = refl
 
 -- ---- a case of document 01, computed
 

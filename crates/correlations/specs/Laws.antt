@@ -3,6 +3,8 @@
 pub mod Sizes
 -- A correlation looked up in a table.
 pub mod Tables
+-- Correlations that are found by their remainder.
+pub mod Links
 -- The check goes on from line to line, and from round to round.
 pub mod Rounds
 -- The loops over a job's lines.

@@ -6,7 +6,7 @@ use mathlib.Core.Option.{Option, none, some}
 use lib.Dec.{eqb}
 use Rattle.job.specs.Grammar.{Written}
 use Rattle.circuit.specs.Correlation.{Seen}
-use Rattle.correlations.specs.declared.Looked.{Looked}
+use Rattle.correlations.specs.declared.Compared.{Compared}
 
 -- the correlation of what a line says; only noise has one
 unfoldable pub correlationIn : Written → Option ℕ
@@ -41,14 +41,14 @@ sizeFor [] c = none
 sizeFor (s ∷ seen) c = let later = sizeFor seen c in cond (eqb (s .correlation) c) (some (s .size)) later
 
 -- a correlation and a size, beside the size that was seen: whether they fit, and whether the correlation is new
-unfoldable pub lookFor : ℕ → ℕ → Option ℕ → Looked
+unfoldable pub lookFor : ℕ → ℕ → Option ℕ → Compared
 lookFor c size none = record { fits = true; fresh = true; correlation = c; size = size }
 lookFor c size (some t) = record { fits = eqb t size; fresh = false; correlation = c; size = size }
 
-unfoldable pub lookOf : List Seen → Option ℕ → ℕ → Looked
+unfoldable pub lookOf : List Seen → Option ℕ → ℕ → Compared
 lookOf seen none size = record { fits = true; fresh = false; correlation = 0; size = 0 }
 lookOf seen (some c) size = lookFor c size (sizeFor seen c)
 
 -- the table with what is new
-abbrev pub grown : List Seen → Looked → List Seen
+abbrev pub grown : List Seen → Compared → List Seen
 grown seen l = cond (l .fresh) (seen ++ record { correlation = l .correlation; size = l .size } ∷ []) seen

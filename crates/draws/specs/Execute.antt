@@ -26,7 +26,7 @@ forwardAll h l states s = forward (settingOf h s) l (states s)
 -- the states and the words left; or a word was needed past the end
 pub data Executed : Type 0 where
   spent : Executed
-  went : States → List ℕ → Executed
+  done : States → List ℕ → Executed
 
 -- ---- a noise line
 
@@ -38,7 +38,7 @@ thenInPlace h n shot (ShotDraw.drew (some e) ws) states later = later ws (forwar
 
 -- so many shots, from one on, in rising order
 unfoldable pub injectShots : Header → Lent → Noise → ℕ → ℕ → List ℕ → States → Executed
-injectShots h lent n zero shot ws states = Executed.went states ws
+injectShots h lent n zero shot ws states = Executed.done states ws
 injectShots h lent n (suc left) shot ws states =
     thenInPlace h n shot (drawShot n (λ id. lent .noiseless id shot) ws) states (injectShots h lent n left (suc shot))
 
@@ -46,16 +46,16 @@ injectShots h lent n (suc left) shot ws states =
 unfoldable pub injectNoise : Header → Lent → Noise → List ℕ → States → Executed
 injectNoise h lent n ws states =
     let all = injectShots h lent n (lent .shots) 0 ws states in
-    cond (le (float (n .probability)) zeroFloat) (Executed.went states ws) all
+    cond (le (float (n .probability)) zeroFloat) (Executed.done states ws) all
 
 -- ---- a job
 
 unfoldable pub onMain : Option ℕ → List ℕ → Executed → Executed
 onMain corr main Executed.spent = Executed.spent
-onMain corr main (Executed.went states left) = Executed.went states (mainAfter corr main left)
+onMain corr main (Executed.done states left) = Executed.done states (mainAfter corr main left)
 
 unfoldable pub executeOne : Header → Lent → List ℕ → Instruction → States → Executed
-executeOne h lent main (Instruction.line l) states = Executed.went (forwardAll h l states) main
+executeOne h lent main (Instruction.line l) states = Executed.done (forwardAll h l states) main
 executeOne h lent main (Instruction.noise n) states =
     onMain (n .correlation) main (injectNoise h lent n (partOf lent (n .correlation) main) states)
 
@@ -66,7 +66,7 @@ pub data Ended : Type 0 where
 
 unfoldable pub executeThen : ℕ → Executed → (List ℕ → States → Ended) → Ended
 executeThen k Executed.spent later = Ended.spentAt k
-executeThen k (Executed.went states main) later = later main states
+executeThen k (Executed.done states main) later = later main states
 
 -- the instructions, with what is left of the main list
 unfoldable pub execute : Header → Lent → List Placed → List ℕ → States → Ended

@@ -1,4 +1,4 @@
 -- Definitions that contracts cite: one instruction executed, and a job to its end.
-pub mod Went
+pub mod Steps
 -- Laws of these definitions.
 pub mod Laws

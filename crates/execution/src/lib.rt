@@ -7,6 +7,8 @@ use instructions::Next;
 use instructions::is_noise;
 use instructions::next_line;
 use job::Answer;
+use job::limits::MAX_ELEMENTS;
+use job::limits::MAX_WIDTH;
 use lines::apply_line;
 use noise::Place;
 use noise::words::count;
@@ -20,15 +22,15 @@ ghost use Prim.Native.Nat.{ℕ, _*_, _≤_};
 ghost use lib.ListN.{length};
 ghost use Rattle.instructions.specs.Ahead.{Ahead};
 ghost use Rattle.totals.specs.Held.{TotalsHeld};
-ghost use Rattle.execution.specs.Went.{headerOf, RowsFor, NoiseReady, NoiseRoom, NoiseDone, StepReady, Stepped, Executes};
+ghost use Rattle.execution.specs.Steps.{headerOf, RowsFor, NoiseReady, NoiseRoom, NoiseDone, StepReady, Stepped, Executes};
 
-// 31 rows of at most 64 words.
-const SCRATCH_WORDS: usize = 1984;
+// As many rows as a line has operands.
+const SCRATCH_WORDS: usize = 31 * MAX_WIDTH;
 
-// The place of the next instruction; or the draws were spent, with the position in the main list where it leaves it.
+// The place of the next instruction; or the draws were spent, and the main list was read up to a position.
 pub enum Moved {
     To(Place),
-    Spent(usize),
+    Spent { position: usize },
 }
 
 // An answer, and how many words of the main list were taken for it.
@@ -56,8 +58,8 @@ fn apply_noise<'a>(
     requires { ⌜ NoiseReady (now job) place line (now values) (now noiseless) shape × NoiseRoom shape (now values) (now elements) (now x) (now z) × (place .position ≤ length (now main ++ now more)) ⌝ }
     ensures { λ r. ⌜ NoiseDone (now (job .entry)) place line (now (values .entry)) shape (now (noiseless .entry)) (now (main .entry) ++ now (more .entry)) (now (second .entry)) base (now (x .entry)) (now (z .entry)) (now (x .exit)) (now (z .exit)) r ⌝ }
 {
-    let mut sums = [0.0; 64];
-    let mut mask = [0u64; 64];
+    let mut sums = [0.0; MAX_ELEMENTS as usize];
+    let mut mask = [0u64; MAX_WIDTH];
     let r = prepare(
         job,
         line,
@@ -92,8 +94,10 @@ fn apply_noise<'a>(
         z,
         shape,
     );
-    let Drawn::Done(read) = drawn else {
-        return Moved::Spent(position_after(correlation, place.position, count(words, rest)));
+    let Drawn::Done { next: read } = drawn else {
+        return Moved::Spent {
+            position: position_after(correlation, place.position, count(words, rest)),
+        };
     };
     Moved::To(Place {
         byte: next.byte,
@@ -150,7 +154,8 @@ fn step<'a>(
     })
 }
 
-// The instructions behind the header, which ends before a place of the job. The room for elements and the scratch are made once, since they are large.
+// The instructions behind the header, which ends before a place of the job.
+// The room for elements and the scratch are made once, since they are large.
 pub fn execute<'a>(
     job: &[u8],
     from: usize,
@@ -195,7 +200,7 @@ pub fn execute<'a>(
             base,
         );
         match moved {
-            Moved::Spent(position) => {
+            Moved::Spent { position } => {
                 return Answered {
                     answer: Answer {
                         number: 14,

@@ -7,20 +7,12 @@ ghost use Rattle.text.specs.Number.{decimal};
 ghost use Rattle.single_faults.specs.Table.{rowText};
 ghost use Rattle.single_faults.specs.Carried.{rowsBy};
 ghost use Rattle.fault_rows.specs.Rows.{rowBytes, rowsBytes, RowsBefore, keptAt};
+use writer::lengths::digits;
 use writer::line::put_numbers;
 use writer::put_byte;
 use writer::put_bytes;
-use writer::put_number;
 
 // ---- Lengths
-
-// How many digits a number has: it is put over no bytes.
-fn digits(n: u64) -> usize
-    ensures { λ r. ⌜ r ≡ length (decimal n) ⌝ }
-{
-    let mut none = [0u8; 0];
-    put_number(&mut none, 0, n)
-}
 
 // The bytes of a row but for the digits of its element.
 fn row_rest(line: u64, groups: usize) -> usize
@@ -56,7 +48,7 @@ pub fn put_row(out: &mut [u8], place: usize, line: u64, e: u64, marks: &[u8]) ->
     let numbers = [line, e];
     let next = put_numbers(&mut *out, begin, b"line=N el=N groups=", &numbers);
     let end = put_bytes(&mut *out, next, marks);
-    put_byte(out, end, 10);
+    put_byte(out, end, b'\n');
     begin
 }
 

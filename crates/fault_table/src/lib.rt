@@ -1,5 +1,5 @@
-// The table of single faults. Each group is carried back one time for all elements: the job's lines are read from the last to the first, each once for all
-// groups, and the table is written from its end.
+// The table of single faults. Each group is carried back one time for all elements: the job's lines are read from the last to the first, each once
+// for all groups, and the table is written from its end.
 ghost use mathlib.Core.Path.{_≡_};
 ghost use mathlib.Core.List.{List};
 ghost use Prim.Native.Nat.{ℕ, _+_, _^_, _<_, _≤_};
@@ -19,6 +19,8 @@ ghost use Rattle.noise_rows.specs.Said.{sizeSaid};
 ghost use Rattle.fault_table.specs.Table.{Measures, keptAfter, TableReady, Grouped};
 use checker::examine;
 use correlations::size;
+use fault_rows::KEPT_BYTES;
+use fault_rows::KEPT_ELEMENTS;
 use fault_rows::rows_length;
 use groups::GROUP_WORDS;
 use groups::Tested;
@@ -27,6 +29,7 @@ use groups_back::line_on_groups;
 use instructions::is_noise;
 use instructions::next_line;
 use job::Answer;
+use job::limits::MAX_BYTES;
 use lines_from_last::line_start;
 use noise_rows::is_wide;
 use noise_rows::keep_marks;
@@ -36,8 +39,6 @@ use reader::read_line;
 use template::values::WORDS;
 use writer::TextAnswer;
 use writer::refused;
-
-const MAX_BYTES: usize = 1048576;
 
 const MAX_GROUPS: usize = 16;
 
@@ -103,7 +104,7 @@ fn put_table(out: &mut [u8], job: &[u8], lines: u64, state: &mut [u64], groups: 
     ensures { λ _. ⌜ ((q : TableReady (now (job .entry)) lines (now (state .entry)) groups (now (out .entry))) → now (out .exit) ≡ unlines (carriedRows (jobOf (now (job .entry)) .header) (q .are) (jobOf (now (job .entry)) .instructions))) ⌝ }
 {
     let mut values = [0u64; WORDS];
-    let mut kept = [0u8; 1024];
+    let mut kept = [0u8; KEPT_ELEMENTS * KEPT_BYTES];
     let mut n = 0;
     let mut place = out.len();
     let mut e = job.len();
@@ -128,8 +129,8 @@ fn refusal(number: u64, line: u64) -> TextAnswer
     refused(Answer { number, line })
 }
 
-// The table of an accepted job, and of groups that passed 17 and their 24: 24 at a noise line, then 15. It is measured first, since nothing is written
-// with a refusal.
+// The table of an accepted job, and of groups that passed 17 and their 24: 24 at a noise line, then 15. It is measured first, since nothing is
+// written with a refusal.
 fn table_accepted(job: &[u8], lines: u64, list: &[u64], groups: usize, out: &mut [u8]) -> TextAnswer
     requires { ⌜ Grouped (now job) lines (now list) groups ⌝ }
     ensures { λ r. ⌜ ((q : Grouped (now (job .entry)) lines (now (list .entry)) groups) → textReply r (now (out .exit)) ≡ tableAnswer (tableText (jobOf (now (job .entry))) (q .are)) (firstWide (jobOf (now (job .entry)) .instructions)) (now (out .entry))) ⌝ }
@@ -145,7 +146,7 @@ fn table_accepted(job: &[u8], lines: u64, list: &[u64], groups: usize, out: &mut
     if MAX_BYTES < bytes {
         return refusal(15, 0);
     }
-    let mut words = [0u64; 384];
+    let mut words = [0u64; MAX_GROUPS * GROUP_WORDS];
     let end = groups * GROUP_WORDS;
     groups::start(list, &mut words[..end]);
     put_table(&mut out[..bytes], job, lines, &mut words[..end], groups);

@@ -1,5 +1,5 @@
-// The elements of a distribution in lent words. Each begins with the counts of its two lists, and has 31 words for the members of each. The qubits of a
-// depolarizing distribution stand as the first list of element 0.
+// The elements of a distribution in lent words. Each begins with the counts of its two lists, and has 31 words for the members of each. The qubits of
+// a depolarizing distribution stand as the first list of element 0.
 ghost use mathlib.Core.Path.{_≡_};
 ghost use mathlib.Core.Bool.{Bool, true, cond};
 ghost use Prim.Native.Nat.{_*_, _≤_, _<_};
@@ -9,6 +9,8 @@ ghost use Rattle.job.specs.Float.{float, zeroFloat, isWeight};
 ghost use Rattle.faults.specs.Elements.{Inside, xCount, zCount, elementX, elementZ, elementCounts, elementMembers, kept};
 ghost use Rattle.faults.specs.Prepared.{ElementLines, Gathered};
 use instructions::next_line;
+use reader::slots::WEIGHT;
+use reader::slots::X;
 use template::values::KEPT;
 use template::values::WORDS;
 use template::values::count;
@@ -125,8 +127,8 @@ pub fn gather(
     let mut e = 0;
     while e < n {
         let line = next_line(job, at, &mut values);
-        keep_element(&mut *elements, e, &values, 0);
-        weights[e] = weight_of(weighted, number(&values, 0));
+        keep_element(&mut *elements, e, &values, X);
+        weights[e] = weight_of(weighted, number(&values, WEIGHT));
         at = line.end + 1;
         e += 1;
     }

@@ -18,10 +18,12 @@ use choice::total;
 use instructions::Next;
 use instructions::element_lines;
 use instructions::has_weights;
+use job::limits::MAX_ELEMENTS;
 use noise::OutcomeCondition;
 use noise::PauliFault;
 use noise::condition::condition_mask;
 use reader::Form;
+use reader::slots::OWN_LISTS;
 
 // A noise line by value, the number of its element lines and the place behind them.
 pub struct Prepared {
@@ -46,7 +48,8 @@ fn read_fault(
     let form = line.form;
     let from = line.end + 1;
     let weighted = has_weights(form);
-    keep_element(&mut *elements, 0, values, 2);
+    // Element 0 is the Pauli of d=1, or has the qubits of d=2 as its first list. d=3 and d=4 have neither: `gather` writes over what is kept here.
+    keep_element(&mut *elements, 0, values, OWN_LISTS);
     let next = gather(job, from, n, weighted, elements, &mut *weights);
     let fault = fault_of(form, values, total(weights));
     let distribution = fault.distribution;
@@ -84,7 +87,7 @@ pub fn prepare(
 {
     let form = line.form;
     let n = element_lines(form, values);
-    let mut weights = [0.0; 64];
+    let mut weights = [0.0; MAX_ELEMENTS as usize];
     let r = read_fault(
         job,
         line,

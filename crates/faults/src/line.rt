@@ -1,4 +1,4 @@
-// A noise line by value, from its values in lent words. p and the parity of its condition are its first numbers, corr and cond its first lists.
+// A noise line by value, from its values in lent words.
 ghost use mathlib.Core.Path.{_≡_};
 ghost use mathlib.Core.Bool.{true};
 ghost use mathlib.Core.List.{List};
@@ -13,6 +13,12 @@ use noise::OutcomeCondition;
 use noise::PauliDistribution;
 use noise::PauliFault;
 use reader::Form;
+use reader::slots::CONDITION;
+use reader::slots::CORRELATION;
+use reader::slots::DEPOLARIZED;
+use reader::slots::ELEMENTS;
+use reader::slots::PARITY;
+use reader::slots::PROBABILITY;
 use template::values::KEPT;
 use template::values::count;
 use template::values::kept;
@@ -25,9 +31,13 @@ fn distribution_of(form: Form, values: &[u64], total: f64) -> PauliDistribution
     ensures { λ r. ⌜ ((vs : List Value) (n : NoiseLine) → Said form (now (values .entry)) vs (Written.noise n) → r ≡ kindBy (n .kind) total) ⌝ }
 {
     match form {
-        Form::Depolarizing => PauliDistribution::Depolarizing(count(values, 2)),
-        Form::Uniform => PauliDistribution::Uniform(number(values, 2)),
-        Form::Weighted => PauliDistribution::Weighted(total),
+        Form::Depolarizing => PauliDistribution::Depolarizing {
+            qubits: count(values, DEPOLARIZED),
+        },
+        Form::Uniform => PauliDistribution::Uniform {
+            elements: number(values, ELEMENTS),
+        },
+        Form::Weighted => PauliDistribution::Weighted { total },
         _ => PauliDistribution::Single,
     }
 }
@@ -36,10 +46,12 @@ fn correlation_of(values: &[u64]) -> Correlation
     requires { ⌜ Whole (now values) ⌝ }
     ensures { λ r. ⌜ CorrelationHeld (now (values .entry)) r ⌝ }
 {
-    if count(values, 0) == 0 {
+    if count(values, CORRELATION) == 0 {
         return Correlation::Uncorrelated;
     }
-    Correlation::Shared(member(values, 0, 0))
+    Correlation::Shared {
+        correlation: member(values, CORRELATION, 0),
+    }
 }
 
 fn condition_of(values: &[u64]) -> OutcomeCondition
@@ -47,11 +59,11 @@ fn condition_of(values: &[u64]) -> OutcomeCondition
     ensures { λ r. ⌜ ConditionHeld (now (values .entry)) r ⌝ }
 {
     let mut outcomes = [0u64; KEPT];
-    rows::copy(&mut outcomes, 0, kept(values, 1), 0, KEPT);
+    rows::copy(&mut outcomes, 0, kept(values, CONDITION), 0, KEPT);
     OutcomeCondition {
         outcomes,
-        count: count(values, 1) as usize,
-        parity: number(values, 1),
+        count: count(values, CONDITION) as usize,
+        parity: number(values, PARITY),
     }
 }
 
@@ -62,7 +74,7 @@ pub fn fault_of(form: Form, values: &[u64], total: f64) -> PauliFault
 {
     let condition = condition_of(values);
     PauliFault {
-        probability: f64::from_bits(number(values, 0)),
+        probability: f64::from_bits(number(values, PROBABILITY)),
         distribution: distribution_of(form, values, total),
         correlation: correlation_of(values),
         condition,

@@ -24,7 +24,7 @@ fn read_number(line: &[u8], from: usize, sep: u8) -> Number
                 behind: i,
             };
         }
-        v = v * 10 + (b - 48) as u64;
+        v = v * 10 + (b - b'0') as u64;
         i += 1;
     }
     Number {
@@ -44,14 +44,14 @@ fn read_operands(line: &[u8], from: usize) -> Operands
     requires { ⌜ ListThere (now line) from ⌝ }
     ensures { λ r. ⌜ OperandsRead (now (line .entry)) from r ⌝ }
 {
-    let first = read_number(line, from, 44);
+    let first = read_number(line, from, b',');
     if first.behind == line.len() {
         return Operands {
             first: first.value,
             second: 0,
         };
     }
-    let second = read_number(line, first.behind + 1, 44);
+    let second = read_number(line, first.behind + 1, b',');
     Operands {
         first: first.value,
         second: second.value,
@@ -69,7 +69,7 @@ pub fn read_gate(line: &[u8]) -> Gate
     requires { ⌜ GateLine (now line) ⌝ }
     ensures { λ r. ⌜ GateRead (now (line .entry)) r ⌝ }
 {
-    let code = read_number(line, 7, 32);
+    let code = read_number(line, 7, b' ');
     let qubits = read_operands(line, code.behind + 3);
     Gate {
         code: code.value,

@@ -1,13 +1,13 @@
-// The groups of outcomes that a caller lends in one list: each group's length, then its ids. What is carried back of each lies in lent words, 24 a group:
-// the X part and the Z part of its observable, 4 words each, and its set, 16 words.
+// The groups of outcomes that a caller lends in one list: each group's length, then its ids. What is carried back of each lies in lent words, 24 a
+// group: the X part and the Z part of its observable, 4 words each, and its set, 16 words.
 ghost use mathlib.Core.Path.{_≡_};
 ghost use mathlib.Core.List.{map};
 ghost use lib.ListN.{replicate, length};
 ghost use Rattle.pauli.specs.Fixed.{AllBelow};
 ghost use Rattle.single_faults.specs.Groups.{groupsOf};
 ghost use Rattle.groups.specs.Lent.{groupingOf, carriedIn, startOf, allCarried, Startable};
+use numbers::rising::is_rising;
 use walker::all_below;
-use walker::is_rising;
 
 // How many words a group has.
 pub const GROUP_WORDS: usize = 24;

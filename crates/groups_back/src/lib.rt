@@ -132,6 +132,6 @@ pub fn put_marks(marks: &mut [u8], p: Pauli, state: &[u64])
         let a = i * GROUP_WORDS;
         let end = a + GROUP_WORDS;
         let on = p.anticommutes(observable(&state[a..end]));
-        marks[i] = 48 + on as u8;
+        marks[i] = b'0' + on as u8;
     }
 }

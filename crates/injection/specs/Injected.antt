@@ -65,7 +65,7 @@ pub record FaultsReady (qubits shots w : ℕ) (p : Float) (d : PauliDistribution
 
 -- what execution comes to where these states are left
 unfoldable pub executedAs : List ℕ → States → Drawn → Executed
-executedAs words states (Done at) = Executed.went states (drop at words)
+executedAs words states (Done at) = Executed.done states (drop at words)
 executedAs words states Spent = Executed.spent
 
 -- the place of the next word

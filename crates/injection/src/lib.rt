@@ -1,14 +1,13 @@
 // The faults of a noise line, injected in their shots.
-use choice::chooser_of;
 use faults::elements::element_x;
 use faults::elements::element_z;
 use noise::PauliDistribution;
 use noise::PauliFault;
-use noise::scan::threshold;
 use pauli::Shot;
 use rows::Shape;
 use shots::NextFault;
 use shots::next_fault;
+use shots::rule_of;
 ghost use mathlib.Core.Path.{_≡_};
 ghost use mathlib.Core.Bool.{true, cond};
 ghost use mathlib.Core.List.{List, _++_};
@@ -99,7 +98,7 @@ pub fn inject_element(
     ensures { λ _. ⌜ ElementInjected (shape .width) (shape .qubits) (shot .0) d (now (elements .entry)) e (now (x .entry)) (now (z .entry)) (now (x .exit)) (now (z .exit)) ⌝ }
 {
     match d {
-        PauliDistribution::Depolarizing(_) => {
+        PauliDistribution::Depolarizing { qubits: _ } => {
             inject_depolarizing(x, z, shape, shot, element_x(elements, 0), e)
         }
         _ => inject_listed(x, z, shape, shot, elements, e as usize),
@@ -110,7 +109,7 @@ pub fn inject_element(
 
 // The faults of all shots were injected, with the place of the next word; or a word was needed past the end.
 pub enum Drawn {
-    Done(usize),
+    Done { next: usize },
     Spent,
 }
 
@@ -132,20 +131,23 @@ pub fn inject_faults(
 {
     let p = fault.probability;
     let d = fault.distribution;
-    let t = threshold(p);
-    let chooser = chooser_of(d);
+    let rule = rule_of(p, d);
     let shots = shape.shots;
     let mut at = 0;
     let mut shot = 0;
     loop {
-        match next_fault(words, more, at, mask, Shot(shot), shots, t, chooser, sums) {
+        match next_fault(words, more, at, mask, Shot(shot), shots, rule, sums) {
             NextFault::Spent => {
                 return Drawn::Spent;
             }
-            NextFault::Done(next) => {
-                return Drawn::Done(next);
+            NextFault::Done { next } => {
+                return Drawn::Done { next };
             }
-            NextFault::At(s, e, next) => {
+            NextFault::At {
+                shot: s,
+                element: e,
+                next,
+            } => {
                 inject_element(x, z, shape, s, d, elements, e);
                 at = next;
                 shot = s.0 + 1;

@@ -12,6 +12,8 @@ use faults::prepare;
 use instructions::Next;
 use instructions::is_noise;
 use instructions::next_line;
+use job::limits::MAX_ELEMENTS;
+use job::limits::MAX_WIDTH;
 use noise::Place;
 use noise_text::Drawn;
 use noise_text::put_noise;
@@ -26,7 +28,7 @@ pub struct Reached {
 
 // The instruction's draws were spent, with the position in the main list where it leaves it; or how far the pass came with it.
 pub enum Moved {
-    Spent(usize),
+    Spent { position: usize },
     To(Reached),
 }
 
@@ -49,8 +51,8 @@ fn put_noise_line<'a>(
     ensures { λ r. ⌜ InstructionPut (passOf (now (job .entry)) shape (now (noiseless .entry)) (now (main .entry) ++ now (more .entry)) (now (second .entry)) base) (now (out .entry)) from (now (out .exit)) r ⌝ }
 {
     let place = from.place;
-    let mut sums = [0.0; 64];
-    let mut mask = [0u64; 64];
+    let mut sums = [0.0; MAX_ELEMENTS as usize];
+    let mut mask = [0u64; MAX_WIDTH];
     let ready = prepare(
         job,
         line,
@@ -77,8 +79,11 @@ fn put_noise_line<'a>(
         base,
         place.position,
     ) {
-        Drawn::Spent(position) => Moved::Spent(position),
-        Drawn::Done(position, text) => Moved::To(Reached {
+        Drawn::Spent { end_word: position } => Moved::Spent { position },
+        Drawn::Done {
+            next_word: position,
+            next_byte: text,
+        } => Moved::To(Reached {
             place: Place {
                 byte: ready.next,
                 line: place.line + 1 + lines as u64,

@@ -1,4 +1,5 @@
-// An accepted job read line by line gives its instructions one after the other. The layers above know a line by its form and its values, not by its text.
+// An accepted job read line by line gives its instructions one after the other.
+// The layers above know a line by its form and its values, not by its text.
 ghost use mathlib.Core.Path.{_≡_};
 ghost use mathlib.Core.Bool.{true};
 ghost use mathlib.Core.List.{List};
@@ -16,6 +17,7 @@ ghost use Rattle.instructions.specs.Ahead.{hasWeights};
 use line_reader::line_at;
 use reader::Form;
 use reader::read_line;
+use reader::slots::ELEMENTS;
 use template::values::number;
 
 // A line that was read: its form, and the place of the LF that ends it. The next line begins behind that.
@@ -53,8 +55,8 @@ pub fn element_lines(form: Form, f: &[u64]) -> usize
     ensures { λ r. ⌜ ((vs : List Value) (n : NoiseLine) → Said form (now (f .entry)) vs (Written.noise n) → r ≡ elementLines (n .kind)) ⌝ }
 {
     match form {
-        Form::Uniform => number(f, 2) as usize,
-        Form::Weighted => number(f, 2) as usize,
+        Form::Uniform => number(f, ELEMENTS) as usize,
+        Form::Weighted => number(f, ELEMENTS) as usize,
         _ => 0,
     }
 }

@@ -9,8 +9,9 @@ pub mod Checks
 pub mod Job
 pub mod Reply
 pub mod InRange
--- What an accepted job is known for; and, for theorems, the marks of lines and the contexts between lines.
+-- What an accepted job is known for, and what a line by its form alone; and, for theorems, the marks of lines and the contexts between lines.
 pub mod Sound
+pub mod Fits
 pub mod Marks
 pub mod Contexts
 -- Laws of these definitions.

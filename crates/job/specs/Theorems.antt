@@ -6,16 +6,19 @@ use native.Mathlib.Omega.{arith}
 use mathlib.Core.Path.{_≡_, refl, sym, ap, subst, _∙_}
 use mathlib.Core.Bool.{Bool, true}
 use mathlib.Core.List.{List, [], _∷_}
-use mathlib.Core.Option.{some}
+use mathlib.Core.Option.{none, some}
 use lib.ListN.{length, getD}
 use Rattle.pauli.specs.Bits.{bit}
-use Rattle.text.specs.Bytes.{bytes, lines}
-use Rattle.text.specs.Template.{Value, lineText}
+use Rattle.pauli.specs.Gate.{Gate, gates, gateFrom, gateOf}
+use Rattle.text.specs.Bytes.{bytes, until, extend, pieces, lines}
+use Rattle.text.specs.List.{withFirst, piecesOf, listQ}
+use Rattle.text.specs.Number.{allDecimal, decimalFrom, numberOf}
+use Rattle.text.specs.Template.{Value, aNumber, aList, valueOf, andThen, sameByte, atEnd, valuesOf, numbersIn, listsIn, lineText}
 use Rattle.text.specs.Written.{AllSmall, FitQ}
 use Rattle.job.specs.declared.Header.{Header}
 use Rattle.job.specs.Line.{Instruction, Placed, Line}
 use Rattle.job.specs.Clifford.{tableWords, tableOf, wordsOf}
-use Rattle.job.specs.Grammar.{Written, readLine}
+use Rattle.job.specs.Grammar.{Written, unitaryLine, forms, said, orLater, readBy, readLine}
 use Rattle.job.specs.Checks.{Context, noContext, next, Test, tests, refusalOf}
 use Rattle.job.specs.Job.{accepted, wellEnded, checkJob, gathered, Job, jobOfLines, jobOf, recordedBy, recordedIn}
 use Rattle.job.specs.Marks.{markOf, readAs, formByMark}
@@ -135,6 +138,11 @@ header-known job e =
 -- A line has one form at most, which its mark names: it says what it says by that form.
 pub one-form : (l : List ℕ) → readLine l ≡ readAs (formByMark (markOf l)) l
 one-form = read-by-mark
+
+-- Code 15 is the last gate's: a line with code 16 has no form.
+pub last-gate : (readLine (bytes "op=u g=15 q=0,1") ≡ some (Written.line (Line.unitary Gate.ControlledY (0 ∷ 1 ∷ [])))) × (readLine (bytes "op=u g=16 q=0,1") ≡ none)
+unfolding bytes until extend pieces withFirst piecesOf listQ allDecimal decimalFrom numberOf aNumber aList valueOf andThen sameByte atEnd valuesOf numbersIn listsIn gates gateFrom gateOf unitaryLine forms said orLater readBy readLine
+last-gate = (refl, refl)
 
 -- ---- the words of a Clifford's table
 

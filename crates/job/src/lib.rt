@@ -1,7 +1,9 @@
-// The definitions of a job, of its lines, its instructions and the tests of a job (specs/), the types that answers have, and the size of a depolarizing
-// distribution. The code of the tests is in the crates reader, instructions, check_values, check_lines, check_noise and checker.
+// The definitions of a job, of its lines, its instructions and the tests of a job (specs/), the types that answers have, and the size of a
+// depolarizing distribution. The code of the tests is in the crates reader, instructions, check_values, check_lines, check_noise and checker.
 ghost use mathlib.Core.Path.{_≡_};
 ghost use Prim.Native.Nat.{_-_, _^_, _<_};
+
+pub mod limits;
 
 // The header's numbers; the edition is 1 where the header has none.
 pub struct Header {

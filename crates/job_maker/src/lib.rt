@@ -11,6 +11,7 @@ ghost use Rattle.made.specs.Made.{headerText, makeReply};
 ghost use Rattle.job_maker.specs.Whole.{JobPut};
 use job::Answer;
 use job::Header;
+use job::limits::MAX_BYTES;
 use made_fields::Making;
 use made_lines::put_instruction;
 use stream::step;
@@ -18,9 +19,6 @@ use writer::TextAnswer;
 use writer::line::put_numbers;
 use writer::put_byte;
 use writer::refused;
-
-// As many bytes as a job may have.
-const MAX_BYTES: usize = 1048576;
 
 // The header's line; the first edition has no field for it.
 fn put_header(out: &mut [u8], h: Header) -> usize
@@ -34,7 +32,7 @@ fn put_header(out: &mut [u8], h: Header) -> usize
             b"op=job edition=N qubits=N outcomes=N shots=N",
             &numbers,
         );
-        return put_byte(out, at, 10);
+        return put_byte(out, at, b'\n');
     }
     let at = put_numbers(
         &mut *out,
@@ -42,7 +40,7 @@ fn put_header(out: &mut [u8], h: Header) -> usize
         b"op=job qubits=N outcomes=N shots=N",
         &numbers[1..],
     );
-    put_byte(out, at, 10)
+    put_byte(out, at, b'\n')
 }
 
 // The text of a job; where it passes the bytes that a job may have, a beginning of it that passes them. Answers the place behind it.

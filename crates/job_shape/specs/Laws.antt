@@ -1,2 +1,3 @@
 -- Laws, for the proofs that cite them. Nothing here has to be believed.
 pub mod Tested
+pub mod Header

@@ -1,4 +1,5 @@
--- Definitions that contracts cite: the tests of a job, and the shape of its rows.
+-- Definitions that contracts cite: the tests of a job, the shape of its rows, and where its instructions begin.
 pub mod Tested
+pub mod Header
 -- Laws of these definitions.
 pub mod Laws

@@ -1,10 +1,13 @@
-// The tests of a job, and the shape of the rows of an accepted one.
+// The tests of a job; of an accepted one the shape of its rows, and where its instructions begin.
 use checker::examine;
 use job::Answer;
+use numbers::pieces::find;
 use rows::Shape;
 use rows::shape_of;
+ghost use mathlib.Core.Path.{_≡_};
 ghost use mathlib.Core.Bool.{true};
 ghost use Rattle.job_shape.specs.Tested.{Tests};
+ghost use Rattle.job_shape.specs.Header.{behindHeader};
 
 // The answer to the tests. The shape is that of the job's rows where none refuses.
 pub struct Tested {
@@ -28,4 +31,11 @@ pub fn test(job: &[u8]) -> Tested
         answer,
         shape: shape_of(h.qubits as usize, h.outcomes as usize, h.shots as usize),
     }
+}
+
+// Where the line behind the header begins.
+pub fn behind_header(job: &[u8]) -> usize
+    ensures { λ r. ⌜ r ≡ behindHeader (now (job .entry)) ⌝ }
+{
+    find(job, 0, b'\n') + 1
 }

@@ -1,5 +1,5 @@
-// A reader over a job's bytes, which hands out one line after another: a struct that holds the job and a place in it, with thin functions over a core that takes
-// a slice and a number. `line_of` and `line_part` have plain parameters: a line of a job by its number, as an answer names it.
+// A reader over a job's bytes, which hands out one line after another: a struct that holds the job and a place in it, with thin functions over a core
+// that takes a slice and a number. `line_of` and `line_part` have plain parameters: a line of a job by its number, as an answer names it.
 ghost use mathlib.Core.Path.{_≡_};
 ghost use mathlib.Core.List.{[]};
 ghost use lib.ListN.{getD};
@@ -17,7 +17,7 @@ pub fn line_from<'a>(job: &'a [u8], at: usize) -> &'a [u8]
     ensures { λ r. ⌜ now r ≡ lineFrom (now (job .entry)) at ⌝ }
 {
     if at < job.len() {
-        let end = find(job, at, 10);
+        let end = find(job, at, b'\n');
         &job[at..end]
     } else {
         &job[job.len()..]

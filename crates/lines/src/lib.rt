@@ -1,7 +1,21 @@
-// Lines that are no noise, on the frames and deltas of many shots: each kind of line, by its values in lent words (crate template), goes to the propagator.
+// Lines that are no noise, on the frames and deltas of many shots:
+// each kind of line, by its values in lent words (crate template), goes to the propagator.
 use pauli::OutcomeId;
 use pauli::Shot;
 use reader::Form;
+use reader::slots::FLIPPED;
+use reader::slots::GATE;
+use reader::slots::ID;
+use reader::slots::IDS;
+use reader::slots::OPERANDS;
+use reader::slots::PERMUTED;
+use reader::slots::PLACES;
+use reader::slots::SHOT;
+use reader::slots::TABLE;
+use reader::slots::TARGET_X;
+use reader::slots::TARGET_Z;
+use reader::slots::X;
+use reader::slots::Z;
 use rows::Shape;
 use template::values::list;
 use template::values::number;
@@ -21,21 +35,28 @@ fn unitary(values: &[u64], x: &mut [u64], z: &mut [u64], shape: Shape)
     requires { ⌜ FrameReady Forms.Unitary (now values) (shape .width) (shape .qubits) (now x) (now z) ⌝ }
     ensures { λ _. ⌜ FrameObeyed Forms.Unitary (now (values .entry)) (shape .width) (shape .qubits) (now (x .entry)) (now (z .entry)) (now (x .exit)) (now (z .exit)) ⌝ }
 {
-    unitaries::gates::apply_unitary_op(x, z, shape, number(values, 0), list(values, 0));
+    unitaries::gates::apply_unitary_op(x, z, shape, number(values, GATE), list(values, OPERANDS));
 }
 
 fn clifford(values: &[u64], x: &mut [u64], z: &mut [u64], scratch: &mut [u64], shape: Shape)
     requires { ⌜ FrameReady Forms.Clifford (now values) (shape .width) (shape .qubits) (now x) (now z) × (31 * shape .width ≤ length (now scratch)) ⌝ }
     ensures { λ _. ⌜ FrameObeyed Forms.Clifford (now (values .entry)) (shape .width) (shape .qubits) (now (x .entry)) (now (z .entry)) (now (x .exit)) (now (z .exit)) ⌝ }
 {
-    unitaries::cliffords::apply_clifford(x, z, shape, list(values, 0), list(values, 1), scratch);
+    unitaries::cliffords::apply_clifford(
+        x,
+        z,
+        shape,
+        list(values, OPERANDS),
+        list(values, TABLE),
+        scratch,
+    );
 }
 
 fn exponential(values: &[u64], x: &mut [u64], z: &mut [u64], scratch: &mut [u64], shape: Shape)
     requires { ⌜ FrameReady Forms.Exponential (now values) (shape .width) (shape .qubits) (now x) (now z) × (31 * shape .width ≤ length (now scratch)) ⌝ }
     ensures { λ _. ⌜ FrameObeyed Forms.Exponential (now (values .entry)) (shape .width) (shape .qubits) (now (x .entry)) (now (z .entry)) (now (x .exit)) (now (z .exit)) ⌝ }
 {
-    propagator::paulis::apply_pauli_exp(x, z, shape, list(values, 0), list(values, 1), scratch);
+    propagator::paulis::apply_pauli_exp(x, z, shape, list(values, X), list(values, Z), scratch);
 }
 
 fn controlled(values: &[u64], x: &mut [u64], z: &mut [u64], scratch: &mut [u64], shape: Shape)
@@ -46,10 +67,10 @@ fn controlled(values: &[u64], x: &mut [u64], z: &mut [u64], scratch: &mut [u64],
         x,
         z,
         shape,
-        list(values, 0),
-        list(values, 1),
-        list(values, 2),
-        list(values, 3),
+        list(values, X),
+        list(values, Z),
+        list(values, TARGET_X),
+        list(values, TARGET_Z),
         scratch,
     );
 }
@@ -58,22 +79,29 @@ fn permute(values: &[u64], x: &mut [u64], z: &mut [u64], scratch: &mut [u64], sh
     requires { ⌜ FrameReady Forms.Permute (now values) (shape .width) (shape .qubits) (now x) (now z) × (31 * shape .width ≤ length (now scratch)) ⌝ }
     ensures { λ _. ⌜ FrameObeyed Forms.Permute (now (values .entry)) (shape .width) (shape .qubits) (now (x .entry)) (now (z .entry)) (now (x .exit)) (now (z .exit)) ⌝ }
 {
-    unitaries::cliffords::apply_permutation(x, z, shape, list(values, 0), list(values, 1), scratch);
+    unitaries::cliffords::apply_permutation(
+        x,
+        z,
+        shape,
+        list(values, PLACES),
+        list(values, PERMUTED),
+        scratch,
+    );
 }
 
 fn reset(values: &[u64], x: &mut [u64], z: &mut [u64], shape: Shape)
     requires { ⌜ FrameReady Forms.Reset (now values) (shape .width) (shape .qubits) (now x) (now z) ⌝ }
     ensures { λ _. ⌜ FrameObeyed Forms.Reset (now (values .entry)) (shape .width) (shape .qubits) (now (x .entry)) (now (z .entry)) (now (x .exit)) (now (z .exit)) ⌝ }
 {
-    propagator::paulis::reset_qubits(x, z, shape, list(values, 0));
+    propagator::paulis::reset_qubits(x, z, shape, list(values, OPERANDS));
 }
 
 fn inject(values: &[u64], x: &mut [u64], z: &mut [u64], shape: Shape)
     requires { ⌜ FrameReady Forms.Inject (now values) (shape .width) (shape .qubits) (now x) (now z) ⌝ }
     ensures { λ _. ⌜ FrameObeyed Forms.Inject (now (values .entry)) (shape .width) (shape .qubits) (now (x .entry)) (now (z .entry)) (now (x .exit)) (now (z .exit)) ⌝ }
 {
-    let shot = Shot(number(values, 0) as usize);
-    propagator::paulis::inject_pauli(x, z, shape, shot, list(values, 0), list(values, 1));
+    let shot = Shot(number(values, SHOT) as usize);
+    propagator::paulis::inject_pauli(x, z, shape, shot, list(values, X), list(values, Z));
 }
 
 // ---- Lines on deltas, or by them
@@ -89,15 +117,15 @@ fn measure(
     requires { ⌜ Ready Forms.Measure (now values) (shape .width) (shape .qubits) (shape .outcomes) (now x) (now z) (now deltas) × TotalsHeld (shape .width) (shape .outcomes) (now deltas) (now totals) ⌝ }
     ensures { λ _. ⌜ Obeyed Forms.Measure (now (values .entry)) (shape .width) (shape .qubits) (shape .outcomes) (now (x .entry)) (now (z .entry)) (now (deltas .entry)) (now (x .entry)) (now (z .entry)) (now (deltas .exit)) × TotalsHeld (shape .width) (shape .outcomes) (now (deltas .exit)) (now (totals .exit)) ⌝ }
 {
-    let outcome = OutcomeId(number(values, 0) as usize);
+    let outcome = OutcomeId(number(values, ID) as usize);
     propagator::paulis::measure(
         x,
         z,
         deltas,
         totals,
         shape,
-        list(values, 0),
-        list(values, 1),
+        list(values, X),
+        list(values, Z),
         outcome,
     );
 }
@@ -118,9 +146,9 @@ fn conditional(
         z,
         deltas,
         shape,
-        list(values, 0),
-        list(values, 1),
-        list(values, 2),
+        list(values, X),
+        list(values, Z),
+        list(values, IDS),
         scratch,
     );
 }
@@ -129,15 +157,15 @@ fn flip(values: &[u64], deltas: &mut [u64], totals: &mut [u64], shape: Shape)
     requires { ⌜ ((n : ℕ) × (line : Line) × Plain Forms.Flip (now values) (shape .width) n (shape .outcomes) line) × (length (now deltas) ≡ shape .outcomes * shape .width) × TotalsHeld (shape .width) (shape .outcomes) (now deltas) (now totals) ⌝ }
     ensures { λ _. ⌜ ((n : ℕ) (x z : List ℕ) → Obeyed Forms.Flip (now (values .entry)) (shape .width) n (shape .outcomes) x z (now (deltas .entry)) x z (now (deltas .exit))) × TotalsHeld (shape .width) (shape .outcomes) (now (deltas .exit)) (now (totals .exit)) ⌝ }
 {
-    let shot = Shot(number(values, 0) as usize);
-    let outcome = OutcomeId(number(values, 1) as usize);
+    let shot = Shot(number(values, SHOT) as usize);
+    let outcome = OutcomeId(number(values, FLIPPED) as usize);
     propagator::paulis::inject_outcome_flip(deltas, totals, shape, shot, outcome);
 }
 
 // ---- Any of them
 
-// A line of a form. Those that are not named do nothing. The totals are the ones of the deltas' rows before and after every line. A line takes at most 31
-// rows of scratch: a permutation's.
+// A line of a form. Those that are not named do nothing. The totals are the ones of the deltas' rows before and after every line. A line takes at
+// most 31 rows of scratch: a permutation's.
 pub fn apply_line(
     form: Form,
     values: &[u64],

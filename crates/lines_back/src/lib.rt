@@ -13,6 +13,19 @@ use pauli::OutcomeId;
 use pauli::Pauli;
 use pauli::Shot;
 use reader::Form;
+use reader::slots::FLIPPED;
+use reader::slots::GATE;
+use reader::slots::ID;
+use reader::slots::IDS;
+use reader::slots::OPERANDS;
+use reader::slots::PERMUTED;
+use reader::slots::PLACES;
+use reader::slots::SHOT;
+use reader::slots::TABLE;
+use reader::slots::TARGET_X;
+use reader::slots::TARGET_Z;
+use reader::slots::X;
+use reader::slots::Z;
 use template::values::list;
 use template::values::number;
 
@@ -22,21 +35,21 @@ pub fn unitary(values: &[u64], b: Pauli) -> Pauli
     requires { ⌜ HeldLine Forms.Unitary (now values) ⌝ }
     ensures { λ r. ⌜ ((shot : ℕ) (set : Bits) → Back Forms.Unitary (now (values .entry)) shot b set r set false) ⌝ }
 {
-    carry::unitary_back(b, number(values, 0), list(values, 0))
+    carry::unitary_back(b, number(values, GATE), list(values, OPERANDS))
 }
 
 fn clifford(values: &[u64], b: Pauli) -> Pauli
     requires { ⌜ HeldLine Forms.Clifford (now values) ⌝ }
     ensures { λ r. ⌜ ((shot : ℕ) (set : Bits) → Back Forms.Clifford (now (values .entry)) shot b set r set false) ⌝ }
 {
-    carry::clifford_back(b, list(values, 0), list(values, 1))
+    carry::clifford_back(b, list(values, OPERANDS), list(values, TABLE))
 }
 
 fn exponential(values: &[u64], b: Pauli) -> Pauli
     requires { ⌜ HeldLine Forms.Exponential (now values) ⌝ }
     ensures { λ r. ⌜ ((shot : ℕ) (set : Bits) → Back Forms.Exponential (now (values .entry)) shot b set r set false) ⌝ }
 {
-    carry::exponential_back(b, list(values, 0), list(values, 1))
+    carry::exponential_back(b, list(values, X), list(values, Z))
 }
 
 fn controlled(values: &[u64], b: Pauli) -> Pauli
@@ -45,10 +58,10 @@ fn controlled(values: &[u64], b: Pauli) -> Pauli
 {
     carry::controlled_back(
         b,
-        list(values, 0),
-        list(values, 1),
-        list(values, 2),
-        list(values, 3),
+        list(values, X),
+        list(values, Z),
+        list(values, TARGET_X),
+        list(values, TARGET_Z),
     )
 }
 
@@ -56,22 +69,22 @@ fn permute(values: &[u64], b: Pauli) -> Pauli
     requires { ⌜ HeldLine Forms.Permute (now values) ⌝ }
     ensures { λ r. ⌜ ((shot : ℕ) (set : Bits) → Back Forms.Permute (now (values .entry)) shot b set r set false) ⌝ }
 {
-    carry::permute_back(b, list(values, 0), list(values, 1))
+    carry::permute_back(b, list(values, PLACES), list(values, PERMUTED))
 }
 
 fn reset(values: &[u64], b: Pauli) -> Pauli
     requires { ⌜ HeldLine Forms.Reset (now values) ⌝ }
     ensures { λ r. ⌜ ((shot : ℕ) (set : Bits) → Back Forms.Reset (now (values .entry)) shot b set r set false) ⌝ }
 {
-    carry::reset_back(b, list(values, 0))
+    carry::reset_back(b, list(values, OPERANDS))
 }
 
 fn measure(values: &[u64], b: Pauli, set: &[u64]) -> Pauli
     requires { ⌜ HeldLine Forms.Measure (now values) ⌝ }
     ensures { λ r. ⌜ ((shot : ℕ) → Back Forms.Measure (now (values .entry)) shot b (inSet (now (set .entry))) r (inSet (now (set .entry))) false) ⌝ }
 {
-    let id = OutcomeId(number(values, 0) as usize);
-    carry::measure_back(b, set, list(values, 0), list(values, 1), id)
+    let id = OutcomeId(number(values, ID) as usize);
+    carry::measure_back(b, set, list(values, X), list(values, Z), id)
 }
 
 // ---- Conditionals, which change the set alone
@@ -80,7 +93,7 @@ fn conditional(values: &[u64], b: Pauli, set: &mut [u64])
     requires { ⌜ HeldLine Forms.Conditional (now values) × (length (now set) ≡ 16) ⌝ }
     ensures { λ _. ⌜ (length (now (set .exit)) ≡ 16) × ((shot : ℕ) → Back Forms.Conditional (now (values .entry)) shot b (inSet (now (set .entry))) b (inSet (now (set .exit))) false) ⌝ }
 {
-    carry::conditional_back(set, b, list(values, 0), list(values, 1), list(values, 2));
+    carry::conditional_back(set, b, list(values, X), list(values, Z), list(values, IDS));
 }
 
 // ---- Lines that are counted, or not
@@ -90,10 +103,10 @@ fn inject(values: &[u64], b: Pauli, shot: Shot) -> bool
     requires { ⌜ HeldLine Forms.Inject (now values) ⌝ }
     ensures { λ r. ⌜ ((set : Bits) → Back Forms.Inject (now (values .entry)) (shot .0) b set b set r) ⌝ }
 {
-    if number(values, 0) as usize != shot.0 {
+    if number(values, SHOT) as usize != shot.0 {
         return false;
     }
-    carry::injection_counts(b, list(values, 0), list(values, 1))
+    carry::injection_counts(b, list(values, X), list(values, Z))
 }
 
 // A flip in the shot, where its outcome is in the set.
@@ -101,10 +114,10 @@ fn flip(values: &[u64], set: &[u64], shot: Shot) -> bool
     requires { ⌜ HeldLine Forms.Flip (now values) ⌝ }
     ensures { λ r. ⌜ ((b : PauliWords) → Back Forms.Flip (now (values .entry)) (shot .0) b (inSet (now (set .entry))) b (inSet (now (set .entry))) r) ⌝ }
 {
-    if number(values, 0) as usize != shot.0 {
+    if number(values, SHOT) as usize != shot.0 {
         return false;
     }
-    pauli::has_outcome(set, OutcomeId(number(values, 1) as usize))
+    pauli::has_outcome(set, OutcomeId(number(values, FLIPPED) as usize))
 }
 
 // ---- Any line

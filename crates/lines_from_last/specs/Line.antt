@@ -15,6 +15,10 @@ use Rattle.instructions.specs.Reading.{lineAt}
 abbrev pub LineStart : List ℕ → ℕ → Type 0
 LineStart job at = 0 < at → getD job (at - 1) 0 ≡ LF
 
+-- there is no LF from a place on up to another
+pub record NoLf (job : List ℕ) (from to : ℕ) : Type 0 where
+  pub none : (j : ℕ) → from ≤ j → j < to → getD job j 0 ≡ LF → ⊥
+
 -- The line whose LF stands at e starts at r. The lines up to there are those before it, and it.
 pub record LineBefore (job : List ℕ) (e r : ℕ) : Type 0 where
   pub within : r ≤ e

@@ -9,6 +9,8 @@ use instructions::next_line;
 use job::Answer;
 use job::CountReply;
 use line_qubits::located;
+use template::values::EACH;
+use template::values::KEPT;
 use template::values::WORDS;
 
 // The locations of an accepted job.
@@ -17,7 +19,7 @@ fn count(job: &[u8]) -> u64
     ensures { λ r. ⌜ r ≡ Annotate·locations (Bytes·lines (now (job .entry))) ⌝ }
 {
     let mut fields = [0u64; WORDS];
-    let mut qubits = [0u64; 124];
+    let mut qubits = [0u64; EACH * KEPT];
     let mut at = 0;
     let mut total: u64 = 0;
     while at < job.len() {

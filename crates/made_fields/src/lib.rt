@@ -58,7 +58,7 @@ pub fn end_line(out: &mut [u8], m: Making) -> Making
     ensures { λ r. ⌜ PartIs 1 (LF ∷ []) (m .state) m r (now (out .entry)) (now (out .exit)) ⌝ }
 {
     Making {
-        at: put_byte(out, m.at, 10),
+        at: put_byte(out, m.at, b'\n'),
         recorded: m.recorded,
         state: m.state,
     }

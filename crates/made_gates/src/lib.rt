@@ -121,7 +121,7 @@ fn put_table(out: &mut [u8], at: usize, i: u64) -> usize
     if i < 7 {
         return next;
     }
-    let second = put_byte(&mut *out, next, 44);
+    let second = put_byte(&mut *out, next, b',');
     put_hex(out, second, 0x8ab05648c)
 }
 

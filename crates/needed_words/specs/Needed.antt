@@ -12,7 +12,7 @@ use Rattle.draws.specs.Execute.{starts, Ended, execute}
 use Rattle.rows.specs.declared.Shape.{Shape}
 use Rattle.rows.specs.Words.{wordsPerRow, pack}
 use Rattle.execution.specs.declared.Answered.{Answered}
-use Rattle.execution.specs.Went.{headerOf}
+use Rattle.execution.specs.Steps.{headerOf}
 use Rattle.run.specs.Run.{Source, RunReply, frameWords, outcomeWords, lentOf, flipTotals}
 
 -- zero words and totals where draws were spent, else the packed states and their totals

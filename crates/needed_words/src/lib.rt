@@ -7,7 +7,7 @@ ghost use mathlib.Core.List.{_++_};
 ghost use lib.ListN.{length};
 ghost use Rattle.rows.specs.Overwrite.{cleared};
 ghost use Rattle.run.specs.Run.{Source};
-ghost use Rattle.execution.specs.Went.{headerOf};
+ghost use Rattle.execution.specs.Steps.{headerOf};
 ghost use Rattle.needed_words.specs.Needed.{NeededReady, NeededRun};
 
 fn clear_all(x: &mut [u64], z: &mut [u64], deltas: &mut [u64], totals: &mut [u64])

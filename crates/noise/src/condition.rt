@@ -23,17 +23,19 @@ fn fill(words: &mut [u64], n: usize, v: u64)
     }
 }
 
+const ALL_SHOTS: u64 = 0xffffffffffffffff;
+
 // A word's shots before the noiseless bits are added: all where there is no condition or its parity is 0, and else none.
 fn first_word(count: usize, parity: u64) -> u64
     ensures { λ r. ⌜ ((k : ℕ) → k < 64 → bit r k ≡ (eqb count 0 || not (isOne parity))) ⌝ }
 {
     if count == 0 {
-        return 18446744073709551615;
+        return ALL_SHOTS;
     }
     if parity == 1 {
         return 0;
     }
-    18446744073709551615
+    ALL_SHOTS
 }
 
 // The shots whose condition is satisfied: the noiseless bits of the listed outcomes sum to the parity. All where none is listed.

@@ -1,21 +1,22 @@
-// A noise line by value, the words that it draws from, and its condition as a mask. Elements are chosen in the crate choice, and its shots gone through in the
-// crate shots.
+// A noise line by value, the words that it draws from, and its condition as a mask. Elements are chosen in the crate choice, and its shots gone
+// through in the crate shots.
 pub mod condition;
 pub mod scan;
 pub mod words;
 
-// The four kinds of distribution. The weighted one carries its total; its running sums lie in an array beside it.
+// The four kinds of distribution: one element; every Pauli on so many qubits but the identity; so many elements that are alike; elements with
+// weights, whose total it carries. Elements, and the running sums of weights, lie in arrays beside it.
 pub enum PauliDistribution {
     Single,
-    Depolarizing(u64),
-    Uniform(u64),
-    Weighted(f64),
+    Depolarizing { qubits: u64 },
+    Uniform { elements: u64 },
+    Weighted { total: f64 },
 }
 
 // Words come from the main list, or from the second at the place that a correlation names.
 pub enum Correlation {
     Uncorrelated,
-    Shared(u64),
+    Shared { correlation: u64 },
 }
 
 // The word at a place, or that the words have ended there.
@@ -31,7 +32,7 @@ pub struct OutcomeCondition {
     pub parity: u64,
 }
 
-// A noise line's probability, kind and condition travel together.
+// What a noise line says: its probability, distribution, correlation and condition travel together. What falls in a shot is one element of it.
 pub struct PauliFault {
     pub probability: f64,
     pub distribution: PauliDistribution,
@@ -39,7 +40,8 @@ pub struct PauliFault {
     pub condition: OutcomeCondition,
 }
 
-// Where a pass over a job's instructions stands: the next byte of the job, the number of its line, from 1, and the position of the next word of the main list.
+// Where a pass over a job's instructions stands: the next byte of the job, the number of its line, from 1,
+// and the position of the next word of the main list.
 pub struct Place {
     pub byte: usize,
     pub line: u64,

@@ -130,8 +130,8 @@ fn pass_near(words: &[u64], more: &[u64], at: usize, n: usize, t: u64) -> usize
     i
 }
 
-// How many shots, of so many, are passed over before the next fault: as many words bring none. Fewer where the words end. The first words are taken one
-// by one, since with a large p a fault is among them, and so are those of the block that ends the blocks.
+// How many shots, of so many, are passed over before the next fault: as many words bring none. Fewer where the words end. The first words are taken
+// one by one, since with a large p a fault is among them, and so are those of the block that ends the blocks.
 pub fn next_skip(words: &[u64], more: &[u64], at: usize, shots: usize, t: u64) -> usize
     requires { ⌜ at ≤ length (now words ++ now more) ⌝ }
     ensures { λ r. ⌜ Skipped t (now (words .entry) ++ now (more .entry)) at shots r ⌝ }

@@ -57,12 +57,15 @@ pub fn part<'a>(
 {
     match correlation {
         Correlation::Uncorrelated => tail(main, position),
-        Correlation::Shared(c) => tail(second, std::num::wrapping_add_u64(base, c) as usize),
+        Correlation::Shared { correlation: c } => tail(
+            second,
+            std::num::wrapping_add_u64(base, c) as usize,
+        ),
     }
 }
 
-// What follows that part where the main list has two: the second from the same position on, counted behind the first, or nothing, since a correlated
-// line reads the second list alone.
+// What follows that part, where the main list lies in two parts of which the first has so many words: the rest of its other part, `more`; nothing for
+// a correlated line, which reads the second list.
 pub fn more_part<'a>(
     more: &'a [u64],
     correlation: Correlation,
@@ -73,7 +76,7 @@ pub fn more_part<'a>(
 {
     match correlation {
         Correlation::Uncorrelated => tail(more, behind(position, first)),
-        Correlation::Shared(_) => tail(more, more.len()),
+        Correlation::Shared { correlation: _ } => tail(more, more.len()),
     }
 }
 
@@ -84,7 +87,7 @@ pub fn position_after(correlation: Correlation, position: usize, read: usize) ->
 {
     match correlation {
         Correlation::Uncorrelated => position + read,
-        Correlation::Shared(_) => position,
+        Correlation::Shared { correlation: _ } => position,
     }
 }
 

@@ -1,5 +1,5 @@
-// The rows of a noise line, by what is carried back of each group. Going back, element lines are met before their noise line: their characters are kept
-// until it comes.
+// The rows of a noise line, by what is carried back of each group. Going back, element lines are met before their noise line: their characters are
+// kept until it comes.
 ghost use mathlib.Core.Path.{_≡_};
 ghost use mathlib.Core.Bool.{true};
 ghost use mathlib.Core.List.{List, [], _∷_};
@@ -28,6 +28,10 @@ use groups_back::put_marks;
 use noise_text::lists::select;
 use pauli::Pauli;
 use reader::Form;
+use reader::slots::DEPOLARIZED;
+use reader::slots::SINGLE_X;
+use reader::slots::X;
+use template::values::KEPT;
 use template::values::count;
 use template::values::list;
 
@@ -37,7 +41,7 @@ pub fn is_wide(form: Form, f: &[u64]) -> bool
     ensures { λ r. ⌜ ((vs : List Value) (w : Written) → Said form (now (f .entry)) vs w → r ≡ wideSaid w) ⌝ }
 {
     match form {
-        Form::Depolarizing => 4 < count(f, 2),
+        Form::Depolarizing => 4 < count(f, DEPOLARIZED),
         _ => false,
     }
 }
@@ -73,7 +77,7 @@ pub fn keep_marks(kept: &mut [u8], n: usize, groups: usize, form: Form, f: &[u64
     if KEPT_ELEMENTS <= n {
         return;
     }
-    let p = pauli_at(f, 0);
+    let p = pauli_at(f, X);
     let a = (KEPT_ELEMENTS - 1 - n) * KEPT_BYTES;
     let end = a + groups;
     put_marks(&mut kept[a..end], p, state);
@@ -105,8 +109,8 @@ fn depolarizing_element(qubits: &[u64], e: u64) -> Pauli
     ensures { λ r. ⌜ asPauli r ≡ pauliOf (depolarizingElement (now (qubits .entry)) e) ⌝ }
 {
     let v = e + 1;
-    let mut x = [0u64; 31];
-    let mut z = [0u64; 31];
+    let mut x = [0u64; KEPT];
+    let mut z = [0u64; KEPT];
     let nx = select(&mut x, qubits, v);
     let nz = select(&mut z, qubits, v / 2);
     Pauli::from_lists(&x[..nx], &z[..nz])
@@ -151,12 +155,12 @@ pub fn put_rows(
 {
     match form {
         Form::Single => {
-            let p = pauli_at(f, 2);
+            let p = pauli_at(f, SINGLE_X);
             put_element_row(out, place, line, 0, p, state, groups)
         }
         Form::Depolarizing => {
             let n = size(form, f);
-            put_depolarizing_rows(out, place, line, list(f, 2), n, state, groups)
+            put_depolarizing_rows(out, place, line, list(f, DEPOLARIZED), n, state, groups)
         }
         Form::Uniform => {
             let n = size(form, f);

@@ -14,13 +14,11 @@ ghost use Rattle.noise_text.specs.Injections.{StepPut, injected, Ready, 
 pub mod lists;
 
 use crate::lists::select;
-use choice::chooser_of;
 use faults::elements::element_counts;
 use faults::elements::element_members;
 use faults::elements::element_x;
 use noise::PauliDistribution;
 use noise::PauliFault;
-use noise::scan::threshold;
 use noise::words::count;
 use noise::words::more_part;
 use noise::words::part;
@@ -28,6 +26,7 @@ use noise::words::position_after;
 use pauli::Shot;
 use shots::NextFault;
 use shots::next_fault;
+use shots::rule_of;
 use template::values::KEPT;
 use writer::noise_lines::put_inject;
 
@@ -39,7 +38,7 @@ fn put_depolarizing(out: &mut [u8], place: usize, shot: Shot, qubits: &[u64], e:
     ensures { λ r. ⌜ Puts place (injectText (shot .0) (depolarizingElement (now (qubits .entry)) e) ++ LF ∷ []) (now (out .entry)) (now (out .exit)) r ⌝ }
 {
     let v = e + 1;
-    let mut members = [0u64; 62];
+    let mut members = [0u64; 2 * KEPT];
     let x = select(&mut members[..KEPT], qubits, v);
     let z = select(&mut members[KEPT..], qubits, v / 2);
     let counts = [x as u64, z as u64];
@@ -72,7 +71,7 @@ fn put_element(
     ensures { λ r. ⌜ Puts place (injectText (shot .0) (elementIn d (now (elements .entry)) e) ++ LF ∷ []) (now (out .entry)) (now (out .exit)) r ⌝ }
 {
     match d {
-        PauliDistribution::Depolarizing(_) => {
+        PauliDistribution::Depolarizing { qubits: _ } => {
             put_depolarizing(out, place, shot, element_x(elements, 0), e)
         }
         _ => put_kept(out, place, shot, elements, e as usize),
@@ -81,10 +80,10 @@ fn put_element(
 
 // ---- A noise line
 
-// A word was needed past the end, with the place where the list of words is left; or the places of the next word and of the next byte.
+// A word was needed past the end, `end_word`; or the places of the next word and of the next byte.
 pub enum Drawn {
-    Spent(usize),
-    Done(usize, usize),
+    Spent { end_word: usize },
+    Done { next_word: usize, next_byte: usize },
 }
 
 // The injections of the faults that the words bring.
@@ -104,20 +103,28 @@ fn put_faults(
 {
     let p = fault.probability;
     let d = fault.distribution;
-    let t = threshold(p);
-    let chooser = chooser_of(d);
+    let rule = rule_of(p, d);
     let mut place = from;
     let mut at = 0;
     let mut shot = 0;
     loop {
-        match next_fault(words, more, at, mask, Shot(shot), shots, t, chooser, sums) {
+        match next_fault(words, more, at, mask, Shot(shot), shots, rule, sums) {
             NextFault::Spent => {
-                return Drawn::Spent(count(words, more));
+                return Drawn::Spent {
+                    end_word: count(words, more),
+                };
             }
-            NextFault::Done(next) => {
-                return Drawn::Done(next, place);
+            NextFault::Done { next } => {
+                return Drawn::Done {
+                    next_word: next,
+                    next_byte: place,
+                };
             }
-            NextFault::At(s, e, next) => {
+            NextFault::At {
+                shot: s,
+                element: e,
+                next,
+            } => {
                 place = put_element(&mut *out, place, s, d, elements, e);
                 at = next;
                 shot = s.0 + 1;
@@ -145,15 +152,24 @@ pub fn put_noise<'a>(
     ensures { λ r. ⌜ ((q : ReadyOf (fault .probability) (fault .distribution) (now (sums .entry)) (now (mask .entry)) (now (elements .entry)) shots (fault .correlation) (now (second .entry)) base) (text : List ℕ) → StepPut (now (main .entry) ++ now (more .entry)) place shots (now (out .entry)) (leftSpent (Instruction.noise (q .ready .noise)) (drop position (now (main .entry) ++ now (more .entry)))) (stepOf (q .ready .lent) (drop position (now (main .entry) ++ now (more .entry))) text (Instruction.noise (q .ready .noise))) (now (out .exit)) r) ⌝ }
 {
     if fault.probability <= 0.0 {
-        return Drawn::Done(position, place);
+        return Drawn::Done {
+            next_word: position,
+            next_byte: place,
+        };
     }
     let correlation = fault.correlation;
     let words = part(main, second, correlation, base, position);
     let rest = more_part(more, correlation, position, main.len());
     match put_faults(out, place, words, rest, mask, shots, fault, sums, elements) {
-        Drawn::Spent(read) => Drawn::Spent(position_after(correlation, position, read)),
-        Drawn::Done(read, next) => {
-            Drawn::Done(position_after(correlation, position, read), next)
-        }
+        Drawn::Spent { end_word: read } => Drawn::Spent {
+            end_word: position_after(correlation, position, read),
+        },
+        Drawn::Done {
+            next_word: read,
+            next_byte,
+        } => Drawn::Done {
+            next_word: position_after(correlation, position, read),
+            next_byte,
+        },
     }
 }

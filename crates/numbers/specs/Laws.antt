@@ -2,4 +2,6 @@
 pub mod Pieces
 pub mod Read
 pub mod Lists
+pub mod Members
 pub mod Hex
+pub mod Rising

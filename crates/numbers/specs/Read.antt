@@ -1,14 +1,17 @@
 -- What the readers of numbers and lists say by their results, and how lent words hold the members of a list. Definitions. Assumes nothing.
-use Prim.Native.Nat.{ℕ, max}
+use Prim.Native.Nat.{ℕ, _+_, _-_, _≤_, max}
 use mathlib.Core.Path.{_≡_}
-use mathlib.Core.Bool.{true, false}
+use mathlib.Core.Bool.{Bool, true, false}
 use mathlib.Core.List.{List, [], _∷_, _++_}
 use mathlib.Core.Option.{Option, none, some}
-use lib.ListN.{length}
-use Rattle.text.specs.List.{isRising}
+use lib.ListN.{length, take, drop}
+use Rattle.text.specs.Bytes.{comma, until}
+use Rattle.text.specs.Number.{numberOf}
+use Rattle.text.specs.List.{isRising, pieceOf}
 use Rattle.numbers.specs.declared.Value.{Value}
 use Rattle.numbers.specs.declared.Value.the-variants.{Of, Bad}
 use Rattle.numbers.specs.declared.lists.Listed.{Listed}
+use Rattle.numbers.specs.declared.lists.Member.{Member}
 
 -- ---- a number
 
@@ -16,6 +19,19 @@ use Rattle.numbers.specs.declared.lists.Listed.{Listed}
 unfoldable pub read : Value → Option ℕ
 read (Of n) = some n
 read Bad = none
+
+-- these bytes begin with a number of so many digits, at most three, up to a comma or the end
+pub record ShortIn (digits value : ℕ) (l : List ℕ) : Type 0 where
+  pub few : digits ≤ 3
+  pub ends : until comma l ≡ digits
+  pub reads : numberOf (take digits l) ≡ some value
+
+-- the piece of s from `at` on, up to a comma or the end
+pub record MemberAt (hex : Bool) (s : List ℕ) (at : ℕ) (m : Member) : Type 0 where
+  pub found : m .end ≡ at + until comma (drop at s)
+  pub onward : at ≤ m .end
+  pub within : m .end ≤ length s
+  pub reads : read (m .value) ≡ pieceOf hex (take (m .end - at) (drop at s))
 
 -- ---- a list
 

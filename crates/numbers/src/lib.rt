@@ -1,6 +1,7 @@
 // Numbers and lists as text, and bytes cut at a separator. The definitions are in the crate text.
 pub mod lists;
 pub mod pieces;
+pub mod rising;
 
 ghost use mathlib.Core.Path.{_≡_};
 ghost use mathlib.Core.Bool.{cond};
@@ -27,18 +28,21 @@ fn proper(s: &[u8]) -> bool
     if s.len() == 1 {
         return true;
     }
-    s[0] != 48
+    s[0] != b'0'
 }
+
+// (2^64 - 1) / 10, of which the rest is 5.
+const TENTH: u64 = 1844674407370955161;
 
 // Whether v * 10 + d is below 2^64, for a digit d.
 fn fits(v: u64, d: u64) -> bool
     requires { ⌜ d ≤ 9 ⌝ }
     ensures { λ r. ⌜ r ≡ ltb (v * 10 + d) (2 ^ 64) ⌝ }
 {
-    if v < 1844674407370955161 {
+    if v < TENTH {
         return true;
     }
-    if 1844674407370955161 < v {
+    if TENTH < v {
         return false;
     }
     d <= 5
@@ -55,13 +59,13 @@ pub fn number(s: &[u8]) -> Value
     let mut i = 0;
     while i < s.len() {
         let b = s[i];
-        if b < 48 {
+        if b < b'0' {
             return Value::Bad;
         }
-        if 57 < b {
+        if b'9' < b {
             return Value::Bad;
         }
-        let d = (b - 48) as u64;
+        let d = (b - b'0') as u64;
         if !fits(v, d) {
             return Value::Bad;
         }
@@ -78,13 +82,13 @@ fn hex_value(b: u8) -> u8
     (b % 16 + 9 * (b / 64)) % 16
 }
 
-// 0 for a lower-case hexadecimal digit, 1 for any other byte: whether it is the byte of its digit. Digits follow no pattern, so that a branch would often be
-// foretold wrongly; this has none.
+// 0 for a lower-case hexadecimal digit, 1 for any other byte: whether it is the byte of its digit. Digits follow no pattern, so that a branch would
+// often be foretold wrongly; this has none.
 fn not_hex(b: u8) -> u8
     ensures { λ r. ⌜ r ≡ cond (ltb (hexDigit b) 16) 0 1 ⌝ }
 {
     let d = hex_value(b);
-    (48 + d + 39 * ((d + 6) / 16) != b) as u8
+    (b'0' + d + 39 * ((d + 6) / 16) != b) as u8
 }
 
 // Whether 16 bytes are lower-case hexadecimal digits. None is looked for, so that all are tested at once.
@@ -128,8 +132,8 @@ pub fn bit(s: &[u8]) -> Value
         return Value::Bad;
     }
     match s[0] {
-        48 => Value::Of(0),
-        49 => Value::Of(1),
+        b'0' => Value::Of(0),
+        b'1' => Value::Of(1),
         _ => Value::Bad,
     }
 }

@@ -3,12 +3,14 @@ ghost use mathlib.Core.Path.{_≡_};
 ghost use mathlib.Core.Bool.{_&&_, _||_};
 ghost use mathlib.Core.List.{List, [], _∷_, _++_};
 ghost use mathlib.Core.Option.{none, some};
-ghost use Prim.Native.Nat.{ℕ, _+_, _^_, _<_, max};
+ghost use Prim.Native.Nat.{ℕ, _+_, _^_, _<_, _≤_, max};
 ghost use lib.Dec.{eqb, ltb};
-ghost use lib.ListN.{set};
+ghost use lib.ListN.{set, length};
 ghost use Rattle.text.specs.Bytes.{comma, split};
 ghost use Rattle.text.specs.List.{piecesOf, pieceOf, listQ, listL, listC, isDash};
-ghost use Rattle.numbers.specs.Read.{read, listedAs, ListRead};
+ghost use Rattle.text.specs.Number.{isDecimal};
+ghost use Rattle.numbers.specs.declared.Value.the-variants.{Of};
+ghost use Rattle.numbers.specs.Read.{read, listedAs, ListRead, ShortIn, MemberAt};
 use crate::Value;
 use crate::hex16;
 use crate::number;
@@ -93,6 +95,117 @@ fn piece(s: &[u8], hex: bool) -> Value
     number(s)
 }
 
+// A number of at most three digits that ends at a comma: its digits, 0 where there is no such number, and its value.
+struct Short {
+    digits: usize,
+    value: u64,
+}
+
+fn not_short() -> Short
+    ensures { λ r. ⌜ r .digits ≡ 0 ⌝ }
+{
+    Short {
+        digits: 0,
+        value: 0,
+    }
+}
+
+fn is_digit(b: u8) -> bool
+    ensures { λ r. ⌜ r ≡ isDecimal b ⌝ }
+{
+    if b < b'0' {
+        return false;
+    }
+    b <= b'9'
+}
+
+// The short number that four bytes begin with.
+fn short_number(a: u8, b: u8, c: u8, d: u8) -> Short
+    ensures { λ r. ⌜ (0 < r .digits → (rest : List ℕ) → ShortIn (r .digits) (r .value) (a ∷ b ∷ c ∷ d ∷ rest)) ⌝ }
+{
+    if !is_digit(a) {
+        return not_short();
+    }
+    let one = (a - b'0') as u64;
+    if b == b',' {
+        return Short {
+            digits: 1,
+            value: one,
+        };
+    }
+    if !is_digit(b) {
+        return not_short();
+    }
+    if a == b'0' {
+        return not_short();
+    }
+    let two = one * 10 + (b - b'0') as u64;
+    if c == b',' {
+        return Short {
+            digits: 2,
+            value: two,
+        };
+    }
+    if !is_digit(c) {
+        return not_short();
+    }
+    if d != b',' {
+        return not_short();
+    }
+    Short {
+        digits: 3,
+        value: two * 10 + (c - b'0') as u64,
+    }
+}
+
+// A member of a list, and where it ends.
+struct Member {
+    value: Value,
+    end: usize,
+}
+
+// The member from `at` on, cut at the comma.
+fn cut_member(s: &[u8], at: usize, hex: bool) -> Member
+    requires { ⌜ at ≤ length (now s) ⌝ }
+    ensures { λ r. ⌜ MemberAt hex (now (s .entry)) at r ⌝ }
+{
+    let end = find(s, at, b',');
+    let value = piece(&s[at..end], hex);
+    Member { value, end }
+}
+
+// The short number from `at` on.
+fn short_at(s: &[u8], at: usize, hex: bool) -> Short
+    requires { ⌜ at ≤ length (now s) ⌝ }
+    ensures { λ r. ⌜ (0 < r .digits → MemberAt hex (now (s .entry)) at (record { value = Of (r .value); end = at + r .digits })) ⌝ }
+{
+    if hex {
+        return not_short();
+    }
+    if s.len() - at < 4 {
+        return not_short();
+    }
+    let second = at + 1;
+    let third = second + 1;
+    let fourth = third + 1;
+    short_number(s[at], s[second], s[third], s[fourth])
+}
+
+// The member from `at` on. Most are short numbers, which are read as the comma is looked for.
+fn read_member(s: &[u8], at: usize, hex: bool) -> Member
+    requires { ⌜ at ≤ length (now s) ⌝ }
+    ensures { λ r. ⌜ MemberAt hex (now (s .entry)) at r ⌝ }
+{
+    let m = short_at(s, at, hex);
+    if m.digits == 0 {
+        return cut_member(s, at, hex);
+    }
+    Member {
+        value: Value::Of(m.value),
+        end: at + m.digits,
+    }
+}
+
 // A list of pieces in any order, never empty.
 pub fn list_by(s: &[u8], hex: bool, out: &mut [u64]) -> Listed
     ensures { λ r. ⌜ ListRead (piecesOf (pieceOf hex) (split comma (now (s .entry)))) r (now (out .entry)) (now (out .exit)) ⌝ }
@@ -100,8 +213,10 @@ pub fn list_by(s: &[u8], hex: bool, out: &mut [u64]) -> Listed
     let mut l = empty();
     let mut at = 0;
     loop {
-        let e = find(s, at, 44);
-        let Value::Of(n) = piece(&s[at..e], hex) else {
+        let m = read_member(s, at, hex);
+        let e = m.end;
+        let value = m.value;
+        let Value::Of(n) = value else {
             return no_list();
         };
         store(&mut *out, l.count, n);
@@ -126,7 +241,7 @@ fn is_dash(s: &[u8]) -> bool
     if s.len() != 1 {
         return false;
     }
-    s[0] == 45
+    s[0] == b'-'
 }
 
 // L: a strictly rising list, `-` when empty.

@@ -208,6 +208,8 @@ impl Pauli {
         requires { ⌜ (a .0 < 256) × (b .0 < 256) ⌝ }
         ensures { λ r. ⌜ asPauli r ≡ byGate conjugated (gateOf gate) (a .0) (b .0) (asPauli self) ⌝ }
     {
+        // The codes: I, X, Y, Z; Hadamard; SqrtZ, SqrtX and SqrtY, each with its inverse; ControlledX, ControlledZ, Swap, PrepareBell,
+        // ControlledY.
         match gate {
             0..=3 => self,
             4 => self.swap_parts(a),

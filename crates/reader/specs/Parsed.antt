@@ -8,7 +8,7 @@ use mathlib.Core.Option.{none, some}
 use lib.ListN.{getD}
 use Rattle.text.specs.Template.{Value, valuesOf}
 use Rattle.template.specs.Fields.{numberLetters, listLetters, Held}
-use Rattle.job.specs.Laws.Forms.{WrittenFits}
+use Rattle.job.specs.Fits.{WrittenFits}
 use Rattle.job.specs.Grammar.{Written, Form as TableForm, forms, readLine}
 use Rattle.reader.specs.declared.Form.{Form}
 use Rattle.reader.specs.declared.Form.the-variants as form

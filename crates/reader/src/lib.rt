@@ -10,6 +10,14 @@ ghost use Rattle.template.specs.Fields.{ReadOn, ReadNext, ReadAs};
 ghost use Rattle.reader.specs.declared.Form.the-variants as Forms;
 ghost use Rattle.reader.specs.Parsed.{formOf, Parsed};
 ghost use Rattle.reader.specs.Tried.{Tried, FormBy, NoiseBegun, only, formIf, noiseForms, headerForms, pauliPart, noiseBegin};
+
+pub mod slots;
+
+use crate::slots::CONDITION;
+use crate::slots::GATE;
+use crate::slots::OPERANDS;
+use crate::slots::PARITY;
+use crate::slots::TABLE;
 use tables::words_fit;
 use template::Progress;
 use template::literal;
@@ -67,6 +75,8 @@ fn ended(line: &[u8], p: Progress, form: Form) -> Form
     Form::Unread
 }
 
+// Below, a name such as `x` or `size` is how far a line was read with that field; its value is then in the lent words.
+
 // A line read on by the two lists of a Pauli.
 fn pauli_lists(line: &[u8], p: Progress, fields: &mut [u64]) -> Progress
     requires { ⌜ (p .at ≤ length (now line)) × Whole (now fields) ⌝ }
@@ -95,7 +105,7 @@ fn unitary(line: &[u8], fields: &mut [u64]) -> Form
     if !gate_form(line, &mut *fields) {
         return Form::Unread;
     }
-    if 15 < number(fields, 0) {
+    if 15 < number(fields, GATE) {
         return Form::Unread;
     }
     Form::Unitary
@@ -143,15 +153,15 @@ fn noise_kind(line: &[u8], digit: u8, p: Progress, fields: &mut [u64]) -> Form
     ensures { λ r. ⌜ Tried noiseForms (now (line .entry)) r (now (fields .exit)) ⌝ }
 {
     match digit {
-        49 => single(line, p, fields),
-        50 => depolarizing(line, p, fields),
-        51 => uniform(line, p, fields),
-        52 => weighted(line, p, fields),
+        b'1' => single(line, p, fields),
+        b'2' => depolarizing(line, p, fields),
+        b'3' => uniform(line, p, fields),
+        b'4' => weighted(line, p, fields),
         _ => Form::Unread,
     }
 }
 
-// Where the condition is none, the parity is 0.
+// Whether there is a parity of 1 without a condition, which no noise line has.
 fn parity_alone(count: u64, parity: u64) -> bool
     ensures { λ r. ⌜ r ≡ (eqb count 0 && isOne parity) ⌝ }
 {
@@ -186,7 +196,7 @@ fn noise(line: &[u8], fields: &mut [u64]) -> Form
     if line.len() <= at {
         return Form::Unread;
     }
-    if parity_alone(count(fields, 1), number(fields, 1)) {
+    if parity_alone(count(fields, CONDITION), number(fields, PARITY)) {
         return Form::Unread;
     }
     noise_kind(line, line[at], p, fields)
@@ -233,7 +243,7 @@ fn clifford(line: &[u8], fields: &mut [u64]) -> Form
     if !table_form(line, &mut *fields) {
         return Form::Unread;
     }
-    if !words_fit(count(fields, 0), count(fields, 1)) {
+    if !words_fit(count(fields, OPERANDS), count(fields, TABLE)) {
         return Form::Unread;
     }
     Form::Clifford
@@ -376,21 +386,21 @@ fn operation(line: &[u8], letter: u8, fields: &mut [u64]) -> Form
     ensures { λ r. ⌜ Parsed (now (line .entry)) r (now (fields .exit)) ⌝ }
 {
     match letter {
-        117 => unitary(line, fields),
-        110 => noise(line, fields),
-        105 => inject(line, fields),
-        111 => measure(line, fields),
-        107 => controlled(line, fields),
-        101 => exponential(line, fields),
-        112 => pauli(line, fields),
-        102 => conditional(line, fields),
-        99 => clifford(line, fields),
-        109 => permute(line, fields),
-        114 => allocate(line, fields),
-        116 => flip(line, fields),
-        122 => reset(line, fields),
-        98 => barrier(line, fields),
-        106 => header(line, fields),
+        b'u' => unitary(line, fields),
+        b'n' => noise(line, fields),
+        b'i' => inject(line, fields),
+        b'o' => measure(line, fields),
+        b'k' => controlled(line, fields),
+        b'e' => exponential(line, fields),
+        b'p' => pauli(line, fields),
+        b'f' => conditional(line, fields),
+        b'c' => clifford(line, fields),
+        b'm' => permute(line, fields),
+        b'r' => allocate(line, fields),
+        b't' => flip(line, fields),
+        b'z' => reset(line, fields),
+        b'b' => barrier(line, fields),
+        b'j' => header(line, fields),
         _ => Form::Unread,
     }
 }
@@ -404,9 +414,9 @@ pub fn read_line(line: &[u8], fields: &mut [u64]) -> Form
         return Form::Unread;
     }
     match line[0] {
-        111 => operation(line, line[3], fields),
-        120 => element(line, fields),
-        119 => weighted_element(line, fields),
+        b'o' => operation(line, line[3], fields),
+        b'x' => element(line, fields),
+        b'w' => weighted_element(line, fields),
         _ => Form::Unread,
     }
 }

@@ -1,6 +1,6 @@
 // Stored cases, for the program that replays them: how a list of them is read. A list is a row of records. A record is a line; a record
-// `add bytes=N times=N` is its line and the N bytes after it. The records `add` make up the bytes of a case, each its bytes so many times, one behind the
-// other; the record after them names the call, and says what it must answer.
+// `add bytes=N times=N` is its line and the N bytes after it. The records `add` make up the bytes of a case, each its bytes so many times, one behind
+// the other; the record after them names the call, and says what it must answer.
 ghost use mathlib.Core.Path.{_≡_};
 ghost use Prim.Native.Nat.{_+_, _≤_, _<_};
 ghost use lib.ListN.{length};
@@ -84,7 +84,7 @@ fn add(list: &[u8], g: Gathered, dst: &mut [u8]) -> Gathered
 {
     let mut fields = [0u64; values::WORDS];
     let at = g.at;
-    let e = find(list, at, 10);
+    let e = find(list, at, b'\n');
     if !is_add(&list[at..e], &mut fields) {
         return g;
     }
@@ -125,7 +125,7 @@ pub fn next_case(list: &[u8], from: usize, dst: &mut [u8]) -> Case
     ensures { λ r. ⌜ (r .held ≤ length (now (dst .entry))) × (r .at ≤ r .end) × (r .end ≤ length (now (list .entry))) × (from < r .next) × (r .next ≤ length (now (list .entry))) ⌝ }
 {
     let g = gather(list, from, dst);
-    let end = find(list, g.at, 10);
+    let end = find(list, g.at, b'\n');
     let mut next = end;
     if end < list.len() {
         next = end + 1;
@@ -138,7 +138,8 @@ pub fn next_case(list: &[u8], from: usize, dst: &mut [u8]) -> Case
     }
 }
 
-// The words that some bytes are, a line of 16 hexadecimal digits each, at the front of dst, up to the first that is none or has no room; how many there are.
+// The words that some bytes are, a line of 16 hexadecimal digits each, at the front of dst, up to the first that is none or has no room;
+// how many there are.
 pub fn words(src: &[u8], dst: &mut [u64]) -> usize
     ensures { λ r. ⌜ r ≤ length (now (dst .entry)) ⌝ }
 {

@@ -1,5 +1,5 @@
-// Replays stored cases of the calls from standard input: `crates/replay/README.md` says how they are written. Prints where a case differs, then how many
-// cases there were and how many differ.
+// Replays stored cases of the calls from standard input: `crates/replay/README.md` says how they are written. Prints where a case differs, then how
+// many cases there were and how many differ.
 ghost use mathlib.Core.Path.{_≡_};
 ghost use Prim.Native.Nat.{_≤_};
 ghost use lib.ListN.{length};

@@ -1,5 +1,5 @@
-// Replays stored cases of further calls from standard input, as `replay_calls` does those of others: `crates/replay/README.md` says how they are written.
-// A program of its own, so that the two are checked side by side.
+// Replays stored cases of further calls from standard input, as `replay_calls` does those of others: `crates/replay/README.md` says how they are
+// written. A program of its own, so that the two are checked side by side.
 ghost use mathlib.Core.Path.{_≡_};
 ghost use Prim.Native.Nat.{_≤_};
 ghost use lib.ListN.{length};
@@ -76,8 +76,9 @@ fn replay_fault_table(at: usize, fields: &[u64], bytes: &[u8]) -> bool
     )
 }
 
-// ---- Callers with shares of the main list. The lists of a case are the marks before the call, the shares, the marks after it, the noiseless bits, the main and
-// the second list, and of a run its rows and totals. The marks come first, so that a buffer into which all words are read begins with them.
+// ---- Callers with shares of the main list. The lists of a case are the marks before the call, the shares, the marks after it, the noiseless bits,
+// the main and the second list, and of a run its rows and totals.
+// The marks come first, so that a buffer into which all words are read begins with them.
 
 fn is_settle_shared(line: &[u8], fields: &mut [u64]) -> bool
     requires { ⌜ Whole (now fields) ⌝ }

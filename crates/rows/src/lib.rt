@@ -67,6 +67,42 @@ pub fn xor_words(dst: &mut [u64], at: usize, src: &[u64], from: usize, n: usize)
     }
 }
 
+// Adds four runs of n words of src, from a, b, c and d on, to the words of dst from `at` on, which are read and written once for the four.
+fn xor_four(
+    dst: &mut [u64],
+    at: usize,
+    src: &[u64],
+    a: usize,
+    b: usize,
+    c: usize,
+    d: usize,
+    n: usize,
+)
+    requires { ⌜ (at + n ≤ length (now dst)) × (a + n ≤ length (now src)) × (b + n ≤ length (now src)) × (c + n ≤ length (now src)) × (d + n ≤ length (now src)) ⌝ }
+    ensures { λ _. ⌜ now (dst .exit) ≡ xored at d n (now (src .entry)) (xored at c n (now (src .entry)) (xored at b n (now (src .entry)) (xored at a n (now (src .entry)) (now (dst .entry))))) ⌝ }
+{
+    let mut j = 0;
+    while j < n {
+        dst[at + j] = dst[at + j] ^ src[a + j] ^ src[b + j] ^ src[c + j] ^ src[d + j];
+        j += 1;
+    }
+}
+
+// Adds n words of src, from `from` on, to those of dst from p on and to those from q on, where the two runs are the same or don't meet. The
+// words of src are read once for both.
+fn xor_twice(dst: &mut [u64], p: usize, q: usize, src: &[u64], from: usize, n: usize)
+    requires { ⌜ (p + n ≤ length (now dst)) × (q + n ≤ length (now dst)) × (from + n ≤ length (now src)) × (p < q → p + n ≤ q) ⌝ }
+    ensures { λ _. ⌜ now (dst .exit) ≡ xored q from n (now (src .entry)) (xored p from n (now (src .entry)) (now (dst .entry))) ⌝ }
+{
+    let mut j = 0;
+    while j < n {
+        let word = src[from + j];
+        dst[p + j] ^= word;
+        dst[q + j] ^= word;
+        j += 1;
+    }
+}
+
 // Exchanges n words of x from `at` on with n words of z from `at` on.
 pub fn swap_words(x: &mut [u64], z: &mut [u64], at: usize, n: usize)
     requires { ⌜ (at + n ≤ length (now x)) × (at + n ≤ length (now z)) ⌝ }
@@ -131,6 +167,14 @@ pub fn add_listed(sums: &mut [u64], r: usize, rows: &[u64], w: usize, list: &[u6
 {
     let at = r * w;
     let mut i = 0;
+    while 4 <= list.len() - i {
+        let a = list[i] as usize;
+        let b = list[i + 1] as usize;
+        let c = list[i + 2] as usize;
+        let d = list[i + 3] as usize;
+        xor_four(&mut *sums, at, rows, a * w, b * w, c * w, d * w, w);
+        i += 4;
+    }
     while i < list.len() {
         let q = list[i] as usize;
         xor_words(sums, at, rows, q * w, w);
@@ -154,6 +198,12 @@ pub fn add_mask_listed(rows: &mut [u64], w: usize, list: &[u64], masks: &[u64], 
 {
     let from = r * w;
     let mut i = 0;
+    while 2 <= list.len() - i {
+        let p = list[i] as usize;
+        let q = list[i + 1] as usize;
+        xor_twice(&mut *rows, p * w, q * w, masks, from, w);
+        i += 2;
+    }
     while i < list.len() {
         let q = list[i] as usize;
         xor_words(rows, q * w, masks, from, w);

@@ -1,16 +1,21 @@
 -- Whether so many words are lent as a run needs. Definitions. Assumes nothing.
-use Prim.Native.Nat.{ℕ}
+use Prim.Native.Nat.{_*_}
 use mathlib.Core.Bool.{Bool, _&&_}
 use lib.Dec.{leb}
 use Rattle.job.specs.declared.Header.{Header}
-use Rattle.run.specs.Run.{frameWords, outcomeWords}
+use Rattle.rows.specs.declared.Shape.{Shape}
+use Rattle.job_shape.specs.Tested.{shapeFor}
 use Rattle.runner.specs.declared.Lengths.{Lengths}
 
--- a frame's of the X and of the Z part, the outcomes' of the deltas and of the noiseless bits, and as many totals as there are rows of outcomes
-unfoldable pub suffice : ℕ → ℕ → ℕ → ℕ → ℕ → ℕ → ℕ → ℕ → Bool
-suffice frame outcomes rows x z deltas totals noiseless =
-    leb frame x && leb frame z && leb outcomes deltas && leb rows totals && leb outcomes noiseless
+-- for each qubit a row of the X and of the Z part, for each outcome a row of the deltas and of the noiseless bits, and a total
+unfoldable pub suffice : Shape → Lengths → Bool
+suffice shape lent =
+    leb (shape .qubits * shape .width) (lent .x)
+    && leb (shape .qubits * shape .width) (lent .z)
+    && leb (shape .outcomes * shape .width) (lent .deltas)
+    && leb (shape .outcomes) (lent .totals)
+    && leb (shape .outcomes * shape .width) (lent .noiseless)
 
 -- for a header
 abbrev pub enoughLent : Header → Lengths → Bool
-enoughLent h lent = suffice (frameWords h) (outcomeWords h) (h .outcomes) (lent .x) (lent .z) (lent .deltas) (lent .totals) (lent .noiseless)
+enoughLent h lent = suffice (shapeFor h) lent

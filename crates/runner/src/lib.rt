@@ -2,11 +2,12 @@
 use execution::Answered;
 use job::Answer;
 use job_shape::Tested;
+use job_shape::behind_header;
 use needed_words::run_needed;
-use numbers::pieces::find;
 use rows::Shape;
 ghost use mathlib.Core.Path.{_≡_};
 ghost use mathlib.Core.List.{_++_};
+ghost use Prim.Native.Nat.{_*_, _^_, _<_};
 ghost use Rattle.run.specs.Run.{Source, Memory, RunReply, runReply};
 ghost use Rattle.job.specs.Job.{jobOf};
 ghost use Rattle.job_shape.specs.Tested.{Tests};
@@ -22,32 +23,27 @@ pub struct Lengths {
     pub noiseless: usize,
 }
 
-// Whether so many words are lent: a frame's of the X and of the Z part, the outcomes' of the deltas and of the noiseless bits; and a total for each outcome.
-fn enough(
-    frame: usize,
-    outcomes: usize,
-    rows: usize,
-    x: usize,
-    z: usize,
-    deltas: usize,
-    totals: usize,
-    noiseless: usize,
-) -> bool
-    ensures { λ r. ⌜ r ≡ suffice frame outcomes rows x z deltas totals noiseless ⌝ }
+// Whether so many words are lent as a run of that shape needs: for each qubit a row of the X and of the Z part, for each outcome a row of the deltas
+// and of the noiseless bits, and a total.
+fn enough(shape: Shape, lent: Lengths) -> bool
+    requires { ⌜ (shape .qubits * shape .width < 2 ^ 64) × (shape .outcomes * shape .width < 2 ^ 64) ⌝ }
+    ensures { λ r. ⌜ r ≡ suffice shape lent ⌝ }
 {
-    if x < frame {
+    let frame_words = shape.qubits * shape.width;
+    let outcome_words = shape.outcomes * shape.width;
+    if lent.x < frame_words {
         return false;
     }
-    if z < frame {
+    if lent.z < frame_words {
         return false;
     }
-    if deltas < outcomes {
+    if lent.deltas < outcome_words {
         return false;
     }
-    if totals < rows {
+    if lent.totals < shape.outcomes {
         return false;
     }
-    outcomes <= noiseless
+    outcome_words <= lent.noiseless
 }
 
 // 13: lent words too few.
@@ -70,16 +66,7 @@ pub fn tested(job: &[u8], lent: Lengths) -> Tested
         return r;
     }
     let shape = r.shape;
-    if !enough(
-        shape.qubits * shape.width,
-        shape.outcomes * shape.width,
-        shape.outcomes,
-        lent.x,
-        lent.z,
-        lent.deltas,
-        lent.totals,
-        lent.noiseless,
-    ) {
+    if !enough(shape, lent) {
         return Tested {
             answer: too_few(),
             shape,
@@ -105,15 +92,15 @@ pub fn run_tested<'a>(
     requires { ⌜ RunReady (now job) shape (now x) (now z) (now deltas) (now totals) (now noiseless) ⌝ }
     ensures { λ r. ⌜ RanTo (now (job .entry)) (record { x = now (x .entry); z = now (z .entry); deltas = now (deltas .entry); totals = now (totals .entry); source = record { noiseless = now (noiseless .entry); main = now (main .entry) ++ now (more .entry); second = now (second .entry); base = base } }) (now (x .exit)) (now (z .exit)) (now (deltas .exit)) (now (totals .exit)) r ⌝ }
 {
-    let frame = shape.qubits * shape.width;
-    let outcomes = shape.outcomes * shape.width;
-    let from = find(job, 0, 10) + 1;
+    let frame_words = shape.qubits * shape.width;
+    let outcome_words = shape.outcomes * shape.width;
+    let from = behind_header(job);
     run_needed(
         job,
         from,
-        &mut x[..frame],
-        &mut z[..frame],
-        &mut deltas[..outcomes],
+        &mut x[..frame_words],
+        &mut z[..frame_words],
+        &mut deltas[..outcome_words],
         &mut totals[..shape.outcomes],
         shape,
         noiseless,
@@ -124,8 +111,8 @@ pub fn run_tested<'a>(
     )
 }
 
-// A run of a job over lent words: the X and Z parts of the frames, the deltas and their totals, which are written, the noiseless bits, the main and the
-// second list of draws, and the base of the second. The words beyond those that are needed stay, and a refusal other than 14 writes nothing.
+// A run of a job over lent words: the X and Z parts of the frames, the deltas and their totals, which are written, the noiseless bits, the main and
+// the second list of draws, and the base of the second. The words beyond those that are needed stay, and a refusal other than 14 writes nothing.
 pub fn run<'a>(
     job: &[u8],
     x: &mut [u64],

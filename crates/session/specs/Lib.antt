@@ -1,2 +1,4 @@
 -- Definitions, to be believed: the printed session.
 pub mod Session
+-- Theorems about them.
+pub mod Theorems

@@ -22,7 +22,7 @@ pub fn put_refusal(out: &mut [u8], a: Answer) -> usize
 {
     let numbers = [a.number, a.line];
     let next = put_numbers(&mut *out, 0, b"ok=0 refusal=N line=N", &numbers);
-    put_byte(out, next, 10)
+    put_byte(out, next, b'\n')
 }
 
 // `ok=1 qubits=N outcomes=N shots=N`
@@ -31,7 +31,7 @@ fn put_header(out: &mut [u8], h: Header) -> usize
 {
     let numbers = [h.qubits, h.outcomes, h.shots];
     let next = put_numbers(&mut *out, 0, b"ok=1 qubits=N outcomes=N shots=N", &numbers);
-    put_byte(out, next, 10)
+    put_byte(out, next, b'\n')
 }
 
 // The delta of an outcome in a shot, as 0 or 1, where a row has w words.
@@ -42,9 +42,9 @@ fn delta_byte(deltas: &[u64], w: usize, id: OutcomeId, shot: Shot) -> u8
     let row = id.0;
     let s = shot.0;
     if (deltas[row * w + s / 64] >> (s % 64)) % 2 == 1 {
-        return 49;
+        return b'1';
     }
-    48
+    b'0'
 }
 
 // The deltas of an outcome, shot 0 first.
@@ -71,7 +71,7 @@ fn put_delta(out: &mut [u8], at: usize, deltas: &[u64], id: OutcomeId, shots: us
     let numbers = [id.0 as u64];
     let bits = put_numbers(&mut *out, at, b"id=N delta=", &numbers);
     let next = put_bits(&mut *out, bits, deltas, id, shots);
-    put_byte(out, next, 10)
+    put_byte(out, next, b'\n')
 }
 
 // The deltas of so many outcomes, a line each.

@@ -15,21 +15,20 @@ use instruction_text::Moved;
 use instruction_text::Reached;
 use instruction_text::put_instruction;
 use job::Answer;
+use job::limits::MAX_BYTES;
 use job_shape::Tested;
+use job_shape::behind_header;
 use noise::Place;
-use numbers::pieces::find;
 use rows::Shape;
 use template::values::WORDS;
 use writer::TextAnswer;
 use writer::put_bytes;
 use writer::refused;
 
-const MAX_BYTES: usize = 1048576;
-
 // The text is so long; or the line of the noise whose draws were spent. Each with the words of the main list that were taken.
 pub enum TextLength {
-    Length(usize, usize),
-    SpentAt(u64, usize),
+    Length { bytes: usize, taken: usize },
+    SpentAt { line: u64, taken: usize },
 }
 
 // An answer, and how many words of the main list were taken for it.
@@ -54,11 +53,11 @@ fn put_settled<'a>(
 {
     let mut values = [0u64; WORDS];
     let mut elements = [0u64; ALL_WORDS];
-    let end = find(job, 0, 10) + 1;
-    let text = put_bytes(&mut *out, 0, &job[..end]);
+    let from = behind_header(job);
+    let text = put_bytes(&mut *out, 0, &job[..from]);
     let mut here = Reached {
         place: Place {
-            byte: end,
+            byte: from,
             line: 2,
             position: 0,
         },
@@ -78,15 +77,21 @@ fn put_settled<'a>(
             second,
             base,
         ) {
-            Moved::Spent(position) => {
-                return TextLength::SpentAt(here.place.line, position);
+            Moved::Spent { position } => {
+                return TextLength::SpentAt {
+                    line: here.place.line,
+                    taken: position,
+                };
             }
             Moved::To(next) => {
                 here = next;
             }
         }
     }
-    TextLength::Length(here.text, here.place.position)
+    TextLength::Length {
+        bytes: here.text,
+        taken: here.place.position,
+    }
 }
 
 // Whether a text of so many bytes fits the lent ones and the limit.
@@ -156,14 +161,14 @@ pub fn settle_tested<'a>(
         second,
         base,
     ) {
-        TextLength::SpentAt(k, taken) => Answered {
+        TextLength::SpentAt { line: k, taken } => Answered {
             answer: refused(Answer {
                 number: 14,
                 line: k,
             }),
             taken,
         },
-        TextLength::Length(need, taken) => {
+        TextLength::Length { bytes: need, taken } => {
             if !text_fits(need, out.len()) {
                 return Answered {
                     answer: measured(15, need),

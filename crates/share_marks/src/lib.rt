@@ -108,8 +108,8 @@ fn lower(a: usize, b: usize) -> usize
     b
 }
 
-// Marks so many words as taken: of the caller's own ones, of which so many are left, first, and the rest of the common part, which is marked behind all
-// callers.
+// Marks so many words as taken: of the caller's own ones, of which so many are left, first, and the rest of the common part, which is marked behind
+// all callers.
 pub fn mark_taken(marks: &mut [u64], callers: usize, caller: usize, own: usize, taken: usize)
     requires { ⌜ (caller < callers) × (callers < length (now marks)) × (getD (now marks) caller 0 + own < 2 ^ 64) × (getD (now marks) callers 0 + (taken - own) < 2 ^ 64) ⌝ }
     ensures { λ _. ⌜ now (marks .exit) ≡ moved (moved (now (marks .entry)) caller (min taken own)) callers (taken - min taken own) ⌝ }

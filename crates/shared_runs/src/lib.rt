@@ -27,8 +27,8 @@ fn first_refusal(answer: Answer, main: &[u64], shares: &[u64], marks: &[u64], ca
     }
 }
 
-// A run of a job by a caller with a share: of the main list it reads what is left of the caller's stretch, then of the common part, and marks what it has
-// taken. With a refusal other than 14 no mark is moved.
+// A run of a job by a caller with a share: of the main list it reads what is left of the caller's stretch, then of the common part, and marks what it
+// has taken. With a refusal other than 14 no mark is moved.
 pub fn run_shared<'a>(
     job: &[u8],
     x: &mut [u64],

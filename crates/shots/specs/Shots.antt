@@ -10,12 +10,23 @@ use Rattle.pauli.specs.Bits.{Bits}
 use Rattle.job.specs.Line.{Noise}
 use Rattle.draws.specs.Draws.{falls, isSatisfied, ShotDraw, drawShot, Lent}
 use Rattle.noise.specs.declared.PauliDistribution.{PauliDistribution}
+use Rattle.shots.specs.declared.DrawRule.{DrawRule}
 use Rattle.shots.specs.declared.ShotDraw.{ShotDraw as Draw}
 use Rattle.shots.specs.declared.ShotDraw.the-variants as draw
 use Rattle.shots.specs.declared.NextFault.{NextFault}
 use Rattle.shots.specs.declared.NextFault.the-variants as next
 use Rattle.noise.specs.Kinds.{Represents}
+use Rattle.noise.specs.Scan.{thresholdOf}
+use Rattle.choice.specs.Choice.{Sized}
 use Rattle.noise.specs.Condition.{Masks}
+
+-- ---- the rule of a line
+
+-- the threshold is that of p, and the chooser that of the kind of distribution
+pub record RuleOf (p : Float) (d : PauliDistribution) (r : DrawRule) : Type 0 where
+  pub threshold : r .threshold ≡ thresholdOf p
+  pub kind : r .chooser .kind ≡ d
+  pub sized : Sized (r .chooser)
 
 -- ---- one shot
 

@@ -1,9 +1,12 @@
 // What the shots of a noise line draw, one after the other.
 use choice::Choice;
 use choice::Chooser;
+use choice::chooser_of;
 use choice::element;
+use noise::PauliDistribution;
 use noise::scan::falls_next;
 use noise::scan::next_skip;
+use noise::scan::threshold;
 use noise::words::count;
 use pauli::Shot;
 ghost use mathlib.Core.Path.{_≡_};
@@ -12,15 +15,33 @@ ghost use Prim.Native.Nat.{_*_, _/_, _%_, _<_, _≤_};
 ghost use lib.ListN.{length, getD};
 ghost use lib.Ieee.{Float};
 ghost use Rattle.pauli.specs.Bits.{bit};
-ghost use Rattle.noise.specs.Scan.{thresholdOf};
+ghost use Rattle.noise.specs.Kinds.{Small};
 ghost use Rattle.choice.specs.Choice.{Sized};
-ghost use Rattle.shots.specs.Shots.{ShotDrawn, FaultFound};
+ghost use Rattle.shots.specs.Shots.{RuleOf, ShotDrawn, FaultFound};
+
+// How words become the faults of a line, the same in all its shots: by the threshold of its p a word brings a fault or none, and the chooser finds
+// the element.
+pub struct DrawRule {
+    pub threshold: u64,
+    pub chooser: Chooser,
+}
+
+// The rule of a line's p and its distribution.
+pub fn rule_of(p: f64, d: PauliDistribution) -> DrawRule
+    requires { ⌜ Small d ⌝ }
+    ensures { λ r. ⌜ RuleOf p d r ⌝ }
+{
+    DrawRule {
+        threshold: threshold(p),
+        chooser: chooser_of(d),
+    }
+}
 
 // What one shot draws: no fault, or an element, each with the place of the next word; or a word was needed past the end.
 pub enum ShotDraw {
     Spent,
-    Quiet(usize),
-    Fault(u64, usize),
+    Quiet { next: usize },
+    Fault { element: u64, next: usize },
 }
 
 // One shot's draw, where the word at its place, if there is one, brings a fault. The words lie in two parts, the second behind the first. `satisfied`
@@ -40,10 +61,10 @@ pub fn draw_shot(
         return ShotDraw::Spent;
     }
     if !satisfied {
-        return ShotDraw::Quiet(at + 1);
+        return ShotDraw::Quiet { next: at + 1 };
     }
     match element(words, more, at + 1, chooser, sums) {
-        Choice::Chosen(e, next) => ShotDraw::Fault(e, next),
+        Choice::Chosen { element: e, next } => ShotDraw::Fault { element: e, next },
         Choice::Spent => ShotDraw::Spent,
     }
 }
@@ -61,11 +82,17 @@ pub fn is_set(mask: &[u64], shot: Shot) -> bool
 // word; or a word was needed past the end.
 pub enum NextFault {
     Spent,
-    Done(usize),
-    At(Shot, u64, usize),
+    Done {
+        next: usize,
+    },
+    At {
+        shot: Shot,
+        element: u64,
+        next: usize,
+    },
 }
 
-// The next fault in the shots from one on, by the threshold of the line's p. The mask has the shots whose condition is satisfied.
+// The next fault in the shots from `shot` on, by the rule of the line. The mask has the shots whose condition is satisfied.
 fn fault_from(
     words: &[u64],
     more: &[u64],
@@ -73,13 +100,14 @@ fn fault_from(
     mask: &[u64],
     shot: Shot,
     shots: usize,
-    t: u64,
-    chooser: Chooser,
+    rule: DrawRule,
     sums: &[f64],
 ) -> NextFault
-    requires { ⌜ (at ≤ length (now words ++ now more)) × (shot .0 ≤ shots) × (shots ≤ 64 * length (now mask)) × Sized chooser ⌝ }
-    ensures { λ r. ⌜ ((p : Float) → t ≡ thresholdOf p → FaultFound (now (words .entry) ++ now (more .entry)) at (now (mask .entry)) (shot .0) shots p (chooser .kind) (now (sums .entry)) r) ⌝ }
+    requires { ⌜ (at ≤ length (now words ++ now more)) × (shot .0 ≤ shots) × (shots ≤ 64 * length (now mask)) × Sized (rule .chooser) ⌝ }
+    ensures { λ r. ⌜ ((p : Float) (d : PauliDistribution) → RuleOf p d rule → FaultFound (now (words .entry) ++ now (more .entry)) at (now (mask .entry)) (shot .0) shots p d (now (sums .entry)) r) ⌝ }
 {
+    let t = rule.threshold;
+    let chooser = rule.chooser;
     let mut i = at;
     let mut s = shot.0;
     while s < shots {
@@ -87,22 +115,26 @@ fn fault_from(
         i += skip;
         s += skip;
         if s == shots {
-            return NextFault::Done(i);
+            return NextFault::Done { next: i };
         }
         match draw_shot(words, more, i, chooser, sums, is_set(mask, Shot(s))) {
             ShotDraw::Spent => {
                 return NextFault::Spent;
             }
-            ShotDraw::Quiet(next) => {
+            ShotDraw::Quiet { next } => {
                 i = next;
             }
-            ShotDraw::Fault(e, next) => {
-                return NextFault::At(Shot(s), e, next);
+            ShotDraw::Fault { element: e, next } => {
+                return NextFault::At {
+                    shot: Shot(s),
+                    element: e,
+                    next,
+                };
             }
         }
         s += 1;
     }
-    NextFault::Done(i)
+    NextFault::Done { next: i }
 }
 
 // The same with a look at the first shot by itself: with a p near 1 that has a fault, and what the loop prepares would cost more than the draw.
@@ -113,25 +145,29 @@ pub fn next_fault(
     mask: &[u64],
     shot: Shot,
     shots: usize,
-    t: u64,
-    chooser: Chooser,
+    rule: DrawRule,
     sums: &[f64],
 ) -> NextFault
-    requires { ⌜ (at ≤ length (now words ++ now more)) × (shot .0 ≤ shots) × (shots ≤ 64 * length (now mask)) × Sized chooser ⌝ }
-    ensures { λ r. ⌜ ((p : Float) → t ≡ thresholdOf p → FaultFound (now (words .entry) ++ now (more .entry)) at (now (mask .entry)) (shot .0) shots p (chooser .kind) (now (sums .entry)) r) ⌝ }
+    requires { ⌜ (at ≤ length (now words ++ now more)) × (shot .0 ≤ shots) × (shots ≤ 64 * length (now mask)) × Sized (rule .chooser) ⌝ }
+    ensures { λ r. ⌜ ((p : Float) (d : PauliDistribution) → RuleOf p d rule → FaultFound (now (words .entry) ++ now (more .entry)) at (now (mask .entry)) (shot .0) shots p d (now (sums .entry)) r) ⌝ }
 {
     if shot.0 < shots {
-        if falls_next(words, more, at, t) {
+        if falls_next(words, more, at, rule.threshold) {
+            let chooser = rule.chooser;
             match draw_shot(words, more, at, chooser, sums, is_set(mask, shot)) {
                 ShotDraw::Spent => {
                     return NextFault::Spent;
                 }
-                ShotDraw::Quiet(_) => {}
-                ShotDraw::Fault(e, next) => {
-                    return NextFault::At(shot, e, next);
+                ShotDraw::Quiet { next: _ } => {}
+                ShotDraw::Fault { element: e, next } => {
+                    return NextFault::At {
+                        shot,
+                        element: e,
+                        next,
+                    };
                 }
             }
         }
     }
-    fault_from(words, more, at, mask, shot, shots, t, chooser, sums)
+    fault_from(words, more, at, mask, shot, shots, rule, sums)
 }

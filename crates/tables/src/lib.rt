@@ -1,4 +1,5 @@
-// The table of a Clifford on k of 1 to 8 qubits, in words, the least significant first: bit 2k * r + c is at column c of row r. A row may lie in two words.
+// The table of a Clifford on k of 1 to 8 qubits, in words, the least significant first: bit 2k * r + c is at column c of row r.
+// A row may lie in two words.
 ghost use mathlib.Core.Path.{_≡_};
 ghost use mathlib.Core.Bool.{not, _&&_};
 ghost use Prim.Native.Nat.{_*_, _^_, _≤_, _<_};

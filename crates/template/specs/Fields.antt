@@ -11,7 +11,7 @@ use Rattle.text.specs.Template.{Value, isLetter, valuesOf, numbersIn, listsIn, 
 use Rattle.numbers.specs.Read.{largestOf, inFront}
 use Rattle.template.specs.Values.{heldNumber, heldCount, heldLargest, heldMember}
 use Rattle.template.specs.declared.Progress.{Progress}
-use Rattle.template.specs.declared.Put.{Put}
+use Rattle.template.specs.declared.Stored.{Stored}
 
 -- a list by its letter: L, Q, T, else C
 unfoldable pub listBy : ℕ → List ℕ → Option (List ℕ)
@@ -98,13 +98,13 @@ pub record ReadAs (line template : List ℕ) (r : Bool) (fields : List ℕ) : Ty
 -- ---- one value more, between the functions of the code
 
 -- the value `o` was put after n numbers and l lists; it is a numbers and b lists, where one of a and b is 1, the other 0
-pub record PutOne (a b : ℕ) (o : Option Value) (n l : ℕ) (p : Put) (before after : List ℕ) : Type 0 where
+pub record StoresOne (a b : ℕ) (o : Option Value) (n l : ℕ) (p : Stored) (before after : List ℕ) : Type 0 where
   pub value : Value
   pub reads : o ≡ some value
   pub numbers-read : p .numbers ≡ n + a
   pub lists-read : p .lists ≡ l + b
   pub holds : (vs : List Value) → Held before n l vs → Held after (n + a) (l + b) (vs ++ value ∷ [])
 
-pub record PutAs (a b : ℕ) (o : Option Value) (n l : ℕ) (p : Put) (before after : List ℕ) : Type 0 where
+pub record StoresAs (a b : ℕ) (o : Option Value) (n l : ℕ) (p : Stored) (before after : List ℕ) : Type 0 where
   pub refused : p .ok ≡ false → n + a ≤ 4 → l + b ≤ 4 → o ≡ none
-  pub put : p .ok ≡ true → PutOne a b o n l p before after
+  pub put : p .ok ≡ true → StoresOne a b o n l p before after

@@ -8,7 +8,7 @@ ghost use lib.ListN.{length};
 ghost use Rattle.text.specs.Template.{aNumber, aList, valueOf, isLetter};
 ghost use Rattle.numbers.specs.Read.{read, ListRead};
 ghost use Rattle.template.specs.Values.{Whole};
-ghost use Rattle.template.specs.Fields.{listBy, numberLetter, listLetter, PutAs, started, isPlain, ReadNext, ReadOn, ReadAs};
+ghost use Rattle.template.specs.Fields.{listBy, numberLetter, listLetter, StoresAs, started, isPlain, ReadNext, ReadOn, ReadAs};
 
 pub mod values;
 
@@ -23,6 +23,7 @@ use numbers::lists::list_q;
 use numbers::number;
 use numbers::pieces::find;
 use values::COUNTS;
+use values::EACH;
 use values::KEPT;
 use values::LARGEST;
 use values::MEMBERS;
@@ -47,34 +48,34 @@ fn refused() -> Progress
 }
 
 // How many numbers and lists a line had, with one value more; or that it is none.
-struct Put {
+struct Stored {
     ok: bool,
     numbers: usize,
     lists: usize,
 }
 
-fn not_put() -> Put
+fn not_put() -> Stored
     ensures { λ r. ⌜ r .ok ≡ false ⌝ }
 {
-    Put {
+    Stored {
         ok: false,
         numbers: 0,
         lists: 0,
     }
 }
 
-fn put_number(v: Value, n: usize, l: usize, fields: &mut [u64]) -> Put
+fn put_number(v: Value, n: usize, l: usize, fields: &mut [u64]) -> Stored
     requires { ⌜ Whole (now fields) ⌝ }
-    ensures { λ r. ⌜ PutAs 1 0 (aNumber (read v)) n l r (now (fields .entry)) (now (fields .exit)) ⌝ }
+    ensures { λ r. ⌜ StoresAs 1 0 (aNumber (read v)) n l r (now (fields .entry)) (now (fields .exit)) ⌝ }
 {
     let Value::Of(x) = v else {
         return not_put();
     };
-    if 4 <= n {
+    if EACH <= n {
         return not_put();
     }
     fields[n] = x;
-    Put {
+    Stored {
         ok: true,
         numbers: n + 1,
         lists: l,
@@ -86,18 +87,18 @@ fn list(t: u8, s: &[u8], out: &mut [u64]) -> Listed
     ensures { λ r. ⌜ ListRead (listBy t (now (s .entry))) r (now (out .entry)) (now (out .exit)) ⌝ }
 {
     match t {
-        76 => list_l(s, out),
-        81 => list_q(s, out),
-        84 => list_by(s, true, out),
+        b'L' => list_l(s, out),
+        b'Q' => list_q(s, out),
+        b'T' => list_by(s, true, out),
         _ => list_c(s, out),
     }
 }
 
-fn put_list(t: u8, s: &[u8], n: usize, l: usize, fields: &mut [u64]) -> Put
+fn put_list(t: u8, s: &[u8], n: usize, l: usize, fields: &mut [u64]) -> Stored
     requires { ⌜ Whole (now fields) ⌝ }
-    ensures { λ r. ⌜ PutAs 0 1 (aList (listBy t (now (s .entry)))) n l r (now (fields .entry)) (now (fields .exit)) ⌝ }
+    ensures { λ r. ⌜ StoresAs 0 1 (aList (listBy t (now (s .entry)))) n l r (now (fields .entry)) (now (fields .exit)) ⌝ }
 {
-    if 4 <= l {
+    if EACH <= l {
         return not_put();
     }
     let a = MEMBERS + l * KEPT;
@@ -108,7 +109,7 @@ fn put_list(t: u8, s: &[u8], n: usize, l: usize, fields: &mut [u64]) -> Put
     }
     fields[COUNTS + l] = r.count as u64;
     fields[LARGEST + l] = r.largest;
-    Put {
+    Stored {
         ok: true,
         numbers: n,
         lists: l + 1,
@@ -116,18 +117,18 @@ fn put_list(t: u8, s: &[u8], n: usize, l: usize, fields: &mut [u64]) -> Put
 }
 
 // One value more, which the bytes s are by the letter t of a template.
-fn put_value(t: u8, s: &[u8], n: usize, l: usize, fields: &mut [u64]) -> Put
+fn put_value(t: u8, s: &[u8], n: usize, l: usize, fields: &mut [u64]) -> Stored
     requires { ⌜ Whole (now fields) ⌝ }
-    ensures { λ r. ⌜ PutAs (numberLetter t) (listLetter t) (valueOf t (now (s .entry))) n l r (now (fields .entry)) (now (fields .exit)) ⌝ }
+    ensures { λ r. ⌜ StoresAs (numberLetter t) (listLetter t) (valueOf t (now (s .entry))) n l r (now (fields .entry)) (now (fields .exit)) ⌝ }
 {
     match t {
-        78 => put_number(number(s), n, l, fields),
-        72 => put_number(hex16(s), n, l, fields),
-        66 => put_number(bit(s), n, l, fields),
-        76 => put_list(t, s, n, l, fields),
-        81 => put_list(t, s, n, l, fields),
-        84 => put_list(t, s, n, l, fields),
-        67 => put_list(t, s, n, l, fields),
+        b'N' => put_number(number(s), n, l, fields),
+        b'H' => put_number(hex16(s), n, l, fields),
+        b'B' => put_number(bit(s), n, l, fields),
+        b'L' => put_list(t, s, n, l, fields),
+        b'Q' => put_list(t, s, n, l, fields),
+        b'T' => put_list(t, s, n, l, fields),
+        b'C' => put_list(t, s, n, l, fields),
         _ => not_put(),
     }
 }
@@ -136,10 +137,10 @@ fn put_value(t: u8, s: &[u8], n: usize, l: usize, fields: &mut [u64]) -> Put
 pub fn is_letter(t: u8) -> bool
     ensures { λ r. ⌜ r ≡ isLetter t ⌝ }
 {
-    if t < 65 {
+    if t < b'A' {
         return false;
     }
-    t <= 90
+    t <= b'Z'
 }
 
 // ---- A line by the parts of its template
@@ -194,7 +195,7 @@ pub fn value(line: &[u8], p: Progress, t: u8, fields: &mut [u64]) -> Progress
         return p;
     }
     let at = p.at;
-    let e = find(line, at, 32);
+    let e = find(line, at, b' ');
     let q = put_value(t, &line[at..e], p.numbers, p.lists, fields);
     Progress {
         ok: q.ok,
@@ -245,7 +246,7 @@ pub fn read_on(
             at += 1;
             continue;
         }
-        let e = find(line, at, 32);
+        let e = find(line, at, b' ');
         let p = put_value(t, &line[at..e], n, l, &mut *fields);
         if !p.ok {
             return refused();

@@ -1,5 +1,5 @@
-// The values of a line in lent words: its numbers, at most 4; of each of its lists, at most 4, how many members it has, the largest of them (0 of none), and
-// the members, of which the first 31 are kept.
+// The values of a line in lent words: its numbers, at most 4; of each of its lists, at most 4, how many members it has, the largest of them (0 of
+// none), and the members, of which the first 31 are kept.
 ghost use mathlib.Core.Path.{_≡_};
 ghost use Prim.Native.Nat.{_≤_, _<_};
 ghost use Rattle.template.specs.Values.{Whole, AllKept, heldNumber, heldCount, heldLargest, heldMember, heldList, keptMembers};
@@ -7,17 +7,18 @@ ghost use Rattle.template.specs.Values.{Whole, AllKept, heldNumber, held
 // At most so many numbers, and so many lists.
 pub const EACH: usize = 4;
 
-pub const COUNTS: usize = 4;
-
-pub const LARGEST: usize = 8;
-
-pub const MEMBERS: usize = 12;
-
 // How many members of a list are kept.
 pub const KEPT: usize = 31;
 
+// Where the counts of the lists, their largest members and their members begin; the numbers begin at 0.
+pub const COUNTS: usize = EACH;
+
+pub const LARGEST: usize = COUNTS + EACH;
+
+pub const MEMBERS: usize = LARGEST + EACH;
+
 // All the words.
-pub const WORDS: usize = 136;
+pub const WORDS: usize = MEMBERS + EACH * KEPT;
 
 // The i-th number.
 pub fn number(v: &[u64], i: usize) -> u64

@@ -1,12 +1,15 @@
 -- Theorems: what is written reads back, and what is no number. Their proofs stand in Laws. Assumes nothing.
 use Prim.Native.Nat.{ℕ, _-_, _^_, _<_, _≤_}
 use mathlib.Core.Path.{_≡_}
-use mathlib.Core.Bool.{true}
+use mathlib.Core.Bool.{true, false}
 use mathlib.Core.List.{List, _∷_}
 use mathlib.Core.Option.{none, some}
+use native.Mathlib.Omega.{arith}
+use borrow.Author.Tests.{le-ltb}
 use lib.ListN.{length, getD}
 use Rattle.text.specs.Bytes.{LF, lines, unlines}
 use Rattle.text.specs.Number.{decimalFrom, numberOf}
+use Rattle.text.specs.List.{risesFrom, isRising}
 use Rattle.text.specs.Template.{Value, valuesOf, lineText}
 use Rattle.text.specs.Written.{AllSuit, ofOneLine, Free, AllFree}
 use Rattle.text.specs.Laws.Numbers as numbers
@@ -38,3 +41,8 @@ leading-zero b l = numbers.leading-zero b l
 
 pub too-large : (l : List ℕ) → 2 ^ 64 ≤ decimalFrom 0 l → numberOf l ≡ none
 too-large l h = numbers.number-large l h
+
+-- A list that begins with a member twice does not rise.
+pub strictly-rising : (a : ℕ) (l : List ℕ) → isRising (a ∷ a ∷ l) ≡ false
+unfolding isRising risesFrom
+strictly-rising a l = rw (le-ltb a a (omega arith))

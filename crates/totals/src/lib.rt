@@ -1,5 +1,5 @@
-// Totals: a number for each row of a matrix of bits, equal to the ones in the row. A row that changed is counted again; a single bit that changes is one
-// more or one less.
+// Totals: a number for each row of a matrix of bits, equal to the ones in the row. A row that changed is counted again; a single bit that changes is
+// one more or one less.
 use rows::Shape;
 ghost use mathlib.Core.Path.{_≡_};
 ghost use mathlib.Core.Bool.{false};

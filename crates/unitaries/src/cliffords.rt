@@ -1,5 +1,5 @@
-// Cliffords by their tables, and permutations. The operands' rows are saved in lent words, the scratch, and cleared; then what each saved row goes to is
-// added.
+// Cliffords by their tables, and permutations. The operands' rows are saved in lent words, the scratch, and cleared; then what each saved row goes to
+// is added.
 use rows::Shape;
 ghost use mathlib.Core.Path.{_≡_};
 ghost use mathlib.Core.Bool.{true};

@@ -99,6 +99,7 @@ pub fn apply_unitary_op(x: &mut [u64], z: &mut [u64], shape: Shape, gate: u64, q
 {
     let a = operand(qubits, 0);
     let b = operand(qubits, qubits.len() - 1);
+    // The codes: I, X, Y, Z; Hadamard; SqrtZ, SqrtX and SqrtY, each with its inverse; ControlledX, ControlledZ, Swap, PrepareBell, ControlledY.
     match gate {
         0..=3 => {}
         4 => apply_h(x, z, shape, a),

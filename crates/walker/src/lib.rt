@@ -1,4 +1,5 @@
-// The walk back over a job without noise: for a set of outcomes and a shot, the count of the injections and flips that change the sum of the set's deltas.
+// The walk back over a job without noise: for a set of outcomes and a shot,
+// the count of the injections and flips that change the sum of the set's deltas.
 ghost use mathlib.Core.Path.{_≡_};
 ghost use mathlib.Core.Bool.{true};
 ghost use mathlib.Core.List.{List};
@@ -7,7 +8,6 @@ ghost use Prim.Native.Nat.{ℕ, _+_, _^_, _<_};
 ghost use lib.ListN.{length, getD};
 ghost use Rattle.pauli.specs.Fixed.{inSet, AllBelow};
 ghost use Rattle.text.specs.Bytes.{lines as Bytes·lines};
-ghost use Rattle.text.specs.List.{isRising};
 ghost use Rattle.job.specs.Grammar.{Written, readLine};
 ghost use Rattle.job.specs.Checks.{allBelow};
 ghost use Rattle.job.specs.Job.{checkJob};
@@ -23,10 +23,12 @@ use lines_back::Walk;
 use lines_back::line_back;
 use lines_back::with_observable;
 use lines_from_last::line_start;
+use numbers::rising::is_rising;
 use pauli::Pauli;
 use pauli::QubitId;
 use pauli::Shot;
 use reader::read_line;
+use reader::slots::SHOT;
 use template::read_on;
 use template::values::WORDS;
 use template::values::number;
@@ -42,10 +44,11 @@ fn other_shot(line: &[u8], shot: Shot, values: &mut [u64]) -> bool
     if !p.ok {
         return false;
     }
-    number(values, 0) as usize != shot.0
+    number(values, SHOT) as usize != shot.0
 }
 
-// Whether a line is passed over without being read to its end: a Pauli, an allocation, a barrier, or an injection in another shot, of which there are many.
+// Whether a line is passed over without being read to its end:
+// a Pauli, an allocation, a barrier, or an injection in another shot, of which there are many.
 fn passed_over(line: &[u8], shot: Shot, values: &mut [u64]) -> bool
     requires { ⌜ Whole (now values) ⌝ }
     ensures { λ r. ⌜ (r ≡ true → (v : Written) → readLine (now (line .entry)) ≡ some v → PassedOver (shot .0) v) ⌝ }
@@ -53,14 +56,14 @@ fn passed_over(line: &[u8], shot: Shot, values: &mut [u64]) -> bool
     if line.len() < 4 {
         return false;
     }
-    if line[0] != 111 {
+    if line[0] != b'o' {
         return false;
     }
     match line[3] {
-        105 => other_shot(line, shot, values),
-        112 => true,
-        114 => true,
-        98 => true,
+        b'i' => other_shot(line, shot, values),
+        b'p' => true,
+        b'r' => true,
+        b'b' => true,
         _ => false,
     }
 }
@@ -72,10 +75,10 @@ fn is_gate(line: &[u8]) -> bool
     if line.len() < 4 {
         return false;
     }
-    if line[0] != 111 {
+    if line[0] != b'o' {
         return false;
     }
-    line[3] == 117
+    line[3] == b'u'
 }
 
 // A gate line of an accepted job, of which there are many: read without testing its form again.
@@ -144,20 +147,6 @@ fn refused(number: u64, line: u64) -> CountReply
         answered: Answer { number, line },
         count: 0,
     }
-}
-
-// Whether numbers rise strictly.
-pub fn is_rising(numbers: &[u64]) -> bool
-    ensures { λ r. ⌜ r ≡ isRising (now (numbers .entry)) ⌝ }
-{
-    let mut i = 1;
-    while i < numbers.len() {
-        if numbers[i] <= numbers[i - 1] {
-            return false;
-        }
-        i += 1;
-    }
-    true
 }
 
 // Whether all numbers are below n.

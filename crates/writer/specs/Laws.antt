@@ -2,5 +2,6 @@
 pub mod Placing
 pub mod Digits
 pub mod Lists
+pub mod Lengths
 pub mod Line
 pub mod Lines

@@ -7,8 +7,10 @@ ghost use lib.ListN.{length};
 ghost use Rattle.text.specs.Number.{decimal, hexByte, hexadecimal};
 ghost use Rattle.text.specs.List.{commas, listText};
 ghost use Rattle.writer.specs.Placed.{Puts};
+use crate::lengths::digits;
 use job::Answer;
 
+pub mod lengths;
 pub mod line;
 pub mod noise_lines;
 
@@ -64,22 +66,25 @@ pub fn put_bytes(out: &mut [u8], at: usize, s: &[u8]) -> usize
     at + s.len()
 }
 
-// In decimal.
+// In decimal. Past the end of the lent bytes the digits are counted and not made.
 pub fn put_number(out: &mut [u8], at: usize, n: u64) -> usize
     requires { ⌜ at + length (decimal n) < 2 ^ 64 ⌝ }
     ensures { λ r. ⌜ Puts at (decimal n) (now (out .entry)) (now (out .exit)) r ⌝ }
 {
-    let mut digits = [0u8; 20];
+    if out.len() <= at {
+        return at + digits(n);
+    }
+    let mut text = [0u8; 20];
     let mut i = 20;
     let mut rest = n;
     while 9 < rest {
         i -= 1;
-        digits[i] = 48 + (rest % 10) as u8;
+        text[i] = b'0' + (rest % 10) as u8;
         rest /= 10;
     }
     i -= 1;
-    digits[i] = 48 + rest as u8;
-    put_bytes(out, at, &digits[i..])
+    text[i] = b'0' + rest as u8;
+    put_bytes(out, at, &text[i..])
 }
 
 fn hex_byte(d: u64) -> u8
@@ -87,8 +92,9 @@ fn hex_byte(d: u64) -> u8
     ensures { λ r. ⌜ r ≡ hexByte d ⌝ }
 {
     if d < 10 {
-        return 48 + d as u8;
+        return b'0' + d as u8;
     }
+    // ten before b'a'
     87 + d as u8
 }
 
@@ -116,7 +122,7 @@ fn put_commas(out: &mut [u8], at: usize, l: &[u64]) -> usize
     let mut next = at;
     let mut i = 0;
     while i < l.len() {
-        next = put_byte(&mut *out, next, 44);
+        next = put_byte(&mut *out, next, b',');
         next = put_number(&mut *out, next, l[i]);
         i += 1;
     }
@@ -129,7 +135,7 @@ pub fn put_list(out: &mut [u8], at: usize, l: &[u64]) -> usize
     ensures { λ r. ⌜ Puts at (listText (now (l .entry))) (now (out .entry)) (now (out .exit)) r ⌝ }
 {
     if l.len() == 0 {
-        return put_byte(out, at, 45);
+        return put_byte(out, at, b'-');
     }
     let next = put_number(&mut *out, at, l[0]);
     put_commas(out, next, &l[1..])

@@ -18,9 +18,9 @@ fn is_list(t: u8) -> bool
     ensures { λ r. ⌜ r ≡ isList t ⌝ }
 {
     match t {
-        76 => true,
-        81 => true,
-        67 => true,
+        b'L' => true,
+        b'Q' => true,
+        b'C' => true,
         _ => false,
     }
 }
@@ -30,7 +30,7 @@ fn put_number_by(out: &mut [u8], at: usize, t: u8, n: u64) -> usize
     requires { ⌜ at + length (valueText t (Value.number n)) < 2 ^ 64 ⌝ }
     ensures { λ r. ⌜ Puts at (valueText t (Value.number n)) (now (out .entry)) (now (out .exit)) r ⌝ }
 {
-    if t == 72 {
+    if t == b'H' {
         return put_hex(out, at, n);
     }
     put_number(out, at, n)

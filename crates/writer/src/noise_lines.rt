@@ -8,18 +8,35 @@ ghost use Rattle.text.specs.Template.{Value, lineText};
 ghost use Rattle.job.specs.Grammar.{injectTemplate};
 ghost use Rattle.writer.specs.Placed.{Puts};
 ghost use Rattle.writer.specs.Line.{PauliLent, depolarizingStart, depolarizingText};
+use crate::lengths::digits;
+use crate::lengths::list_length;
 use crate::line::put_line;
 use crate::line::put_numbers;
 use crate::put_byte;
 use crate::put_bytes;
 use job::depolarizing_size;
 use pauli::Shot;
+use template::values::KEPT;
 
-// `op=i shot=N x=L z=L`: the counts of x and z, and 31 words for the members of each.
+// How many bytes an injection has: 17 for what its template says and the LF, and those of the values.
+fn inject_length(shot: Shot, counts: &[u64], members: &[u64]) -> usize
+    requires { ⌜ PauliLent (now counts) (now members) ⌝ }
+    ensures { λ r. ⌜ r ≡ length (lineText injectTemplate (Value.number (shot .0) ∷ Value.list (take (getD (now (counts .entry)) 0 0) (now (members .entry))) ∷ Value.list (take (getD (now (counts .entry)) 1 0) (drop 31 (now (members .entry)))) ∷ []) ++ LF ∷ []) ⌝ }
+{
+    let x = list_length(&members[..counts[0] as usize]);
+    let z = list_length(&members[KEPT..KEPT + counts[1] as usize]);
+    17 + digits(shot.0 as u64) + x + z
+}
+
+// `op=i shot=N x=L z=L`: the counts of x and z, and 31 words for the members of each. Past the end of the lent bytes the line is counted and not
+// made, since settling measures its text first.
 pub fn put_inject(out: &mut [u8], at: usize, shot: Shot, counts: &[u64], members: &[u64]) -> usize
     requires { ⌜ PauliLent (now counts) (now members) × (at + 1341 < 2 ^ 64) ⌝ }
     ensures { λ r. ⌜ Puts at (lineText injectTemplate (Value.number (shot .0) ∷ Value.list (take (getD (now (counts .entry)) 0 0) (now (members .entry))) ∷ Value.list (take (getD (now (counts .entry)) 1 0) (drop 31 (now (members .entry)))) ∷ []) ++ LF ∷ []) (now (out .entry)) (now (out .exit)) r ⌝ }
 {
+    if out.len() <= at {
+        return at + inject_length(shot, counts, members);
+    }
     let numbers = [shot.0 as u64];
     let next = put_line(
         &mut *out,
@@ -29,7 +46,7 @@ pub fn put_inject(out: &mut [u8], at: usize, shot: Shot, counts: &[u64], members
         counts,
         members,
     );
-    put_byte(out, next, 10)
+    put_byte(out, next, b'\n')
 }
 
 // How each line of annotation's noise begins, the same for all lines of a call: `op=n p=H corr=- cond=- parity=0 d=2`
@@ -50,5 +67,5 @@ pub fn put_depolarizing(out: &mut [u8], at: usize, start: &[u8], qubits: &[u64])
     let numbers = [depolarizing_size(k)];
     let counts = [k];
     let end = put_line(&mut *out, next, b" q=Q size=N", &numbers, &counts, qubits);
-    put_byte(out, end, 10)
+    put_byte(out, end, b'\n')
 }

@@ -71,7 +71,7 @@
 //!
 //! # What a caller owes
 //!
-//! Nothing but stack: a run takes up to 68 KiB of it, settling 44 KiB, the table of single faults 16 KiB, the correlation check 12 KiB, and every other call
+//! Nothing but stack: the correlation check takes up to 96 KiB of it, a run 68 KiB, settling 44 KiB, the table of single faults 16 KiB, and every other call
 //! less than 8 KiB. The pages are touched one after the other, so that a thread with less ends the process at its guard page. What C callers owe besides is
 //! the crate's: each call is made in the default floating-point state, whatever the thread has set (subnormals off, another rounding, exceptions), and leaves
 //! that as it was.

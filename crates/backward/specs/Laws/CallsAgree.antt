@@ -6,7 +6,7 @@ use mathlib.Core.Option.{none}
 use Prim.Native.Nat.{ℕ, suc, _+_, _*_, _/_, _<_, _≤_}
 use native.Mathlib.Nat.{mul-le-mul-right}
 use native.Mathlib.Omega.{arith}
-use borrow.Author.Tests.{leb-true, le-leb, ltb-true, lt-ltb}
+use borrow.Author.Tests.{le-leb, ltb-true, lt-ltb}
 use lib.Dec.{leb, ltb}
 use Rattle.text.specs.Laws.Values.{both}
 use lib.ListN.{length, drop, List·getD-append}
@@ -27,6 +27,7 @@ use Rattle.draws.specs.SettledTheorems.{settled-accepted, settled-job, settled-
 use Rattle.rows.specs.Words.{wordsPerRow, bitIn, pack}
 use Rattle.rows.specs.Laws.Pack.{length-pack, pack-bit}
 use Rattle.run.specs.Run.{Source, Memory, frameWords, outcomeWords, enoughWords, lentOf, RunReply, spentReply, finishedReply, endedReply, runReply, withSource}
+use Rattle.run.specs.Theorems.{short-refused}
 use Rattle.backward.specs.Walk.{walk}
 use Rattle.backward.specs.Settling.{settledAnswer, settleReply}
 use Rattle.backward.specs.Calls.{settlingOf}
@@ -185,26 +186,18 @@ text-run job m ls passes enough settles few other words =
 pub settled-number : (j : Job) (ls : List SettledLine) (out : List ℕ)
     → settledAnswer j (Settled.settled ls) out .answered ≡ cond (textFits (settledText (j .text) ls) out) accepted (answer 15 0)
 unfolding settledAnswer
-settled-number j ls out = go (textFits (settledText (j .text) ls) out)
+settled-number j ls out = go (textFits (settledText (j .text) ls) out) _ _
   where
-    go : (b : Bool)
-        → cond b (writtenText (settledText (j .text) ls) out) (record { answered = answer 15 0; figure = length (settledText (j .text) ls); out = out }) .answered
-        ≡ cond b accepted (answer 15 0)
-    go true = refl
-    go false = refl
-
--- the noiseless words are enough where all words are
-noiseless-enough : (h : Header) (m : Memory) → enoughWords h m ≡ true → outcomeWords h ≤ length (m .source .noiseless)
-unfolding enoughWords
-noiseless-enough h m e =
-    leb-true _ _ (both (leb (frameWords h) (length (m .x)) && leb (frameWords h) (length (m .z)) && leb (outcomeWords h) (length (m .deltas)) && leb (h .outcomes) (length (m .totals))) _ e .1)
+    go : (b : Bool) (written short : TextReply) → cond b written short .answered ≡ cond b (written .answered) (short .answered)
+    go true written short = refl
+    go false written short = refl
 
 module _ (job : List ℕ) (m : Memory) where
   -- settling where there is enough for a run
   settled-with : (o : Settled) → checkJob job .number ≡ 0 → enoughWords (jobOf job .header) m ≡ true → settlingOf job (m .source) ≡ o → (out : List ℕ)
       → settleReply job (m .source) out ≡ settledAnswer (jobOf job) o out
   settled-with o passes enough e out =
-      settle-reply job (m .source) out passes (noiseless-enough (jobOf job .header) m enough) ∙ ap (λ (p : Settled). settledAnswer (jobOf job) p out) e
+      settle-reply job (m .source) out passes (short-refused (jobOf job .header) m enough .noiseless) ∙ ap (λ (p : Settled). settledAnswer (jobOf job) p out) e
 
   spent-run : (k : ℕ) → checkJob job .number ≡ 0 → enoughWords (jobOf job .header) m ≡ true → settlingOf job (m .source) ≡ Settled.spentAt k
       → runReply job m ≡ spentReply (jobOf job .header) m k

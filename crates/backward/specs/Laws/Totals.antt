@@ -70,7 +70,7 @@ module _ (h : Header) (id : ℕ) where
 
   unfoldable ExecutedOff : Executed → Type 0
   ExecutedOff Executed.spent = Unit
-  ExecutedOff (Executed.went states ws) = Off states
+  ExecutedOff (Executed.done states ws) = Off states
 
   unfoldable EndedOff : Ended → Type 0
   EndedOff (Ended.spentAt k) = Unit
@@ -94,14 +94,14 @@ module _ (h : Header) (id : ℕ) where
     noise-off n ws states off = go (le (float (n .probability)) zeroFloat) (shots-off n (lent .shots) 0 ws states off)
       where
         go : (b : Bool) → ExecutedOff (injectShots h lent n (lent .shots) 0 ws states)
-            → ExecutedOff (cond b (Executed.went states ws) (injectShots h lent n (lent .shots) 0 ws states))
+            → ExecutedOff (cond b (Executed.done states ws) (injectShots h lent n (lent .shots) 0 ws states))
         go true all = unfold ExecutedOff in off
         go false all = all
 
     main-off : (corr : Option ℕ) (main : List ℕ) (o : Executed) → ExecutedOff o → ExecutedOff (onMain corr main o)
     unfolding onMain ExecutedOff
     main-off corr main Executed.spent off = tt
-    main-off corr main (Executed.went states left) off = off
+    main-off corr main (Executed.done states left) off = off
 
     one-off : (r : ℕ) (main : List ℕ) (i : Instruction) (states : States) → InstructionSound h r i → r + recordedBy i ≤ id → Off states
         → ExecutedOff (executeOne h lent main i states)
@@ -120,7 +120,7 @@ module _ (h : Header) (id : ℕ) where
         go : (e : Executed) → ExecutedOff e → ((main′ : List ℕ) (states′ : States) → Off states′ → EndedOff (execute h lent is main′ states′))
             → EndedOff (executeThen (i .line) e (execute h lent is))
         go Executed.spent off later = unfold executeThen EndedOff in tt
-        go (Executed.went states′ main′) off later = unfold executeThen in later main′ states′ (unfold ExecutedOff in off)
+        go (Executed.done states′ main′) off later = unfold executeThen in later main′ states′ (unfold ExecutedOff in off)
 
 pub reply-unrecorded : (job : List ℕ) (m : Memory) → RunsTo job m → (id : ℕ) → recordedIn (jobOf job .instructions) ≤ id → id < jobOf job .header .outcomes
     → getD (runReply job m .totals) id 0 ≡ 0

@@ -18,7 +18,7 @@ use Rattle.text.specs.Template.{Value, numberAt, listAt}
 use Rattle.job.specs.Clifford.{tableWords, tableOf, isClifford}
 use Rattle.job.specs.Line.{pauliOf}
 use Rattle.job.specs.Grammar.{Written, pauliAt, forms}
-use Rattle.job.specs.Laws.Forms.{PauliFits, LineFits, WrittenFits}
+use Rattle.job.specs.Fits.{PauliFits, LineFits, WrittenFits}
 use Rattle.job.specs.Laws.Table.{few-words}
 use Rattle.text.specs.List.{isRising}
 use Rattle.text.specs.Laws.Values.{both}

@@ -10,13 +10,13 @@ use Rattle.correlations.proofs.compare.Statement.{statement}
 use Rattle.correlations.proofs.compare.Tie as tie
 
 abbrev Inv-loop : tie.InvT-loop
-Inv-loop job from number seen sizes fields₀ at₀ k₀ fields at k = Comparing job number from k at (tableOf seen sizes) × (length fields ≡ 136)
+Inv-loop job from number seen sizes links fields₀ at₀ k₀ fields at k = Comparing job number from k at (tableOf seen sizes) × (length fields ≡ 136)
 
 abbrev μ-loop : tie.MeasureT-loop
-μ-loop job from number seen sizes fields₀ at₀ k₀ fields at k = length job - at
+μ-loop job from number seen sizes links fields₀ at₀ k₀ fields at k = length job - at
 
 loop-holds : tie.Need-loop-holds Inv-loop μ-loop
-loop-holds c = (compare-none (c .before .before .before .pre .0), refl)
+loop-holds c = (compare-none (c .before .before .before .before .pre .0), refl)
 
 slice-aggregate-next-line : tie.Need-slice-aggregate-next-line Inv-loop μ-loop
 slice-aggregate-next-line c = omega arith
@@ -28,10 +28,10 @@ slice-aggregate-look : tie.Need-slice-aggregate-look Inv-loop μ-loop
 slice-aggregate-look c = omega (arith, c .before .before .before .before .before .loop .inv .1, c .before .before .next-line .kept)
 
 look-requires : tie.Need-look-requires Inv-loop μ-loop
-look-requires c κs = (omega (arith, c .before .before .before .before .before .loop .inv .1, c .before .before .next-line .kept), c .before .before .before .before .before .before .before .before .before .pre .1)
+look-requires c κs = (omega (arith, c .before .before .before .before .before .loop .inv .1, c .before .before .next-line .kept), c .before .before .before .before .before .before .before .before .before .before .pre .1, c .before .before .before .before .before .before .before .before .before .before .pre .2)
 
 returns : tie.Need-returns Inv-loop μ-loop
-returns c = compare-stops (c .before .before .before .before .before .before .before .before .loop .inv .0) (c .before .before .before .before .before .next-line .ensures) (c .before .before .look .ensures) (not-true _ (c .if1 .taken))
+returns c = compare-stops (c .before .before .before .before .before .before .before .before .loop .inv .0) (c .before .before .before .before .before .next-line .ensures) (c .before .before .look .ensures .is) (not-true _ (c .if1 .taken))
 
 add-at : tie.Need-add-at Inv-loop μ-loop
 add-at c = omega (arith, c .before .before .before .before .before .before .next-line .ensures .place .inside, c .before .before .before .before .before .before .before .before .before .loop .inv .0 .left .size)
@@ -43,7 +43,7 @@ loop-less : tie.Need-loop-less Inv-loop μ-loop
 loop-less c = omega (arith, c .before .before .before .before .before .before .next-line .ensures .place .inside, c .before .before .before .before .before .before .next-line .ensures .place .begins)
 
 loop-again : tie.Need-loop-again Inv-loop μ-loop
-loop-again c = (compare-more (c .before .before .before .before .before .before .before .before .before .loop .inv .0) (c .before .before .before .before .before .before .next-line .ensures) (c .before .before .before .look .ensures) (not-false _ (c .before .if1 .left)), omega (arith, c .before .before .before .before .before .before .before .before .before .loop .inv .1, c .before .before .before .before .before .before .next-line .kept))
+loop-again c = (compare-more (c .before .before .before .before .before .before .before .before .before .loop .inv .0) (c .before .before .before .before .before .before .next-line .ensures) (c .before .before .before .look .ensures .is) (not-false _ (c .before .if1 .left)), omega (arith, c .before .before .before .before .before .before .before .before .before .loop .inv .1, c .before .before .before .before .before .before .next-line .kept))
 
 returns-2 : tie.Need-returns-2 Inv-loop μ-loop
 returns-2 c = compare-ends (c .before .loop .inv .0) (c .loop-test .left)

@@ -8,7 +8,7 @@ use mathlib.Core.List.{List, [], _∷_}
 use mathlib.Core.Option.{Option, some}
 use borrow.Author.Tests.{eqb-true, eqb-false, eq-eqb, ne-eqb}
 use lib.Dec.{eqb}
-use lib.ListN.{length, getD, set, take, drop, length-set}
+use lib.ListN.{length, getD, set, take, drop}
 use Rattle.text.specs.Bytes.{until, lines}
 use Rattle.text.specs.Laws.Values.{both}
 use Rattle.text.specs.Template.{Value}
@@ -28,11 +28,13 @@ use Rattle.instructions.specs.Laws.Steps.{none-left}
 use Rattle.instructions.specs.Laws.Lines.{numbered-some, here, line-read, left-all, left-more}
 use Rattle.circuit.specs.Correlation.{Seen, sizeFits, seenAfter, correlationOf, saidSize, firstDifferingBy, firstDiffering}
 use Rattle.circuit.specs.Replies.{correlationAnswer, correlationReply}
-use Rattle.correlations.specs.declared.Looked.{Looked}
+use Rattle.correlations.specs.declared.Compared.{Compared}
 use Rattle.correlations.specs.declared.Collected.{Collected}
 use Rattle.correlations.specs.declared.Found.{Found}
 use Rattle.correlations.specs.Sizes.{correlationIn, sizeIn, present, tableOf, lookFor, lookOf, grown}
-use Rattle.correlations.specs.Rounds.{unlike, earliest, Remembers, Collecting, Collects, RoundOf}
+use Rattle.correlations.specs.Rounds.{unlike, earliest, Looks, Remembers, Collecting, Collects, RoundOf}
+use Rattle.correlations.specs.Links.{Unseen, remainderOf, Table}
+use Rattle.correlations.specs.Laws.Links.{table-one}
 use Rattle.correlations.specs.Laws.Sizes.{NoiseWith, correlated, absent, noise-size}
 use Rattle.correlations.specs.Laws.Tables.{size-unseen, size-seen, table-more}
 use Rattle.correlations.specs.Laws.Rounds.{look-fits, look-grown, gathered-from, round-parts, earliest-none, earliest-assoc}
@@ -73,7 +75,7 @@ module _ {job : List ℕ} {k at : ℕ} (a : Left job k at) {next : Next} {fields
   said = here a n .written
 
   -- what the code found of the line beside a table
-  module _ (seen : List Seen) {l : Looked} (looks : (vs : List Value) (w : Written) → Said (next .form) fields vs w → l ≡ lookOf seen (correlationIn w) (sizeIn w)) where
+  module _ (seen : List Seen) {l : Compared} (looks : (vs : List Value) (w : Written) → Said (next .form) fields vs w → l ≡ lookOf seen (correlationIn w) (sizeIn w)) where
     look : l ≡ lookOf seen (correlationIn said) (sizeIn said)
     look = looks (line-read a n .values) said (line-read a n .said)
 
@@ -122,46 +124,47 @@ full b n room e = eqb-true n room (both b (eqb n room) e .1)
 pub not-full : (b : Bool) (n room : ℕ) → n ≤ room → (b && eqb n room) ≡ false → b ≡ true → n < room
 not-full b n room h e f = let other : eqb n room ≡ false = rw f at e in omega (arith, eqb-false n room other)
 
-pub remember-none : {l : Looked} {n : ℕ} {seen sizes : List ℕ} → l .fresh ≡ false → n ≤ length seen → Remembers l n seen sizes n seen sizes
-remember-none e h = record { few = omega arith; room = h; table = rw e }
+module _ {l : Compared} {n : ℕ} {seen sizes links : List ℕ} (t : Table n seen sizes links) where
+  pub remember-none : l .fresh ≡ false → Remembers l n seen sizes n seen sizes links
+  remember-none e = record { few = omega arith; holds = t; table = rw e }
 
-pub remember-one : {l : Looked} {n : ℕ} {seen sizes : List ℕ} → l .fresh ≡ true → n < length seen → length seen ≡ length sizes
-    → Remembers l n seen sizes (n + 1) (set seen n (l .correlation)) (set sizes n (l .size))
-remember-one {l} {n} {seen} {sizes} e h f =
-    record {
-      few = omega arith;
-      room = rw length-set (omega arith);
-      table = table-more n (l .correlation) (l .size) seen sizes h f ∙ rw e;
-    }
+  pub remember-one : l .fresh ≡ true → n < length seen → Unseen (l .correlation) (take n seen)
+      → Remembers l n seen sizes (n + 1) (set seen n (l .correlation)) (set sizes n (l .size))
+      (set (set links (4093 + n) (getD links (remainderOf (l .correlation)) 0)) (remainderOf (l .correlation)) (n + 1))
+  remember-one e h new =
+      record {
+        few = omega arith;
+        holds = table-one (l .correlation) (l .size) t h new;
+        table = table-more n (l .correlation) (l .size) seen sizes h (t .beside) ∙ rw e;
+      }
 
-pub collect-none : {job : List ℕ} {number from : ℕ} {seen sizes : List ℕ} → Left job number from → length seen ≡ length sizes
-    → Collecting job number from number from 0 seen sizes
+pub collect-none : {job : List ℕ} {number from : ℕ} {seen sizes links : List ℕ} → Left job number from → Table 0 seen sizes links
+    → Collecting job number from number from 0 seen sizes links
 unfolding tableOf
-collect-none a e = record { left = a; room = omega arith; beside = e; onward = omega arith; same = refl }
+collect-none a t = record { left = a; holds = t; onward = omega arith; same = refl }
 
-module _ {job : List ℕ} {number from k at n : ℕ} {seen sizes : List ℕ} (c : Collecting job number from k at n seen sizes) where
-  module _ {next : Next} {fields : List ℕ} (line : NextLine job at next fields) {l : Looked}
-      (looks : (vs : List Value) (w : Written) → Said (next .form) fields vs w → l ≡ lookOf (tableOf (take n seen) (take n sizes)) (correlationIn w) (sizeIn w)) where
-    pub collect-stops : l .fits ≡ false → Collects job number from (record { differing = k; n = n; at = at; number = k }) seen sizes
+module _ {job : List ℕ} {number from k at n : ℕ} {seen sizes links : List ℕ} (c : Collecting job number from k at n seen sizes links) where
+  module _ {next : Next} {fields : List ℕ} (line : NextLine job at next fields) {l : Compared}
+      (looks : Looks (next .form) fields (take n seen) (take n sizes) l) where
+    pub collect-stops : l .fits ≡ false → Collects job number from (record { differing = k; n = n; at = at; number = k }) seen sizes links
     collect-stops h =
         record {
-          differs = λ d. c .same ∙ differing-line (c .left) line (tableOf (take n seen) (take n sizes)) looks ∙ rw h (sym (numbered-some k d));
+          differs = λ d. c .same ∙ differing-line (c .left) line (tableOf (take n seen) (take n sizes)) (looks .is) ∙ rw h (sym (numbered-some k d));
           goes-on = λ e. absurd (omega (arith, c .left .first));
         }
 
-    pub collect-more : {r : ℕ} {more sizes-more : List ℕ} → l .fits ≡ true → Remembers l n seen sizes r more sizes-more → length more ≡ length seen
-        → length sizes-more ≡ length sizes → Collecting job number from (k + 1) (next .end + 1) r more sizes-more
-    collect-more {r} {more} {sizes-more} h m e f =
+    pub collect-more : {r : ℕ} {more sizes-more links-more : List ℕ} → l .fits ≡ true → Remembers l n seen sizes r more sizes-more links-more
+        → Collecting job number from (k + 1) (next .end + 1) r more sizes-more links-more
+    collect-more h m =
         record {
           left = left-more (c .left) line;
-          room = m .room;
-          beside = e ∙ c .beside ∙ sym f;
+          holds = m .holds;
           onward = omega (arith, c .onward, m .few, line .place .begins);
-          same = c .same ∙ differing-line (c .left) line (tableOf (take n seen) (take n sizes)) looks ∙ rw (h, ← m .table);
+          same = c .same ∙ differing-line (c .left) line (tableOf (take n seen) (take n sizes)) (looks .is) ∙ rw (h, ← m .table);
         }
 
   -- no room, or the job's end
-  pub collect-ends : from < at → Collects job number from (record { differing = 0; n = n; at = at; number = k }) seen sizes
+  pub collect-ends : from < at → Collects job number from (record { differing = 0; n = n; at = at; number = k }) seen sizes links
   collect-ends h = record { differs = λ d. absurd (d refl); goes-on = λ e. (c, h) }
 
 -- ---- what differs from the table
@@ -174,7 +177,7 @@ pub compare-none : {job : List ℕ} {number from : ℕ} {seen : List Seen} → L
 compare-none a = record { left = a; same = refl }
 
 module _ {job : List ℕ} {number from k at : ℕ} {seen : List Seen} (c : Comparing job number from k at seen) where
-  module _ {next : Next} {fields : List ℕ} (line : NextLine job at next fields) {l : Looked}
+  module _ {next : Next} {fields : List ℕ} (line : NextLine job at next fields) {l : Compared}
       (looks : (vs : List Value) (w : Written) → Said (next .form) fields vs w → l ≡ lookOf seen (correlationIn w) (sizeIn w)) where
     pub compare-stops : l .fits ≡ false → numbered k ≡ unlike seen (instructionsAt job number from)
     compare-stops h =
@@ -189,7 +192,7 @@ module _ {job : List ℕ} {number from k at : ℕ} {seen : List Seen} (c : Compa
 
 -- ---- rounds
 
-module _ {job : List ℕ} {number from : ℕ} {r : Collected} {seen sizes : List ℕ} (c : Collects job number from r seen sizes) where
+module _ {job : List ℕ} {number from : ℕ} {r : Collected} {seen sizes links : List ℕ} (c : Collects job number from r seen sizes links) where
   pub round-stops : from < length job → (r .differing ≡ 0 → ⊥) → RoundOf job number from (record { differing = r .differing; at = length job; number = 0 })
   unfolding firstDifferingBy
   round-stops h d =

@@ -78,4 +78,4 @@ module _ (h : Header) (lent : Lent) (i : Placed) (l : Line) (is-line : i .instru
           → ((main : List ℕ) (from : States) → execute h lent before main from ≡ Ended.ended states → execute h lent (before ++ (i ∷ [])) main from ≡ Ended.ended (forwardAll h l states))
           → executeThen (j .line) o (execute h lent (before ++ (i ∷ []))) ≡ Ended.ended (forwardAll h l states)
       go Executed.spent p ih = unfold executeThen in cc
-      go (Executed.went s left) p ih = unfold executeThen in ih left s (unfold executeThen in p)
+      go (Executed.done s left) p ih = unfold executeThen in ih left s (unfold executeThen in p)

@@ -224,12 +224,12 @@ module _ (lent : Lent) (is : List Placed) (words : List ℕ) where
 -- ---- by execution in place
 
 module _ (h : Header) (lent : Lent) (i : Placed) (is : List Placed) (main : List ℕ) (states : States) where
-  pub left-went : (t : States) (left : List ℕ) → executeOne h lent main (i .instruction) states ≡ Executed.went t left
+  pub left-went : (t : States) (left : List ℕ) → executeOne h lent main (i .instruction) states ≡ Executed.done t left
       → leftAfter lent is left ≡ leftAfter lent (i ∷ is) main
   unfolding leftAfter leftThen onStep
   left-went t left e = go (stepOf lent main (i .text) (i .instruction)) (sym (one-settled h lent main (i .text) (i .instruction) states) ∙ e)
     where
-      go : (o : Step) → onStep h states o ≡ Executed.went t left → leftAfter lent is left ≡ leftThen (i .instruction) main o (leftAfter lent is)
+      go : (o : Step) → onStep h states o ≡ Executed.done t left → leftAfter lent is left ≡ leftThen (i .instruction) main o (leftAfter lent is)
       go Step.spent f = let no : _≡_ {A = ℕ} 0 1 = cc in absurd (omega arith)
       go (Step.lines ls mid) f = let same : mid ≡ left = cc in rw same
 

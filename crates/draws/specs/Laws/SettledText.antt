@@ -22,7 +22,7 @@ use Rattle.job.specs.Job.{wellEnded, placedAt, gather, gathered, Job, jobOf, re
 use Rattle.job.specs.Sound.{RisingBelow, Every, PauliSound, LineSound, ElementSound, DistributionSound, InstructionSound, InstructionsSound, SaidBy, LinesSound, HeaderSound, SaidAs}
 use Rattle.job.specs.Theorems.{checked-sound}
 use Rattle.job.specs.Laws.Lists.{below-first}
-use Rattle.job.specs.Laws.Forms.{PauliFits}
+use Rattle.job.specs.Fits.{PauliFits}
 use Rattle.job.specs.Contexts.{between, Accepted}
 use Rattle.job.specs.Laws.Begun.{job-passes, job-begun}
 use Rattle.job.specs.Laws.Instructions.{FirstInstruction, first-instruction}

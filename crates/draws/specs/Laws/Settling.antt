@@ -34,11 +34,11 @@ runAll-append h ls ms states = fun-ext (λ s. run-append (settingOf h s) ls ms (
 
 unfoldable onDraws : Header → Distribution → States → Draws → Executed
 onDraws h d states Draws.spent = Executed.spent
-onDraws h d states (Draws.drawn fs left) = Executed.went (runAll h (settledList (map (injection d) fs)) states) left
+onDraws h d states (Draws.drawn fs left) = Executed.done (runAll h (settledList (map (injection d) fs)) states) left
 
 unfoldable pub onStep : Header → States → Step → Executed
 onStep h states Step.spent = Executed.spent
-onStep h states (Step.lines ls left) = Executed.went (runAll h (settledList ls) states) left
+onStep h states (Step.lines ls left) = Executed.done (runAll h (settledList ls) states) left
 
 -- ---- a noise line
 
@@ -71,7 +71,7 @@ unfolding injectNoise drawLine onDraws runAll run forwardAll
 line-settled h lent n ws states = go (le (float (n .probability)) zeroFloat)
   where
     go : (b : Bool)
-        → cond b (Executed.went states ws) (injectShots h lent n (lent .shots) 0 ws states)
+        → cond b (Executed.done states ws) (injectShots h lent n (lent .shots) 0 ws states)
         ≡ onDraws h (n .distribution) states (cond b (Draws.drawn [] ws) (drawShots lent n (lent .shots) 0 ws))
     go true = refl
     go false = shots-settled h lent n (lent .shots) 0 ws states

@@ -13,7 +13,7 @@ use Rattle.job.specs.Float.{float, zeroFloat}
 use Rattle.draws.specs.Draws.{ShotDraw, drawShot, Lent, Draws, thenShots, drawShots, drawLine, partOf, mainAfter}
 use Rattle.draws.specs.Settle.{SettledLine, injection, Step, stepOf, Settled, prefixed, settleThen, settle}
 use Rattle.draws.specs.Known.{leftBy, mainLeft, SpentAt, lengthened}
-use Rattle.draws.specs.Laws.Words.{took-more, DrawsTook, line-took, step-drawn, step-spent, StepTook, step-took}
+use Rattle.draws.specs.Laws.Words.{took-more, DrawsTook, line-took, step-drawn, step-spent}
 
 -- ---- how far the main list is read
 
@@ -21,24 +21,6 @@ use Rattle.draws.specs.Laws.Words.{took-more, DrawsTook, line-took, step
 pub record Suffix (main left : List ℕ) : Type 0 where
   pub used : List ℕ
   pub whole : main ≡ used ++ left
-
-pub left-suffix : (lent : Lent) (main : List ℕ) (is : List Placed) → Suffix main (mainLeft lent main is)
-unfolding mainLeft
-left-suffix lent main [] = record { used = []; whole = refl }
-left-suffix lent main (i ∷ is) =
-    go (stepOf lent main (i .text) (i .instruction)) (step-took lent main (i .text) (i .instruction)) (λ mid. left-suffix lent mid is)
-  where
-    step : List ℕ → Step
-    step m = stepOf lent m (i .text) (i .instruction)
-
-    go : (o : Step) → StepTook step main o → ((mid : List ℕ) → Suffix mid (mainLeft lent mid is)) → Suffix main (mainLeft lent (leftBy main o) is)
-    go Step.spent t ih = unfold leftBy in ih main
-    go (Step.lines ls mid) t ih =
-        unfold leftBy StepTook in
-        record {
-          used = t .used ++ ih mid .used;
-          whole = t .whole ∙ ap (λ (l : List ℕ). t .used ++ l) (ih mid .whole) ∙ sym (append-assoc (t .used) (ih mid .used) (mainLeft lent mid is));
-        }
 
 -- ---- instructions after others
 

@@ -2,29 +2,19 @@
 use mathlib.Core.Path.{_≡_, refl, sym, ap, _∙_, subst}
 use mathlib.Core.Bool.{Bool, true, _&&_, and-assoc}
 use mathlib.Core.List.{List, [], _∷_, _++_, map}
-use Prim.Native.Nat.{ℕ, _<_, _≤_}
+use Prim.Native.Nat.{ℕ}
 use native.Mathlib.Omega.{arith}
 use lib.Dec.{ltb}
-use borrow.Author.Tests.{ltb-true, ne-eqb}
-use Rattle.pauli.specs.Laws.Group.{when-false, ∗-identity}
-use Rattle.job.specs.Line.{SparsePauli, pauliOf, Line, Distribution, Noise, Instruction, Placed}
+use Rattle.job.specs.Line.{Line, Distribution, Noise, Instruction, Placed}
 use Rattle.job.specs.Checks.{allBelow}
-use Rattle.frames.specs.Forward.{Setting, State, forward, run}
 use Rattle.frames.specs.Shots.{concerns, within}
-use Rattle.draws.specs.Draws.{Lent, elementAt, Fault, Draws, drawLine, partOf}
+use Rattle.draws.specs.Draws.{Lent, Fault, Draws, drawLine, partOf}
 use Rattle.draws.specs.Settle.{SettledLine, injection, Step, stepOf, Settled, prefixed, settleThen, settle, settledList}
 use Rattle.draws.specs.Known.{shotsOf, Injections, ownBelow, allOwnBelow, isLine, noiseFree, copyOf, copies}
 use Rattle.draws.specs.Laws.Tests.{&&-first, &&-second}
 use Rattle.draws.specs.Laws.Words.{step-drawn, step-spent}
 use Rattle.draws.specs.Laws.Settling.{settledList-append}
 use Rattle.draws.specs.Laws.Faults.{shots-below}
-
--- ---- lines of one shot
-
--- an injection in another shot
-pub inject-elsewhere : (c : Setting) (shot : ℕ) (P : SparsePauli) (s : State) → (shot ≡ c .shot → ⊥) → forward c (Line.inject shot P) s ≡ s
-unfolding forward
-inject-elsewhere c shot P s ne = rw (ne-eqb shot (c .shot) ne, when-false (pauliOf P), ∗-identity (s .frame))
 
 -- ---- what stands for noise
 
@@ -36,16 +26,6 @@ pub injected-below : (shots : ℕ) (d : Distribution) (fs : List Fault) → with
 unfolding within allBelow injection concerns
 injected-below shots d [] = refl
 injected-below shots d (f ∷ fs) = ap (λ (b : Bool). ltb (f .shot) shots && b) (injected-below shots d fs)
-
--- in a shot past those of the faults they do nothing
-pub injected-past : (c : Setting) (shots : ℕ) (d : Distribution) (fs : List Fault) (s : State) → allBelow shots (shotsOf fs) ≡ true → shots ≤ c .shot
-    → run c (injected d fs) s ≡ s
-unfolding run injection
-injected-past c shots d [] s b h = refl
-injected-past c shots d (f ∷ fs) s b h =
-    let first : f .shot < shots = ltb-true (f .shot) shots (unfold allBelow in &&-first (ltb (f .shot) shots) (allBelow shots (shotsOf fs)) b) in
-    let rest : allBelow shots (shotsOf fs) ≡ true = unfold allBelow in &&-second (ltb (f .shot) shots) (allBelow shots (shotsOf fs)) b in
-    ap (run c (injected d fs)) (inject-elsewhere c (f .shot) (elementAt d (f .element)) s (λ e. omega arith)) ∙ injected-past c shots d fs s rest h
 
 pub noise-injects : (lent : Lent) (main text : List ℕ) (n : Noise) (ls : List SettledLine) (left : List ℕ)
     → stepOf lent main text (Instruction.noise n) ≡ Step.lines ls left → Injections lent n ls

@@ -1,6 +1,6 @@
 -- `execution::execute` meets its contract. Assumes nothing.
 use Rattle.execution.specs.Laws.Steps.{GoingFrom, going-begun, going-some, going-on, going-fewer, going-stopped, stopped-left, going-end, end-left}
-use Rattle.execution.specs.Went.{lentBy}
+use Rattle.execution.specs.Steps.{lentBy}
 use Rattle.totals.specs.Held.{TotalsHeld}
 use Rattle.instructions.specs.Ahead.{instructionsAt}
 use mathlib.Core.List.{_++_}

@@ -34,7 +34,7 @@ use Rattle.injection.specs.Injected.{LineReady, FaultsReady, executedAs, placeO
 use Rattle.injection.specs.Laws.Holds.{holds-some}
 use Rattle.execution.specs.declared.Moved.{Moved}
 use Rattle.execution.specs.declared.Moved.the-variants.{To, Spent}
-use Rattle.execution.specs.Went.{headerOf, lentBy, Ending, endingOf, WentBy, Went, NoiseReady, NoiseRoom, NoiseDone}
+use Rattle.execution.specs.Steps.{headerOf, lentBy, Ending, endingOf, EndsBy, EndsAs, NoiseReady, NoiseRoom, NoiseDone}
 
 -- ---- what the noise comes to
 
@@ -43,19 +43,19 @@ module _ (h : Header) (lent : Lent) (main : List ℕ) (n : Noise) (corr : Correl
     abbrev one : Executed
     one = executeOne h lent (drop position main) (Instruction.noise n) states
 
-    one-quiet : le (float (n .probability)) zeroFloat ≡ true → one ≡ Executed.went states (drop position main)
+    one-quiet : le (float (n .probability)) zeroFloat ≡ true → one ≡ Executed.done states (drop position main)
     unfolding executeOne injectNoise onMain
-    one-quiet e = rw (← same, e) (ap (Executed.went states) (main-stays corr lent main position))
+    one-quiet e = rw (← same, e) (ap (Executed.done states) (main-stays corr lent main position))
 
     module _ (some-words : le (float (n .probability)) zeroFloat ≡ false) (words : List ℕ) (part : words ≡ partOf lent (correlationOf corr) (drop position main)) where
       one-drawn : one ≡ onMain (correlationOf corr) (drop position main) (injectShots h lent n (lent .shots) 0 words states)
       unfolding executeOne injectNoise
       one-drawn = rw (← same, some-words, part)
 
-      one-done : (t : States) (read : ℕ) → injectShots h lent n (lent .shots) 0 words states ≡ Executed.went t (drop read words)
-          → one ≡ Executed.went t (drop (positionAfter corr position read) main)
+      one-done : (t : States) (read : ℕ) → injectShots h lent n (lent .shots) 0 words states ≡ Executed.done t (drop read words)
+          → one ≡ Executed.done t (drop (positionAfter corr position read) main)
       unfolding onMain
-      one-done t read e = one-drawn ∙ rw (e, part) (ap (Executed.went t) (main-after corr lent main position read))
+      one-done t read e = one-drawn ∙ rw (e, part) (ap (Executed.done t) (main-after corr lent main position read))
 
       one-spent : injectShots h lent n (lent .shots) 0 words states ≡ Executed.spent → one ≡ Executed.spent
       unfolding onMain
@@ -67,7 +67,7 @@ module _ (h : Header) (lent : Lent) (main : List ℕ) (n : Noise) (text : List �
   abbrev whole : Ending
   whole = endingOf h lent (placedAt k text (Instruction.noise n) ∷ rest) (drop position main) states
 
-  head-went : (t : States) (left : List ℕ) → executeOne h lent (drop position main) (Instruction.noise n) states ≡ Executed.went t left
+  head-went : (t : States) (left : List ℕ) → executeOne h lent (drop position main) (Instruction.noise n) states ≡ Executed.done t left
       → endingOf h lent rest left t ≡ whole
   unfolding execute executeThen
   head-went t left e =
@@ -89,10 +89,10 @@ module _ {job : List ℕ} (place : Place) (next : Next) {values noiseless : List
 
     noise-went : {elements : List ℕ} {sums : List Float} {mask : List ℕ} {r : Prepared} → PreparedAs q elements sums mask r
         → (x z : List ℕ) (position : ℕ) (t : States) → position ≤ length main → Holds (shape .width) x z deltas t
-        → executeOne (headerOf job shape) lent (drop (place .position) main) (Instruction.noise (noiseIn q)) states ≡ Executed.went t (drop position main)
-        → Went job shape lent main comes (suc (length (q .rest))) (place .line) x z deltas
+        → executeOne (headerOf job shape) lent (drop (place .position) main) (Instruction.noise (noiseIn q)) states ≡ Executed.done t (drop position main)
+        → EndsAs job shape lent main comes (suc (length (q .rest))) (place .line) x z deltas
         (To (record { byte = r .next; line = place .line + 1 + r .lines; position = position }))
-    unfolding WentBy
+    unfolding EndsBy
     noise-went {r = r} ready x z position t within holds e =
         let rest : instructionsAt job (place .line + 1 + r .lines) (r .next) ≡ q .rest = rw line at (ready .instructions) in
         record {
@@ -109,8 +109,8 @@ module _ {job : List ℕ} (place : Place) (next : Next) {values noiseless : List
 
     noise-spent : (x z : List ℕ) (position : ℕ) → position ≤ length main → drop position main ≡ spentOn (noiseIn q .correlation) (drop (place .position) main)
         → executeOne (headerOf job shape) lent (drop (place .position) main) (Instruction.noise (noiseIn q)) states ≡ Executed.spent
-        → Went job shape lent main comes (suc (length (q .rest))) (place .line) x z deltas (Spent position)
-    unfolding WentBy
+        → EndsAs job shape lent main comes (suc (length (q .rest))) (place .line) x z deltas (Spent position)
+    unfolding EndsBy
     noise-spent x z position within left e =
         let s = head-spent (headerOf job shape) lent main (noiseIn q) text (q .rest) (place .line) (place .position) states e in
         record { by = record { ends = s .0; within = within; leaves = left ∙ s .1 } }

@@ -23,7 +23,7 @@ use Rattle.injection.specs.Holds.{Holds}
 use Rattle.injection.specs.Laws.Holds.{holds-some, holds-line}
 use Rattle.execution.specs.declared.Moved.{Moved}
 use Rattle.execution.specs.declared.Moved.the-variants.{To, Spent}
-use Rattle.execution.specs.Went.{headerOf, lentBy, RowsFor, Ending, endingOf, WentBy, Went, NoiseReady, NoiseDone, Finished}
+use Rattle.execution.specs.Steps.{headerOf, lentBy, RowsFor, Ending, endingOf, EndsBy, EndsAs, NoiseReady, NoiseDone, Finished}
 
 -- ---- a line
 
@@ -58,10 +58,10 @@ module _ {job : List ℕ} (shape : Shape) {recorded : ℕ} (place : Place) {next
 
     pub plain-went : (lent : Lent) (main : List ℕ) → place .position ≤ length main → (x′ z′ d′ : List ℕ)
         → Obeyed (next .form) values (shape .width) (shape .qubits) (shape .outcomes) x z d x′ z′ d′ → (states : States) → Holds (shape .width) x z d states
-        → Went job shape lent main (endingOf (headerOf job shape) lent (instructionsAt job (place .line) (place .byte)) (drop (place .position) main) states)
+        → EndsAs job shape lent main (endingOf (headerOf job shape) lent (instructionsAt job (place .line) (place .byte)) (drop (place .position) main) states)
         (length (instructionsAt job (place .line) (place .byte))) (place .line) x′ z′ d′
         (To (record { byte = next .end + 1; line = place .line + 1; position = place .position }))
-    unfolding WentBy execute executeThen executeOne leftAfter leftThen stepOf
+    unfolding EndsBy execute executeThen executeOne leftAfter leftThen stepOf
     plain-went lent main within x′ z′ d′ obeyed states holds =
         record {
           by = record {
@@ -94,7 +94,7 @@ module _ {job : List ℕ} (shape : Shape) {recorded : ℕ} (place : Place) {next
 
     pub noise-done : {main second : List ℕ} {base : ℕ} {x z x′ z′ : List ℕ} {r : Moved}
         → NoiseDone job place next values shape noiseless main second base x z x′ z′ r → (d : List ℕ) (states : States) → Holds (shape .width) x z d states
-        → Went job shape (lentBy shape noiseless second base) main
+        → EndsAs job shape (lentBy shape noiseless second base) main
         (endingOf (headerOf job shape) (lentBy shape noiseless second base) (instructionsAt job (place .line) (place .byte)) (drop (place .position) main) states)
         (length (instructionsAt job (place .line) (place .byte))) (place .line) x′ z′ d r
     unfolding noise-lines
@@ -132,11 +132,11 @@ module _ (job : List ℕ) (shape : Shape) (lent : Lent) (main : List ℕ) where
     abbrev pub Obeying : List ℕ → List ℕ → List ℕ → Moved → Type 0
     Obeying x′ z′ d′ moved =
         (recorded : ℕ) → Ahead job (headerOf job shape) recorded (place .line) (place .byte) → (states : States) → Holds (shape .width) x z d states
-        → Went job shape lent main (endingOf (headerOf job shape) lent (instructionsAt job (place .line) (place .byte)) (drop (place .position) main) states)
+        → EndsAs job shape lent main (endingOf (headerOf job shape) lent (instructionsAt job (place .line) (place .byte)) (drop (place .position) main) states)
         (length (instructionsAt job (place .line) (place .byte))) (place .line) x′ z′ d′ moved
 
     pub going-on : (x′ z′ d′ : List ℕ) (next : Place) → Obeying x′ z′ d′ (To next) → GoingFrom from x₀ z₀ d₀ x′ z′ d′ next
-    unfolding WentBy
+    unfolding EndsBy
     going-on x′ z′ d′ next went =
         record {
           by = λ states₀ holds₀.
@@ -154,21 +154,21 @@ module _ (job : List ℕ) (shape : Shape) (lent : Lent) (main : List ℕ) where
 
     pub going-fewer : (x′ z′ d′ : List ℕ) (next : Place) → Obeying x′ z′ d′ (To next)
         → length (instructionsAt job (next .line) (next .byte)) < length (instructionsAt job (place .line) (place .byte))
-    unfolding WentBy
+    unfolding EndsBy
     going-fewer x′ z′ d′ next went =
         let b = going-some in
         went (b .recorded) (b .ahead) (b .states) (b .holds) .by .fewer
 
     pub going-stopped : (x′ z′ d′ : List ℕ) (position : ℕ) → Obeying x′ z′ d′ (Spent position) → (states₀ : States) → Holds (shape .width) x₀ z₀ d₀ states₀
         → Finished (execute (headerOf job shape) lent (instructionsAt job 2 from) main states₀) (shape .width) x′ z′ d′ (answer 14 (place .line))
-    unfolding WentBy
+    unfolding EndsBy
     going-stopped x′ z′ d′ position went states₀ holds₀ =
         let b = g .by states₀ holds₀ in
         Finished.stopped (place .line) (sym (ap (λ (e : Ending). e .ends) (b .is)) ∙ went (b .recorded) (b .ahead) (b .states) (b .holds) .by .ends) refl
 
     pub stopped-left : (x′ z′ d′ : List ℕ) (position : ℕ) → Obeying x′ z′ d′ (Spent position)
         → (position ≤ length main) × (drop position main ≡ leftAfter lent (instructionsAt job 2 from) main)
-    unfolding WentBy
+    unfolding EndsBy
     stopped-left x′ z′ d′ position went =
         let b = going-some in
         let s = went (b .recorded) (b .ahead) (b .states) (b .holds) .by in

@@ -1,7 +1,6 @@
 -- `injection::inject_faults` meets its contract. Assumes nothing.
 use Rattle.injection.specs.Laws.Faults.{Injecting, injecting-none, injecting-spent, injecting-done, element-ready, injecting-at}
-use Rattle.shots.specs.Laws.Next.{found-kind, at-within, at-shot}
-use Rattle.choice.specs.Choice.{Sized}
+use Rattle.shots.specs.Laws.Next.{at-within, at-shot}
 use borrow.Author.Needs.{needs}
 use mathlib.Core.List.{_++_}
 use lib.ListN.{length}
@@ -12,28 +11,25 @@ use Rattle.injection.proofs.inject_faults.Statement.{statement}
 use Rattle.injection.proofs.inject_faults.Tie as tie
 
 abbrev Inv-loop : tie.InvT-loop
-Inv-loop words more mask sums elements x₀ z₀ shape p d t chooser shots at₀ shot₀ x z at shot =
-    (at ≤ length (words ++ more)) × (shot ≤ shots) × (length x ≡ length x₀) × (length z ≡ length z₀) × (chooser .kind ≡ d) × Sized chooser
+Inv-loop words more mask sums elements x₀ z₀ shape p d rule shots at₀ shot₀ x z at shot =
+    (at ≤ length (words ++ more)) × (shot ≤ shots) × (length x ≡ length x₀) × (length z ≡ length z₀)
     × Injecting (shape .qubits) shots (shape .width) p d sums elements mask (words ++ more) x₀ z₀ x z at shot
 
 abbrev μ-loop : tie.MeasureT-loop
-μ-loop words more mask sums elements x₀ z₀ shape p d t chooser shots at₀ shot₀ x z at shot = shots - shot
+μ-loop words more mask sums elements x₀ z₀ shape p d rule shots at₀ shot₀ x z at shot = shots - shot
 
-threshold-requires : tie.Need-threshold-requires Inv-loop μ-loop
-threshold-requires c κs = search needs
-
-chooser-of-requires : tie.Need-chooser-of-requires Inv-loop μ-loop
-chooser-of-requires c κs = c .before .before .before .before .before .before .before .before .pre .line .small
+rule-of-requires : tie.Need-rule-of-requires Inv-loop μ-loop
+rule-of-requires c κs = c .before .before .before .before .before .before .before .pre .line .small
 
 loop-holds : tie.Need-loop-holds Inv-loop μ-loop
-loop-holds c = (omega arith, omega arith, refl, refl, c .chooser-of .ensures .0, c .chooser-of .ensures .1, injecting-none _ _ _ _ _ _ _ _ _ _ _)
+loop-holds c = (omega arith, omega arith, refl, refl, injecting-none _ _ _ _ _ _ _ _ _ _ _)
 
 next-fault-requires : tie.Need-next-fault-requires Inv-loop μ-loop
 next-fault-requires c κs =
     let i = c .loop .inv in
-    let words = c .before .before .before .before .before .before .before .before .before .before .pre .in-words in
-    let mask = c .before .before .before .before .before .before .before .before .before .before .pre .in-mask in
-    (i .0, i .1, omega arith, i .5)
+    let words = c .before .before .before .before .before .before .before .before .before .pre .in-words in
+    let mask = c .before .before .before .before .before .before .before .before .before .pre .in-mask in
+    (i .0, i .1, omega arith, c .before .rule-of .ensures .sized)
 
 enum-told : tie.Need-enum-told Inv-loop μ-loop
 enum-told c = search needs
@@ -46,7 +42,7 @@ same-length-2 c = c .before .before .before .loop .inv .3
 
 returns : tie.Need-returns Inv-loop μ-loop
 returns c =
-    injecting-spent _ _ _ _ _ _ _ _ _ _ _ _ _ _ _ (c .before .before .before .loop .inv .1) (c .before .before .before .before .before .before .before .before .before .before .before .before .before .pre .in-words) _ (found-kind (c .before .before .before .loop .inv .4) (c .before .before .next-fault .ensures _ (c .before .before .before .before .before .threshold .ensures))) (c .before .before .before .loop .inv .6) (c .enum-told .given .1)
+    injecting-spent _ _ _ _ _ _ _ _ _ _ _ _ _ _ _ (c .before .before .before .loop .inv .1) (c .before .before .before .before .before .before .before .before .before .before .before .before .pre .in-words) _ (c .before .before .next-fault .ensures _ _ (c .before .before .before .before .rule-of .ensures)) (c .before .before .before .loop .inv .4) (c .enum-told .given .1)
 
 enum-known-next : tie.Need-enum-known-next Inv-loop μ-loop
 enum-known-next c = search needs
@@ -59,7 +55,7 @@ same-length-4 c = c .before .before .before .before .loop .inv .3
 
 returns-2 : tie.Need-returns-2 Inv-loop μ-loop
 returns-2 c =
-    injecting-done _ _ _ _ _ _ _ _ _ _ _ _ _ _ _ (c .before .before .before .before .loop .inv .1) (c .before .before .before .before .before .before .before .before .before .before .before .before .before .before .pre .in-words) _ (found-kind (c .before .before .before .before .loop .inv .4) (c .before .before .before .next-fault .ensures _ (c .before .before .before .before .before .before .threshold .ensures))) (c .before .before .before .before .loop .inv .6) _ (c .before .next .given .1)
+    injecting-done _ _ _ _ _ _ _ _ _ _ _ _ _ _ _ (c .before .before .before .before .loop .inv .1) (c .before .before .before .before .before .before .before .before .before .before .before .before .before .pre .in-words) _ (c .before .before .before .next-fault .ensures _ _ (c .before .before .before .before .before .rule-of .ensures)) (c .before .before .before .before .loop .inv .4) _ (c .before .next .given .1)
 
 enum-known-s : tie.Need-enum-known-s Inv-loop μ-loop
 enum-known-s c = search needs
@@ -67,35 +63,33 @@ enum-known-s c = search needs
 inject-element-requires : tie.Need-inject-element-requires Inv-loop μ-loop
 inject-element-requires c κs =
     let i = c .before .before .before .before .before .before .loop .inv in
-    let r = c .before .before .before .before .before .before .before .before .before .before .before .before .before .before .before .before .pre in
-    let found = found-kind (c .before .before .before .before .before .before .loop .inv .4) (c .before .before .before .before .before .next-fault .ensures _ (c .before .before .before .before .before .before .before .before .threshold .ensures)) in
+    let r = c .before .before .before .before .before .before .before .before .before .before .before .before .before .before .before .pre in
+    let found = c .before .before .before .before .before .next-fault .ensures _ _ (c .before .before .before .before .before .before .before .rule-of .ensures) in
     let shot = at-shot found _ _ _ (c .before .before .before .s .given .1) in
     let words = r .in-words in (
-      element-ready _ _ _ _ _ _ _ _ _ _ _ _ _ _ _ (i .1) words _ found (i .6) r _ _ _ (c .before .before .before .s .given .1),
+      element-ready _ _ _ _ _ _ _ _ _ _ _ _ _ _ _ (i .1) words _ found (i .4) r _ _ _ (c .before .before .before .s .given .1),
       i .2 ∙ r .of-x,
       i .3 ∙ r .of-z,
       omega arith,
     )
 
 add-shot : tie.Need-add-shot Inv-loop μ-loop
-add-shot c = let shot = at-shot (found-kind (c .before .before .before .before .before .before .before .before .before .before .before .before .loop .inv .4) (c .before .before .before .before .before .before .before .before .before .before .before .next-fault .ensures _ (c .before .before .before .before .before .before .before .before .before .before .before .before .before .before .threshold .ensures))) _ _ _ (c .before .before .before .before .before .before .before .before .before .s .given .1) in record { fits = omega (arith, shot, c .before .before .before .before .before .before .before .before .before .before .before .before .before .before .before .before .before .before .before .before .before .before .good) }
+add-shot c = let shot = at-shot (c .before .before .before .before .before .before .before .before .before .before .before .next-fault .ensures _ _ (c .before .before .before .before .before .before .before .before .before .before .before .before .before .rule-of .ensures)) _ _ _ (c .before .before .before .before .before .before .before .before .before .s .given .1) in record { fits = omega (arith, shot, c .before .before .before .before .before .before .before .before .before .before .before .before .before .before .before .before .before .before .before .before .before .good) }
 
 loop-less : tie.Need-loop-less Inv-loop μ-loop
-loop-less c = let shot = at-shot (found-kind (c .before .before .before .before .before .before .before .before .before .before .before .before .loop .inv .4) (c .before .before .before .before .before .before .before .before .before .before .before .next-fault .ensures _ (c .before .before .before .before .before .before .before .before .before .before .before .before .before .before .threshold .ensures))) _ _ _ (c .before .before .before .before .before .before .before .before .before .s .given .1) in omega arith
+loop-less c = let shot = at-shot (c .before .before .before .before .before .before .before .before .before .before .before .next-fault .ensures _ _ (c .before .before .before .before .before .before .before .before .before .before .before .before .before .rule-of .ensures)) _ _ _ (c .before .before .before .before .before .before .before .before .before .s .given .1) in omega arith
 
 loop-again : tie.Need-loop-again Inv-loop μ-loop
 loop-again c =
     let i = c .before .before .before .before .before .before .before .before .before .before .before .before .loop .inv in
-    let found = found-kind (c .before .before .before .before .before .before .before .before .before .before .before .before .loop .inv .4) (c .before .before .before .before .before .before .before .before .before .before .before .next-fault .ensures _ (c .before .before .before .before .before .before .before .before .before .before .before .before .before .before .threshold .ensures)) in
+    let found = c .before .before .before .before .before .before .before .before .before .before .before .next-fault .ensures _ _ (c .before .before .before .before .before .before .before .before .before .before .before .before .before .rule-of .ensures) in
     let k = c .before .before .before .before .before .before .before .before .before .s .given .1 in
     let shot = at-shot found _ _ _ k in (
       at-within found _ _ _ k,
       omega arith,
       c .before .before .before .before .before .inject-element .kept .0 ∙ i .2,
       c .before .before .before .before .before .inject-element .kept .1 .0 ∙ i .3,
-      i .4,
-      i .5,
-      injecting-at _ _ _ _ _ _ _ _ _ _ _ _ _ _ _ (i .1) (c .before .before .before .before .before .before .before .before .before .before .before .before .before .before .before .before .before .before .before .before .before .before .pre .in-words) _ found (i .6) _ _ _ _ _ k (c .before .before .before .before .before .inject-element .ensures),
+      injecting-at _ _ _ _ _ _ _ _ _ _ _ _ _ _ _ (i .1) (c .before .before .before .before .before .before .before .before .before .before .before .before .before .before .before .before .before .before .before .before .before .pre .in-words) _ found (i .4) _ _ _ _ _ k (c .before .before .before .before .before .inject-element .ensures),
     )
 
 pub inject-faults-spec : {M : Type 1} → statement M
@@ -104,8 +98,7 @@ inject-faults-spec =
     (tie.spec
     Inv-loop
     μ-loop
-    threshold-requires
-    chooser-of-requires
+    rule-of-requires
     loop-holds
     next-fault-requires
     enum-told

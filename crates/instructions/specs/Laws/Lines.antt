@@ -12,7 +12,8 @@ use Rattle.job.specs.Grammar.{Written, readLine}
 use Rattle.job.specs.Checks.{Context, noContext, inEdition, ownTests}
 use Rattle.job.specs.Job.{isLast, nextOf, checkJob}
 use Rattle.job.specs.Laws.Tests.{AllPass}
-use Rattle.job.specs.Laws.Forms.{WrittenFits, line-fits}
+use Rattle.job.specs.Fits.{WrittenFits}
+use Rattle.job.specs.Laws.Forms.{line-fits}
 use Rattle.job.specs.Laws.Lines.{line-sound}
 use Rattle.job.specs.Laws.Accepted.{passes-first, passing, good-says}
 use Rattle.job.specs.Laws.Begun.{ended-parts, job-passes}

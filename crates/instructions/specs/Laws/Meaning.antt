@@ -19,7 +19,8 @@ use Rattle.job.specs.Line.{SparsePauli, Line}
 use Rattle.job.specs.Clifford.{tableWords, tableOf}
 use Rattle.job.specs.Grammar.{Kind, NoiseLine, Written, headerBy, editionBy, isOne, optional, unitaryLine, cliffordLine, noiseLine, forms, readLine}
 use Rattle.job.specs.Checks.{records, elementLines, firstTotal}
-use Rattle.job.specs.Laws.Forms.{SaidFits, line-fits}
+use Rattle.job.specs.Fits.{SaidFits}
+use Rattle.job.specs.Laws.Forms.{line-fits}
 use Rattle.reader.specs.declared.Form.{Form}
 use Rattle.reader.specs.declared.Form.the-variants as form
 use Rattle.reader.specs.Parsed.{placeOf, noForm, formOf, isUnread, ParsedAs, Parsed, Said}

@@ -14,7 +14,8 @@ use Rattle.job.specs.Checks.{Context, next, expected, inEdition, headerF
 use Rattle.job.specs.Job.{answer, accepted, isLast, nextOf, checkLines}
 use Rattle.job.specs.Contexts.{Accepted}
 use Rattle.job.specs.Laws.Tests.{AllPass, refusal-passes, passes-lowest}
-use Rattle.job.specs.Laws.Forms.{WrittenFits, SaidFits, line-fits}
+use Rattle.job.specs.Fits.{WrittenFits, SaidFits}
+use Rattle.job.specs.Laws.Forms.{line-fits}
 
 -- the number of a line among others
 abbrev pub numberAfter : Context → List ℕ → List (List ℕ) → ℕ
@@ -53,13 +54,6 @@ zero-passes k c (l ∷ ls) z = go (eqb (numberAfter c l ls) 0) refl z (zero-pass
         → cond b (checkLines (suc k) (nextOf c (readLine l)) ls) (answer (numberAfter c l ls) k) ≡ accepted
     go true e z ih = ih z
     go false e z ih = absurd (eqb-false (numberAfter c l ls) 0 e z)
-
--- whether lines are accepted does not depend on the number of the first
-pub passes-anywhere : (k m : ℕ) (c : Context) (ls : List (List ℕ)) → checkLines k c ls ≡ accepted → checkLines m c ls ≡ accepted
-passes-anywhere k m c [] p = unfold checkLines in refl
-passes-anywhere k m c (l ∷ ls) p =
-    let parts = passes-first k c l ls p in
-    checks-good m c l ls (parts .0) ∙ passes-anywhere (suc k) (suc m) (nextOf c (readLine l)) ls (parts .1)
 
 -- ---- what a good line is known for
 

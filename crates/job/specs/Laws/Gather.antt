@@ -21,7 +21,7 @@ use Rattle.job.specs.Job.{distributionOf, noiseOf, weightOf, Gathered, p
 use Rattle.job.specs.Contexts.{Accepted}
 use Rattle.job.specs.Sound.{Every, PauliSound, SmallOption, WeightSound, ElementSound, weightsOf, DistributionSound, NoiseSound, InstructionSound, SizeSaid, InstructionsSound, SaidBy}
 use Rattle.job.specs.Laws.Tests.{AllPass}
-use Rattle.job.specs.Laws.Forms.{KindFits, NoiseFits, WrittenFits}
+use Rattle.job.specs.Fits.{KindFits, NoiseFits, WrittenFits}
 use Rattle.job.specs.Laws.Lines.{pauli-sound, operands-sound, first-short, line-sound}
 use Rattle.job.specs.Laws.Accepted.{Passing, accepted-first}
 

@@ -19,7 +19,7 @@ use Rattle.job.specs.Clifford.{maxCliffordQubits}
 use Rattle.job.specs.Laws.Table.{clifford-small}
 use Rattle.job.specs.Laws.Lists.{below-first}
 use Rattle.job.specs.Laws.Tests.{AllPass}
-use Rattle.job.specs.Laws.Forms.{PauliFits, LineFits}
+use Rattle.job.specs.Fits.{PauliFits, LineFits}
 
 -- ---- tests 4 and 5 on lists
 

@@ -1,5 +1,5 @@
 -- The outcomes that sound instructions record: laws. Assumes nothing.
-use Prim.Native.Nat.{ℕ, zero, suc, _+_, _≤_, _<_}
+use Prim.Native.Nat.{ℕ, suc, _+_, _≤_, _<_}
 use native.Mathlib.Nat.{add-zero, zero-add}
 use native.Mathlib.Numerals.{add-one, one-add}
 use native.Mathlib.Omega.{arith}
@@ -7,7 +7,6 @@ use mathlib.Core.Path.{_≡_, refl, sym, ap, _∙_}
 use mathlib.Core.Bool.{true, true≢false}
 use mathlib.Core.List.{List, [], _∷_, _++_}
 use mathlib.Core.Option.{Option, some}
-use lib.ListN.{length, getD, take}
 use Rattle.job.specs.declared.Header.{Header}
 use Rattle.job.specs.Line.{Line, Instruction, Placed}
 use Rattle.job.specs.Grammar.{Written, readLine}
@@ -63,16 +62,6 @@ unfolding InstructionsSound recordedIn
 recorded-within h r [] s b = omega arith
 recorded-within h r (i ∷ is) s b =
     omega (arith, recorded-within h (r + recordedBy (i .instruction)) is (s .1) (instruction-within h r (i .instruction) (s .0) b))
-
--- each instruction by its place, with the outcomes that those before it record
-pub sound-at : (h : Header) (r : ℕ) (is : List Placed) (d : Placed) → InstructionsSound h r is → (i : ℕ) → i < length is
-    → InstructionSound h (r + recordedIn (take i is)) (getD is i d .instruction)
-unfolding InstructionsSound recordedIn
-sound-at h r [] d s i b = absurd (omega arith)
-sound-at h r (p ∷ is) d s zero b = rw add-zero (s .0)
-sound-at h r (p ∷ is) d s (suc i) b =
-    let n : r + (recordedBy (p .instruction) + recordedIn (take i is)) ≡ r + recordedBy (p .instruction) + recordedIn (take i is) = omega arith in
-    rw n (sound-at h (r + recordedBy (p .instruction)) is d (s .1) i (omega arith))
 
 -- the ids recorded count up from the first
 pub ids-count : (h : Header) (r : ℕ) (is : List Placed) → InstructionsSound h r is → idsIn is ≡ countUp r (recordedIn is)

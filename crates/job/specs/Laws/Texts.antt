@@ -25,7 +25,7 @@ use Rattle.job.specs.Sound.{Every, HeaderSound}
 use Rattle.job.specs.Clifford.{tableWords, wordsOf}
 use Rattle.job.specs.Laws.Lists.{below-first}
 use Rattle.job.specs.Laws.Table.{words-length, table-round, words-fit, right-words}
-use Rattle.job.specs.Laws.Forms.{PauliFits}
+use Rattle.job.specs.Fits.{PauliFits}
 use Rattle.job.specs.Laws.Passes.{header-accepted}
 use Rattle.job.specs.Laws.Dispatch.{hasMark, mark-same, read-by-mark}
 

@@ -13,7 +13,7 @@ use Rattle.job.specs.Grammar.{Written, readLine}
 use Rattle.job.specs.Checks.{Context, records, next, headerFits, ownTests}
 use Rattle.job.specs.Job.{checkJob, recordedBy, Job, jobOf}
 use Rattle.job.specs.Sound.{PauliSound, LineSound, InstructionSound}
-use Rattle.job.specs.Laws.Forms.{WrittenFits}
+use Rattle.job.specs.Fits.{WrittenFits}
 use Rattle.job.specs.Laws.Lines.{pauli-sound, line-sound}
 use Rattle.job.specs.Contexts.{between, Accepted}
 use Rattle.job.specs.Laws.Accepted.{Passing, accepted-first}

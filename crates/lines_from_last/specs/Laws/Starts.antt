@@ -1,10 +1,10 @@
 -- A job's lines from the last to the first: the lines of a prefix that ends where a line starts are a prefix of the lines. Laws. Assumes nothing.
-use mathlib.Core.Path.{_≡_, refl, sym, ap, _∙_}
-use mathlib.Core.Bool.{Bool, true, false, cond}
+use mathlib.Core.Path.{_≡_, refl, sym, ap, subst, _∙_}
+use mathlib.Core.Bool.{Bool, true, false, cond, _||_, true≢false}
 use mathlib.Core.List.{List, [], _∷_, _++_, append-assoc, append-nil}
 use Prim.Native.Nat.{ℕ, zero, suc, _+_, _-_, _≤_, _<_}
 use native.Mathlib.Omega.{arith}
-use borrow.Author.Tests.{ne-eqb}
+use borrow.Author.Tests.{ne-eqb, eqb-true, eqb-false}
 use lib.Dec.{eqb}
 use lib.ListN.{length, getD, take, drop, length-drop}
 use lib.Seq.{take-suc, take-add, drop-cons, getD-drop}
@@ -12,7 +12,7 @@ use Rattle.text.specs.Bytes.{until, extend, pieces, lines, unlines}
 use Rattle.text.specs.Written.{Free}
 use Rattle.text.specs.Theorems.{lines-unlines}
 use Rattle.instructions.specs.Reading.{lineAt}
-use Rattle.lines_from_last.specs.Line.{LineStart, LineBefore}
+use Rattle.lines_from_last.specs.Line.{LineStart, LineBefore, NoLf}
 
 -- what stands before an LF has its lines, whatever follows
 joined : (p : List ℕ) → (h : List ℕ) × (t : List (List ℕ)) × ((q : List ℕ) → lines (p ++ 10 ∷ q) ≡ h ∷ (t ++ lines q))
@@ -73,6 +73,34 @@ module _ (job : List ℕ) (e i : ℕ) (inside : e < length job) (within : i ≤ 
 
   pub free-two : 1 < i → (getD job (i - 1) 0 ≡ 10 → ⊥) → (getD job (i - 2) 0 ≡ 10 → ⊥) → Free 10 (lineAt job i e) → Free 10 (lineAt job (i - 2) e)
   free-two h last ne f = let n : suc (i - 2) ≡ i - 1 = omega arith in free-step job e (i - 2) (omega arith) inside ne (rw n (free-more (omega arith) last f))
+
+-- so are those of a block before them that has none
+pub free-block : (job : List ℕ) (e i n : ℕ) → e < length job → i ≤ e → n ≤ i → NoLf job (i - n) i → Free 10 (lineAt job i e)
+    → Free 10 (lineAt job (i - n) e)
+free-block job e i zero inside within h b f = let z : i - 0 ≡ i = omega arith in rw z f
+free-block job e i (suc n) inside within h b f =
+    let p : i - n - 1 ≡ i - suc n = omega arith in
+    let less : NoLf job (i - n) i = record { none = λ j from to. b .none j (omega arith) to } in
+    let rest : Free 10 (lineAt job (i - n) e) = free-block job e i n inside within (omega arith) less f in
+    rw p at (free-more job e (i - n) inside (omega arith) (omega arith) (b .none (i - n - 1) (omega arith) (omega arith)) rest)
+
+-- none are looked at yet
+pub no-lf-none : (job : List ℕ) (from : ℕ) → NoLf job from (from + 0)
+no-lf-none job from = record { none = λ j ge lt lf. omega arith }
+
+-- one more
+no-lf-more : (job : List ℕ) (from k : ℕ) → NoLf job from (from + k) → (getD job (from + k) 0 ≡ 10 → ⊥) → NoLf job from (from + (k + 1))
+no-lf-more job from k b ne = record { none = λ j ge lt lf. go j ge lt lf (eqb j (from + k)) refl }
+  where
+    go : (j : ℕ) → from ≤ j → j < from + (k + 1) → getD job j 0 ≡ 10 → (t : Bool) → eqb j (from + k) ≡ t → ⊥
+    go j ge lt lf true e = ne (subst (λ (p : ℕ). getD job p 0 ≡ 10) (eqb-true _ _ e) lf)
+    go j ge lt lf false e = let other : j ≡ from + k → ⊥ = eqb-false _ _ e in b .none j ge (omega arith) lf
+
+-- one more, with whether there was any before
+pub found-more : (job : List ℕ) (from k : ℕ) (found : Bool) → (found ≡ false → NoLf job from (from + k))
+    → (found || eqb (getD job (from + k) 0) 10) ≡ false → NoLf job from (from + (k + 1))
+found-more job from k true before e = absurd (true≢false e)
+found-more job from k false before e = no-lf-more job from k (before refl) (eqb-false _ _ e)
 
 pub free-none : (job : List ℕ) (e : ℕ) → Free 10 (lineAt job e e)
 unfolding until lineAt

@@ -16,7 +16,7 @@ use Rattle.totals.specs.Laws.Held.{held-zeros}
 use Rattle.injection.specs.Holds.{Holds}
 use Rattle.injection.specs.Laws.Holds.{holds-starts}
 use Rattle.execution.specs.declared.Answered.{Answered}
-use Rattle.execution.specs.Went.{headerOf, lentBy, RowsFor, Finished}
+use Rattle.execution.specs.Steps.{headerOf, lentBy, RowsFor, Finished}
 use Rattle.run.specs.Run.{Source, lentOf}
 use Rattle.needed_words.specs.Needed.{NeededReady, NeededRun}
 use Rattle.needed_words.specs.Laws.Padding.{past-shots}

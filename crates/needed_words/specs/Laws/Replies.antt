@@ -21,7 +21,7 @@ use Rattle.totals.specs.Held.{TotalsHeld}
 use Rattle.totals.specs.Laws.Ones.{ones-same, ones-within}
 use Rattle.run.specs.Run.{frameWords, outcomeWords, flipTotals}
 use Rattle.injection.specs.Holds.{Holds}
-use Rattle.execution.specs.Went.{Finished}
+use Rattle.execution.specs.Steps.{Finished}
 use Rattle.needed_words.specs.Needed.{neededReply}
 
 -- ---- packing

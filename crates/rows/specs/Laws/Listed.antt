@@ -28,6 +28,27 @@ module _ (step : ℕ → List ℕ → List ℕ) (list : List ℕ) (i : ℕ) (l w
   unfolding overList
   over-end h inv = rw (drop-of-length-le list h) at inv
 
+-- two turns at once, and four
+module _ (step : ℕ → List ℕ → List ℕ) (list : List ℕ) (i : ℕ) (l whole : List ℕ) where
+  pub over-two : (l′ : List ℕ) → l′ ≡ step (getD list (i + 1) 0) (step (getD list i 0) l) → overList step (drop i list) l ≡ whole → i + 2 ≤ length list
+      → overList step (drop (i + 2) list) l′ ≡ whole
+  over-two l′ e inv h =
+      let next : i + 2 ≡ i + 1 + 1 = omega arith in
+      ap (λ (k : ℕ). overList step (drop k list) l′) next
+      ∙ over-turn step list (i + 1) _ whole l′ (omega arith) e (over-turn step list i l whole _ (omega arith) refl inv)
+
+module _ (step : ℕ → List ℕ → List ℕ) (list : List ℕ) (i : ℕ) (l whole : List ℕ) where
+  pub over-four : (l′ : List ℕ)
+      → l′ ≡ step (getD list (i + 3) 0) (step (getD list (i + 2) 0) (step (getD list (i + 1) 0) (step (getD list i 0) l)))
+      → overList step (drop i list) l ≡ whole → i + 4 ≤ length list → overList step (drop (i + 4) list) l′ ≡ whole
+  over-four l′ e inv h =
+      let two = step (getD list (i + 1) 0) (step (getD list i 0) l) in
+      let next : i + 4 ≡ i + 2 + 2 = omega arith in
+      let last : i + 3 ≡ i + 2 + 1 = omega arith in
+      ap (λ (k : ℕ). overList step (drop k list) l′) next
+      ∙ over-two step list (i + 2) two whole l′ (e ∙ ap (λ (k : ℕ). step (getD list k 0) (step (getD list (i + 2) 0) two)) last)
+      (over-two step list i l whole two refl inv (omega arith)) (omega arith)
+
 pub length-over : (step : ℕ → List ℕ → List ℕ) → ((q : ℕ) (l : List ℕ) → length (step q l) ≡ length l) → (list l : List ℕ)
     → length (overList step list l) ≡ length l
 unfolding overList

@@ -8,7 +8,7 @@ use native.Mathlib.Nat.{not-suc-le-zero, eq-or-lt-of-le, le-of-suc-le-suc, suc-m
 use native.Mathlib.Numerals.{add-one, lt-of-le-of-ne}
 use native.Mathlib.Decide.{decLt}
 use lib.ListN.{length, getD, set, length-set}
-use lib.Seq.{getD-set-same, getD-set-other, set-comm}
+use lib.Seq.{getD-set-same, getD-set-other, set-comm, set-set}
 use lib.Bits.{bitXor}
 use Rattle.rows.specs.Overwrite.{overwrite, cleared, copied, xored, swapped, flipped}
 
@@ -77,6 +77,17 @@ apart-out n a b k (inr p) h₁ h₂ h₃ h₄ = omega arith
 -- a row ends at or before the start of each later one
 pub before-row : (w p q : ℕ) → p < q → p * w + w ≤ q * w
 before-row w p q h = rw (← suc-mul) (mul-le-mul-right w h)
+
+-- a row that starts before another ends at or before its start
+pub row-order : (w p q : ℕ) → p * w < q * w → p * w + w ≤ q * w
+row-order w p q h = by-order (decLt p q)
+  where
+    by-order : Dec (p < q) → p * w + w ≤ q * w
+    by-order (yes l) = before-row w p q l
+    by-order (no n) =
+        let after : q ≤ p = omega arith in
+        let below : q * w ≤ p * w = mul-le-mul-right w after in
+        omega arith
 
 -- two rows do not meet
 pub rows-apart : (w r s : ℕ) → (r ≡ s → ⊥) → Apart w (r * w) (s * w)
@@ -160,3 +171,71 @@ module _ (n a b j : ℕ) (l m : List ℕ) (apart : Apart n a b) (h : j < n) (e :
   pub swapped-more : set (set m (a + j) (getD m (b + j) 0)) (b + j) (getD m (a + j) 0) ≡ swapped a b (j + 1) l
   unfolding swapped
   swapped-more = overwrite-more b _ _ j _ _ first-store (swapped-out (a + j) (λ p q. omega arith) a-out)
+
+-- ---- runs that are added together
+
+overwrite-same : (at : ℕ) (f g : ℕ → ℕ) (l : List ℕ) (n : ℕ) → ((j : ℕ) → j < n → f j ≡ g j) → overwrite at n f l ≡ overwrite at n g l
+unfolding overwrite
+overwrite-same at f g l zero same = refl
+overwrite-same at f g l (suc n) same =
+    ap (λ (m : List ℕ). set m (at + n) (f n)) (overwrite-same at f g l n (λ j h. same j (omega arith)))
+    ∙ ap (λ (v : ℕ). set (overwrite at n g l) (at + n) v) (same n (omega arith))
+
+module _ (at from n : ℕ) (src l : List ℕ) (k : ℕ) (out : at ≤ k → k < at + n → ⊥) where
+  xored-out : getD (xored at from n src l) k 0 ≡ getD l k 0
+  unfolding xored
+  xored-out = overwrite-out at _ l n k out
+
+  xored-set : (v : ℕ) → set (xored at from n src l) k v ≡ xored at from n src (set l k v)
+  unfolding xored
+  xored-set v =
+      overwrite-set at _ l n k v out
+      ∙ overwrite-same at _ _ (set l k v) n (λ j h. ap (λ (x : ℕ). bitXor x (getD src (from + j) 0))
+      (sym (getD-set-other l k (at + j) v 0 (λ (e : at + j ≡ k). out (omega arith) (omega arith)))))
+
+-- a turn of the loop that adds a run to two others, of which the first ends before the second or begins no earlier
+module _ (p q from j : ℕ) (src l m : List ℕ) (out : q ≤ p + j → p + j < q + j → ⊥) (e : m ≡ xored q from j src (xored p from j src l)) where
+  first-of-two : set m (p + j) (bitXor (getD m (p + j) 0) (getD src (from + j) 0)) ≡ xored q from j src (xored p from (j + 1) src l)
+  first-of-two =
+      rw (e, xored-out q from j src (xored p from j src l) (p + j) out)
+      (xored-set q from j src (xored p from j src l) (p + j) out _ ∙ ap (xored q from j src) (xored-more p from src l j _ _ refl refl))
+
+  pub twice-more : (m′ : List ℕ) → m′ ≡ set m (p + j) (bitXor (getD m (p + j) 0) (getD src (from + j) 0))
+      → set m′ (q + j) (bitXor (getD m′ (q + j) 0) (getD src (from + j) 0)) ≡ xored q from (j + 1) src (xored p from (j + 1) src l)
+  twice-more m′ e′ = xored-more q from src (xored p from (j + 1) src l) j _ m′ (e′ ∙ first-of-two) refl
+
+-- a turn of the loop that adds four runs to one
+module _ (at j : ℕ) (src : List ℕ) where
+  yet : (from : ℕ) (l : List ℕ) → getD (xored at from j src l) (at + j) 0 ≡ getD l (at + j) 0
+  yet from l = xored-out at from j src l (at + j) (λ p q. omega arith)
+
+  -- the word that is stored, u, takes one run more
+  also : (from u : ℕ) (l l′ : List ℕ) → at + j < length l → set l (at + j) u ≡ l′
+      → set (xored at from j src l) (at + j) (bitXor u (getD src (from + j) 0)) ≡ xored at from (j + 1) src l′
+  also from u l l′ h e =
+      let m = set (xored at from j src l) (at + j) u in
+      let first : m ≡ xored at from j src l′ = xored-set at from j src l (at + j) (λ p q. omega arith) u ∙ ap (xored at from j src) e in
+      let back : getD m (at + j) 0 ≡ u = getD-set-same (xored at from j src l) (at + j) u 0 (rw length-xored h) in
+      sym (set-set (xored at from j src l) (at + j) u (bitXor u (getD src (from + j) 0)))
+      ∙ ap (λ (v : ℕ). set m (at + j) (bitXor v (getD src (from + j) 0))) (sym back)
+      ∙ xored-more at from src l′ j _ m first refl
+
+  -- v and the runs' words of this turn
+  abbrev four : ℕ → ℕ → ℕ → ℕ → ℕ → ℕ
+  four a b c d v = bitXor (bitXor (bitXor (bitXor v (getD src (a + j) 0)) (getD src (b + j) 0)) (getD src (c + j) 0)) (getD src (d + j) 0)
+
+  pub four-more : (a b c d : ℕ) (l m : List ℕ) → at + j < length l
+      → m ≡ xored at d j src (xored at c j src (xored at b j src (xored at a j src l)))
+      → set m (at + j) (four a b c d (getD m (at + j) 0))
+      ≡ xored at d (j + 1) src (xored at c (j + 1) src (xored at b (j + 1) src (xored at a (j + 1) src l)))
+  four-more a b c d l m h e =
+      let one = xored at a j src l in
+      let two = xored at b j src one in
+      let three = xored at c j src two in
+      let read : getD m (at + j) 0 ≡ getD one (at + j) 0 = ap (λ (x : List ℕ). getD x (at + j) 0) e ∙ yet d three ∙ yet c two ∙ yet b one in
+      let in-one : at + j < length one = rw length-xored h in
+      let in-two : at + j < length two = rw length-xored in-one in
+      let in-three : at + j < length three = rw length-xored in-two in
+      ap (λ (v : ℕ). set m (at + j) (four a b c d v)) read
+      ∙ ap (λ (x : List ℕ). set x (at + j) (four a b c d (getD one (at + j) 0))) e
+      ∙ also d _ three _ in-three (also c _ two _ in-two (also b _ one _ in-one (xored-more at a src l j _ one refl refl)))

@@ -8,17 +8,14 @@ use borrow.Author.Needs.{needs}
 use Rattle.runner.proofs.run_tested.Statement.{statement}
 use Rattle.runner.proofs.run_tested.Tie as tie
 
-mul-frame : tie.Need-mul-frame
-mul-frame c = let r = range _ (c .before .before .before .before .before .before .before .before .before .before .pre .passes) in rw (c .before .before .before .before .before .before .before .before .before .before .pre .shaped) record { fits = row-words _ _ (omega (arith, r .few-qubits)) (r .few-shots) }
+mul-frame-words : tie.Need-mul-frame-words
+mul-frame-words c = let r = range _ (c .before .before .before .before .before .before .before .before .before .before .pre .passes) in rw (c .before .before .before .before .before .before .before .before .before .before .pre .shaped) record { fits = row-words _ _ (omega (arith, r .few-qubits)) (r .few-shots) }
 
-mul-outcomes : tie.Need-mul-outcomes
-mul-outcomes c = let r = range _ (c .before .before .before .before .before .before .before .before .before .before .before .pre .passes) in rw (c .before .before .before .before .before .before .before .before .before .before .before .pre .shaped) record { fits = row-words _ _ (r .few-outcomes) (r .few-shots) }
+mul-outcome-words : tie.Need-mul-outcome-words
+mul-outcome-words c = let r = range _ (c .before .before .before .before .before .before .before .before .before .before .before .pre .passes) in rw (c .before .before .before .before .before .before .before .before .before .before .before .pre .shaped) record { fits = row-words _ _ (r .few-outcomes) (r .few-shots) }
 
-find-requires : tie.Need-find-requires
-find-requires c κs = search needs
-
-add-from : tie.Need-add-from
-add-from c = record { fits = omega (arith, c .find .ensures .1, c .before .before .before .before .before .before .before .before .before .before .before .before .good) }
+behind-header-requires : tie.Need-behind-header-requires
+behind-header-requires c κs = search needs
 
 slice-relend-prefix-run-needed : tie.Need-slice-relend-prefix-run-needed
 slice-relend-prefix-run-needed c = rw (c .before .before .before .before .before .before .before .before .before .before .before .before .pre .shaped) (enough-words (c .before .before .before .before .before .before .before .before .before .before .before .before .pre .enough) .of-x)
@@ -48,7 +45,7 @@ run-needed-requires : tie.Need-run-needed-requires
 run-needed-requires c κs =
     let e = enough-words (c .before .before .before .before .before .before .before .before .before .before .before .before .before .before .before .before .pre .enough) in
     rw (c .before .before .before .before .before .before .before .before .before .before .before .before .before .before .before .before .pre .shaped)
-    (needed-ready (passed-at _ (c .before .before .before .before .before .before .before .before .before .before .before .before .before .before .before .before .pre .passes) (c .before .before .before .before .find .ensures .0))
+    (needed-ready (passed-at _ (c .before .before .before .before .before .before .before .before .before .before .before .before .before .before .before .before .pre .passes) (c .before .before .before .before .behind-header .ensures))
     (length-take-le _ _ (e .of-x))
     (length-take-le _ _ (e .of-z))
     (length-take-le _ _ (e .of-deltas))
@@ -70,16 +67,15 @@ same-length-4 c = search needs
 returns : tie.Need-returns
 returns c =
     rw (c .before .before .before .before .before .before .before .before .before .before .before .before .before .before .before .before .before .before .before .before .before .before .before .before .before .pre .shaped)
-    (needed-reply (passed-at _ (c .before .before .before .before .before .before .before .before .before .before .before .before .before .before .before .before .before .before .before .before .before .before .before .before .before .pre .passes) (c .before .before .before .before .before .before .before .before .before .before .before .before .before .find .ensures .0)) _ (sym (same-test _ _) ∙ c .before .before .before .before .before .before .before .before .before .before .before .before .before .before .before .before .before .before .before .before .before .before .before .before .before .pre .enough) (rw (c .before .before .before .before .before .before .before .before .before .before .before .before .before .before .before .before .before .before .before .before .before .before .before .before .before .pre .shaped) at (c .before .before .before .before .before .before .before .before .run-needed .ensures)))
+    (needed-reply (passed-at _ (c .before .before .before .before .before .before .before .before .before .before .before .before .before .before .before .before .before .before .before .before .before .before .before .before .before .pre .passes) (c .before .before .before .before .before .before .before .before .before .before .before .before .before .behind-header .ensures)) _ (sym (same-test _ _) ∙ c .before .before .before .before .before .before .before .before .before .before .before .before .before .before .before .before .before .before .before .before .before .before .before .before .before .pre .enough) (rw (c .before .before .before .before .before .before .before .before .before .before .before .before .before .before .before .before .before .before .before .before .before .before .before .before .before .pre .shaped) at (c .before .before .before .before .before .before .before .before .run-needed .ensures)))
 
 pub run-tested-spec : {M : Type 1} → statement M
 run-tested-spec =
     tie.close
     (tie.spec
-    mul-frame
-    mul-outcomes
-    find-requires
-    add-from
+    mul-frame-words
+    mul-outcome-words
+    behind-header-requires
     slice-relend-prefix-run-needed
     slice-aggregate-run-needed
     slice-relend-prefix-run-needed-2

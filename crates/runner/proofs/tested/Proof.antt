@@ -14,32 +14,24 @@ test-requires c κs = search needs
 returns : tie.Need-returns
 returns c = tests-refused (c .before .before .before .test .ensures) _ (c .if1 .taken)
 
-mul-enough : tie.Need-mul-enough
-mul-enough c =
-    let r = range _ (tests-passed (c .before .before .before .before .before .test .ensures) (c .before .before .if1 .left)) in
-    rw (c .before .before .before .before .before .test .ensures .shaped (c .before .before .if1 .left)) record { fits = row-words _ _ (omega (arith, r .few-qubits)) (r .few-shots) }
-
-mul-enough-2 : tie.Need-mul-enough-2
-mul-enough-2 c =
-    let r = range _ (tests-passed (c .before .before .before .before .before .before .test .ensures) (c .before .before .before .if1 .left)) in
-    rw (c .before .before .before .before .before .before .test .ensures .shaped (c .before .before .before .if1 .left)) record { fits = row-words _ _ (r .few-outcomes) (r .few-shots) }
-
 enough-requires : tie.Need-enough-requires
-enough-requires c κs = search needs
+enough-requires c κs =
+    let r = range _ (tests-passed (c .before .before .before .before .test .ensures) (c .before .if1 .left)) in
+    rw (c .before .before .before .before .test .ensures .shaped (c .before .if1 .left)) (row-words _ _ (omega (arith, r .few-qubits)) (r .few-shots), row-words _ _ (r .few-outcomes) (r .few-shots))
 
 too-few-requires : tie.Need-too-few-requires
 too-few-requires c κs = search needs
 
 returns-2 : tie.Need-returns-2
 returns-2 c =
-    tests-short (c .before .before .before .before .before .before .before .before .before .test .ensures) (c .before .before .before .before .before .before .if1 .left) (c .too-few .ensures) _
-    (rw (c .before .before .before .before .before .before .before .before .before .test .ensures .shaped (c .before .before .before .before .before .before .if1 .left)) at (sym (c .before .before .enough .ensures) ∙ not-true _ (c .before .if2 .taken)))
+    tests-short (c .before .before .before .before .before .before .before .test .ensures) (c .before .before .before .before .if1 .left) (c .too-few .ensures) _
+    (rw (c .before .before .before .before .before .before .before .test .ensures .shaped (c .before .before .before .before .if1 .left)) at (sym (c .before .before .enough .ensures) ∙ not-true _ (c .before .if2 .taken)))
 
 returns-3 : tie.Need-returns-3
 returns-3 c =
-    tests-enough (c .before .before .before .before .before .before .before .before .test .ensures) (c .before .before .before .before .before .if1 .left) _
-    (rw (c .before .before .before .before .before .before .before .before .test .ensures .shaped (c .before .before .before .before .before .if1 .left)) at (sym (c .before .enough .ensures) ∙ not-false _ (c .if2 .left)))
+    tests-enough (c .before .before .before .before .before .before .test .ensures) (c .before .before .before .if1 .left) _
+    (rw (c .before .before .before .before .before .before .test .ensures .shaped (c .before .before .before .if1 .left)) at (sym (c .before .enough .ensures) ∙ not-false _ (c .if2 .left)))
 
 pub tested-spec : {M : Type 1} → statement M
 tested-spec =
-    tie.close (tie.spec test-requires returns mul-enough mul-enough-2 enough-requires too-few-requires returns-2 returns-3)
+    tie.close (tie.spec test-requires returns enough-requires too-few-requires returns-2 returns-3)

@@ -8,28 +8,26 @@ use native.Mathlib.Omega.{arith}
 use lib.ListN.{length, drop}
 use lib.Dec.{eqb}
 use borrow.Author.Tests.{eqb-true, eqb-false}
-use Rattle.text.specs.Bytes.{LF, until}
 use Rattle.job.specs.declared.Header.{Header}
 use Rattle.job.specs.declared.Answer.{Answer}
 use Rattle.job.specs.Grammar.{headerWith}
 use Rattle.job.specs.Job.{answer, jobOf, checkJob}
 use Rattle.job.specs.Sound.{InstructionsSound, HeaderSound}
-use Rattle.job.specs.Laws.Begun.{ended-parts}
 use Rattle.job.specs.Theorems.{checked-sound}
 use Rattle.instructions.specs.Ahead.{instructionsAt, Ahead}
-use Rattle.instructions.specs.Laws.Places.{found-line}
-use Rattle.instructions.specs.Laws.Steps.{started}
 use Rattle.job_shape.specs.declared.Tested.{Tested}
 use Rattle.job_shape.specs.Tested.{testedAnswer, Tests}
+use Rattle.job_shape.specs.Header.{behindHeader}
 use Rattle.rows.specs.Shape.{shapeOf}
 use Rattle.run.specs.Run.{Memory, frameWords, outcomeWords, enoughWords, untouched, runReply}
 use Rattle.execution.specs.declared.Answered.{Answered}
-use Rattle.execution.specs.Went.{headerOf}
+use Rattle.execution.specs.Steps.{headerOf}
 use Rattle.needed_words.specs.Needed.{NeededReady, NeededRun}
 use Rattle.job_shape.specs.Laws.Tested.{passed-both}
+use Rattle.job_shape.specs.Laws.Header.{header-started}
 use Rattle.runner.specs.Enough.{enoughLent}
 use Rattle.runner.specs.Ran.{RunReady, RanTo}
-use Rattle.runner.specs.Laws.Replies.{run-refused, run-short, run-enough, needed-over, same-test}
+use Rattle.runner.specs.Laws.Replies.{run-refused, run-short, run-enough, needed-over, lengthsOf, same-test}
 
 -- the lines behind the header begin at `from`
 pub record Passed (job : List ℕ) (h : Header) (from : ℕ) : Type 0 where
@@ -43,17 +41,17 @@ module _ (job : List ℕ) (passes : checkJob job .number ≡ 0) where
   pub range : HeaderSound (jobOf job .header)
   range = checked-sound job passes .header
 
-  pub passed-at : {e : ℕ} → e ≡ 0 + until LF (drop 0 job) → Passed job (jobOf job .header) (e + 1)
-  passed-at {e} found =
-      let ended = checked-sound job passes .ended in
-      let begun = started job e passes (found-line job 0 e ended (ended-parts job ended .0) found) in
-      record {
+  pub passed-at : {from : ℕ} → from ≡ behindHeader job → Passed job (jobOf job .header) from
+  passed-at found =
+      let begun = header-started job passes in
+      rw found
+      (record {
         passed = passes;
         header = refl;
         ahead = begun .ahead;
         instructions = begun .instructions;
         sound = rw (begun .instructions) (checked-sound job passes .instructions);
-      }
+      })
 
 -- a job that passed its tests, and 13
 pub tested-ready : {job : List ℕ} {x z d totals noiseless : List ℕ} {r : Tested}
@@ -65,9 +63,7 @@ tested-ready {job} t zero =
 
 -- a job that is refused, by its tests or by 13
 pub refused-reply : (job : List ℕ) (m : Memory) {r : Tested}
-    → Tests job
-    (enoughLent (jobOf job .header)
-    record { x = length (m .x); z = length (m .z); deltas = length (m .deltas); totals = length (m .totals); noiseless = length (m .source .noiseless) }) r
+    → Tests job (enoughLent (jobOf job .header) (lengthsOf m)) r
     → (r .answer .number ≡ 0 → ⊥) → runReply job m ≡ untouched (r .answer) m
 refused-reply job m {r} t ne = go (eqb (checkJob job .number) 0) refl (enoughWords (jobOf job .header) m) refl
   where

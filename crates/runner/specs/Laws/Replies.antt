@@ -2,7 +2,7 @@
 use mathlib.Core.Path.{_≡_, refl}
 use mathlib.Core.Bool.{true, false}
 use mathlib.Core.List.{List, _++_}
-use Prim.Native.Nat.{ℕ, _≤_, _<_}
+use Prim.Native.Nat.{ℕ, _*_, _≤_, _<_}
 use lib.Dec.{leb}
 use lib.ListN.{length, length-replicate, drop}
 use borrow.Author.Tests.{eq-eqb, ne-eqb, leb-true, le-leb, lt-leb}
@@ -13,7 +13,9 @@ use Rattle.draws.specs.Execute.{starts, Ended, execute}
 use Rattle.rows.specs.Laws.Pack.{length-tabulated, length-pack}
 use Rattle.run.specs.Run.{Memory, frameWords, outcomeWords, enoughWords, lentOf, untouched, spentReply, flipTotals, finishedReply, endedReply, runReply}
 use Rattle.needed_words.specs.Needed.{neededReply}
-use Rattle.runner.specs.Enough.{suffice}
+use Rattle.rows.specs.declared.Shape.{Shape}
+use Rattle.runner.specs.declared.Lengths.{Lengths}
+use Rattle.runner.specs.Enough.{suffice, enoughLent}
 
 -- ---- needed words in front of the others
 
@@ -50,56 +52,60 @@ module _ (job : List ℕ) (m : Memory) where
 
 -- ---- 13
 
-pub record Enough (frame outcomes rows x z deltas totals noiseless : ℕ) : Type 0 where
-  pub of-x : frame ≤ x
-  pub of-z : frame ≤ z
-  pub of-deltas : outcomes ≤ deltas
-  pub of-totals : rows ≤ totals
-  pub of-noiseless : outcomes ≤ noiseless
+pub record Enough (shape : Shape) (lent : Lengths) : Type 0 where
+  pub of-x : shape .qubits * shape .width ≤ lent .x
+  pub of-z : shape .qubits * shape .width ≤ lent .z
+  pub of-deltas : shape .outcomes * shape .width ≤ lent .deltas
+  pub of-totals : shape .outcomes ≤ lent .totals
+  pub of-noiseless : shape .outcomes * shape .width ≤ lent .noiseless
 
-module _ {frame outcomes rows x z deltas totals noiseless : ℕ} where
-  pub enough-words : suffice frame outcomes rows x z deltas totals noiseless ≡ true → Enough frame outcomes rows x z deltas totals noiseless
+pub enough-words : {shape : Shape} {lent : Lengths} → suffice shape lent ≡ true → Enough shape lent
+unfolding suffice
+enough-words {shape} {lent} e =
+    let frame = shape .qubits * shape .width in
+    let outcomes = shape .outcomes * shape .width in
+    let (four, n) = both _ (leb outcomes (lent .noiseless)) e in
+    let (three, t) = both _ (leb (shape .outcomes) (lent .totals)) four in
+    let (two, d) = both _ (leb outcomes (lent .deltas)) three in
+    let (a, b) = both (leb frame (lent .x)) (leb frame (lent .z)) two in
+    record {
+      of-x = leb-true frame (lent .x) a;
+      of-z = leb-true frame (lent .z) b;
+      of-deltas = leb-true outcomes (lent .deltas) d;
+      of-totals = leb-true (shape .outcomes) (lent .totals) t;
+      of-noiseless = leb-true outcomes (lent .noiseless) n;
+    }
+
+module _ (shape : Shape) (lent : Lengths) where
+  pub short-x : lent .x < shape .qubits * shape .width → false ≡ suffice shape lent
   unfolding suffice
-  enough-words e =
-      let (four, n) = both _ (leb outcomes noiseless) e in
-      let (three, t) = both _ (leb rows totals) four in
-      let (two, d) = both _ (leb outcomes deltas) three in
-      let (a, b) = both (leb frame x) (leb frame z) two in
-      record {
-        of-x = leb-true frame x a;
-        of-z = leb-true frame z b;
-        of-deltas = leb-true outcomes deltas d;
-        of-totals = leb-true rows totals t;
-        of-noiseless = leb-true outcomes noiseless n;
-      }
+  short-x e = rw (lt-leb _ (lent .x) e)
 
-module _ (frame outcomes rows x z deltas totals noiseless : ℕ) where
-  pub short-x : x < frame → false ≡ suffice frame outcomes rows x z deltas totals noiseless
-  unfolding suffice
-  short-x e = rw (lt-leb frame x e)
-
-  module _ (hx : frame ≤ x) where
-    pub short-z : z < frame → false ≡ suffice frame outcomes rows x z deltas totals noiseless
+  module _ (hx : shape .qubits * shape .width ≤ lent .x) where
+    pub short-z : lent .z < shape .qubits * shape .width → false ≡ suffice shape lent
     unfolding suffice
-    short-z e = rw (le-leb frame x hx, lt-leb frame z e)
+    short-z e = rw (le-leb _ (lent .x) hx, lt-leb _ (lent .z) e)
 
-    module _ (hz : frame ≤ z) where
-      pub short-deltas : deltas < outcomes → false ≡ suffice frame outcomes rows x z deltas totals noiseless
+    module _ (hz : shape .qubits * shape .width ≤ lent .z) where
+      pub short-deltas : lent .deltas < shape .outcomes * shape .width → false ≡ suffice shape lent
       unfolding suffice
-      short-deltas e = rw (le-leb frame x hx, le-leb frame z hz, lt-leb outcomes deltas e)
+      short-deltas e = rw (le-leb _ (lent .x) hx, le-leb _ (lent .z) hz, lt-leb _ (lent .deltas) e)
 
-      module _ (hd : outcomes ≤ deltas) where
-        pub short-totals : totals < rows → false ≡ suffice frame outcomes rows x z deltas totals noiseless
+      module _ (hd : shape .outcomes * shape .width ≤ lent .deltas) where
+        pub short-totals : lent .totals < shape .outcomes → false ≡ suffice shape lent
         unfolding suffice
-        short-totals e = rw (le-leb frame x hx, le-leb frame z hz, le-leb outcomes deltas hd, lt-leb rows totals e)
+        short-totals e = rw (le-leb _ (lent .x) hx, le-leb _ (lent .z) hz, le-leb _ (lent .deltas) hd, lt-leb _ (lent .totals) e)
 
-        pub by-noiseless : rows ≤ totals → leb outcomes noiseless ≡ suffice frame outcomes rows x z deltas totals noiseless
+        pub by-noiseless : shape .outcomes ≤ lent .totals → leb (shape .outcomes * shape .width) (lent .noiseless) ≡ suffice shape lent
         unfolding suffice
-        by-noiseless e = rw (le-leb frame x hx, le-leb frame z hz, le-leb outcomes deltas hd, le-leb rows totals e)
+        by-noiseless e = rw (le-leb _ (lent .x) hx, le-leb _ (lent .z) hz, le-leb _ (lent .deltas) hd, le-leb _ (lent .totals) e)
+
+-- the lengths of what a run is lent
+abbrev pub lengthsOf : Memory → Lengths
+lengthsOf m =
+    record { x = length (m .x); z = length (m .z); deltas = length (m .deltas); totals = length (m .totals); noiseless = length (m .source .noiseless) }
 
 -- the test by words is the definition's
-pub same-test : (h : Header) (m : Memory)
-    → suffice (frameWords h) (outcomeWords h) (h .outcomes) (length (m .x)) (length (m .z)) (length (m .deltas)) (length (m .totals)) (length (m .source .noiseless))
-    ≡ enoughWords h m
+pub same-test : (h : Header) (m : Memory) → enoughLent h (lengthsOf m) ≡ enoughWords h m
 unfolding suffice enoughWords
 same-test h m = refl

@@ -13,29 +13,26 @@ use Rattle.settling.proofs.put_settled.Statement.{statement}
 use Rattle.settling.proofs.put_settled.Tie as tie
 
 abbrev Inv-loop : tie.InvT-loop
-Inv-loop out₀ job shape noiseless main more second base values₀ elements₀ end text here₀ out values elements here =
+Inv-loop out₀ job shape noiseless main more second base values₀ elements₀ from text here₀ out values elements here =
     Going (passOf job shape noiseless (main ++ more) second base) text out₀ here out
     × (length out ≡ length out₀)
     × (length values ≡ 136)
     × (length elements ≡ 4096)
 
 abbrev μ-loop : tie.MeasureT-loop
-μ-loop out₀ job shape noiseless main more second base values₀ elements₀ end text here₀ out values elements here = length job + 2 - here .place .line
+μ-loop out₀ job shape noiseless main more second base values₀ elements₀ from text here₀ out values elements here = length job + 2 - here .place .line
 
-find-requires : tie.Need-find-requires Inv-loop μ-loop
-find-requires c κs = omega arith
-
-add-end : tie.Need-add-end Inv-loop μ-loop
-add-end c = omega (arith, fits-sizes (c .before .before .before .before .before .before .before .pre), c .find .ensures .1)
+behind-header-requires : tie.Need-behind-header-requires Inv-loop μ-loop
+behind-header-requires c κs = search needs
 
 slice-aggregate-put-bytes : tie.Need-slice-aggregate-put-bytes Inv-loop μ-loop
-slice-aggregate-put-bytes c = sym (length-take-le _ _ (omega (arith, header-at (c .before .before .before .before .before .before .before .before .before .pre) (c .before .before .find .ensures .0) .inside)))
+slice-aggregate-put-bytes c = sym (length-take-le _ _ (omega (arith, c .before .before .behind-header .ensures, header-at (c .before .before .before .before .before .before .before .before .before .pre) .inside)))
 
 put-bytes-requires : tie.Need-put-bytes-requires Inv-loop μ-loop
-put-bytes-requires c κs = rw length-take (omega (arith, fits-sizes (c .before .before .before .before .before .before .before .before .before .pre), c .before .before .find .ensures .1))
+put-bytes-requires c κs = rw length-take (omega (arith, fits-sizes (c .before .before .before .before .before .before .before .before .before .pre)))
 
 loop-holds : tie.Need-loop-holds Inv-loop μ-loop
-loop-holds c = (pass-begins (c .before .before .before .before .before .before .before .before .before .before .before .before .pre) (c .before .before .before .before .before .find .ensures .0) (c .before .before .put-bytes .ensures), refl, refl, refl)
+loop-holds c = (pass-begins (c .before .before .before .before .before .before .before .before .before .before .before .before .pre) (c .before .before .before .before .before .behind-header .ensures) (c .before .before .put-bytes .ensures), refl, refl, refl)
 
 slice-aggregate-put-instruction : tie.Need-slice-aggregate-put-instruction Inv-loop μ-loop
 slice-aggregate-put-instruction c = sym (c .before .before .before .before .loop .inv .2)
@@ -75,7 +72,7 @@ same-length-2 : tie.Need-same-length-2 Inv-loop μ-loop
 same-length-2 c = c .before .before .loop .inv .1 ∙ c .before .before .before .before .before .put-bytes .kept .0
 
 returns-2 : tie.Need-returns-2 Inv-loop μ-loop
-returns-2 c = pass-done (c .before .before .loop .inv .0) (header-put (c .before .before .before .before .before .before .before .before .before .before .before .before .before .before .before .pre) (c .before .before .before .before .before .before .before .before .find .ensures .0) (c .before .before .before .before .before .put-bytes .ensures)) (c .if1 .left)
+returns-2 c = pass-done (c .before .before .loop .inv .0) (header-put (c .before .before .before .before .before .before .before .before .before .before .before .before .before .before .before .pre) (c .before .before .before .before .before .before .before .before .behind-header .ensures) (c .before .before .before .before .before .put-bytes .ensures)) (c .if1 .left)
 
 pub put-settled-spec : {M : Type 1} → statement M
 put-settled-spec =
@@ -83,8 +80,7 @@ put-settled-spec =
     (tie.spec
     Inv-loop
     μ-loop
-    find-requires
-    add-end
+    behind-header-requires
     slice-aggregate-put-bytes
     put-bytes-requires
     loop-holds

@@ -9,8 +9,10 @@ use Rattle.job.specs.Line.{Placed}
 use Rattle.job.specs.Job.{Job, jobOf, checkJob}
 use Rattle.job.specs.Laws.Begun.{ended-parts, job-passes, job-begun}
 use Rattle.instructions.specs.Reading.{lineAt, LineAt}
-use Rattle.instructions.specs.Laws.Places.{found-line, whole-line}
-use Rattle.instructions.specs.Laws.Steps.{none-left, started}
+use Rattle.instructions.specs.Laws.Places.{whole-line}
+use Rattle.instructions.specs.Laws.Steps.{none-left}
+use Rattle.job_shape.specs.Header.{behindHeader}
+use Rattle.job_shape.specs.Laws.Header.{header-line, header-started}
 use Rattle.writer.specs.Placed.{Puts}
 use Rattle.writer.specs.Laws.Placing.{puts-nothing, puts-more}
 use Rattle.draws.specs.Left.{leftAfter}
@@ -60,39 +62,40 @@ module _ {p : Pass} (f : Fits p) where
   pub fits-sizes : (0 < length (p .job)) × (length (p .job) ≤ 1048576)
   fits-sizes = ended-parts (p .job) (job-passes (p .job) (f .passes) .0)
 
-  module _ {e : ℕ} (found : e ≡ 0 + until LF (drop 0 (p .job))) where
-    pub header-at : LineAt (p .job) 0 e
-    header-at = found-line (p .job) 0 e (job-passes (p .job) (f .passes) .0) (fits-sizes .0) found
+  pub header-at : LineAt (p .job) 0 (until LF (p .job))
+  header-at = header-line (p .job) (f .passes)
 
-    module _ {out after : List ℕ} {byte : ℕ} (puts : Puts 0 (take (e + 1) (p .job)) out after byte) where
-      pub header-put : Puts 0 (settledText (jobOf (p .job) .text) []) out after byte
-      unfolding settledText unlines
-      header-put =
-          let first : e + 1 ≡ e + 1 - 0 = omega arith in
-          rw (header-text (p .job) e (f .passes) header-at)
-          (subst (λ (t : List ℕ). Puts 0 t out after byte) (ap (λ (k : ℕ). take k (p .job)) first ∙ whole-line header-at) puts)
+  module _ {out after : List ℕ} {from byte : ℕ} (found : from ≡ behindHeader (p .job)) (puts : Puts 0 (take from (p .job)) out after byte) where
+    pub header-put : Puts 0 (settledText (jobOf (p .job) .text) []) out after byte
+    unfolding settledText unlines
+    header-put =
+        let first : from ≡ until LF (p .job) + 1 - 0 = omega (arith, found) in
+        rw (header-text (p .job) (until LF (p .job)) (f .passes) header-at)
+        (subst (λ (t : List ℕ). Puts 0 t out after byte) (ap (λ (k : ℕ). take k (p .job)) first ∙ whole-line header-at) puts)
 
-      pub pass-begins : Going p byte after (record { place = record { byte = e + 1; line = 2; position = 0 }; text = byte }) after
-      unfolding unlines
-      pass-begins =
-          let s = started (p .job) e (f .passes) header-at in
-          record {
-            lines-put = [];
-            settles = ap (λ (is : List Placed). settle (lentBy p) is (p .main)) (sym (s .instructions)) ∙ prefixed-none _;
-            leaves = ap (λ (is : List Placed). leftAfter (lentBy p) is (p .main)) (sym (s .instructions));
-            puts = puts-nothing;
-            few = omega (arith, puts .place, header-at .inside, fits-sizes, length-take (e + 1) (p .job));
-            between =
-                record {
-                  header = jobOf (p .job) .header;
-                  recorded = 0;
-                  ahead = s .ahead;
-                  shots-are = f .shots-are;
-                  words-are = f .words-are;
-                  rows = f .rows;
-                  position = omega arith;
-                };
-          }
+    pub pass-begins : Going p byte after (record { place = record { byte = from; line = 2; position = 0 }; text = byte }) after
+    unfolding unlines
+    pass-begins =
+        let s = header-started (p .job) (f .passes) in
+        let few : byte ≤ 8388608 * 2 = omega (arith, found, puts .place, header-at .inside, fits-sizes, length-take from (p .job)) in
+        rw found
+        (record {
+          lines-put = [];
+          settles = ap (λ (is : List Placed). settle (lentBy p) is (p .main)) (sym (s .instructions)) ∙ prefixed-none _;
+          leaves = ap (λ (is : List Placed). leftAfter (lentBy p) is (p .main)) (sym (s .instructions));
+          puts = puts-nothing;
+          few = few;
+          between =
+              record {
+                header = jobOf (p .job) .header;
+                recorded = 0;
+                ahead = s .ahead;
+                shots-are = f .shots-are;
+                words-are = f .words-are;
+                rows = f .rows;
+                position = omega arith;
+              };
+        })
 
 module _ {p : Pass} {from : ℕ} {out : List ℕ} {here : Reached} {mid : List ℕ} (g : Going p from out here mid) where
   pub pass-on : {after : List ℕ} {next : Reached} → Onward p mid here after next → Going p from out next after

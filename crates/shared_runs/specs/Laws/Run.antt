@@ -12,7 +12,7 @@ use Rattle.job_shape.specs.Tested.{Tests}
 use Rattle.job_shape.specs.Laws.Tested.{passed-both}
 use Rattle.runner.specs.Enough.{enoughLent}
 use Rattle.runner.specs.Ran.{RanTo}
-use Rattle.runner.specs.Laws.Replies.{same-test}
+use Rattle.runner.specs.Laws.Replies.{lengthsOf, same-test}
 use Rattle.shares.specs.Shares.{Share, ownLeft, commonLeft}
 use Rattle.shares.specs.Replies.{shared, sharedRunReply}
 use Rattle.shares.specs.Laws.Spent.{run-takes}
@@ -21,9 +21,7 @@ use Rattle.shared_runs.specs.Laws.Tests.{job-passes}
 use Rattle.shared_runs.specs.Laws.Replies.{inParts, markedBy, all-available, all-marked, refused-reply, went-reply}
 
 module _ (job : List ℕ) (m : Memory) (s : Share) {t : Tested}
-    (lent : Tests job
-    (enoughLent (jobOf job .header)
-    record { x = length (m .x); z = length (m .z); deltas = length (m .deltas); totals = length (m .totals); noiseless = length (m .source .noiseless) }) t)
+    (lent : Tests job (enoughLent (jobOf job .header) (lengthsOf m)) t)
     {a : Answer} (first : a ≡ firstRefusal (t .answer) s (m .source .main)) where
   tests : Tests job (enoughWords (jobOf job .header) m) t
   tests = rw (← same-test (jobOf job .header) m) lent

@@ -1,5 +1,6 @@
 -- `shots::fault_from` meets its contract. The invariant: the next fault from here on is the next one from the start.
 use Rattle.shots.specs.Laws.Shots.{falls-behind, quiet-within, Later, later-none, later-skip, later-quiet, found-done, found-spent, found-at}
+use Rattle.shots.specs.Laws.Next.{found-kind}
 use borrow.Author.Needs.{needs}
 use lib.ListN.{length, length-append}
 use mathlib.Core.List.{_++_}
@@ -12,12 +13,12 @@ use Rattle.shots.proofs.fault_from.Statement.{statement}
 use Rattle.shots.proofs.fault_from.Tie as tie
 
 abbrev Inv-loop : tie.InvT-loop
-Inv-loop words more at mask shots t chooser sums i₀ s₀ i s =
+Inv-loop words more at mask shots sums t chooser i₀ s₀ i s =
     (i ≤ length (words ++ more)) × (s₀ ≤ s) × (s ≤ shots)
     × ((p : Float) → t ≡ thresholdOf p → Later (words ++ more) mask shots p (chooser .kind) sums s₀ at s i)
 
 abbrev μ-loop : tie.MeasureT-loop
-μ-loop words more at mask shots t chooser sums i₀ s₀ i s = shots - s
+μ-loop words more at mask shots sums t chooser i₀ s₀ i s = shots - s
 
 loop-holds : tie.Need-loop-holds Inv-loop μ-loop
 loop-holds c = (omega arith, omega arith, omega arith, λ p e. later-none)
@@ -29,7 +30,7 @@ next-skip-requires : tie.Need-next-skip-requires Inv-loop μ-loop
 next-skip-requires c κs = omega arith
 
 add-i : tie.Need-add-i Inv-loop μ-loop
-add-i c = let a = c .before .before .before .before .before .before .before .args in record { fits = omega (arith, length-append (a .words .now) (a .more .now), c .before .before .before .before .before .before .before .good, c .next-skip .ensures .within) }
+add-i c = let a = c .before .before .before .before .before .before .before .before .args in record { fits = omega (arith, length-append (a .words .now) (a .more .now), c .before .before .before .before .before .before .before .before .good, c .next-skip .ensures .within) }
 
 add-s : tie.Need-add-s Inv-loop μ-loop
 add-s c = omega (arith, c .next-skip .ensures .within)
@@ -37,10 +38,10 @@ add-s c = omega (arith, c .next-skip .ensures .within)
 returns : tie.Need-returns Inv-loop μ-loop
 returns c =
     let stays = c .before .next-skip .ensures .within in
-    λ p e. found-done (later-skip (c .before .before .before .loop .inv .3 p e) _ (c .before .next-skip .ensures .is p e)) (omega arith) (omega (arith, stays))
+    λ p d e. found-kind (e .kind) (found-done (later-skip (c .before .before .before .loop .inv .3 p (e .threshold)) _ (c .before .next-skip .ensures .is p (e .threshold))) (omega arith) (omega (arith, stays)))
 
 is-set-requires : tie.Need-is-set-requires Inv-loop μ-loop
-is-set-requires c κs = omega (arith, c .before .next-skip .ensures .within, c .before .before .before .before .before .before .before .before .pre .2)
+is-set-requires c κs = omega (arith, c .before .next-skip .ensures .within, c .before .before .before .before .before .before .before .before .before .pre .2)
 
 draw-shot-requires : tie.Need-draw-shot-requires Inv-loop μ-loop
 draw-shot-requires c κs = search needs
@@ -51,7 +52,7 @@ enum-told c = search needs
 returns-2 : tie.Need-returns-2 Inv-loop μ-loop
 returns-2 c =
     let stays = c .before .before .before .before .before .next-skip .ensures .within in
-    λ p e. found-spent (later-skip (c .before .before .before .before .before .before .before .loop .inv .3 p e) _ (c .before .before .before .before .before .next-skip .ensures .is p e)) (omega arith) (c .before .before .before .is-set .ensures) (falls-behind _ _ _ _ _ _ (c .before .before .before .before .before .next-skip .ensures .is p e) (omega arith)) (c .before .before .draw-shot .ensures) (c .enum-told .given .1)
+    λ p d e. found-kind (e .kind) (found-spent (later-skip (c .before .before .before .before .before .before .before .loop .inv .3 p (e .threshold)) _ (c .before .before .before .before .before .next-skip .ensures .is p (e .threshold))) (omega arith) (c .before .before .before .is-set .ensures) (falls-behind _ _ _ _ _ _ (c .before .before .before .before .before .next-skip .ensures .is p (e .threshold)) (omega arith)) (c .before .before .draw-shot .ensures) (c .enum-told .given .1))
 
 enum-known-next : tie.Need-enum-known-next Inv-loop μ-loop
 enum-known-next c = search needs
@@ -62,7 +63,7 @@ enum-known-e c = search needs
 returns-3 : tie.Need-returns-3 Inv-loop μ-loop
 returns-3 c =
     let stays = c .before .before .before .before .before .before .next-skip .ensures .within in
-    λ p e. found-at (later-skip (c .before .before .before .before .before .before .before .before .loop .inv .3 p e) _ (c .before .before .before .before .before .before .next-skip .ensures .is p e)) (omega arith) (c .before .before .before .before .is-set .ensures) (falls-behind _ _ _ _ _ _ (c .before .before .before .before .before .before .next-skip .ensures .is p e) (omega arith)) (c .before .before .before .draw-shot .ensures) _ _ (c .before .e .given .1) (omega arith)
+    λ p d e. found-kind (e .kind) (found-at (later-skip (c .before .before .before .before .before .before .before .before .loop .inv .3 p (e .threshold)) _ (c .before .before .before .before .before .before .next-skip .ensures .is p (e .threshold))) (omega arith) (c .before .before .before .before .is-set .ensures) (falls-behind _ _ _ _ _ _ (c .before .before .before .before .before .before .next-skip .ensures .is p (e .threshold)) (omega arith)) (c .before .before .before .draw-shot .ensures) _ _ (c .before .e .given .1) (omega arith))
 
 add-s-2 : tie.Need-add-s-2 Inv-loop μ-loop
 add-s-2 c = omega (arith, c .before .before .before .before .before .before .next-skip .ensures .within)
@@ -80,7 +81,7 @@ loop-again c =
     )
 
 returns-4 : tie.Need-returns-4 Inv-loop μ-loop
-returns-4 c = λ p e. found-done (c .before .loop .inv .3 p e) (c .loop-test .left) (c .before .loop .inv .0)
+returns-4 c = λ p d e. found-kind (e .kind) (found-done (c .before .loop .inv .3 p (e .threshold)) (c .loop-test .left) (c .before .loop .inv .0))
 
 pub fault-from-spec : {M : Type 1} → statement M
 fault-from-spec =

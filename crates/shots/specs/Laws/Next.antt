@@ -106,13 +106,13 @@ abbrev injecting : Header → Noise → ℕ → ℕ → (States → Executed) �
 injecting h n s e later states = later (forwardAll h (Line.inject s (elementAt (n .distribution) e)) states)
 
 inject-one : (h : Header) (lent : Lent) (n : Noise) (left shot : ℕ) (ws : List ℕ) → shotsFrom h lent n (suc left) shot ws
-    ≡ byShot (λ states. Executed.spent) (λ ws states. Executed.went states ws) (injecting h n) shot (drawShot n (λ id. lent .noiseless id shot) ws)
+    ≡ byShot (λ states. Executed.spent) (λ ws states. Executed.done states ws) (injecting h n) shot (drawShot n (λ id. lent .noiseless id shot) ws)
     (shotsFrom h lent n left (suc shot))
 unfolding injectShots
 inject-one h lent n left shot ws = fun-ext (go (drawShot n (λ id. lent .noiseless id shot) ws))
   where
     go : (o : ShotDraw) (states : States) → thenInPlace h n shot o states (injectShots h lent n left (suc shot))
-        ≡ byShot (λ states. Executed.spent) (λ ws states. Executed.went states ws) (injecting h n) shot o (shotsFrom h lent n left (suc shot)) states
+        ≡ byShot (λ states. Executed.spent) (λ ws states. Executed.done states ws) (injecting h n) shot o (shotsFrom h lent n left (suc shot)) states
     go ShotDraw.spent states = unfold thenInPlace byShot in refl
     go (ShotDraw.drew none vs) states = unfold thenInPlace byShot in refl
     go (ShotDraw.drew (some e) vs) states = unfold thenInPlace byShot in refl
@@ -186,7 +186,7 @@ module _ {words mask : List ℕ} {at shot shots : ℕ} {p : Float} {d : PauliDis
           ap (λ (f : States → Executed). f states)
           (by-spent _ _ _ lent n (shotsFrom h lent n) (λ s ws. refl) (inject-one h lent n) words shot shots at le r found e)
 
-      pub injects-done : (i : ℕ) → r ≡ next.Done i → injectShots h lent n (shots - shot) shot (drop at words) states ≡ Executed.went states (drop i words)
+      pub injects-done : (i : ℕ) → r ≡ next.Done i → injectShots h lent n (shots - shot) shot (drop at words) states ≡ Executed.done states (drop i words)
       unfolding injectShots
       injects-done i e =
           ap (λ (f : States → Executed). f states)

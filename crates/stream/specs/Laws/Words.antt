@@ -22,11 +22,6 @@ words-stepped zero state i h = absurd (omega arith)
 words-stepped (suc n) state zero h = refl
 words-stepped (suc n) state (suc i) h = words-stepped n (step state) i (omega arith) ∙ ap step (stepped-before i state)
 
-pub words-length : (n state : ℕ) → length (wordsFrom n state) ≡ n
-unfolding wordsFrom
-words-length zero state = refl
-words-length (suc n) state = ap suc (words-length n (step state))
-
 -- ---- the words written so far, and those that are left to write, make the whole
 
 pub record Filling (n seed : ℕ) (words : List ℕ) (state i : ℕ) : Type 0 where

@@ -10,12 +10,12 @@ use lib.Dec.{eqb}
 use lib.ListN.{length, getD, take, drop, set, length-drop, drop-of-length-le}
 use lib.Seq.{drop-drop}
 use Rattle.numbers.specs.declared.lists.Listed.{Listed}
-use Rattle.template.specs.declared.Put.{Put}
+use Rattle.template.specs.declared.Stored.{Stored}
 use Rattle.template.specs.declared.Progress.{Progress}
 use Rattle.text.specs.Bytes.{space, until}
 use Rattle.text.specs.Template.{Value, number, list, aNumber, aList, isLetter, valueOf, andThen, sameByte, atEnd, valuesOf}
 use Rattle.numbers.specs.Read.{listedAs, ListRead, inFront}
-use Rattle.template.specs.Fields.{listBy, numberLetter, listLetter, numberLetters, listLetters, Held, Room, Begins, ReadOn, isPlain, ReadNext, HasForm, ReadAs, PutOne, PutAs}
+use Rattle.template.specs.Fields.{listBy, numberLetter, listLetter, numberLetters, listLetters, Held, Room, Begins, ReadOn, isPlain, ReadNext, HasForm, ReadAs, StoresOne, StoresAs}
 use Rattle.text.specs.Laws.Pieces.{step}
 use Rattle.text.specs.Laws.Values.{both}
 use Rattle.template.specs.Laws.Fields.{nothing-held, held-number, held-list, list-put}
@@ -24,8 +24,8 @@ use Rattle.numbers.specs.Laws.Lists.{listed-count, listed-largest, listed-bad, 
 -- ---- one value more
 
 -- nothing is put, for want of a value or of room
-not-put : (a b : ℕ) (o : Option Value) (n l : ℕ) (p : Put) (before after : List ℕ) → p .ok ≡ false → (n + a ≤ 4 → l + b ≤ 4 → o ≡ none)
-    → PutAs a b o n l p before after
+not-put : (a b : ℕ) (o : Option Value) (n l : ℕ) (p : Stored) (before after : List ℕ) → p .ok ≡ false → (n + a ≤ 4 → l + b ≤ 4 → o ≡ none)
+    → StoresAs a b o n l p before after
 not-put a b o n l p before after e f =
     record {
       refused = λ _. f;
@@ -33,12 +33,12 @@ not-put a b o n l p before after e f =
     }
 
 -- there is no value
-pub no-value : (a b : ℕ) (o : Option Value) (n l : ℕ) (p : Put) (before after : List ℕ) → p .ok ≡ false → o ≡ none → PutAs a b o n l p before after
+pub no-value : (a b : ℕ) (o : Option Value) (n l : ℕ) (p : Stored) (before after : List ℕ) → p .ok ≡ false → o ≡ none → StoresAs a b o n l p before after
 no-value a b o n l p before after e h = not-put a b o n l p before after e (λ _ _. h)
 
 -- a value is put
-one-put : (a b : ℕ) (o : Option Value) (n l : ℕ) (p : Put) (before after : List ℕ) → p .ok ≡ true → PutOne a b o n l p before after
-    → PutAs a b o n l p before after
+one-put : (a b : ℕ) (o : Option Value) (n l : ℕ) (p : Stored) (before after : List ℕ) → p .ok ≡ true → StoresOne a b o n l p before after
+    → StoresAs a b o n l p before after
 one-put a b o n l p before after e f =
     record {
       refused = λ h. absurd (true≢false (sym e ∙ h));
@@ -46,15 +46,15 @@ one-put a b o n l p before after e f =
     }
 
 module _ (o : Option ℕ) (n l : ℕ) where
-  pub not-number : (p : Put) (before after : List ℕ) → p .ok ≡ false → o ≡ none → PutAs 1 0 (aNumber o) n l p before after
+  pub not-number : (p : Stored) (before after : List ℕ) → p .ok ≡ false → o ≡ none → StoresAs 1 0 (aNumber o) n l p before after
   unfolding aNumber
   not-number p before after e h = no-value 1 0 (aNumber o) n l p before after e (ap aNumber h)
 
-  pub full-number : (p : Put) (before after : List ℕ) → p .ok ≡ false → 4 ≤ n → PutAs 1 0 (aNumber o) n l p before after
+  pub full-number : (p : Stored) (before after : List ℕ) → p .ok ≡ false → 4 ≤ n → StoresAs 1 0 (aNumber o) n l p before after
   full-number p before after e h = not-put 1 0 (aNumber o) n l p before after e (λ g _. absurd (omega arith))
 
   pub one-number : (x : ℕ) (fields : List ℕ) → o ≡ some x → n < 4 → n < length fields
-      → PutAs 1 0 (aNumber o) n l (record { ok = true; numbers = n + 1; lists = l }) fields (set fields n x)
+      → StoresAs 1 0 (aNumber o) n l (record { ok = true; numbers = n + 1; lists = l }) fields (set fields n x)
   one-number x fields e h g =
       one-put 1 0 (aNumber o) n l (record { ok = true; numbers = n + 1; lists = l }) fields (set fields n x) refl
       record {
@@ -66,12 +66,12 @@ module _ (o : Option ℕ) (n l : ℕ) where
       }
 
 module _ (o : Option (List ℕ)) (n l : ℕ) where
-  pub not-list : (r : Listed) (p : Put) (before after : List ℕ) → p .ok ≡ false → r ≡ listedAs o → r .ok ≡ false
-      → PutAs 0 1 (aList o) n l p before after
+  pub not-list : (r : Listed) (p : Stored) (before after : List ℕ) → p .ok ≡ false → r ≡ listedAs o → r .ok ≡ false
+      → StoresAs 0 1 (aList o) n l p before after
   unfolding aList
   not-list r p before after e h g = no-value 0 1 (aList o) n l p before after e (ap aList (listed-bad o h g))
 
-  pub full-list : (p : Put) (before after : List ℕ) → p .ok ≡ false → 4 ≤ l → PutAs 0 1 (aList o) n l p before after
+  pub full-list : (p : Stored) (before after : List ℕ) → p .ok ≡ false → 4 ≤ l → StoresAs 0 1 (aList o) n l p before after
   full-list p before after e h = not-put 0 1 (aList o) n l p before after e (λ _ g. absurd (omega arith))
 
   -- as many words as are lent to the reader of the list
@@ -80,7 +80,7 @@ module _ (o : Option (List ℕ)) (n l : ℕ) where
 
   pub one-list : (r : Listed) (fields part : List ℕ) → 136 ≤ length fields → l < 4
       → ListRead o r (take lent (drop (12 + l * 31) fields)) part → r .ok ≡ true
-      → PutAs 0 1 (aList o) n l (record { ok = true; numbers = n; lists = l + 1 }) fields
+      → StoresAs 0 1 (aList o) n l (record { ok = true; numbers = n; lists = l + 1 }) fields
       (set (set (take (12 + l * 31) fields ++ (part ++ drop lent (drop (12 + l * 31) fields))) (4 + l) (r .count)) (8 + l) (r .largest))
   one-list r fields part g h q e =
       let found = listed-good o (q .result) e in
@@ -97,8 +97,8 @@ module _ (o : Option (List ℕ)) (n l : ℕ) where
       }
 
 -- a list by its letter
-pub list-value : (t : ℕ) (v : List ℕ) {n l : ℕ} {p : Put} {before after : List ℕ} → numberLetter t ≡ 0 → listLetter t ≡ 1 → valueOf t v ≡ aList (listBy t v)
-    → PutAs 0 1 (aList (listBy t v)) n l p before after → PutAs (numberLetter t) (listLetter t) (valueOf t v) n l p before after
+pub list-value : (t : ℕ) (v : List ℕ) {n l : ℕ} {p : Stored} {before after : List ℕ} → numberLetter t ≡ 0 → listLetter t ≡ 1 → valueOf t v ≡ aList (listBy t v)
+    → StoresAs 0 1 (aList (listBy t v)) n l p before after → StoresAs (numberLetter t) (listLetter t) (valueOf t v) n l p before after
 list-value t v a b e q = rw (a, b, e) q
 
 -- ---- a line read on
@@ -236,7 +236,7 @@ module _ {line template : List ℕ} {from numbers lists : ℕ} {before : List �
             let d : drop e line ≡ drop (until space (drop at line)) (drop at line) = rw (drop-drop, ← found) in
             reads-next rest ∙ simp letter (rw (u, d))
 
-        module _ {p : Put} {after : List ℕ} (q : PutAs (numberLetter t) (listLetter t) value n l p fields after) where
+        module _ {p : Stored} {after : List ℕ} (q : StoresAs (numberLetter t) (listLetter t) value n l p fields after) where
           pub letter-bad : p .ok ≡ false → Room numbers lists template → (rest : List ℕ) → valuesOf (template ++ rest) (drop from line) ≡ none
           letter-bad b room rest =
               let a = ap numberLetters (step template i h) in
@@ -292,8 +292,8 @@ module _ {line part : List ℕ} {p r : Progress} {before after : List ℕ} where
   next-goes e f = record { stays = λ h. absurd (true≢false (sym e ∙ h)); goes = λ _. f }
 
 -- a value, which goes up to e
-pub value-read : {line : List ℕ} (t at n l e : ℕ) {p : Put} {before after : List ℕ} → at ≤ length line → isLetter t ≡ true → e ≡ at + until space (drop at line)
-    → e ≤ length line → PutAs (numberLetter t) (listLetter t) (valueOf t (take (e - at) (drop at line))) n l p before after
+pub value-read : {line : List ℕ} (t at n l e : ℕ) {p : Stored} {before after : List ℕ} → at ≤ length line → isLetter t ≡ true → e ≡ at + until space (drop at line)
+    → e ≤ length line → StoresAs (numberLetter t) (listLetter t) (valueOf t (take (e - at) (drop at line))) n l p before after
     → ReadOn line (t ∷ []) at n l (record { ok = p .ok; at = e; numbers = p .numbers; lists = p .lists }) before after
 value-read {line} t at n l e {p} {before} {after} h letter found inside q = go (p .ok) refl
   where

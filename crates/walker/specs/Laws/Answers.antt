@@ -1,18 +1,17 @@
 -- The tests of the call, and its reply. Laws. Assumes nothing.
-use Prim.Native.Nat.{ℕ, zero, suc, _+_, _-_, _≤_, _<_}
-use native.Mathlib.Numerals.{add-one}
+use Prim.Native.Nat.{ℕ, zero, suc, _+_, _≤_, _<_}
 use native.Mathlib.Omega.{arith}
 use mathlib.Core.Path.{_≡_, refl, sym, ap, _∙_}
 use mathlib.Core.Bool.{true, false, _&&_}
-use mathlib.Core.List.{List, [], _∷_}
+use mathlib.Core.List.{List}
 use borrow.Author.Tests.{eq-eqb, ne-eqb, lt-ltb, le-ltb}
 use lib.Dec.{ltb}
-use lib.ListN.{length, getD, drop, drop-of-length-le, length-drop}
+use lib.ListN.{length, getD, drop, drop-of-length-le}
 use Rattle.pauli.specs.Bits.{Bits, members}
 use Rattle.pauli.specs.Fixed.{AllBelow}
 use Rattle.pauli.specs.Laws.F2.{&&-false}
 use Rattle.text.specs.Bytes.{lines}
-use Rattle.text.specs.List.{risesFrom, isRising}
+use Rattle.text.specs.List.{isRising}
 use Rattle.text.specs.Laws.Pieces.{step}
 use Rattle.job.specs.declared.Answer.{Answer}
 use Rattle.job.specs.Checks.{allBelow}
@@ -43,30 +42,6 @@ module _ (n : ℕ) (l : List ℕ) (i : ℕ) where
   pub below-end : length l ≤ i → allBelow n (drop i l) ≡ true
   unfolding allBelow
   below-end h = rw (drop-of-length-le l h)
-
-two : (l : List ℕ) (i : ℕ) → suc i < length l → isRising (drop i l) ≡ (ltb (getD l i 0) (getD l (suc i) 0) && isRising (drop (suc i) l))
-unfolding isRising risesFrom
-two l i h = rw (step l i (omega arith), add-one i, step l (suc i) h)
-
-module _ (l : List ℕ) (i : ℕ) (positive : 0 < i) where
-  before : i < length l → isRising (drop (i - 1) l) ≡ (ltb (getD l (i - 1) 0) (getD l i 0) && isRising (drop i l))
-  before h =
-      let p : suc (i - 1) ≡ i = omega arith in
-      ap (λ (j : ℕ). isRising (drop (i - 1) l)) p ∙ two l (i - 1) (omega arith) ∙ ap (λ (j : ℕ). ltb (getD l (i - 1) 0) (getD l j 0) && isRising (drop j l)) p
-
-  pub rising-fails : i < length l → getD l i 0 ≤ getD l (i - 1) 0 → isRising (drop (i - 1) l) ≡ false
-  rising-fails h e = before h ∙ rw (le-ltb (getD l (i - 1) 0) (getD l i 0) e)
-
-  pub rising-next : i < length l → getD l (i - 1) 0 < getD l i 0 → isRising (drop (i - 1) l) ≡ isRising (drop (i + 1 - 1) l)
-  rising-next h e = let p : i + 1 - 1 ≡ i = omega arith in before h ∙ rw (lt-ltb (getD l (i - 1) 0) (getD l i 0) e, p)
-
-  pub rising-end : length l ≤ i → isRising (drop (i - 1) l) ≡ true
-  rising-end h = short-rises (drop (i - 1) l) (omega (arith, length-drop (i - 1) l))
-    where
-      short-rises : (l : List ℕ) → length l ≤ 1 → isRising l ≡ true
-      short-rises [] h = unfold isRising in refl
-      short-rises (a ∷ []) h = unfold isRising risesFrom in refl
-      short-rises (a ∷ b ∷ l) h = absurd (omega arith)
 
 -- ---- the reply
 

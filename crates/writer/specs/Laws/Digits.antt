@@ -19,6 +19,13 @@ stored l i b h =
 
 -- ---- decimal
 
+-- digits are written from the last on, until one is left
+pub last-digit : (i n : ℕ) → 9 < n → decimalDigits (suc i) n ≡ decimalDigits i (n / 10) ++ (48 + n % 10) ∷ []
+last-digit i n h = unfold decimalDigits in rw (le-ltb n 10 (omega arith))
+
+pub one-digit : (i n : ℕ) → n ≤ 9 → decimalDigits (suc i) n ≡ (48 + n) ∷ []
+one-digit i n h = unfold decimalDigits in rw (lt-ltb n 10 (omega arith))
+
 -- the digits of n are those of what is left and those that are stored
 pub record Digits (n i rest : ℕ) (digits : List ℕ) : Type 0 where
   pub same : decimal n ≡ decimalDigits i rest ++ drop i digits
@@ -48,9 +55,6 @@ more-left {n} {i} {rest} d h = go i (d .left)
 pub digit-stored : {n i rest : ℕ} {digits : List ℕ} → Digits n i rest digits → 9 < rest → i ≤ 20 → Digits n (i - 1) (rest / 10) (set digits (i - 1) (48 + rest % 10))
 digit-stored {n} {i} {rest} {digits} d h k = go (i - 1) (omega (arith, more-left d h)) (omega (arith, more-left d h)) (omega arith)
   where
-    digit : (j : ℕ) → decimalDigits (suc j) rest ≡ decimalDigits j (rest / 10) ++ (48 + rest % 10) ∷ []
-    digit j = unfold decimalDigits in rw (le-ltb rest 10 (omega arith))
-
     go : (j : ℕ) → i ≡ suc j → 1 ≤ j → j < 20 → Digits n j (rest / 10) (set digits j (48 + rest % 10))
     go j e m f =
         let size : j < length digits = omega (arith, d .size) in
@@ -58,7 +62,7 @@ digit-stored {n} {i} {rest} {digits} d h k = go (i - 1) (omega (arith, more-left
         record {
           same =
               d .same
-              ∙ rw (e, digit, append-assoc, stored digits j (48 + rest % 10) size, add-one);
+              ∙ rw (e, last-digit j rest h, append-assoc, stored digits j (48 + rest % 10) size, add-one);
           some = m;
           left = omega (arith, rw pow-suc at bound);
           size = length-set digits j (48 + rest % 10) ∙ d .size;
@@ -68,14 +72,11 @@ digit-stored {n} {i} {rest} {digits} d h k = go (i - 1) (omega (arith, more-left
 pub all-stored : {n i rest : ℕ} {digits : List ℕ} → Digits n i rest digits → rest ≤ 9 → i ≤ 20 → take (20 - (i - 1)) (drop (i - 1) (set digits (i - 1) (48 + rest))) ≡ decimal n
 all-stored {n} {i} {rest} {digits} d h k = go (i - 1) (omega (arith, d .some)) (omega (arith, d .some))
   where
-    digit : (j : ℕ) → decimalDigits (suc j) rest ≡ (48 + rest) ∷ []
-    digit j = unfold decimalDigits in rw (lt-ltb rest 10 (omega arith))
-
     go : (j : ℕ) → i ≡ suc j → j < 20 → take (20 - j) (drop j (set digits j (48 + rest))) ≡ decimal n
     go j e f =
         let size : j < length digits = omega (arith, d .size) in
         let whole : length (drop j (set digits j (48 + rest))) ≤ 20 - j = rw (length-drop, length-set) (omega (arith, d .size)) in
-        take-all (20 - j) (drop j (set digits j (48 + rest))) whole ∙ sym (d .same ∙ rw (e, digit, stored digits j (48 + rest) size, add-one))
+        take-all (20 - j) (drop j (set digits j (48 + rest))) whole ∙ sym (d .same ∙ rw (e, one-digit j rest h, stored digits j (48 + rest) size, add-one))
 
 -- ---- hexadecimal
 

@@ -1,5 +1,5 @@
 -- A line put by its template, value by value. Laws. Assumes nothing.
-use mathlib.Core.Path.{_≡_, refl, sym, ap, _∙_}
+use mathlib.Core.Path.{_≡_, sym, ap, _∙_}
 use mathlib.Core.Bool.{true, false, cond, true≢false}
 use mathlib.Core.List.{List, [], _∷_, _++_}
 use Prim.Native.Nat.{ℕ, _+_, _-_, _*_, _≤_, _<_}
@@ -13,7 +13,7 @@ use Rattle.text.specs.List.{listText}
 use Rattle.text.specs.Template.{Value, isLetter, valueText, firstText, lineText}
 use Rattle.text.specs.Laws.Pieces.{step}
 use Rattle.writer.specs.Placed.{Puts}
-use Rattle.writer.specs.Line.{isList, valuesIn, numbersFor, listsFor, Lent}
+use Rattle.writer.specs.Line.{isList, valuesIn, numbersFor, listsFor}
 use Rattle.writer.specs.Laws.Placing.{Rest, rest-all, rest-more, rest-none}
 
 -- ---- the first byte of a template

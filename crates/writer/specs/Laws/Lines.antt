@@ -2,20 +2,20 @@
 use mathlib.Core.Path.{_≡_, refl, ap}
 use mathlib.Core.Bool.{Bool, true, false, cond}
 use mathlib.Core.List.{List, [], _∷_, _++_, append-assoc}
-use Prim.Native.Nat.{ℕ, zero, suc, _+_, _*_, _≤_, _<_}
+use Prim.Native.Nat.{ℕ, zero, suc, _+_, _*_, _^_, _≤_, _<_}
 use native.Mathlib.Omega.{arith}
 use lib.Dec.{eqb}
 use lib.ListN.{length, getD, take, drop, length-append, length-take}
 use lib.Seq.{getD-drop, take-length}
 use Rattle.text.specs.Bytes.{LF, bytes}
 use Rattle.text.specs.Number.{decimalDigits, decimal, hexadecimal}
-use Rattle.text.specs.List.{listTextBy, listText}
+use Rattle.text.specs.List.{listTextBy, commas, listText}
 use Rattle.text.specs.Template.{Value, isLetter, valueText, firstText, lineText}
 use Rattle.job.specs.Line.{Distribution, sizeOf}
 use Rattle.job.specs.Grammar.{injectTemplate}
 use Rattle.writer.specs.Placed.{Puts}
 use Rattle.writer.specs.Line.{isList, valuesIn, numbersFor, listsFor, Lent, PauliLent, depolarizingStart, depolarizingText}
-use Rattle.writer.specs.Laws.Lists.{decimal-length, hex-length, list-length}
+use Rattle.writer.specs.Laws.Lists.{decimal-length, hex-length, commas-length, list-length}
 
 -- ---- how long a line is
 
@@ -91,6 +91,35 @@ module _ (shot : ℕ) {counts members : List ℕ} (h : PauliLent counts members)
       let x = length-take (getD counts 0 0) members in
       let z = length-take (getD counts 1 0) (drop 31 members) in
       rw inject-values (omega (arith, most, x, z, h .x-few, h .z-few))
+
+inject-line : (shot : ℕ) (x z : List ℕ)
+    → lineText injectTemplate (Value.number shot ∷ Value.list x ∷ Value.list z ∷ [])
+    ≡ bytes "op=i shot=" ++ (decimal shot ++ (bytes " x=" ++ (listText x ++ (bytes " z=" ++ (listText z ++ [])))))
+unfolding bytes lineText firstText valueText
+inject-line shot x z = refl
+
+-- how many bytes an injection has
+pub inject-bytes : (shot : ℕ) (x z : List ℕ)
+    → length (lineText injectTemplate (Value.number shot ∷ Value.list x ∷ Value.list z ∷ []) ++ LF ∷ [])
+    ≡ 17 + length (decimal shot) + length (listText x) + length (listText z)
+unfolding bytes
+inject-bytes shot x z =
+    let line : List ℕ = lineText injectTemplate (Value.number shot ∷ Value.list x ∷ Value.list z ∷ []) in
+    let long = simp length-append at (ap length (inject-line shot x z)) in
+    omega (arith, long, length-append line (LF ∷ []))
+
+-- its lists are short, and so is all of it
+pub few-commas : (n : ℕ) (l : List ℕ) → n ≤ 31 → length (commas (take n l)) < 2 ^ 64
+few-commas n l h = omega (arith, commas-length decimal decimal-length (take n l), length-take n l)
+
+pub inject-small : (shot : ℕ) {counts members : List ℕ} → PauliLent counts members
+    → 17 + length (decimal shot) + length (listText (take (getD counts 0 0) members)) + length (listText (take (getD counts 1 0) (drop 31 members)))
+    ≤ 1341
+inject-small shot {counts} {members} h =
+    let line : List ℕ = lineText injectTemplate (valuesIn injectTemplate (shot ∷ []) counts members) in
+    let whole = rw (inject-values shot h) at (length-append line (LF ∷ [])) in
+    let short = rw (inject-values shot h) at (inject-length shot h) in
+    omega (arith, short, whole, inject-bytes shot (take (getD counts 0 0) members) (take (getD counts 1 0) (drop 31 members)))
 
 -- how far an injection goes that was put
 pub inject-next : (shot : ℕ) (x z : List ℕ) {at : ℕ} {out after : List ℕ} {next : ℕ}

@@ -1,13 +1,12 @@
 -- Lists written member by member, and how long the texts are. Laws. Assumes nothing.
 use mathlib.Core.Path.{_≡_, refl, sym, ap, _∙_}
 use mathlib.Core.Bool.{Bool, true, false, cond}
-use mathlib.Core.List.{List, [], _∷_, _++_, append-assoc, append-nil}
+use mathlib.Core.List.{List, [], _∷_, _++_}
 use Prim.Native.Nat.{ℕ, zero, suc, _+_, _-_, _*_, _/_, _%_, _≤_, _<_}
-use native.Mathlib.Numerals.{add-one}
 use native.Mathlib.Omega.{arith}
 use lib.Dec.{ltb}
-use lib.ListN.{length, getD, take, drop, length-append, length-drop, drop-of-length-le}
-use lib.Seq.{take-suc, take-all, length-take-le}
+use lib.ListN.{length, getD, take, drop, length-append, drop-of-length-le}
+use lib.Seq.{take-all}
 use Rattle.text.specs.Bytes.{comma}
 use Rattle.text.specs.Number.{decimalDigits, decimal, hexByte, hexDigits, hexadecimal}
 use Rattle.text.specs.List.{commasBy, listTextBy, commas, listText}
@@ -39,7 +38,7 @@ hex-length n = hexes-length 16 n
 
 -- a list whose members take at most 20 bytes each
 module _ (one : ℕ → List ℕ) (short : (n : ℕ) → length (one n) ≤ 20) where
-  commas-length : (l : List ℕ) → length (commasBy one l) ≤ 21 * length l
+  pub commas-length : (l : List ℕ) → length (commasBy one l) ≤ 21 * length l
   unfolding commasBy
   commas-length [] = omega arith
   commas-length (n ∷ l) = omega (arith, length-append (one n) (commasBy one l), short n, commas-length l)
@@ -52,7 +51,7 @@ module _ (one : ℕ → List ℕ) (short : (n : ℕ) → length (one n) ≤ 20) 
 -- ---- member by member
 
 -- of the members, each after a comma, those from i on are left
-commas-left : (l : List ℕ) (i : ℕ) → i < length l → commas (drop i l) ≡ (comma ∷ []) ++ (decimal (getD l i 0) ++ commas (drop (i + 1) l))
+pub commas-left : (l : List ℕ) (i : ℕ) → i < length l → commas (drop i l) ≡ (comma ∷ []) ++ (decimal (getD l i 0) ++ commas (drop (i + 1) l))
 unfolding commasBy
 commas-left l i h = rw (step l i h) refl
 

@@ -85,8 +85,9 @@ pub puts-byte : {at : ℕ} {b : ℕ} {out : List ℕ} → Puts at (b ∷ []) out
 unfolding placed
 puts-byte = record { bytes = refl; place = refl }
 
-pub puts-past : (at b : ℕ) (out : List ℕ) → length out ≤ at → Puts at (b ∷ []) out out (at + 1)
-puts-past at b out h = record { bytes = sym (placed-past at (b ∷ []) out h); place = refl }
+-- past the end a text is counted
+pub puts-past : (at : ℕ) (text out : List ℕ) → length out ≤ at → Puts at text out out (at + length text)
+puts-past at text out h = record { bytes = sym (placed-past at text out h); place = refl }
 
 -- the first i bytes of s are copied
 pub record Copied (at : ℕ) (s out : List ℕ) (i : ℕ) (after : List ℕ) : Type 0 where

@@ -6,9 +6,11 @@
 //!
 //! For outcomes by shot, `published` is a block transposition in plain Rust, and `with reading` one bit at a time.
 
+mod long;
+
 use crate::block;
 use checker::calls::{Asked, Calls, Draws, Rows, Share};
-use checker::job::{Job, MAX_BYTES, MAX_GROUPS, usize_of};
+use checker::job::{Instruction, Job, MAX_BYTES, MAX_GROUPS, usize_of};
 use checker::plain::by_shot::Shape;
 use checker::plain::{Plain, settled};
 use checker::read::read;
@@ -30,9 +32,12 @@ fn engine(call: Call) -> Option<&'static dyn Calls> {
 const LEAST_TIME: Duration = Duration::from_secs(1);
 const LEAST_ROUNDS: usize = 7;
 
+/// The bytes of a measurement at most.
+const MEASUREMENT: usize = 22;
+
 /// Measure the loads of a part, of all, or the run of a job in a file; whether there is such a part or file.
 pub fn run(part: &str) -> bool {
-    let parts: [(&str, fn()); 8] = [
+    let parts: [(&str, fn()); 9] = [
         ("checks", checks),
         ("runs", runs),
         ("tables", tables),
@@ -41,6 +46,7 @@ pub fn run(part: &str) -> bool {
         ("shares", shares),
         ("seeds", seeds),
         ("turns", turns),
+        ("long", long::long),
     ];
     let chosen: Vec<_> = parts.iter().filter(|(name, _)| part == "all" || part == *name).collect();
     let columns = ["published", "with reading", "engine", "/published", "/reading", "ns a byte"]
@@ -147,9 +153,9 @@ fn runs() {
         measure_settle(&format!("settle, 500 gates with noise, {size}"), &noisy);
         measure_walk(&format!("walk, 10,000 gates, {size}"), &loads::measured(made));
     }
-    // The walk beside the check of the same job, which is its first pass. A measurement takes at most 22 bytes.
+    // The walk beside the check of the same job, which is its first pass.
     let header = loads::header(256, 4096);
-    let long = loads::measured(loads::cut(loads::gates(header, 80_000), 1_000_000 - 256 * 22));
+    let long = loads::measured(loads::cut(loads::gates(header, 80_000), 1_000_000 - 256 * MEASUREMENT));
     check("check, 1,000,000 bytes of gate lines", &long.bytes());
     measure_walk("walk, 1,000,000 bytes of gate lines", &long);
 }
@@ -187,13 +193,16 @@ impl Load {
         let shots = usize::try_from(made.header.shots).expect("a checked number");
         let noiseless = words(made.header.outcome_words());
         let second = words(2 * shots + 64);
-        let mut main = words(made.instructions.len() * (shots + 64));
-        let load = |main| Load { bytes: bytes.clone(), main, second: second.clone(), noiseless: noiseless.clone() };
-        let all = load(main.clone());
-        let job = all.job();
-        let read = settled(&job, all.draws(), &all.noiseless).expect("enough words").words_read;
-        main.truncate(usize::try_from(read).expect("below the list's length"));
-        load(main)
+        let noisy = made.instructions.iter().filter(|i| matches!(i, Instruction::Noise(_))).count();
+        let mut load = Load { bytes, main: Vec::new(), second, noiseless };
+        // a shot without a fault reads one word; where many have one, more words are made until they suffice
+        let read = (0..16).find_map(|_| {
+            load.main.extend(words(noisy * (shots + 64) + 1));
+            Some(settled(&load.job(), load.draws(), &load.noiseless).ok()?.words_read)
+        });
+        let read = read.expect("enough words");
+        load.main.truncate(usize::try_from(read).expect("below the list's length"));
+        load
     }
 
     fn job(&self) -> Job<'_> {
@@ -299,25 +308,38 @@ fn around() {
     }
     .report("locations, 10,000 gates", gates.len());
 
-    let mixed = loads::mixed(header, 10_000, 0.001).bytes();
-    let job = read(&mixed).expect("a job that the checks accept");
+    measure_correlation("correlation, 10,000 mixed lines", &loads::mixed(header, 10_000, 0.001));
+}
+
+fn measure_correlation(name: &str, made: &Made) {
+    let bytes = made.bytes();
+    let job = read(&bytes).expect("a job that the checks accept");
     let circuit = Program::new(&job).circuit();
     Timed {
         published: Some(Box::new(|| _ = black_box(black_box(&circuit).validate_correlated_faults().is_ok()))),
-        with_reading: Box::new(|| _ = black_box(Plain.correlation(&mixed))),
-        engine: engine(Call::Correlation).map(|engine| Box::new(|| _ = black_box(engine.correlation(&mixed))) as _),
+        with_reading: Box::new(|| _ = black_box(Plain.correlation(&bytes))),
+        engine: engine(Call::Correlation).map(|engine| Box::new(|| _ = black_box(engine.correlation(&bytes))) as _),
     }
-    .report("correlation, 10,000 mixed lines", mixed.len());
+    .report(name, bytes.len());
 }
 
 // ---- single faults
 
 /// The table of a long job beside its check, which is its first pass. The published Rust runs a shot for each element.
 fn faults() {
+    let made = seldom_noisy(1_000_000);
+    check("check, 1,000,000 bytes of gates and seldom noise", &made.bytes());
+    measure_faults("fault table, the same with 16 groups", &made);
+}
+
+/// A job of so many bytes at most with gates and seldom noise, which measures every qubit at its end.
+fn seldom_noisy(bytes: usize) -> Made {
     let header = loads::header(256, 4096);
-    let made = loads::measured(loads::cut(loads::seldom_noisy(header, 80_000, 50, 0.001), 1_000_000 - 256 * 22));
+    loads::measured(loads::cut(loads::seldom_noisy(header, 80_000, 50, 0.001), bytes - 256 * MEASUREMENT))
+}
+
+fn measure_faults(name: &str, made: &Made) {
     let bytes = &made.bytes();
-    check("check, 1,000,000 bytes of gates and seldom noise", bytes);
     let group = |first: u64| std::iter::once(16).chain((0..16).map(move |place| first + 16 * place));
     let groups = &(0..MAX_GROUPS as u64).flat_map(group).collect::<Vec<u64>>();
     let job = read(bytes).expect("a job that the checks accept");
@@ -332,7 +354,7 @@ fn faults() {
         with_reading: Box::new(move || table(&Reference, &mut out)),
         engine: engine(Call::FaultTable).map(|engine| Box::new(move || table(engine, &mut engine_out)) as _),
     }
-    .report("fault table, the same with 16 groups", bytes.len());
+    .report(name, bytes.len());
 }
 
 // ---- shares

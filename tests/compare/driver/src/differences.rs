@@ -76,7 +76,7 @@ pub fn passes(under_test: &dyn Calls, call: Call, count: u64, seed: u64, all: &m
 }
 
 /// The refusal's number, also where it was printed.
-fn number(output: &Output) -> u64 {
+pub fn number(output: &Output) -> u64 {
     let printed = String::from_utf8_lossy(&output.bytes);
     let refusal = printed.strip_prefix("ok=0 refusal=").and_then(|rest| rest.split(' ').next()?.parse().ok());
     refusal.unwrap_or(output.answer.number)

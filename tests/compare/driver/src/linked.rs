@@ -47,6 +47,13 @@ fn words<'a>(draws: Draws<'a>) -> kundatrezo::Draws<'a> {
     kundatrezo::Draws::new(draws.main).with_second(draws.second, draws.base)
 }
 
+/// What an examination says: qubits, outcomes, shots, outcomes recorded and lines, or the refusal's number and line.
+pub fn examined(job: &[u8]) -> Result<[u64; 5], (u64, u64)> {
+    let found = kundatrezo::examine(job).map_err(|refusal| (refusal.number.get(), refusal.line))?;
+    let kundatrezo::Examination { qubits, outcomes, shots, recorded, lines, .. } = found;
+    Ok([qubits, outcomes, shots, recorded, lines].map(|count| count as u64))
+}
+
 /// The engine.
 pub struct Linked;
 

@@ -9,6 +9,8 @@ mod chosen;
 mod clauses;
 mod differences;
 #[cfg(feature = "linked")]
+mod fuzz;
+#[cfg(feature = "linked")]
 mod linked;
 mod made;
 mod minimise;
@@ -25,6 +27,7 @@ mod tables;
 use checker::calls::Calls;
 use differences::Refusals;
 use reference::vectors::{CALLS, Call};
+use std::path::Path;
 use std::process::ExitCode;
 use std::time::{SystemTime, UNIX_EPOCH};
 
@@ -42,6 +45,8 @@ usage: compare CALL N [SEED]      N random inputs of a call: check, run, settle,
        compare vectors [CALL]     the stored vectors, or those of a call
        compare all N [SEED]       all of these
        compare write CALL N SEED  N vectors of a call, made by the reference, on standard output
+       compare fuzz SECONDS [SEED [FOLDER]]
+                                  changed inputs through every call for so long, led by what they reach; FOLDER keeps those that reach something new
        compare replay [more]      the list of the program replay_calls, or of replay_more, on standard output
        compare bench [PART]       times beside the published Rust's and document 01's by hand; PART is checks, runs, tables,
                                   around, faults, shares, seeds, turns, or a file with a job
@@ -83,6 +88,9 @@ fn main() -> ExitCode {
         ["bench"] => bench::run("all") || usage(),
         ["bench", part] => bench::run(part) || usage(),
         ["write", call, count, seed] => write(call, count, seed),
+        ["fuzz", seconds] => fuzzed(seconds, None, None),
+        ["fuzz", seconds, seed] => fuzzed(seconds, Some(seed), None),
+        ["fuzz", seconds, seed, folder] => fuzzed(seconds, Some(seed), Some(folder)),
         ["replay"] => replay::write(),
         ["replay", "more"] => replay::write_more(),
         [command, count] => counted(command, count, None),
@@ -136,6 +144,26 @@ fn counted(command: &str, count: &str, seed: Option<&str>) -> bool {
         println!("{}", if passed { "0 differences" } else { "differences" });
     }
     passed
+}
+
+fn fuzzed(seconds: &str, seed: Option<&str>, folder: Option<&str>) -> bool {
+    let (Ok(seconds), Ok(seed)) = (seconds.parse(), seed.map_or(Ok(new_seed()), str::parse)) else {
+        return usage();
+    };
+    println!("seed {seed}");
+    say_under_test();
+    fuzz_for(seconds, seed, folder.map(Path::new))
+}
+
+#[cfg(feature = "linked")]
+fn fuzz_for(seconds: u64, seed: u64, folder: Option<&Path>) -> bool {
+    fuzz::passes(UNDER_TEST.0, seconds, seed, folder)
+}
+
+#[cfg(not(feature = "linked"))]
+fn fuzz_for(_: u64, _: u64, _: Option<&Path>) -> bool {
+    eprintln!("there is nothing to fuzz without the feature linked");
+    false
 }
 
 /// Say who makes which of the calls under test.

@@ -16,7 +16,16 @@ struct SaidText {
     figure: u64,
 }
 
+/// `struct kundatrezo_line_part`.
+#[repr(C)]
+struct LinePart {
+    start: usize,
+    len: usize,
+}
+
 unsafe extern "C" {
+    fn kundatrezo_line(job: *const u8, job_len: usize, number: u64) -> LinePart;
+
     fn kundatrezo_run_shared(
         job: *const u8,
         job_len: usize,
@@ -118,4 +127,10 @@ pub fn settle_shared(job: &[u8], draws: Draws<'_>, noiseless: &[u64], share: Sha
         )
     };
     Answer { number: said.answer.number, line: said.answer.line, figure: said.figure }
+}
+
+/// Where a line begins, and its bytes without LF.
+pub fn line(job: &[u8], number: u64) -> (usize, usize) {
+    let LinePart { start, len } = unsafe { kundatrezo_line(job.as_ptr(), job.len(), number) };
+    (start, len)
 }

@@ -2,7 +2,7 @@
 
 use crate::jobs::{ANY, Made, Shape, clifford_table, job_of};
 use crate::random::Random;
-use checker::job::{Distribution, Header, Instruction, List, Noise};
+use checker::job::{Distribution, Header, Instruction, List, Noise, Pauli};
 
 /// A header of the first edition for measuring, with as many outcomes as may be.
 #[must_use]
@@ -34,7 +34,7 @@ pub fn cliffords(header: Header, lines: usize, qubits: usize) -> Made {
 #[must_use]
 pub fn measured(mut made: Made) -> Made {
     let measure = |qubit| Instruction::Measure {
-        observable: checker::job::Pauli { x: List::new(), z: [qubit].into_iter().collect() },
+        observable: Pauli { x: List::new(), z: [qubit].into_iter().collect() },
         id: qubit,
     };
     made.instructions.extend((0..made.header.qubits).map(measure));
@@ -94,6 +94,62 @@ pub fn mixed(header: Header, lines: u64, p: f64) -> Made {
         }
     }
     made
+}
+
+/// Noise lines with 64 weighted elements each.
+#[must_use]
+pub fn weighted(header: Header, lines: usize, p: f64) -> Made {
+    let mut random = Random::new(8);
+    let weight = (1.0_f64 / 64.0).to_bits();
+    let mut element = || {
+        let qubit = random.below(header.qubits);
+        let next = (qubit + 1) % header.qubits;
+        (weight, Pauli { x: [qubit].into_iter().collect(), z: [next].into_iter().collect() })
+    };
+    let mut line = || Noise::unconditional(p.to_bits(), Distribution::Weighted((0..64).map(|_| element()).collect()));
+    let instructions = (0..lines).map(|_| Instruction::Noise(Box::new(line()))).collect();
+    Made { header, instructions }
+}
+
+/// Depolarizing noise on so many qubits, in any order.
+#[must_use]
+pub fn depolarized(header: Header, lines: usize, qubits: usize, p: f64) -> Made {
+    let mut random = Random::new(9);
+    let mut line = || depolarizing(random.distinct(header.qubits, qubits).into_iter().collect(), p);
+    let instructions = (0..lines).map(|_| line()).collect();
+    Made { header, instructions }
+}
+
+/// Controlled Paulis with four lists of 31 qubits, controls on the lower half of the qubits and targets on the upper one.
+#[must_use]
+pub fn controlled(header: Header, lines: usize) -> Made {
+    let mut random = Random::new(10);
+    let half = header.qubits / 2;
+    let mut list = |first: u64| -> List { random.subset(half, 31).into_iter().map(|qubit| first + qubit).collect() };
+    let mut pauli = |first: u64| Pauli { x: list(first), z: list(first) };
+    let mut line = || Instruction::Controlled { control: pauli(0), target: Box::new(pauli(half)) };
+    let instructions = (0..lines).map(|_| line()).collect();
+    Made { header, instructions }
+}
+
+/// Noise lines that never fault, each with a correlation of its own.
+#[must_use]
+pub fn correlated(header: Header, lines: u64) -> Made {
+    let pauli = Pauli { x: [0].into_iter().collect(), z: List::new() };
+    let line = |correlation| {
+        let alone = Noise::unconditional(0, Distribution::Single(pauli.clone()));
+        Instruction::Noise(Box::new(Noise { correlation: Some(correlation), ..alone }))
+    };
+    Made { header, instructions: (0..lines).map(line).collect() }
+}
+
+/// Every outcome, then flips.
+#[must_use]
+pub fn flips(header: Header, lines: usize) -> Made {
+    let mut random = Random::new(11);
+    let mut flip = || Instruction::Flip { shot: random.below(header.shots), id: random.below(header.outcomes) };
+    let outcomes = (0..header.outcomes).map(|id| Instruction::Allocate { id, angle: false });
+    Made { header, instructions: outcomes.chain((0..lines).map(|_| flip())).collect() }
 }
 
 /// A job cut after the last whole instruction within a length in bytes.

@@ -22,23 +22,11 @@ empty-requires c κs = search needs
 loop-holds : tie.Need-loop-holds Inv-loop μ-loop
 loop-holds c = (omega arith, pieces-start (c .empty .ensures))
 
-find-requires : tie.Need-find-requires Inv-loop μ-loop
-find-requires c κs = omega arith
+read-member-requires : tie.Need-read-member-requires Inv-loop μ-loop
+read-member-requires c κs = omega arith
 
-sub-piece : tie.Need-sub-piece Inv-loop μ-loop
-sub-piece c = omega arith
-
-part-piece-start : tie.Need-part-piece-start Inv-loop μ-loop
-part-piece-start c = omega arith
-
-part-piece-end : tie.Need-part-piece-end Inv-loop μ-loop
-part-piece-end c = omega arith
-
-piece-requires : tie.Need-piece-requires Inv-loop μ-loop
-piece-requires c κs = search needs
-
-enum-known-n : tie.Need-enum-known-n Inv-loop μ-loop
-enum-known-n c = search needs
+enum-known-value : tie.Need-enum-known-value Inv-loop μ-loop
+enum-known-value c = search needs
 
 enum-told : tie.Need-enum-told Inv-loop μ-loop
 enum-told c = search needs
@@ -47,43 +35,43 @@ no-list-requires : tie.Need-no-list-requires Inv-loop μ-loop
 no-list-requires c κs = search needs
 
 same-length : tie.Need-same-length Inv-loop μ-loop
-same-length c = let f = c .before .before .before .before .before .before .loop .inv .1 in ap length (f .members) ∙ stored-length _ (f .done)
+same-length c = let f = c .before .before .before .before .loop .inv .1 in ap length (f .members) ∙ stored-length _ (f .done)
 
 returns : tie.Need-returns Inv-loop μ-loop
 returns c =
-    let loop = c .before .before .before .before .before .before .loop in
-    let found = c .before .before .before .before .before .find in
-    let bad = sym (c .before .before .before .piece .ensures) ∙ read-bad (c .before .enum-told .given .1) in
-    none-read (pieces-bad (loop .inv .1) (found .result) (omega arith) (found .ensures .0) (omega arith) bad) (c .no-list .ensures)
+    let loop = c .before .before .before .before .loop in
+    let m = c .before .before .before .read-member in
+    let bad = sym (m .ensures .reads) ∙ read-bad (c .before .enum-told .given .1) in
+    none-read (pieces-bad (loop .inv .1) (m .result .end) (omega arith) (m .ensures .found) (omega (arith, m .ensures .within)) bad) (c .no-list .ensures)
 
 store-requires : tie.Need-store-requires Inv-loop μ-loop
 store-requires c κs = search needs
 
 push-requires : tie.Need-push-requires Inv-loop μ-loop
-push-requires c κs = let n = so-count (c .before .before .before .before .before .before .before .before .before .before .loop .inv .1) in omega (arith, c .before .before .before .before .before .before .before .before .before .before .loop .inv .1 .few)
+push-requires c κs = let n = so-count (c .before .before .before .before .before .before .before .before .loop .inv .1) in omega (arith, c .before .before .before .before .before .before .before .before .loop .inv .1 .few)
 
 same-length-2 : tie.Need-same-length-2 Inv-loop μ-loop
-same-length-2 c = let f = c .before .before .before .before .before .before .before .before .before .before .before .before .loop .inv .1 in omega (arith, ap length (f .members) ∙ stored-length _ (f .done))
+same-length-2 c = let f = c .before .before .before .before .before .before .before .before .before .before .loop .inv .1 in omega (arith, ap length (f .members) ∙ stored-length _ (f .done))
 
 returns-2 : tie.Need-returns-2 Inv-loop μ-loop
 returns-2 c =
-    let loop = c .before .before .before .before .before .before .before .before .before .before .before .before .loop in
-    let found = c .before .before .before .before .before .before .before .before .before .before .before .find in
-    let good = sym (c .before .before .before .before .before .before .before .before .before .piece .ensures) ∙ read-of (c .before .before .before .before .before .before .before .n .given .1) in
-    pieces-last (loop .inv .1) (found .result) (omega arith) (found .ensures .0) (omega arith) good (c .before .push .ensures _ (loop .inv .1 .result)) (c .before .before .before .before .store .ensures) (c .if1 .taken)
+    let loop = c .before .before .before .before .before .before .before .before .before .before .loop in
+    let m = c .before .before .before .before .before .before .before .before .before .read-member in
+    let good = sym (m .ensures .reads) ∙ read-of (c .before .before .before .before .before .before .before .value .given .1) in
+    pieces-last (loop .inv .1) (m .result .end) (omega arith) (m .ensures .found) (omega (arith, m .ensures .within)) good (c .before .push .ensures _ (loop .inv .1 .result)) (c .before .before .before .before .store .ensures) (c .if1 .taken)
 
 add-at : tie.Need-add-at Inv-loop μ-loop
-add-at c = omega arith
+add-at c = omega (arith, c .before .before .before .before .before .before .before .before .before .read-member .ensures .within)
 
 loop-less : tie.Need-loop-less Inv-loop μ-loop
-loop-less c = omega arith
+loop-less c = omega (arith, c .before .before .before .before .before .before .before .before .before .read-member .ensures .onward, c .before .before .before .before .before .before .before .before .before .read-member .ensures .within)
 
 loop-again : tie.Need-loop-again Inv-loop μ-loop
 loop-again c =
-    let loop = c .before .before .before .before .before .before .before .before .before .before .before .before .loop in
-    let found = c .before .before .before .before .before .before .before .before .before .before .before .find in
-    let good = sym (c .before .before .before .before .before .before .before .before .before .piece .ensures) ∙ read-of (c .before .before .before .before .before .before .before .n .given .1) in
-    (omega arith, pieces-more (loop .inv .1) (found .result) (omega arith) (found .ensures .0) (omega arith) good (c .before .push .ensures _ (loop .inv .1 .result)) (c .before .before .before .before .store .ensures) (omega arith))
+    let loop = c .before .before .before .before .before .before .before .before .before .before .loop in
+    let m = c .before .before .before .before .before .before .before .before .before .read-member in
+    let good = sym (m .ensures .reads) ∙ read-of (c .before .before .before .before .before .before .before .value .given .1) in
+    (omega (arith, m .ensures .within), pieces-more (loop .inv .1) (m .result .end) (omega arith) (m .ensures .found) (omega (arith, m .ensures .within)) good (c .before .push .ensures _ (loop .inv .1 .result)) (c .before .before .before .before .store .ensures) (omega (arith, m .ensures .within)))
 
 pub list-by-spec : {M : Type 1} → statement M
 list-by-spec =
@@ -93,12 +81,8 @@ list-by-spec =
     μ-loop
     empty-requires
     loop-holds
-    find-requires
-    sub-piece
-    part-piece-start
-    part-piece-end
-    piece-requires
-    enum-known-n
+    read-member-requires
+    enum-known-value
     enum-told
     no-list-requires
     same-length
