@@ -13,7 +13,7 @@ ghost use Rattle.writer.specs.Placed.{Puts};
 ghost use Rattle.writer.specs.Line.{depolarizingStart, StartOf};
 ghost use Rattle.circuit.specs.Annotate.{noiseLines};
 ghost use Rattle.annotation.specs.Lines.{beforeIt, aroundText, Annotates};
-use instructions::next_line;
+use instructions::next_known;
 use line_qubits::fit;
 use line_qubits::noise_qubits;
 use reader::Form;
@@ -84,7 +84,7 @@ pub fn put_annotated(out: &mut [u8], job: &[u8], p: u64) -> Progress
     let mut k: u64 = 1;
     let mut next = 0;
     while at < job.len() {
-        let line = next_line(job, at, &mut fields);
+        let line = next_known(job, at, &mut fields);
         let form = line.form;
         let end = line.end + 1;
         let n = noise_qubits(form, &fields, &mut qubits);

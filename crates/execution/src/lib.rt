@@ -5,7 +5,7 @@ use injection::Drawn;
 use injection::inject_faults;
 use instructions::Next;
 use instructions::is_noise;
-use instructions::next_line;
+use instructions::next_known;
 use job::Answer;
 use job::limits::MAX_ELEMENTS;
 use job::limits::MAX_WIDTH;
@@ -127,7 +127,7 @@ fn step<'a>(
     requires { ⌜ StepReady (now job) shape place (now values) (now elements) (now main ++ now more) × RowsFor shape (now x) (now z) (now deltas) (now noiseless) × (31 * shape .width ≤ length (now scratch)) × TotalsHeld (shape .width) (shape .outcomes) (now deltas) (now totals) ⌝ }
     ensures { λ r. ⌜ Stepped (now (job .entry)) shape (now (noiseless .entry)) (now (main .entry) ++ now (more .entry)) (now (second .entry)) base place (now (x .entry)) (now (z .entry)) (now (deltas .entry)) (now (x .exit)) (now (z .exit)) (now (deltas .exit)) r × TotalsHeld (shape .width) (shape .outcomes) (now (deltas .exit)) (now (totals .exit)) ⌝ }
 {
-    let line = next_line(job, place.byte, &mut *values);
+    let line = next_known(job, place.byte, &mut *values);
     let form = line.form;
     if is_noise(form) {
         return apply_noise(

@@ -1,7 +1,21 @@
 // A gate line that is known to have its form, as each line of a job that passed the tests has: its code and its operands are read in one pass over
 // their bytes, and nothing of the form is tested again.
 ghost use mathlib.Core.Path.{_≡_};
-ghost use Rattle.gate_text.specs.Gate.{NumberThere, NumberRead, ListThere, OperandsRead, GateLine, GateRead};
+ghost use mathlib.Core.Bool.{true};
+ghost use Rattle.gate_text.specs.Gate.{NumberThere, NumberRead, ListThere, OperandsRead, GateBytes, GateLine, GateRead};
+
+// Whether a line begins as a gate line does.
+pub fn is_gate(line: &[u8]) -> bool
+    ensures { λ r. ⌜ (r ≡ true → GateBytes (now (line .entry))) ⌝ }
+{
+    if line.len() < 4 {
+        return false;
+    }
+    if line[0] != b'o' {
+        return false;
+    }
+    line[3] == b'u'
+}
 
 // A number, and the place behind its digits.
 struct Number {
@@ -33,10 +47,11 @@ fn read_number(line: &[u8], from: usize, sep: u8) -> Number
     }
 }
 
-// The first two members of a list, the second 0 where there is none.
+// The first two members of a list, the second 0 where there is none, and how many of the two there are.
 struct Operands {
     first: u64,
     second: u64,
+    count: u64,
 }
 
 // The operands that stand from a place up to the line's end.
@@ -49,20 +64,23 @@ fn read_operands(line: &[u8], from: usize) -> Operands
         return Operands {
             first: first.value,
             second: 0,
+            count: 1,
         };
     }
     let second = read_number(line, first.behind + 1, b',');
     Operands {
         first: first.value,
         second: second.value,
+        count: 2,
     }
 }
 
-// What a gate line says: the gate's code and its first two operands, the second 0 where there is none.
+// What a gate line says: the gate's code and its first two operands, the second 0 where there is none, and how many of the two there are.
 pub struct Gate {
     pub code: u64,
     pub first: u64,
     pub second: u64,
+    pub count: u64,
 }
 
 pub fn read_gate(line: &[u8]) -> Gate
@@ -75,5 +93,6 @@ pub fn read_gate(line: &[u8]) -> Gate
         code: code.value,
         first: qubits.first,
         second: qubits.second,
+        count: qubits.count,
     }
 }

@@ -11,7 +11,7 @@ ghost use Rattle.instruction_text.specs.Pass.{passOf, Between, Instructi
 use faults::prepare;
 use instructions::Next;
 use instructions::is_noise;
-use instructions::next_line;
+use instructions::next_known;
 use job::limits::MAX_ELEMENTS;
 use job::limits::MAX_WIDTH;
 use noise::Place;
@@ -113,7 +113,7 @@ pub fn put_instruction<'a>(
 {
     let place = from.place;
     let at = place.byte;
-    let line = next_line(job, at, &mut *values);
+    let line = next_known(job, at, &mut *values);
     let form = line.form;
     if is_noise(form) {
         return put_noise_line(

@@ -11,14 +11,21 @@ ghost use Rattle.job.specs.Grammar.{NoiseLine, Written};
 ghost use Rattle.job.specs.Checks.{elementLines};
 ghost use Rattle.job.specs.Job.{wellEnded};
 ghost use Rattle.template.specs.Values.{Whole};
-ghost use Rattle.reader.specs.Parsed.{formOf, Said};
+ghost use Rattle.reader.specs.Parsed.{formOf, Parsed, Said};
 ghost use Rattle.instructions.specs.Reading.{NextLine, noiseForm};
 ghost use Rattle.instructions.specs.Ahead.{hasWeights};
+ghost use Rattle.instructions.specs.Lines.{KnownLine, KnownAt};
+use gate_text::is_gate;
+use gate_text::read_gate;
 use line_reader::line_at;
 use reader::Form;
 use reader::read_line;
 use reader::slots::ELEMENTS;
+use reader::slots::GATE;
+use reader::slots::OPERANDS;
 use template::values::number;
+use template::values::set_few;
+use template::values::set_number;
 
 // A line that was read: its form, and the place of the LF that ends it. The next line begins behind that.
 pub struct Next {
@@ -34,6 +41,31 @@ pub fn next_line(job: &[u8], at: usize, fields: &mut [u64]) -> Next
     let line = line_at(job, at);
     let end = at + line.len();
     let form = read_line(line, fields);
+    Next { form, end }
+}
+
+// What a line of an accepted job says. A gate line, of which there are many, is read without testing its form again.
+fn read_known(line: &[u8], fields: &mut [u64]) -> Form
+    requires { ⌜ KnownLine (now line) × Whole (now fields) ⌝ }
+    ensures { λ r. ⌜ Parsed (now (line .entry)) r (now (fields .exit)) ⌝ }
+{
+    if !is_gate(line) {
+        return read_line(line, fields);
+    }
+    let g = read_gate(line);
+    set_number(&mut *fields, GATE, g.code);
+    set_few(fields, OPERANDS, g.count, g.first, g.second);
+    Form::Unitary
+}
+
+// Reads the line of an accepted job that begins at a place, as next_line does.
+pub fn next_known(job: &[u8], at: usize, fields: &mut [u64]) -> Next
+    requires { ⌜ KnownAt (now job) at × Whole (now fields) ⌝ }
+    ensures { λ r. ⌜ NextLine (now (job .entry)) at r (now (fields .exit)) ⌝ }
+{
+    let line = line_at(job, at);
+    let end = at + line.len();
+    let form = read_known(line, fields);
     Next { form, end }
 }
 

@@ -5,7 +5,7 @@ ghost use Rattle.job.specs.Job.{checkJob};
 ghost use Rattle.circuit.specs.Annotate.{locations as Annotate·locations};
 ghost use Rattle.circuit.specs.Replies.{locationsReply};
 use checker::check;
-use instructions::next_line;
+use instructions::next_known;
 use job::Answer;
 use job::CountReply;
 use line_qubits::located;
@@ -23,7 +23,7 @@ fn count(job: &[u8]) -> u64
     let mut at = 0;
     let mut total: u64 = 0;
     while at < job.len() {
-        let line = next_line(job, at, &mut fields);
+        let line = next_known(job, at, &mut fields);
         let form = line.form;
         let n = located(form, &fields, &mut qubits);
         total += 2 * n as u64;

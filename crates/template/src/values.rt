@@ -1,8 +1,12 @@
 // The values of a line in lent words: its numbers, at most 4; of each of its lists, at most 4, how many members it has, the largest of them (0 of
 // none), and the members, of which the first 31 are kept.
 ghost use mathlib.Core.Path.{_≡_};
-ghost use Prim.Native.Nat.{_≤_, _<_};
+ghost use mathlib.Core.List.{List};
+ghost use Prim.Native.Nat.{ℕ, _≤_, _<_};
+ghost use lib.ListN.{set};
 ghost use Rattle.template.specs.Values.{Whole, AllKept, heldNumber, heldCount, heldLargest, heldMember, heldList, keptMembers};
+ghost use Rattle.template.specs.Fields.{FewAre, ListPut};
+use numbers::lists::larger;
 
 // At most so many numbers, and so many lists.
 pub const EACH: usize = 4;
@@ -70,4 +74,27 @@ pub fn kept<'a>(v: &'a [u64], i: usize) -> &'a [u64]
     let a = MEMBERS + i * KEPT;
     let e = a + KEPT;
     &v[a..e]
+}
+
+// ---- Values that were read elsewhere
+
+// Puts the i-th number.
+pub fn set_number(v: &mut [u64], i: usize, n: u64)
+    requires { ⌜ (i < 4) × Whole (now v) ⌝ }
+    ensures { λ _. ⌜ now (v .exit) ≡ set (now (v .entry)) i n ⌝ }
+{
+    v[i] = n;
+}
+
+// Puts the i-th list, of at most two members, by how many they are; 0 is put in place of one that it hasn't.
+pub fn set_few(v: &mut [u64], i: usize, many: u64, first: u64, second: u64)
+    requires { ⌜ (i < 4) × Whole (now v) ⌝ }
+    ensures { λ _. ⌜ ((members : List ℕ) → FewAre members many first second → ListPut (now (v .entry)) (now (v .exit)) i members) ⌝ }
+{
+    let most = larger(first, second);
+    let a = MEMBERS + i * KEPT;
+    v[COUNTS + i] = many;
+    v[LARGEST + i] = most;
+    v[a] = first;
+    v[a + 1] = second;
 }

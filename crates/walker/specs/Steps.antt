@@ -3,7 +3,7 @@ use Prim.Native.Nat.{ℕ, zero, suc}
 use mathlib.Core.Path.{_≡_}
 use mathlib.Core.List.{List}
 use mathlib.Core.Option.{Option, none, some}
-use lib.ListN.{length, getD}
+use lib.ListN.{length}
 use Rattle.pauli.specs.Bits.{Bits}
 use Rattle.pauli.specs.Pauli.{identity}
 use Rattle.pauli.specs.Fixed.{asPauli}
@@ -39,11 +39,6 @@ pub record WalkedBack (job : List ℕ) (shot : ℕ) (S : Bits) (r : WalkWords) :
 pub record PassedOver (shot : ℕ) (v : Written) : Type 0 where
   pub walks : (w : Walk) → w ≡ writtenBack (full shot) v w
   pub noise : (k before : ℕ) → before ≡ noiseBack k v before
-
--- the bytes by which a line is known to be a gate line: `o`, and `u` behind `op=`
-pub record GateBytes (text : List ℕ) : Type 0 where
-  pub first : getD text 0 0 ≡ 111
-  pub letter : getD text 3 0 ≡ 117
 
 -- the walk after the line of number k is what that line makes of the walk before
 pub record TextBack (text : List ℕ) (shot k : ℕ) (w w′ : WalkWords) (set set′ : List ℕ) : Type 0 where

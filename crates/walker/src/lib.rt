@@ -14,8 +14,10 @@ ghost use Rattle.job.specs.Job.{checkJob};
 ghost use Rattle.backward.specs.Walking.{walkReply};
 ghost use Rattle.template.specs.Values.{Whole};
 ghost use Rattle.lines_from_last.specs.Line.{OfJob};
-ghost use Rattle.walker.specs.Steps.{Started, WalkedBack, PassedOver, GateBytes, TextBack};
+ghost use Rattle.gate_text.specs.Gate.{GateBytes};
+ghost use Rattle.walker.specs.Steps.{Started, WalkedBack, PassedOver, TextBack};
 use checker::examine;
+use gate_text::is_gate;
 use gate_text::read_gate;
 use job::Answer;
 use job::CountReply;
@@ -66,19 +68,6 @@ fn passed_over(line: &[u8], shot: Shot, values: &mut [u64]) -> bool
         b'b' => true,
         _ => false,
     }
-}
-
-// Whether a line begins as a gate line does.
-fn is_gate(line: &[u8]) -> bool
-    ensures { λ r. ⌜ (r ≡ true → GateBytes (now (line .entry))) ⌝ }
-{
-    if line.len() < 4 {
-        return false;
-    }
-    if line[0] != b'o' {
-        return false;
-    }
-    line[3] == b'u'
 }
 
 // A gate line of an accepted job, of which there are many: read without testing its form again.

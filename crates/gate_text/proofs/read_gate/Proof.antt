@@ -15,7 +15,7 @@ read-operands-requires : tie.Need-read-operands-requires
 read-operands-requires c κs = operands-there (c .before .before .before .pre) (c .before .read-number .ensures)
 
 returns : tie.Need-returns
-returns c = gate-read (c .before .before .read-number .ensures) (c .read-operands .ensures) _ refl refl refl
+returns c = gate-read (c .before .before .read-number .ensures) (c .read-operands .ensures) _ refl refl refl refl
 
 pub read-gate-spec : {M : Type 1} → statement M
 read-gate-spec =

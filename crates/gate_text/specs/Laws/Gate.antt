@@ -98,6 +98,16 @@ two-values : {vs us ws : List Value} {v w : Value} {n : ℕ} {qs : List ℕ} →
 unfolding numbersIn listsIn
 two-values a b c d = (rw (a, b), rw (a, b, c, d))
 
+-- and no other
+all-values : {vs us ws : List Value} {v w : Value} {n : ℕ} {qs : List ℕ} → vs ≡ v ∷ us → v ≡ number n → us ≡ w ∷ ws → w ≡ list qs → ws ≡ []
+    → vs ≡ number n ∷ list qs ∷ []
+all-values a b c d e = rw (a, b, c, d, e)
+
+end-values : (l : List ℕ) (vs : List Value) → atEnd l ≡ some vs → vs ≡ []
+unfolding atEnd
+end-values [] vs e = cc
+end-values (b ∷ l) vs e = absurd (none-some e)
+
 -- ---- the line
 
 pub record Parts (line : List ℕ) (vs : List Value) : Type 0 where
@@ -105,6 +115,7 @@ pub record Parts (line : List ℕ) (vs : List Value) : Type 0 where
   pub code : numberOf (piece space (drop 7 line)) ≡ some (numberAt 0 vs)
   pub further : 7 + until space (drop 7 line) + 3 ≤ length line
   pub operands : listQ (drop (7 + until space (drop 7 line) + 3) line) ≡ some (listAt 0 vs)
+  pub all : vs ≡ number (numberAt 0 vs) ∷ list (listAt 0 vs) ∷ []
 
 pub parts : (line : List ℕ) (vs : List Value) → valuesOf gateTemplate line ≡ some vs → Parts line vs
 unfolding gateTemplate bytes valueOf valuesOf allPlain
@@ -122,6 +133,7 @@ parts line vs reads =
       code = is ∙ ap some first;
       further = further;
       operands = ap listQ (sym (last-piece line (e + 3) (g .rest) (g .rest-is))) ∙ members ∙ ap some second;
+      all = all-values (f .all) v (g .all) w (end-values _ (g .rest) (g .rest-is)) ∙ (λ i. number (first i) ∷ list (second i) ∷ []);
     }
 
 -- ---- what the code says
@@ -138,12 +150,13 @@ operands-there {line} t read =
     record { within = omega (arith, p .further, read .behind); members = listAt 0 (t .values); is = rw (read .behind) (p .operands) }
 
 pub gate-read : {line : List ℕ} {n : Number} {q : Operands} → NumberRead line 7 space n → OperandsRead line (n .behind + 3) q
-    → (r : Gate) → r .code ≡ n .value → r .first ≡ q .first → r .second ≡ q .second → GateRead line r
-gate-read {line} {n} {q} code operands r a b c =
+    → (r : Gate) → r .code ≡ n .value → r .first ≡ q .first → r .second ≡ q .second → r .count ≡ q .count → GateRead line r
+gate-read {line} {n} {q} code operands r a b c d =
     let list-is : (vs : List Value) → valuesOf gateTemplate line ≡ some vs → listQ (drop (n .behind + 3) line) ≡ some (listAt 0 vs)
     = λ vs e. rw (code .behind) (parts line vs e .operands) in
     record {
       code = λ vs e. a ∙ some-same (sym (code .is) ∙ parts line vs e .code);
       first = λ vs e. b ∙ operands .first (listAt 0 vs) (list-is vs e);
       second = λ vs e. c ∙ operands .second (listAt 0 vs) (list-is vs e);
+      count = λ vs e few. d ∙ operands .count (listAt 0 vs) (list-is vs e) few;
     }

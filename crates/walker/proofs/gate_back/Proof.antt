@@ -1,11 +1,11 @@
 -- `walker::gate_back` meets its contract. Assumes nothing.
-use Rattle.walker.specs.Laws.Gates.{gate-line, operands-of, gate-goes}
+use Rattle.walker.specs.Laws.Gates.{gate-there, operands-of, gate-goes}
 use borrow.Author.Needs.{needs}
 use Rattle.walker.proofs.gate_back.Statement.{statement}
 use Rattle.walker.proofs.gate_back.Tie as tie
 
 read-gate-requires : tie.Need-read-gate-requires
-read-gate-requires c κs = gate-line (c .before .pre .1) (c .before .pre .0)
+read-gate-requires c κs = gate-there (c .before .pre .1) (c .before .pre .0)
 
 conjugate-back-requires : tie.Need-conjugate-back-requires
 conjugate-back-requires c κs = operands-of (c .before .before .before .pre .1) (c .before .read-gate .ensures) (c .before .before .before .pre .0)
