@@ -2,11 +2,11 @@
 // a depolarizing distribution stand as the first list of element 0.
 ghost use mathlib.Core.Path.{_≡_};
 ghost use mathlib.Core.Bool.{Bool, true, cond};
-ghost use Prim.Native.Nat.{_*_, _≤_, _<_};
+ghost use Prim.Native.Nat.{_*_, _≤_, _<_, min};
 ghost use lib.ListN.{length};
-ghost use Rattle.template.specs.Values.{Whole};
+ghost use Rattle.template.specs.Values.{Whole, heldCount};
 ghost use Rattle.job.specs.Float.{float, zeroFloat, isWeight};
-ghost use Rattle.faults.specs.Elements.{Inside, xCount, zCount, elementX, elementZ, elementCounts, elementMembers, kept};
+ghost use Rattle.faults.specs.Elements.{Inside, xCount, zCount, elementX, elementZ, elementCounts, elementMembers, Kept};
 ghost use Rattle.faults.specs.Prepared.{ElementLines, Gathered};
 use instructions::next_line;
 use reader::slots::WEIGHT;
@@ -72,10 +72,22 @@ pub fn element_members<'a>(elements: &'a [u64], e: usize) -> &'a [u64]
     &elements[from..to]
 }
 
-// Keeps two lists of a line, the one in slot `first` and the next, as element e.
+// How many members of a list are kept.
+fn kept_count(values: &[u64], i: usize) -> usize
+    requires { ⌜ (i < 4) × Whole (now values) ⌝ }
+    ensures { λ r. ⌜ r ≡ min (heldCount (now (values .entry)) i) 31 ⌝ }
+{
+    let n = count(values, i) as usize;
+    if KEPT < n {
+        return KEPT;
+    }
+    n
+}
+
+// Keeps two lists of a line, the one in slot `first` and the next, as element e. The words behind their members stay.
 pub fn keep_element(elements: &mut [u64], e: usize, values: &[u64], first: usize)
     requires { ⌜ Inside (now elements) e × Whole (now values) × (first ≤ 2) ⌝ }
-    ensures { λ _. ⌜ now (elements .exit) ≡ kept e first (now (values .entry)) (now (elements .entry)) ⌝ }
+    ensures { λ _. ⌜ Kept e first (now (values .entry)) (now (elements .entry)) (now (elements .exit)) ⌝ }
 {
     let a = e * ELEMENT_WORDS;
     let second = first + 1;
@@ -86,14 +98,14 @@ pub fn keep_element(elements: &mut [u64], e: usize, values: &[u64], first: usize
         a + X_MEMBERS,
         template::values::kept(values, first),
         0,
-        KEPT,
+        kept_count(values, first),
     );
     rows::copy(
         elements,
         a + Z_MEMBERS,
         template::values::kept(values, second),
         0,
-        KEPT,
+        kept_count(values, second),
     );
 }
 

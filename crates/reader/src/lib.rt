@@ -20,6 +20,7 @@ use crate::slots::PARITY;
 use crate::slots::TABLE;
 use tables::words_fit;
 use template::Progress;
+use template::far_value;
 use template::literal;
 use template::read_all;
 use template::start;
@@ -265,13 +266,15 @@ fn exponential(line: &[u8], fields: &mut [u64]) -> Form
     ended(line, pauli, Form::Exponential)
 }
 
+// Its lists may be long, and are read as such.
 fn controlled(line: &[u8], fields: &mut [u64]) -> Form
     requires { ⌜ Whole (now fields) ⌝ }
     ensures { λ r. ⌜ Tried (only Forms.Controlled) (now (line .entry)) r (now (fields .exit)) ⌝ }
 {
-    let pauli = pauli_lists(line, literal(line, start(), b"op=k "), &mut *fields);
-    let u = value(line, literal(line, pauli, b" u="), b'L', &mut *fields);
-    let v = value(line, literal(line, u, b" v="), b'L', fields);
+    let x = far_value(line, literal(line, start(), b"op=k x="), b'L', &mut *fields);
+    let z = far_value(line, literal(line, x, b" z="), b'L', &mut *fields);
+    let u = far_value(line, literal(line, z, b" u="), b'L', &mut *fields);
+    let v = far_value(line, literal(line, u, b" v="), b'L', fields);
     ended(line, v, Form::Controlled)
 }
 

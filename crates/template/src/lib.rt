@@ -22,6 +22,7 @@ use numbers::lists::list_l;
 use numbers::lists::list_q;
 use numbers::number;
 use numbers::pieces::find;
+use numbers::pieces::find_far;
 use values::COUNTS;
 use values::EACH;
 use values::KEPT;
@@ -196,6 +197,26 @@ pub fn value(line: &[u8], p: Progress, t: u8, fields: &mut [u64]) -> Progress
     }
     let at = p.at;
     let e = find(line, at, b' ');
+    let q = put_value(t, &line[at..e], p.numbers, p.lists, fields);
+    Progress {
+        ok: q.ok,
+        at: e,
+        numbers: q.numbers,
+        lists: q.lists,
+    }
+}
+
+// The same for a value that is likely long.
+pub fn far_value(line: &[u8], p: Progress, t: u8, fields: &mut [u64]) -> Progress
+    requires { ⌜ (p .at ≤ length (now line)) × (isLetter t ≡ true) × Whole (now fields) ⌝ }
+    ensures { λ r. ⌜ ReadNext (now (line .entry)) (t ∷ []) p r (now (fields .entry)) (now (fields .exit)) ⌝ }
+    ensures { λ r. ⌜ r .at ≤ length (now (line .entry)) ⌝ }
+{
+    if !p.ok {
+        return p;
+    }
+    let at = p.at;
+    let e = find_far(line, at, b' ');
     let q = put_value(t, &line[at..e], p.numbers, p.lists, fields);
     Progress {
         ok: q.ok,

@@ -1,6 +1,5 @@
 -- `faults::elements::gather` meets its contract. The invariant: the first e elements were read and kept.
 use Rattle.faults.specs.Laws.Gather.{gathered-none, gathered-inside, weight-sound, gathered-more}
-use Rattle.faults.specs.Laws.Elements.{kept-length}
 use Rattle.faults.specs.Prepared.{ElementLines, Gathered}
 use lib.ListN.{length, length-set}
 use mathlib.Core.Path.{_≡_, refl, sym, subst, _∙_}
@@ -69,12 +68,11 @@ loop-again : tie.Need-loop-again Inv-loop μ-loop
 loop-again c =
     let inv = c .before .before .before .before .before .before .before .before .before .before .before .before .before .loop .inv in (
       omega arith,
-      kept-length _ _ _ _ _ (c .before .before .before .before .before .before .keep-element .ensures) ∙ inv .1,
+      c .before .before .before .before .before .before .keep-element .ensures .long ∙ inv .1,
       simp length-set (inv .2),
       λ (z : c .before .before .before .before .before .before .before .before .before .before .before .before .before .before .before .before .before .args .n ≡ 0). absurd (omega arith),
       λ q.
-          rw (c .before .before .before .before .before .before .keep-element .ensures)
-          (gathered-more q (inv .4 q) (c .before .before .before .before .before .before .before .before .before .before .before .before .loop-test .taken) (c .before .before .before .before .before .before .before .before .before .before .next-line .ensures) (omega (arith, c .before .before .before .before .before .before .before .before .before .before .before .before .before .before .before .before .before .pre .1)) (inv .2) (c .before .before .number .ensures) _ (c .before .weight-of .ensures)),
+          gathered-more q (inv .4 q) (c .before .before .before .before .before .before .before .before .before .before .before .before .loop-test .taken) (c .before .before .before .before .before .before .before .before .before .before .next-line .ensures) (omega (arith, c .before .before .before .before .before .before .before .before .before .before .before .before .before .before .before .before .before .pre .1)) (inv .2) (c .before .before .before .before .before .before .keep-element .ensures) (c .before .before .number .ensures) _ (c .before .weight-of .ensures),
       omega (arith, inv .5, c .before .before .before .before .before .before .before .before .before .before .next-line .kept),
     )
 
