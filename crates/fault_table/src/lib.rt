@@ -27,7 +27,7 @@ use groups::Tested;
 use groups::grouping;
 use groups_back::line_on_groups;
 use instructions::is_noise;
-use instructions::next_line;
+use instructions::next_known;
 use job::Answer;
 use job::limits::MAX_BYTES;
 use lines_from_last::line_start;
@@ -70,7 +70,7 @@ fn measure(job: &[u8], groups: usize) -> Measured
     let mut k: u64 = 1;
     let mut bytes = 0;
     while at < job.len() {
-        let line = next_line(job, at, &mut fields);
+        let line = next_known(job, at, &mut fields);
         let form = line.form;
         if is_wide(form, &fields) {
             return Measured { wide: k, bytes: 0 };
