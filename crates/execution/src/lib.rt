@@ -16,6 +16,7 @@ use noise::words::more_part;
 use noise::words::part;
 use noise::words::position_after;
 use rows::Shape;
+use template::values::KEPT;
 use template::values::WORDS;
 ghost use mathlib.Core.List.{_++_};
 ghost use Prim.Native.Nat.{ℕ, _*_, _≤_};
@@ -25,7 +26,7 @@ ghost use Rattle.totals.specs.Held.{TotalsHeld};
 ghost use Rattle.execution.specs.Steps.{headerOf, RowsFor, NoiseReady, NoiseRoom, NoiseDone, StepReady, Stepped, Executes};
 
 // As many rows as a line has operands.
-const SCRATCH_WORDS: usize = 31 * MAX_WIDTH;
+const SCRATCH_WORDS: usize = KEPT * MAX_WIDTH;
 
 // The place of the next instruction; or the draws were spent, and the main list was read up to a position.
 pub enum Moved {

@@ -12,6 +12,9 @@ ghost use Rattle.job_maker.specs.Whole.{JobPut};
 use job::Answer;
 use job::Header;
 use job::limits::MAX_BYTES;
+use job::limits::MAX_OUTCOMES;
+use job::limits::MAX_QUBITS;
+use job::limits::MAX_SHOTS;
 use made_fields::Making;
 use made_lines::put_instruction;
 use stream::step;
@@ -71,16 +74,16 @@ fn may_hold(qubits: u64, outcomes: u64, shots: u64) -> bool
     if qubits == 0 {
         return false;
     }
-    if 256 < qubits {
+    if MAX_QUBITS < qubits {
         return false;
     }
-    if 1024 < outcomes {
+    if MAX_OUTCOMES < outcomes {
         return false;
     }
     if shots == 0 {
         return false;
     }
-    shots <= 4096
+    shots <= MAX_SHOTS
 }
 
 // A refusal of the call.
