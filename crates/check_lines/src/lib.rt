@@ -51,12 +51,12 @@ use template::values::kept;
 use template::values::list;
 use template::values::number;
 
-// The number that refuses operands of no fixed number: 4 and 5; n is the number of qubits.
-pub fn operands_number(f: &[u64], n: u64) -> u64
+// The number that refuses operands of no fixed number, on so many qubits: 4 and 5.
+pub fn operands_number(f: &[u64], qubits: u64) -> u64
     requires { ⌜ Whole (now f) ⌝ }
-    ensures { λ r. ⌜ ((numbers lists : ℕ) (vs : List Value) → Held (now (f .entry)) numbers lists vs → 1 ≤ lists → r ≡ lowest (test 4 (eachBelow n (listsFrom 0 1 vs)) ∷ test 5 (distinct (listAt 0 vs) && eachShort (listsFrom 0 1 vs)) ∷ [])) ⌝ }
+    ensures { λ r. ⌜ ((numbers lists : ℕ) (vs : List Value) → Held (now (f .entry)) numbers lists vs → 1 ≤ lists → r ≡ lowest (test 4 (eachBelow qubits (listsFrom 0 1 vs)) ∷ test 5 (distinct (listAt 0 vs) && eachShort (listsFrom 0 1 vs)) ∷ [])) ⌝ }
 {
-    if !below(f, OPERANDS, OPERANDS_END, n) {
+    if !below(f, OPERANDS, OPERANDS_END, qubits) {
         return 4;
     }
     if !short(f, OPERANDS, OPERANDS_END) {

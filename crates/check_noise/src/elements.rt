@@ -31,9 +31,9 @@ pub fn weighted_element_number(c: Context, f: &[u64]) -> u64
     requires { ⌜ Whole (now f) ⌝ }
     ensures { λ r. ⌜ ((vs : List Value) (w : Written) → Said form.WeightedElement (now (f .entry)) vs w → c .weighted ≡ true → r ≡ lowest (ownTests (contextOf c) w)) ⌝ }
 {
-    let n = pauli_number(f, X, PAULI_END, c.header.qubits);
-    if n != 0 {
-        return n;
+    let refusal = pauli_number(f, X, PAULI_END, c.header.qubits);
+    if refusal != 0 {
+        return refusal;
     }
     let Checked::Accepted(w) = weight(number(f, WEIGHT)) else {
         return 12;

@@ -48,25 +48,25 @@ fn noise_number(c: Context, f: &[u64]) -> u64
     0
 }
 
-// 21, which every noise line has: the size is number i.
-fn size_number(f: &[u64], i: usize, size: u64) -> u64
-    requires { ⌜ (i < 4) × Whole (now f) ⌝ }
-    ensures { λ r. ⌜ ((numbers lists : ℕ) (vs : List Value) → Held (now (f .entry)) numbers lists vs → i < numbers → r ≡ lowest (test 21 (eqb (numberAt i vs) size) ∷ [])) ⌝ }
+// 21, which every noise line has: the number in `slot` is the line's size.
+fn size_number(f: &[u64], slot: usize, size: u64) -> u64
+    requires { ⌜ (slot < 4) × Whole (now f) ⌝ }
+    ensures { λ r. ⌜ ((numbers lists : ℕ) (vs : List Value) → Held (now (f .entry)) numbers lists vs → slot < numbers → r ≡ lowest (test 21 (eqb (numberAt slot vs) size) ∷ [])) ⌝ }
 {
-    if number(f, i) != size {
+    if number(f, slot) != size {
         return 21;
     }
     0
 }
 
 // 9, 11 and 21 of a noise line without element lines.
-fn alone_number(c: Context, f: &[u64], size: u64) -> u64
+fn unlisted_number(c: Context, f: &[u64], size: u64) -> u64
     requires { ⌜ Whole (now f) ⌝ }
     ensures { λ r. ⌜ ((lists : ℕ) (vs : List Value) → Held (now (f .entry)) 3 lists vs → 1 < lists → r ≡ lowest (outcomeTest (contextOf c) (listAt 1 vs) ∷ test 11 (isProbability (float (numberAt 0 vs))) ∷ test 21 (eqb (numberAt 2 vs) size) ∷ [])) ⌝ }
 {
-    let n = noise_number(c, f);
-    if n != 0 {
-        return n;
+    let refusal = noise_number(c, f);
+    if refusal != 0 {
+        return refusal;
     }
     size_number(f, SIZE, size)
 }
@@ -81,7 +81,7 @@ pub fn single_number(c: Context, f: &[u64]) -> u64
     if !short(f, CONDITION, SINGLE_END) {
         return 5;
     }
-    alone_number(c, f, 1)
+    unlisted_number(c, f, 1)
 }
 
 pub fn depolarizing_number(c: Context, f: &[u64]) -> u64
@@ -97,7 +97,7 @@ pub fn depolarizing_number(c: Context, f: &[u64]) -> u64
     if !slot_distinct(f, DEPOLARIZED) {
         return 5;
     }
-    alone_number(c, f, depolarizing_size(count(f, DEPOLARIZED)))
+    unlisted_number(c, f, depolarizing_size(count(f, DEPOLARIZED)))
 }
 
 // d=3 and d=4.
@@ -108,9 +108,9 @@ pub fn listed_number(c: Context, f: &[u64]) -> u64
     if !short(f, CONDITION, CONDITION_END) {
         return 5;
     }
-    let n = noise_number(c, f);
-    if n != 0 {
-        return n;
+    let refusal = noise_number(c, f);
+    if refusal != 0 {
+        return refusal;
     }
     let elements = number(f, ELEMENTS);
     if elements == 0 {

@@ -61,26 +61,26 @@ pub fn examine(job: &[u8]) -> Examined
         return refused(1, 0);
     }
     let mut fields = [0u64; WORDS];
-    let mut c = no_context();
+    let mut context = no_context();
     let mut at = 0;
-    let mut k: u64 = 0;
+    let mut lines: u64 = 0;
     while at < job.len() {
         let line = next_line(job, at, &mut fields);
         let form = line.form;
         at = line.end + 1;
-        k += 1;
-        let number = refusal(c, at == job.len(), form, &fields);
+        lines += 1;
+        let number = refusal(context, at == job.len(), form, &fields);
         if number != 0 {
-            return refused(number, k);
+            return refused(number, lines);
         }
-        c = next(c, form, &fields);
+        context = next(context, form, &fields);
     }
-    let header = c.header;
+    let header = context.header;
     Examined {
         answer: Answer { number: 0, line: 0 },
         header,
-        recorded: c.recorded,
-        lines: k,
+        recorded: context.recorded,
+        lines,
     }
 }
 

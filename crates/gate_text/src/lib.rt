@@ -83,12 +83,17 @@ pub struct Gate {
     pub count: u64,
 }
 
+// The code begins behind `op=u g=`, and the operands behind ` q=`, so many bytes behind the code.
+const CODE: usize = 7;
+
+const OPERANDS_BEHIND: usize = 3;
+
 pub fn read_gate(line: &[u8]) -> Gate
     requires { ⌜ GateLine (now line) ⌝ }
     ensures { λ r. ⌜ GateRead (now (line .entry)) r ⌝ }
 {
-    let code = read_number(line, 7, b' ');
-    let qubits = read_operands(line, code.behind + 3);
+    let code = read_number(line, CODE, b' ');
+    let qubits = read_operands(line, code.behind + OPERANDS_BEHIND);
     Gate {
         code: code.value,
         first: qubits.first,

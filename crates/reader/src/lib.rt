@@ -98,7 +98,10 @@ fn gate_form(line: &[u8], fields: &mut [u64]) -> bool
     whole(line, q)
 }
 
-// A gate code above 15 is no gate.
+// The code of the last gate.
+const LAST_GATE: u64 = 15;
+
+// A code above the last is no gate's.
 fn unitary(line: &[u8], fields: &mut [u64]) -> Form
     requires { ⌜ Whole (now fields) ⌝ }
     ensures { λ r. ⌜ Tried (only Forms.Unitary) (now (line .entry)) r (now (fields .exit)) ⌝ }
@@ -106,58 +109,58 @@ fn unitary(line: &[u8], fields: &mut [u64]) -> Form
     if !gate_form(line, &mut *fields) {
         return Form::Unread;
     }
-    if 15 < number(fields, GATE) {
+    if LAST_GATE < number(fields, GATE) {
         return Form::Unread;
     }
     Form::Unitary
 }
 
-fn single(line: &[u8], p: Progress, fields: &mut [u64]) -> Form
-    requires { ⌜ NoiseBegun (now line) p (now fields) × Whole (now fields) ⌝ }
+fn single(line: &[u8], begun: Progress, fields: &mut [u64]) -> Form
+    requires { ⌜ NoiseBegun (now line) begun (now fields) × Whole (now fields) ⌝ }
     ensures { λ r. ⌜ Tried (only Forms.Single) (now (line .entry)) r (now (fields .exit)) ⌝ }
 {
-    let pauli = pauli_lists(line, literal(line, p, b"1 "), &mut *fields);
+    let pauli = pauli_lists(line, literal(line, begun, b"1 "), &mut *fields);
     let size = value(line, literal(line, pauli, b" size="), b'N', fields);
     ended(line, size, Form::Single)
 }
 
-fn depolarizing(line: &[u8], p: Progress, fields: &mut [u64]) -> Form
-    requires { ⌜ NoiseBegun (now line) p (now fields) × Whole (now fields) ⌝ }
+fn depolarizing(line: &[u8], begun: Progress, fields: &mut [u64]) -> Form
+    requires { ⌜ NoiseBegun (now line) begun (now fields) × Whole (now fields) ⌝ }
     ensures { λ r. ⌜ Tried (only Forms.Depolarizing) (now (line .entry)) r (now (fields .exit)) ⌝ }
 {
-    let q = value(line, literal(line, p, b"2 q="), b'Q', &mut *fields);
+    let q = value(line, literal(line, begun, b"2 q="), b'Q', &mut *fields);
     let size = value(line, literal(line, q, b" size="), b'N', fields);
     ended(line, size, Form::Depolarizing)
 }
 
-fn uniform(line: &[u8], p: Progress, fields: &mut [u64]) -> Form
-    requires { ⌜ NoiseBegun (now line) p (now fields) × Whole (now fields) ⌝ }
+fn uniform(line: &[u8], begun: Progress, fields: &mut [u64]) -> Form
+    requires { ⌜ NoiseBegun (now line) begun (now fields) × Whole (now fields) ⌝ }
     ensures { λ r. ⌜ Tried (only Forms.Uniform) (now (line .entry)) r (now (fields .exit)) ⌝ }
 {
-    let n = value(line, literal(line, p, b"3 n="), b'N', &mut *fields);
+    let n = value(line, literal(line, begun, b"3 n="), b'N', &mut *fields);
     let size = value(line, literal(line, n, b" size="), b'N', fields);
     ended(line, size, Form::Uniform)
 }
 
-fn weighted(line: &[u8], p: Progress, fields: &mut [u64]) -> Form
-    requires { ⌜ NoiseBegun (now line) p (now fields) × Whole (now fields) ⌝ }
+fn weighted(line: &[u8], begun: Progress, fields: &mut [u64]) -> Form
+    requires { ⌜ NoiseBegun (now line) begun (now fields) × Whole (now fields) ⌝ }
     ensures { λ r. ⌜ Tried (only Forms.Weighted) (now (line .entry)) r (now (fields .exit)) ⌝ }
 {
-    let n = value(line, literal(line, p, b"4 n="), b'N', &mut *fields);
+    let n = value(line, literal(line, begun, b"4 n="), b'N', &mut *fields);
     let size = value(line, literal(line, n, b" size="), b'N', fields);
     ended(line, size, Form::Weighted)
 }
 
 // The last fields of a noise line, by its digit of d.
-fn noise_kind(line: &[u8], digit: u8, p: Progress, fields: &mut [u64]) -> Form
-    requires { ⌜ NoiseBegun (now line) p (now fields) × (digit ≡ getD (now line) (p .at) 0) × Whole (now fields) ⌝ }
+fn noise_kind(line: &[u8], digit: u8, begun: Progress, fields: &mut [u64]) -> Form
+    requires { ⌜ NoiseBegun (now line) begun (now fields) × (digit ≡ getD (now line) (begun .at) 0) × Whole (now fields) ⌝ }
     ensures { λ r. ⌜ Tried noiseForms (now (line .entry)) r (now (fields .exit)) ⌝ }
 {
     match digit {
-        b'1' => single(line, p, fields),
-        b'2' => depolarizing(line, p, fields),
-        b'3' => uniform(line, p, fields),
-        b'4' => weighted(line, p, fields),
+        b'1' => single(line, begun, fields),
+        b'2' => depolarizing(line, begun, fields),
+        b'3' => uniform(line, begun, fields),
+        b'4' => weighted(line, begun, fields),
         _ => Form::Unread,
     }
 }
@@ -189,18 +192,18 @@ fn noise(line: &[u8], fields: &mut [u64]) -> Form
     requires { ⌜ Whole (now fields) ⌝ }
     ensures { λ r. ⌜ Tried noiseForms (now (line .entry)) r (now (fields .exit)) ⌝ }
 {
-    let p = noise_begin(line, &mut *fields);
-    if !p.ok {
+    let begun = noise_begin(line, &mut *fields);
+    if !begun.ok {
         return Form::Unread;
     }
-    let at = p.at;
+    let at = begun.at;
     if line.len() <= at {
         return Form::Unread;
     }
     if parity_alone(count(fields, CONDITION), number(fields, PARITY)) {
         return Form::Unread;
     }
-    noise_kind(line, line[at], p, fields)
+    noise_kind(line, line[at], begun, fields)
 }
 
 fn edition_header(line: &[u8], fields: &mut [u64]) -> Form
