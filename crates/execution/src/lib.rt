@@ -61,7 +61,7 @@ fn apply_noise<'a>(
 {
     let mut sums = [0.0; MAX_ELEMENTS as usize];
     let mut mask = [0u64; MAX_WIDTH];
-    let r = prepare(
+    let ready = prepare(
         job,
         line,
         values,
@@ -71,11 +71,11 @@ fn apply_noise<'a>(
         &mut sums,
         &mut mask,
     );
-    let fault = r.fault;
-    let lines = r.lines;
+    let fault = ready.fault;
+    let following = ready.following;
     let next = Place {
-        byte: r.next,
-        line: place.line + 1 + lines as u64,
+        byte: ready.behind,
+        line: place.line + 1 + following as u64,
         position: place.position,
     };
     if fault.probability <= 0.0 {
@@ -89,13 +89,13 @@ fn apply_noise<'a>(
         rest,
         &mask,
         fault,
-        &sums[..lines],
+        &sums[..following],
         elements,
         x,
         z,
         shape,
     );
-    let Drawn::Done { next: read } = drawn else {
+    let Drawn::Done { next_word: read } = drawn else {
         return Moved::Spent {
             position: position_after(correlation, place.position, count(words, rest)),
         };
@@ -155,7 +155,7 @@ fn step<'a>(
     })
 }
 
-// The instructions behind the header, which ends before a place of the job.
+// The instructions behind the header, line 1, which ends before byte `from` of the job.
 // The room for elements and the scratch are made once, since they are large.
 pub fn execute<'a>(
     job: &[u8],

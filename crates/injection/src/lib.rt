@@ -35,12 +35,12 @@ fn flip_if(rows: &mut [u64], w: usize, row: usize, shot: Shot, on: bool)
     rows::flip_bit(rows, w, row, shot.0);
 }
 
-// Adds 1, in one shot, to the rows of the qubits whose bit is set in v, which gives each qubit two bits; the lower one is looked at.
-fn flip_selected(rows: &mut [u64], w: usize, qubits: &[u64], v: u64, shot: Shot)
+// Adds 1, in one shot, to the rows of the qubits whose bit is set in `bits`, which has two for each qubit; the lower one is looked at.
+fn flip_selected(rows: &mut [u64], w: usize, qubits: &[u64], bits: u64, shot: Shot)
     requires { ⌜ (shot .0 < 64 * w) × RowsIn w (now qubits) (now rows) ⌝ }
-    ensures { λ _. ⌜ now (rows .exit) ≡ overList (flipped w (shot .0)) (selected v (now (qubits .entry))) (now (rows .entry)) ⌝ }
+    ensures { λ _. ⌜ now (rows .exit) ≡ overList (flipped w (shot .0)) (selected bits (now (qubits .entry))) (now (rows .entry)) ⌝ }
 {
-    let mut left = v;
+    let mut left = bits;
     let mut i = 0;
     while i < qubits.len() {
         let q = qubits[i] as usize;
@@ -50,7 +50,7 @@ fn flip_selected(rows: &mut [u64], w: usize, qubits: &[u64], v: u64, shot: Shot)
     }
 }
 
-// The element with number e adds 1 and gives each qubit two bits, X lowest.
+// Element e: e + 1 has two bits for each qubit, X lowest.
 pub fn inject_depolarizing(
     x: &mut [u64],
     z: &mut [u64],
@@ -62,9 +62,9 @@ pub fn inject_depolarizing(
     requires { ⌜ (length (now x) ≡ shape .qubits * shape .width) × (length (now z) ≡ shape .qubits * shape .width) × (allBelow (shape .qubits) (now qubits) ≡ true) × (distinct (now qubits) ≡ true) × (e + 1 < 2 ^ 64) × (shot .0 < 64 * shape .width) ⌝ }
     ensures { λ _. ⌜ ((m : ℕ) (d : List ℕ) → Acts (shape .width) (lineRule (shape .qubits) m (Line.inject (shot .0) (depolarizingElement (now (qubits .entry)) e))) (now (x .entry)) (now (z .entry)) d (now (x .exit)) (now (z .exit)) d) ⌝ }
 {
-    let v = e + 1;
-    flip_selected(x, shape.width, qubits, v, shot);
-    flip_selected(z, shape.width, qubits, v / 2, shot);
+    let bits = e + 1;
+    flip_selected(x, shape.width, qubits, bits, shot);
+    flip_selected(z, shape.width, qubits, bits / 2, shot);
 }
 
 // ---- Any element
@@ -107,9 +107,9 @@ pub fn inject_element(
 
 // ---- The faults of a line
 
-// The faults of all shots were injected, with the place of the next word; or a word was needed past the end.
+// The faults of all shots were injected, with the position of the next word; or a word was needed past the end.
 pub enum Drawn {
-    Done { next: usize },
+    Done { next_word: usize },
     Spent,
 }
 
@@ -140,16 +140,16 @@ pub fn inject_faults(
             NextFault::Spent => {
                 return Drawn::Spent;
             }
-            NextFault::Done { next } => {
-                return Drawn::Done { next };
+            NextFault::Done { next_word } => {
+                return Drawn::Done { next_word };
             }
             NextFault::At {
                 shot: s,
                 element: e,
-                next,
+                next_word,
             } => {
                 inject_element(x, z, shape, s, d, elements, e);
-                at = next;
+                at = next_word;
                 shot = s.0 + 1;
             }
         }

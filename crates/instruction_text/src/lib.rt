@@ -64,12 +64,12 @@ fn put_noise_line<'a>(
         &mut mask,
     );
     let fault = ready.fault;
-    let lines = ready.lines;
+    let following = ready.following;
     match put_noise(
         out,
         from.text,
         fault,
-        &sums[..lines],
+        &sums[..following],
         &mask,
         elements,
         shape.shots,
@@ -85,8 +85,8 @@ fn put_noise_line<'a>(
             next_byte: text,
         } => Moved::To(Reached {
             place: Place {
-                byte: ready.next,
-                line: place.line + 1 + lines as u64,
+                byte: ready.behind,
+                line: place.line + 1 + following as u64,
                 position,
             },
             text,

@@ -13,13 +13,13 @@ pub enum PauliDistribution {
     Weighted { total: f64 },
 }
 
-// Words come from the main list, or from the second at the place that a correlation names.
+// Words come from the main list, or from the second at the position that a correlation names.
 pub enum Correlation {
     Uncorrelated,
     Shared { correlation: u64 },
 }
 
-// The word at a place, or that the words have ended there.
+// The word at a position, or that the words have ended there.
 pub enum NextWord {
     Word(u64),
     Spent,

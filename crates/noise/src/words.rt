@@ -10,11 +10,18 @@ ghost use Rattle.draws.specs.Draws.{unitOf, falls, Lent, partOf};
 ghost use Rattle.noise.specs.Kinds.{correlationOf};
 ghost use Rattle.noise.specs.Words.{moreOf, positionAfter, WordRead};
 
-// u = floor(w / 2048) / 2^53. A number below 2^53 is cast without loss, and scaling by a power of two is exact.
+// A word w stands for u = floor(w / 2048) / 2^53: 2048 words in a row, a step, have the same u, and there are 2^53 steps.
+pub const STEP_WORDS: u64 = 2048;
+
+pub const STEPS: u64 = 9007199254740992;
+
+pub const STEPS_FLOAT: f64 = 9007199254740992.0;
+
+// The u of a word. A number below 2^53 is cast without loss, and scaling by a power of two is exact.
 pub fn unit(w: u64) -> f64
     ensures { λ r. ⌜ r ≡ unitOf w ⌝ }
 {
-    (w / 2048) as f64 / 9007199254740992.0
+    (w / STEP_WORDS) as f64 / STEPS_FLOAT
 }
 
 // A fault falls if u < p.
@@ -24,7 +31,7 @@ pub fn is_fault(w: u64, p: f64) -> bool
     unit(w) < p
 }
 
-// What a list holds from a place on: nothing where that is past the end.
+// The words of a list from a position on: none where that is past the end.
 fn tail<'a>(words: &'a [u64], from: usize) -> &'a [u64]
     ensures { λ r. ⌜ now r ≡ drop from (now (words .entry)) ⌝ }
 {
@@ -98,7 +105,7 @@ pub fn count(words: &[u64], more: &[u64]) -> usize
     words.len() + more.len()
 }
 
-// The word at a place of the two.
+// The word at a position of the two.
 pub fn word_at(words: &[u64], more: &[u64], at: usize) -> u64
     requires { ⌜ at < length (now words ++ now more) ⌝ }
     ensures { λ r. ⌜ r ≡ getD (now (words .entry) ++ now (more .entry)) at 0 ⌝ }

@@ -13,10 +13,10 @@ use Rattle.choice.proofs.choose.Statement.{statement}
 use Rattle.choice.proofs.choose.Tie as tie
 
 abbrev Inv-loop : tie.InvT-loop
-Inv-loop words more at c limit i₀ i = bounded c (drop i (words ++ more)) ≡ bounded c (drop at (words ++ more))
+Inv-loop words more at bound limit i₀ i = bounded bound (drop i (words ++ more)) ≡ bounded bound (drop at (words ++ more))
 
 abbrev μ-loop : tie.MeasureT-loop
-μ-loop words more at c limit i₀ i = length (words ++ more) - i
+μ-loop words more at bound limit i₀ i = length (words ++ more) - i
 
 loop-holds : tie.Need-loop-holds Inv-loop μ-loop
 loop-holds c = refl
