@@ -88,8 +88,8 @@ fn xor_four(
     }
 }
 
-// Adds n words of src, from `from` on, to those of dst from p on and to those from q on, where the two runs are the same or don't meet. The
-// words of src are read once for both.
+// Adds n words of src, from `from` on, to those of dst from p on and to those from q on; a q above p is behind the whole run from p. The words of
+// src are read once for both.
 fn xor_twice(dst: &mut [u64], p: usize, q: usize, src: &[u64], from: usize, n: usize)
     requires { ⌜ (p + n ≤ length (now dst)) × (q + n ≤ length (now dst)) × (from + n ≤ length (now src)) × (p < q → p + n ≤ q) ⌝ }
     ensures { λ _. ⌜ now (dst .exit) ≡ xored q from n (now (src .entry)) (xored p from n (now (src .entry)) (now (dst .entry))) ⌝ }
