@@ -33,8 +33,7 @@ Writes words from a seed, eight bytes each, the lowest first: those that a run m
 pub fn write_job(arguments: &Arguments) -> Result<(), Failure> {
     let mut numbers = [0; PARAMETERS.len()];
     for (number, flag) in numbers.iter_mut().zip(PARAMETERS) {
-        let missing = || Failure::Other(format!("{} are wanted", PARAMETERS.map(|flag| flag.name).join(", ")));
-        *number = arguments.number(flag.name)?.ok_or_else(missing)?;
+        *number = arguments.number(flag.name)?.ok_or_else(|| arguments.missing(&PARAMETERS))?;
     }
     let [qubits, outcomes, shots, lines, seed] = numbers;
     let mut out = room(arguments)?;
