@@ -47,7 +47,7 @@ pub const COMMANDS: &[Command] = &[
     Command {
         name: "check",
         operand: Operand::Job,
-        summary: "whether a job passes the checks, and its numbers",
+        summary: "whether a job passes its tests, and its numbers",
         details: &["\
 Makes the tests of a job. Prints 'ok=1', the qubits, outcomes and shots of its header, 'recorded=' with
 the number of outcomes that it records, and 'lines=' with that of its lines."],
@@ -208,7 +208,7 @@ the injections and flips of all, each among the same lines, and twice where two 
     Command {
         name: "sizes",
         operand: Operand::Job,
-        summary: "an older job with the size of the distribution on each noise line",
+        summary: "the job with the size of the distribution on each noise line",
         details: &[sizes::DETAILS],
         options: &[&[OUTPUT]],
         obey: |arguments| write_out(arguments, &sizes::added(&files::job(arguments.operand())?)?),
