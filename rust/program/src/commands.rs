@@ -256,7 +256,8 @@ fn run(arguments: &Arguments) -> Result<(), Failure> {
     let is_number = |path: &OsStr| path.as_encoded_bytes().iter().all(u8::is_ascii_digit);
     if arguments.value(SHOTS.name).is_some_and(is_number) {
         return Err(Failure::Other(format!(
-            "{0} of 'run' names a file (./5 one that is called 5); the number of shots is the header's, and 'kundatrezo sample {0} N' runs any number",
+            "{0} of 'run' names a file (./5 one that is called 5); the number of shots is the header's, and \
+             'kundatrezo sample {0} N' runs any number",
             SHOTS.name
         )));
     }
