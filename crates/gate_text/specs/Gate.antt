@@ -1,34 +1,14 @@
 -- A gate line that is known to have its form: what stands at its places, and what the code says of it. Definitions. Assumes nothing.
-use Prim.Native.Nat.{ℕ, _+_, _≤_}
+use Prim.Native.Nat.{ℕ, _≤_}
 use mathlib.Core.Path.{_≡_}
 use mathlib.Core.List.{List}
 use mathlib.Core.Option.{some}
-use lib.ListN.{length, getD, take, drop}
-use Rattle.text.specs.Bytes.{bytes, until}
-use Rattle.text.specs.Number.{numberOf}
+use lib.ListN.{length, getD, drop}
+use Rattle.text.specs.Bytes.{bytes}
 use Rattle.text.specs.List.{listQ}
 use Rattle.text.specs.Template.{Value, valuesOf, numberAt, listAt}
-use Rattle.gate_text.specs.declared.Number.{Number}
 use Rattle.gate_text.specs.declared.Operands.{Operands}
 use Rattle.gate_text.specs.declared.Gate.{Gate}
-
--- the bytes up to the first separator, or all where there is none
-abbrev pub piece : ℕ → List ℕ → List ℕ
-piece sep l = take (until sep l) l
-
--- ---- a number
-
--- a number stands from a place on
-pub record NumberThere (line : List ℕ) (from sep : ℕ) : Type 0 where
-  pub within : from ≤ length line
-  pub value : ℕ
-  pub is : numberOf (piece sep (drop from line)) ≡ some value
-
--- it was read, up to the place behind it
-pub record NumberRead (line : List ℕ) (from sep : ℕ) (r : Number) : Type 0 where
-  pub behind : r .behind ≡ from + until sep (drop from line)
-  pub within : r .behind ≤ length line
-  pub is : numberOf (piece sep (drop from line)) ≡ some (r .value)
 
 -- ---- operands
 

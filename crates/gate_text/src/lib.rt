@@ -2,7 +2,8 @@
 // their bytes, and nothing of the form is tested again.
 ghost use mathlib.Core.Path.{_≡_};
 ghost use mathlib.Core.Bool.{true};
-ghost use Rattle.gate_text.specs.Gate.{NumberThere, NumberRead, ListThere, OperandsRead, GateBytes, GateLine, GateRead};
+ghost use Rattle.gate_text.specs.Gate.{ListThere, OperandsRead, GateBytes, GateLine, GateRead};
+use numbers::known::read_digits;
 
 // Whether a line begins as a gate line does.
 pub fn is_gate(line: &[u8]) -> bool
@@ -17,36 +18,6 @@ pub fn is_gate(line: &[u8]) -> bool
     line[3] == b'u'
 }
 
-// A number, and the place behind its digits.
-struct Number {
-    value: u64,
-    behind: usize,
-}
-
-// The number that stands from a place up to a separator or the line's end.
-fn read_number(line: &[u8], from: usize, sep: u8) -> Number
-    requires { ⌜ NumberThere (now line) from sep ⌝ }
-    ensures { λ r. ⌜ NumberRead (now (line .entry)) from sep r ⌝ }
-{
-    let mut v: u64 = 0;
-    let mut i = from;
-    while i < line.len() {
-        let b = line[i];
-        if b == sep {
-            return Number {
-                value: v,
-                behind: i,
-            };
-        }
-        v = v * 10 + (b - b'0') as u64;
-        i += 1;
-    }
-    Number {
-        value: v,
-        behind: i,
-    }
-}
-
 // The first two members of a list, the second 0 where there is none, and how many of the two there are.
 struct Operands {
     first: u64,
@@ -59,7 +30,7 @@ fn read_operands(line: &[u8], from: usize) -> Operands
     requires { ⌜ ListThere (now line) from ⌝ }
     ensures { λ r. ⌜ OperandsRead (now (line .entry)) from r ⌝ }
 {
-    let first = read_number(line, from, b',');
+    let first = read_digits(line, from);
     if first.behind == line.len() {
         return Operands {
             first: first.value,
@@ -67,7 +38,7 @@ fn read_operands(line: &[u8], from: usize) -> Operands
             count: 1,
         };
     }
-    let second = read_number(line, first.behind + 1, b',');
+    let second = read_digits(line, first.behind + 1);
     Operands {
         first: first.value,
         second: second.value,
@@ -92,7 +63,7 @@ pub fn read_gate(line: &[u8]) -> Gate
     requires { ⌜ GateLine (now line) ⌝ }
     ensures { λ r. ⌜ GateRead (now (line .entry)) r ⌝ }
 {
-    let code = read_number(line, CODE, b' ');
+    let code = read_digits(line, CODE);
     let qubits = read_operands(line, code.behind + OPERANDS_BEHIND);
     Gate {
         code: code.value,

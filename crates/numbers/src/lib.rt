@@ -1,4 +1,5 @@
 // Numbers and lists as text, and bytes cut at a separator. The definitions are in the crate text.
+pub mod known;
 pub mod lists;
 pub mod pieces;
 pub mod rising;

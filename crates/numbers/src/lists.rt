@@ -43,7 +43,7 @@ fn rises(l: Listed, n: u64) -> bool
 }
 
 // The list with one more member at its end.
-fn push(l: Listed, n: u64) -> Listed
+pub fn push(l: Listed, n: u64) -> Listed
     requires { ⌜ l .count + 1 < 2 ^ 64 ⌝ }
     ensures { λ r. ⌜ ((d : List ℕ) → l ≡ listedAs (some d) → r ≡ listedAs (some (d ++ n ∷ []))) ⌝ }
 {
@@ -55,7 +55,7 @@ fn push(l: Listed, n: u64) -> Listed
     }
 }
 
-fn store(out: &mut [u64], at: usize, n: u64)
+pub fn store(out: &mut [u64], at: usize, n: u64)
     ensures { λ _. ⌜ now (out .exit) ≡ set (now (out .entry)) at n ⌝ }
 {
     if at < out.len() {

@@ -7,9 +7,11 @@ use mathlib.Core.List.{List, [], _∷_, _++_}
 use mathlib.Core.Option.{Option, none, some}
 use lib.Dec.{eqb}
 use lib.ListN.{length, getD, drop}
+use Rattle.text.specs.Bytes.{space, until}
 use Rattle.text.specs.List.{listL, listQ, listT, listC}
 use Rattle.text.specs.Template.{Value, isLetter, valuesOf, numbersIn, listsIn, numberAt, listAt}
 use Rattle.numbers.specs.Read.{largestOf, inFront}
+use Rattle.numbers.specs.Known.{field}
 use Rattle.template.specs.Values.{heldNumber, heldCount, heldLargest, heldMember}
 use Rattle.template.specs.declared.Progress.{Progress}
 use Rattle.template.specs.declared.Stored.{Stored}
@@ -60,6 +62,11 @@ pub record FewAre (members : List ℕ) (many first second : ℕ) : Type 0 where
   pub size : many ≡ length members
   pub is-first : first ≡ getD members 0 0
   pub is-second : second ≡ getD members 1 0
+
+-- the l-th list was put into the words, an L that is known to stand on the line from a place on; r is the place behind it
+pub record KnownPut (line : List ℕ) (from l r : ℕ) (before after : List ℕ) : Type 0 where
+  pub put : (members : List ℕ) → listL (field line from) ≡ some members → ListPut before after l members
+  pub behind : r ≡ from + until space (drop from line)
 
 -- there is room for the values of a template after so many numbers and lists
 pub record Room (numbers lists : ℕ) (template : List ℕ) : Type 0 where

@@ -5,7 +5,9 @@ ghost use mathlib.Core.List.{List};
 ghost use Prim.Native.Nat.{ℕ, _≤_, _<_};
 ghost use lib.ListN.{set};
 ghost use Rattle.template.specs.Values.{Whole, AllKept, heldNumber, heldCount, heldLargest, heldMember, heldList, keptMembers};
-ghost use Rattle.template.specs.Fields.{FewAre, ListPut};
+ghost use Rattle.template.specs.Fields.{FewAre, ListPut, KnownPut};
+ghost use Rattle.numbers.specs.Known.{ListThere};
+use numbers::known::known_list;
 use numbers::lists::larger;
 
 // At most so many numbers, and so many lists.
@@ -97,4 +99,18 @@ pub fn set_few(v: &mut [u64], i: usize, many: u64, first: u64, second: u64)
     v[LARGEST + i] = most;
     v[a] = first;
     v[a + 1] = second;
+}
+
+// Puts the i-th list, which is known to stand at a place of a line. Answers the place behind it.
+pub fn set_known(v: &mut [u64], i: usize, line: &[u8], from: usize) -> usize
+    requires { ⌜ (i < 4) × Whole (now v) × ListThere (now line) from ⌝ }
+    ensures { λ r. ⌜ KnownPut (now (line .entry)) from i r (now (v .entry)) (now (v .exit)) ⌝ }
+{
+    let a = MEMBERS + i * KEPT;
+    let b = a + KEPT;
+    let known = known_list(line, from, &mut v[a..b]);
+    let list = known.list;
+    v[COUNTS + i] = list.count as u64;
+    v[LARGEST + i] = list.largest;
+    known.behind
 }

@@ -13,9 +13,10 @@ use Rattle.text.specs.Number.{numberOf}
 use Rattle.text.specs.List.{withFirst, piecesOf, listQ}
 use Rattle.text.specs.Laws.Values.{none-some}
 use Rattle.text.specs.Laws.Pieces.{until-le, piece-more, piece-last}
-use Rattle.gate_text.specs.declared.Number.{Number}
 use Rattle.gate_text.specs.declared.Operands.{Operands}
-use Rattle.gate_text.specs.Gate.{piece, NumberThere, NumberRead, ListThere, OperandsRead}
+use Rattle.numbers.specs.declared.known.Digits.{Digits}
+use Rattle.gate_text.specs.Gate.{ListThere, OperandsRead}
+use Rattle.gate_text.specs.Laws.Digits.{piece, NumberThere, NumberRead}
 
 -- a list that was read has a first member
 pub record First (o : Option ℕ) (p : Option (List ℕ)) (qs : List ℕ) : Type 0 where
@@ -69,7 +70,7 @@ some-same : {A : Type 0} {a b : A} → some a ≡ some b → a ≡ b
 some-same e = cc
 
 -- a list of one, and its number
-module _ {line : List ℕ} {from : ℕ} (t : ListThere line from) {n : Number} (read : NumberRead line from comma n) where
+module _ {line : List ℕ} {from : ℕ} (t : ListThere line from) {n : Digits} (read : NumberRead line from comma n) where
   pub number-first : (qs : List ℕ) → listQ (drop from line) ≡ some qs → n .value ≡ getD qs 0 0
   number-first qs e = some-same (sym (read .is) ∙ first-member line from (t .within) e)
 
@@ -91,7 +92,8 @@ module _ {line : List ℕ} {from : ℕ} (t : ListThere line from) {n : Number} (
         let f = list-more line from (t .within) (t .is) (n .behind) (read .behind) more in
         record { within = omega arith; members = f .rest; is = f .rest-is }
 
-    pub operands-two : {m : Number} → NumberRead line (n .behind + 1) comma m → (r : Operands) → r .first ≡ n .value → r .second ≡ m .value → r .count ≡ 2
+    pub operands-two : {m : Digits} → NumberRead line (n .behind + 1) comma m → (r : Operands) → r .first ≡ n .value → r .second ≡ m .value
+        → r .count ≡ 2
         → OperandsRead line from r
     operands-two {m} second r a b c =
         record {

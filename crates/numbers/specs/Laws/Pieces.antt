@@ -1,16 +1,27 @@
 -- The search for a separator, byte by byte. Laws. Assumes nothing.
-use Prim.Native.Nat.{ℕ, _+_, _≤_, _<_}
+use Prim.Native.Nat.{ℕ, suc, _+_, _≤_, _<_}
 use native.Mathlib.Omega.{arith}
 use mathlib.Core.Path.{_≡_, refl, subst}
-use mathlib.Core.Bool.{Bool, true, false}
-use mathlib.Core.List.{List}
-use borrow.Author.Tests.{eqb-false}
+use mathlib.Core.Bool.{Bool, true, false, cond}
+use mathlib.Core.List.{List, [], _∷_}
+use borrow.Author.Tests.{eqb-true, eqb-false}
 use mir.Val.{boolByte}
 use lib.Bits.{bitOr, or-zero-r, or-add-and, and-le-l}
 use lib.Dec.{eqb}
 use lib.ListN.{length, getD, drop}
 use Rattle.text.specs.Bytes.{until}
 use Rattle.text.specs.Laws.Pieces.{until-here, until-next, until-end}
+
+-- there stands a separator
+pub until-at : (sep : ℕ) (l : List ℕ) → until sep l < length l → getD l (until sep l) 0 ≡ sep
+unfolding until
+until-at sep [] h = absurd (omega arith)
+until-at sep (b ∷ l) h = go (eqb b sep) refl h (until-at sep l)
+  where
+    go : (t : Bool) → eqb b sep ≡ t → cond t 0 (suc (until sep l)) < suc (length l) → (until sep l < length l → getD l (until sep l) 0 ≡ sep)
+        → getD (b ∷ l) (cond t 0 (suc (until sep l))) 0 ≡ sep
+    go true e k ih = eqb-true b sep e
+    go false e k ih = ih (omega arith)
 
 -- from `at` up to `i` there is none
 pub record Searched (sep : ℕ) (s : List ℕ) (at i : ℕ) : Type 0 where

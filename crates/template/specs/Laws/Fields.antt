@@ -1,19 +1,22 @@
 -- Lent words that hold the values of a line, with one value more. Laws. Assumes nothing.
-use Prim.Native.Nat.{ℕ, zero, suc, max, _+_, _*_, _≤_, _<_}
+use Prim.Native.Nat.{ℕ, zero, suc, max, _+_, _-_, _*_, _≤_, _<_}
 use native.Mathlib.Omega.{arith}
 use mathlib.Core.Bool.{Bool, true, false}
 use mathlib.Core.Logic.{_≢_}
 use mathlib.Core.Path.{_≡_, refl, ap, ap₂, _∙_}
 use mathlib.Core.List.{List, [], _∷_, _++_, append-nil}
+use mathlib.Core.Option.{some}
 use borrow.Author.Tests.{eqb-true, eqb-false}
 use lib.Dec.{eqb}
 use lib.ListN.{length, getD, take, drop, set, length-append, length-take, length-drop, length-set, List·getD-append}
 use lib.Seq.{length-take-le, getD-set-same, getD-set-other, getD-take, getD-drop, getD-append-add, getD-at, ext-getD}
 use Rattle.text.specs.Template.{Value, number, list, numbersIn, listsIn, listAt}
-use Rattle.numbers.specs.Read.{largestOf, stored}
+use Rattle.numbers.specs.declared.known.KnownList.{KnownList}
+use Rattle.numbers.specs.Read.{largestOf, listedAs, stored}
+use Rattle.numbers.specs.Known.{KnownRead}
 use Rattle.template.specs.Values.{Whole, AllKept, membersOn, heldList}
-use Rattle.template.specs.Fields.{Held, FewAre, ListPut}
-use Rattle.numbers.specs.Laws.Lists.{stored-length, stored-at}
+use Rattle.template.specs.Fields.{Held, FewAre, ListPut, KnownPut}
+use Rattle.numbers.specs.Laws.Lists.{listed-count, listed-largest, stored-length, stored-at}
 
 -- ---- the numbers and the lists of values one after the other
 
@@ -176,6 +179,24 @@ module _ (f : List ℕ) (l k : ℕ) (members : List ℕ) (p : List ℕ) (room : 
             ∙ part-at f p (12 + l * 31) k within j (omega (arith, part-length))
             ∙ rw put (stored-at (take k (drop (12 + l * 31) f)) members j m (omega (arith, length-take k (drop (12 + l * 31) f), length-drop (12 + l * 31) f)));
         others = λ i u v b. others-stay count largest i u v ∙ part-before f p (12 + l * 31) k within i b;
+      }
+
+-- a list that is known to stand at a place
+module _ (f : List ℕ) (l : ℕ) (room : l < 4) (inside : 136 ≤ length f) where
+  abbrev wide : ℕ
+  wide = 12 + l * 31 + 31 - (12 + l * 31)
+
+  pub known-put : {line part : List ℕ} {from : ℕ} (known : KnownList) → KnownRead line from known (take wide (drop (12 + l * 31) f)) part
+      → KnownPut line from l (known .behind) f
+      (set (set (take (12 + l * 31) f ++ (part ++ drop wide (drop (12 + l * 31) f))) (4 + l) (known .list .count)) (8 + l) (known .list .largest))
+  known-put {line} {part} known read =
+      record {
+        put = λ members is.
+            let same : known .list ≡ listedAs (some members) = read .list .result ∙ ap listedAs is in
+            let stays = read .list .members members is in
+            list-put f l wide members part room (omega arith) inside stays (known .list .count) (known .list .largest) (listed-count members same)
+            (listed-largest members same);
+        behind = read .behind;
       }
 
 -- ---- a list of at most two members
