@@ -8,7 +8,7 @@ ghost use Rattle.template.specs.Values.{Whole, heldCount};
 ghost use Rattle.job.specs.Float.{float, zeroFloat, isWeight};
 ghost use Rattle.faults.specs.Elements.{Inside, xCount, zCount, elementX, elementZ, elementCounts, elementMembers, Kept};
 ghost use Rattle.faults.specs.Prepared.{ElementLines, Gathered};
-use instructions::next_line;
+use instructions::next_known;
 use reader::slots::WEIGHT;
 use reader::slots::X;
 use template::values::KEPT;
@@ -138,7 +138,7 @@ pub fn gather(
     let mut at = from;
     let mut e = 0;
     while e < n {
-        let line = next_line(job, at, &mut values);
+        let line = next_known(job, at, &mut values);
         keep_element(&mut *elements, e, &values, X);
         weights[e] = weight_of(weighted, number(&values, WEIGHT));
         at = line.end + 1;

@@ -19,8 +19,9 @@ use Rattle.job.specs.Sound.{weightsOf}
 use Rattle.draws.specs.Draws.{noPauli}
 use Rattle.instructions.specs.declared.Next.{Next}
 use Rattle.instructions.specs.Reading.{NextLine}
+use Rattle.instructions.specs.Lines.{KnownAt}
 use Rattle.instructions.specs.Ahead.{elementBy, ElementRead}
-use Rattle.instructions.specs.Laws.Elements.{among-inside, element-read}
+use Rattle.instructions.specs.Laws.Elements.{among-known, element-read}
 use Rattle.faults.specs.Elements.{Kept, ElementHeld}
 use Rattle.faults.specs.Prepared.{ElementLines, Gathered}
 use Rattle.faults.specs.Laws.Elements.{kept-held, held-others}
@@ -45,8 +46,9 @@ weight-given true h = ap float (h .number 0 (omega arith))
 weight-given false h = refl
 
 module _ {job : List ℕ} {at n : ℕ} {weighted : Bool} (q : ElementLines job at n weighted) {elements : List ℕ} {weights : List Float} {place i : ℕ} where
-  pub gathered-inside : Gathered q elements weights place i → i < n → place < length job
-  gathered-inside g h = among-inside (g .among) (omega (arith, q .count))
+  -- the next line is one of an accepted job
+  pub gathered-known : Gathered q elements weights place i → i < n → KnownAt job place
+  gathered-known g h = among-known (g .among) (omega (arith, q .count))
 
   module _ (g : Gathered q elements weights place i) (h : i < n) {next : Next} {f : List ℕ} (l : NextLine job place next f) where
     read : ElementRead job (q .header) (q .recorded) weighted (q .elements) (q .rest) (q .line) i next f

@@ -8,14 +8,14 @@ use Rattle.instructions.proofs.read_known.Tie as tie
 is-gate-requires : tie.Need-is-gate-requires
 is-gate-requires c κs = search needs
 
-read-line-requires : tie.Need-read-line-requires
-read-line-requires c κs = search needs
+read-other-requires : tie.Need-read-other-requires
+read-other-requires c κs = search needs
 
 same-length : tie.Need-same-length
 same-length c = search needs
 
 returns : tie.Need-returns
-returns c = c .before .before .read-line .ensures
+returns c = c .before .before .read-other .ensures
 
 read-gate-requires : tie.Need-read-gate-requires
 read-gate-requires c κs = gate-line (of-gate (c .before .is-gate .ensures (not-false _ (c .if1 .left))) (c .before .before .before .before .pre .0 .reads))
@@ -39,7 +39,7 @@ read-known-spec =
     tie.close
     (tie.spec
     is-gate-requires
-    read-line-requires
+    read-other-requires
     same-length
     returns
     read-gate-requires

@@ -27,6 +27,7 @@ use Rattle.reader.specs.declared.Form.{Form}
 use Rattle.reader.specs.Parsed.{placeOf, Said}
 use Rattle.instructions.specs.declared.Next.{Next}
 use Rattle.instructions.specs.Reading.{lineAt, NextLine, elementForm, hasTotal}
+use Rattle.instructions.specs.Lines.{KnownAt}
 use Rattle.instructions.specs.Ahead.{instructionsAt, Ahead, Among, elementBy, ElementRead}
 use Rattle.instructions.specs.Laws.Meaning.{some-same, Meaning, meaning, read-says}
 
@@ -87,6 +88,16 @@ module _ {job : List ℕ} {h : Header} {r : ℕ} {weighted : Bool} {elements : L
           let nothing = drop-of-length-le job (ltb-false at (length job) e) in
           let ends = ap (λ (l : List ℕ). isLast (lines l) && ltb 0 (m .context .due)) (sym nothing) ∙ m .accepted .ends in
           absurd (omega (arith, due, ltb-false 0 (m .context .due) ends))
+
+  -- and the next is one of an accepted job
+  pub among-known : i < length elements → KnownAt job at
+  among-known more =
+      record {
+        ended = m .ended;
+        inside = among-inside more;
+        number = k + i;
+        passes = record { context = m .context; passes = m .accepted .passes };
+      }
 
   -- behind the last element line stands an instruction, or the job ends
   pub among-done : length elements ≤ i → Ahead job h r (k + i) at × (instructionsAt job (k + i) at ≡ is)
