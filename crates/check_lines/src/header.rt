@@ -15,6 +15,7 @@ use job::limits::MAX_EDITION;
 use job::limits::MAX_OUTCOMES;
 use job::limits::MAX_QUBITS;
 use job::limits::MAX_SHOTS;
+use job::refusals;
 use reader::Form;
 use reader::slots::EDITION;
 use reader::slots::EDITION_OUTCOMES;
@@ -104,10 +105,10 @@ pub fn edition_number(edition: u64) -> u64
     ensures { λ r. ⌜ r ≡ lowest (test 23 (knownEdition edition) ∷ []) ⌝ }
 {
     if edition == 0 {
-        return 23;
+        return refusals::EDITION;
     }
     if MAX_EDITION < edition {
-        return 23;
+        return refusals::EDITION;
     }
     0
 }

@@ -19,6 +19,7 @@ use check_values::floats::Checked;
 use check_values::floats::is_total;
 use check_values::floats::weight;
 use check_values::lists::pauli_number;
+use job::refusals;
 use reader::Form;
 use reader::slots::ELEMENTS;
 use reader::slots::PAULI_END;
@@ -36,13 +37,13 @@ pub fn weighted_element_number(c: Context, f: &[u64]) -> u64
         return refusal;
     }
     let Checked::Accepted(w) = weight(number(f, WEIGHT)) else {
-        return 12;
+        return refusals::ELEMENTS;
     };
     if c.due != 1 {
         return 0;
     }
     if !is_total(c.total + w) {
-        return 12;
+        return refusals::ELEMENTS;
     }
     0
 }

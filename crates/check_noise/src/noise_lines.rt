@@ -21,6 +21,7 @@ use check_values::lists::short;
 use check_values::lists::slot_distinct;
 use job::depolarizing_size;
 use job::limits::MAX_ELEMENTS;
+use job::refusals;
 use reader::slots::CONDITION;
 use reader::slots::CONDITION_END;
 use reader::slots::DEPOLARIZED;
@@ -40,10 +41,10 @@ fn noise_number(c: Context, f: &[u64]) -> u64
     ensures { λ r. ⌜ ((numbers lists : ℕ) (vs : List Value) → Held (now (f .entry)) numbers lists vs → 0 < numbers → 1 < lists → r ≡ lowest (outcomeTest (contextOf c) (listAt 1 vs) ∷ test 11 (isProbability (float (numberAt 0 vs))) ∷ [])) ⌝ }
 {
     if !below(f, CONDITION, CONDITION_END, c.recorded) {
-        return 9;
+        return refusals::NOT_RECORDED;
     }
     let Checked::Accepted(_) = probability(number(f, PROBABILITY)) else {
-        return 11;
+        return refusals::PROBABILITY;
     };
     0
 }
@@ -54,7 +55,7 @@ fn size_number(f: &[u64], slot: usize, size: u64) -> u64
     ensures { λ r. ⌜ ((numbers lists : ℕ) (vs : List Value) → Held (now (f .entry)) numbers lists vs → slot < numbers → r ≡ lowest (test 21 (eqb (numberAt slot vs) size) ∷ [])) ⌝ }
 {
     if number(f, slot) != size {
-        return 21;
+        return refusals::SIZE;
     }
     0
 }
@@ -76,10 +77,10 @@ pub fn single_number(c: Context, f: &[u64]) -> u64
     ensures { λ r. ⌜ ((vs : List Value) (w : Written) → Said form.Single (now (f .entry)) vs w → r ≡ lowest (ownTests (contextOf c) w)) ⌝ }
 {
     if !below(f, SINGLE_X, SINGLE_END, c.header.qubits) {
-        return 4;
+        return refusals::QUBIT;
     }
     if !short(f, CONDITION, SINGLE_END) {
-        return 5;
+        return refusals::OPERANDS;
     }
     unlisted_number(c, f, 1)
 }
@@ -89,13 +90,13 @@ pub fn depolarizing_number(c: Context, f: &[u64]) -> u64
     ensures { λ r. ⌜ ((vs : List Value) (w : Written) → Said form.Depolarizing (now (f .entry)) vs w → r ≡ lowest (ownTests (contextOf c) w)) ⌝ }
 {
     if !below(f, DEPOLARIZED, DEPOLARIZED_END, c.header.qubits) {
-        return 4;
+        return refusals::QUBIT;
     }
     if !short(f, CONDITION, DEPOLARIZED_END) {
-        return 5;
+        return refusals::OPERANDS;
     }
     if !slot_distinct(f, DEPOLARIZED) {
-        return 5;
+        return refusals::OPERANDS;
     }
     unlisted_number(c, f, depolarizing_size(count(f, DEPOLARIZED)))
 }
@@ -106,7 +107,7 @@ pub fn listed_number(c: Context, f: &[u64]) -> u64
     ensures { λ r. ⌜ ((vs : List Value) → Held (now (f .entry)) 4 2 vs → r ≡ lowest (listedTests (contextOf c) vs)) ⌝ }
 {
     if !short(f, CONDITION, CONDITION_END) {
-        return 5;
+        return refusals::OPERANDS;
     }
     let refusal = noise_number(c, f);
     if refusal != 0 {
@@ -114,10 +115,10 @@ pub fn listed_number(c: Context, f: &[u64]) -> u64
     }
     let elements = number(f, ELEMENTS);
     if elements == 0 {
-        return 12;
+        return refusals::ELEMENTS;
     }
     if MAX_ELEMENTS < elements {
-        return 12;
+        return refusals::ELEMENTS;
     }
     size_number(f, LISTED_SIZE, elements)
 }

@@ -14,6 +14,7 @@ ghost use Rattle.check_values.specs.Slots.{listsFrom};
 ghost use Rattle.check_values.specs.Marks.{Unmarked, MarksOf};
 use job::limits::MAX_MEMBERS;
 use job::limits::MAX_QUBITS;
+use job::refusals;
 use template::values::count;
 use template::values::largest;
 use template::values::list;
@@ -153,10 +154,10 @@ pub fn pauli_number(f: &[u64], first: usize, end: usize, qubits: u64) -> u64
     ensures { λ r. ⌜ ((numbers lists : ℕ) (vs : List Value) → Held (now (f .entry)) numbers lists vs → end ≤ lists → r ≡ lowest (test 4 (eachBelow qubits (listsFrom first (end - first) vs)) ∷ test 5 (eachShort (listsFrom first (end - first) vs)) ∷ [])) ⌝ }
 {
     if !below(f, first, end, qubits) {
-        return 4;
+        return refusals::QUBIT;
     }
     if !short(f, first, end) {
-        return 5;
+        return refusals::OPERANDS;
     }
     0
 }

@@ -12,6 +12,7 @@ use instructions::next_line;
 use job::Answer;
 use job::Header;
 use job::limits::MAX_BYTES;
+use job::refusals;
 use template::values::WORDS;
 
 // Not empty, not too long, LF at the end.
@@ -58,7 +59,7 @@ pub fn examine(job: &[u8]) -> Examined
     ensures { λ r. ⌜ Examines (now (job .entry)) r ⌝ }
 {
     if !well_ended(job) {
-        return refused(1, 0);
+        return refused(refusals::LENGTH, 0);
     }
     let mut fields = [0u64; WORDS];
     let mut context = no_context();

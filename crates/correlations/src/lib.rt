@@ -23,6 +23,7 @@ use checker::check;
 use instructions::is_noise;
 use instructions::next_known;
 use job::Answer;
+use job::refusals;
 use reader::Form;
 use reader::slots::CORRELATION;
 use reader::slots::LISTED_SIZE;
@@ -347,5 +348,8 @@ pub fn correlation(job: &[u8]) -> Answer
     if line == 0 {
         return Answer { number: 0, line: 0 };
     }
-    Answer { number: 19, line }
+    Answer {
+        number: refusals::SIZES,
+        line,
+    }
 }

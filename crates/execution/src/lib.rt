@@ -9,6 +9,7 @@ use instructions::next_known;
 use job::Answer;
 use job::limits::MAX_ELEMENTS;
 use job::limits::MAX_WIDTH;
+use job::refusals;
 use lines::apply_line;
 use noise::Place;
 use noise::words::count;
@@ -204,7 +205,7 @@ pub fn execute<'a>(
             Moved::Spent { position } => {
                 return Answered {
                     answer: Answer {
-                        number: 14,
+                        number: refusals::DRAWS,
                         line: place.line,
                     },
                     taken: position,

@@ -4,6 +4,7 @@ ghost use mathlib.Core.Path.{_≡_};
 ghost use Prim.Native.Nat.{_-_, _^_, _<_};
 
 pub mod limits;
+pub mod refusals;
 
 // The header's numbers; the edition is 1 where the header has none.
 pub struct Header {

@@ -15,6 +15,7 @@ use job::limits::MAX_BYTES;
 use job::limits::MAX_OUTCOMES;
 use job::limits::MAX_QUBITS;
 use job::limits::MAX_SHOTS;
+use job::refusals;
 use made_fields::Making;
 use made_lines::put_instruction;
 use stream::step;
@@ -105,10 +106,10 @@ pub fn make(
     ensures { λ r. ⌜ textReply r (now (out .exit)) ≡ makeReply qubits outcomes shots lines seed (now (out .entry)) ⌝ }
 {
     if !may_hold(qubits, outcomes, shots) {
-        return no(3);
+        return no(refusals::HEADER);
     }
     if seed == 0 {
-        return no(22);
+        return no(refusals::SEED);
     }
     let state = step(seed);
     let h = Header {
@@ -119,10 +120,10 @@ pub fn make(
     };
     let length = put_job(&mut out[..0], h, lines, state);
     if MAX_BYTES < length {
-        return no(15);
+        return no(refusals::ROOM);
     }
     if out.len() < length {
-        return no(15);
+        return no(refusals::ROOM);
     }
     put_job(&mut *out, h, lines, state);
     TextAnswer {

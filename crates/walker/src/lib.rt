@@ -19,6 +19,7 @@ use gate_text::is_gate;
 use gate_text::read_gate;
 use job::Answer;
 use job::CountReply;
+use job::refusals;
 use lines_back::Walk;
 use lines_back::line_back;
 use lines_back::with_observable;
@@ -201,18 +202,18 @@ pub fn walk(job: &[u8], shot: u64, set: &[u64]) -> CountReply
     }
     let header = found.header;
     if header.shots <= shot {
-        return refused(17, 0);
+        return refused(refusals::WALK, 0);
     }
     if !is_rising(set) {
-        return refused(17, 0);
+        return refused(refusals::WALK, 0);
     }
     if !all_below(set, found.recorded) {
-        return refused(17, 0);
+        return refused(refusals::WALK, 0);
     }
     let mut outcomes = pauli::outcomes(set);
     let w = walk_lines(job, found.lines, Shot(shot as usize), &mut outcomes);
     if w.noise != 0 {
-        return refused(16, w.noise);
+        return refused(refusals::NOISE, w.noise);
     }
     CountReply {
         answered: Answer { number: 0, line: 0 },
