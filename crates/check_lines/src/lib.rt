@@ -76,7 +76,7 @@ pub fn unitary_number(c: Context, f: &[u64]) -> u64
     if !below(f, OPERANDS, OPERANDS_END, c.header.qubits) {
         return refusals::QUBIT;
     }
-    if count(f, OPERANDS) != pauli::operands(number(f, GATE)) as u64 {
+    if count(f, OPERANDS) != pauli::operand_count(number(f, GATE)) as u64 {
         return refusals::OPERANDS;
     }
     if !slot_distinct(f, OPERANDS) {
