@@ -10,6 +10,7 @@ ghost use Rattle.job.specs.Checks.{inRange, knownEdition, test, lowest, headerF
 ghost use Rattle.reader.specs.Parsed.{Said};
 ghost use Rattle.check_values.specs.Contexts.{contextOf};
 use check_values::context::Context;
+use job::FIRST_EDITION;
 use job::Header;
 use job::limits::MAX_EDITION;
 use job::limits::MAX_OUTCOMES;
@@ -31,7 +32,7 @@ fn header_in(f: &[u64]) -> Header
     ensures { λ r. ⌜ r ≡ headerBy (heldNumber (now (f .entry))) ⌝ }
 {
     Header {
-        edition: 1,
+        edition: FIRST_EDITION,
         qubits: number(f, QUBITS),
         outcomes: number(f, OUTCOMES),
         shots: number(f, SHOTS),

@@ -10,6 +10,7 @@ use crate::tests::refusal;
 use check_values::context::no_context;
 use instructions::next_line;
 use job::Answer;
+use job::FIRST_EDITION;
 use job::Header;
 use job::limits::MAX_BYTES;
 use job::refusals;
@@ -44,7 +45,7 @@ fn refused(number: u64, line: u64) -> Examined
     Examined {
         answer: Answer { number, line },
         header: Header {
-            edition: 1,
+            edition: FIRST_EDITION,
             qubits: 0,
             outcomes: 0,
             shots: 0,
