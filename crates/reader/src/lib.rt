@@ -18,6 +18,7 @@ use crate::slots::GATE;
 use crate::slots::OPERANDS;
 use crate::slots::PARITY;
 use crate::slots::TABLE;
+use pauli::LAST_GATE;
 use tables::words_fit;
 use template::Progress;
 use template::far_value;
@@ -97,9 +98,6 @@ fn gate_form(line: &[u8], fields: &mut [u64]) -> bool
     let q = value(line, literal(line, g, b" q="), b'Q', fields);
     whole(line, q)
 }
-
-// The code of the last gate.
-const LAST_GATE: u64 = 15;
 
 // A code above the last is no gate's.
 fn unitary(line: &[u8], fields: &mut [u64]) -> Form
@@ -381,12 +379,17 @@ fn weighted_element(line: &[u8], fields: &mut [u64]) -> Form
     requires { ⌜ Whole (now fields) ⌝ }
     ensures { λ r. ⌜ Tried (only Forms.WeightedElement) (now (line .entry)) r (now (fields .exit)) ⌝ }
 {
-    let w = value(line, literal(line, start(), b"w="), b'H', &mut *fields);
-    let pauli = pauli_lists(line, literal(line, w, b" "), fields);
+    let weight = value(line, literal(line, start(), b"w="), b'H', &mut *fields);
+    let pauli = pauli_lists(line, literal(line, weight, b" "), fields);
     ended(line, pauli, Form::WeightedElement)
 }
 
-// A line that begins with `op=`, by the letter after that.
+// Where the letter of an operation stands, behind `op=`, and where it ends.
+const LETTER: usize = 3;
+
+const LETTER_END: usize = LETTER + 1;
+
+// A line that begins with `op=`, by its letter. In the contract 111 is the byte of `o`.
 fn operation(line: &[u8], letter: u8, fields: &mut [u64]) -> Form
     requires { ⌜ (getD (now line) 0 0 ≡ 111) × (letter ≡ getD (now line) 3 0) × Whole (now fields) ⌝ }
     ensures { λ r. ⌜ Parsed (now (line .entry)) r (now (fields .exit)) ⌝ }
@@ -416,11 +419,11 @@ pub fn read_line(line: &[u8], fields: &mut [u64]) -> Form
     requires { ⌜ Whole (now fields) ⌝ }
     ensures { λ r. ⌜ Parsed (now (line .entry)) r (now (fields .exit)) ⌝ }
 {
-    if line.len() < 4 {
+    if line.len() < LETTER_END {
         return Form::Unread;
     }
     match line[0] {
-        b'o' => operation(line, line[3], fields),
+        b'o' => operation(line, line[LETTER], fields),
         b'x' => element(line, fields),
         b'w' => weighted_element(line, fields),
         _ => Form::Unread,
