@@ -169,9 +169,9 @@ pub fn measure_number(c: Context, f: &[u64]) -> u64
     requires { ⌜ Whole (now f) ⌝ }
     ensures { λ r. ⌜ ((vs : List Value) (w : Written) → Said form.Measure (now (f .entry)) vs w → r ≡ lowest (ownTests (contextOf c) w)) ⌝ }
 {
-    let n = pauli_number(f, X, PAULI_END, c.header.qubits);
-    if n != 0 {
-        return n;
+    let refusal = pauli_number(f, X, PAULI_END, c.header.qubits);
+    if refusal != 0 {
+        return refusal;
     }
     id_number(c, number(f, ID))
 }
@@ -196,9 +196,9 @@ pub fn inject_number(c: Context, f: &[u64]) -> u64
     requires { ⌜ Whole (now f) ⌝ }
     ensures { λ r. ⌜ ((vs : List Value) (w : Written) → Said form.Inject (now (f .entry)) vs w → r ≡ lowest (ownTests (contextOf c) w)) ⌝ }
 {
-    let n = pauli_number(f, X, PAULI_END, c.header.qubits);
-    if n != 0 {
-        return n;
+    let refusal = pauli_number(f, X, PAULI_END, c.header.qubits);
+    if refusal != 0 {
+        return refusal;
     }
     if c.header.shots <= number(f, SHOT) {
         return refusals::SHOT;

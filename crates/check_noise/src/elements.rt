@@ -36,26 +36,26 @@ pub fn weighted_element_number(c: Context, f: &[u64]) -> u64
     if refusal != 0 {
         return refusal;
     }
-    let Checked::Accepted(w) = weight(number(f, WEIGHT)) else {
+    let Checked::Accepted(element_weight) = weight(number(f, WEIGHT)) else {
         return refusals::ELEMENTS;
     };
     if c.due != 1 {
         return 0;
     }
-    if !is_total(c.total + w) {
+    if !is_total(c.total + element_weight) {
         return refusals::ELEMENTS;
     }
     0
 }
 
 // Whether an element line is due, with a weight or without.
-fn element_due(c: Context, weight: bool) -> bool
-    ensures { λ r. ⌜ r ≡ (ltb 0 (c .due) && cond weight (c .weighted) (not (c .weighted))) ⌝ }
+fn element_due(c: Context, weighted: bool) -> bool
+    ensures { λ r. ⌜ r ≡ (ltb 0 (c .due) && cond weighted (c .weighted) (not (c .weighted))) ⌝ }
 {
     if c.due == 0 {
         return false;
     }
-    if weight {
+    if weighted {
         return c.weighted;
     }
     !c.weighted
@@ -116,7 +116,7 @@ pub fn total_after(c: Context, form: Form, f: &[u64]) -> f64
         return 0.0;
     };
     match weight(number(f, WEIGHT)) {
-        Checked::Accepted(w) => c.total + w,
+        Checked::Accepted(element_weight) => c.total + element_weight,
         Checked::Refused => c.total,
     }
 }
