@@ -17,7 +17,7 @@ use template::values::count;
 use template::values::number;
 
 // The last code of a gate of the first edition: ControlledY's, which is of the second, follows it.
-const LAST_FIRST_GATE: u64 = CONTROLLED_Y - 1;
+const FIRST_EDITION_LAST_GATE: u64 = CONTROLLED_Y - 1;
 
 // Whether a line has a form that the second edition adds.
 fn is_second(form: Form, f: &[u64]) -> bool
@@ -25,7 +25,7 @@ fn is_second(form: Form, f: &[u64]) -> bool
     ensures { λ r. ⌜ ((vs : List Value) (w : Written) → Said form (now (f .entry)) vs w → r ≡ isSecond w) ⌝ }
 {
     match form {
-        Form::Unitary => LAST_FIRST_GATE < number(f, GATE),
+        Form::Unitary => FIRST_EDITION_LAST_GATE < number(f, GATE),
         Form::Reset => count(f, OPERANDS) != 1,
         Form::Barrier => true,
         _ => false,
