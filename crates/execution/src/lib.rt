@@ -3,7 +3,7 @@ use faults::elements::ALL_WORDS;
 use faults::prepare;
 use injection::Drawn;
 use injection::inject_faults;
-use instructions::Next;
+use instructions::LineRead;
 use instructions::is_noise;
 use instructions::next_known;
 use job::Answer;
@@ -45,7 +45,7 @@ pub struct Answered {
 fn apply_noise<'a>(
     job: &[u8],
     place: Place,
-    line: Next,
+    line: LineRead,
     values: &[u64],
     elements: &mut [u64],
     x: &mut [u64],

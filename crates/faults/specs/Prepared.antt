@@ -15,7 +15,7 @@ use Rattle.job.specs.Job.{noiseOf}
 use Rattle.job.specs.Sound.{NoiseSound, weightsOf}
 use Rattle.reader.specs.declared.Form.{Form}
 use Rattle.reader.specs.Parsed.{Said}
-use Rattle.instructions.specs.declared.Next.{Next}
+use Rattle.instructions.specs.declared.LineRead.{LineRead}
 use Rattle.instructions.specs.Ahead.{instructionsAt, Ahead, Among, hasWeights}
 use Rattle.draws.specs.Draws.{noPauli}
 use Rattle.rows.specs.Words.{bitIn}
@@ -64,7 +64,7 @@ pub record NoiseLines (job : List ℕ) (at : ℕ) (form : Form) (words noiseless
   pub rows : header .outcomes * w ≤ length noiseless
 
 -- a noise line of an accepted job was read, with so many element lines behind it
-pub record SomeNoise (job : List ℕ) (line : Next) (words : List ℕ) (n : ℕ) : Type 0 where
+pub record SomeNoise (job : List ℕ) (line : LineRead) (words : List ℕ) (n : ℕ) : Type 0 where
   pub noiseless : List ℕ
   pub width : ℕ
   pub lines : NoiseLines job (line .end + 1) (line .form) words noiseless width

@@ -15,7 +15,7 @@ use crate::elements::keep_element;
 use crate::line::fault_of;
 use choice::fill_sums;
 use choice::total;
-use instructions::Next;
+use instructions::LineRead;
 use instructions::element_lines;
 use instructions::has_weights;
 use job::limits::MAX_ELEMENTS;
@@ -35,7 +35,7 @@ pub struct Prepared {
 // A noise line by value, with its elements: the lines that follow it are read, and the total of their weights is the weighted kind's.
 fn read_fault(
     job: &[u8],
-    line: Next,
+    line: LineRead,
     following: usize,
     values: &[u64],
     elements: &mut [u64],
@@ -74,7 +74,7 @@ fn satisfied_shots(condition: OutcomeCondition, noiseless: &[u64], width: usize,
 // Makes ready the noise line that was read, by its values. Its element lines begin behind it.
 pub fn prepare(
     job: &[u8],
-    line: Next,
+    line: LineRead,
     values: &[u64],
     noiseless: &[u64],
     width: usize,

@@ -9,7 +9,7 @@ ghost use Rattle.instructions.specs.Reading.{NextLine, noiseForm};
 ghost use Rattle.faults.specs.Elements.{AllInside};
 ghost use Rattle.instruction_text.specs.Pass.{passOf, Between, InstructionPut};
 use faults::prepare;
-use instructions::Next;
+use instructions::LineRead;
 use instructions::is_noise;
 use instructions::next_known;
 use job::limits::MAX_ELEMENTS;
@@ -36,7 +36,7 @@ pub enum Moved {
 fn put_noise_line<'a>(
     out: &mut [u8],
     from: Reached,
-    line: Next,
+    line: LineRead,
     job: &[u8],
     values: &[u64],
     elements: &mut [u64],

@@ -34,20 +34,20 @@ use template::values::set_known;
 use template::values::set_number;
 
 // A line that was read: its form, and the place of the LF that ends it. The next line begins behind that.
-pub struct Next {
+pub struct LineRead {
     pub form: Form,
     pub end: usize,
 }
 
 // Reads the line that begins at a place. Its values go into the lent words.
-pub fn next_line(job: &[u8], at: usize, fields: &mut [u64]) -> Next
+pub fn next_line(job: &[u8], at: usize, fields: &mut [u64]) -> LineRead
     requires { ⌜ (wellEnded (now job) ≡ true) × (at < length (now job)) × Whole (now fields) ⌝ }
     ensures { λ r. ⌜ NextLine (now (job .entry)) at r (now (fields .exit)) ⌝ }
 {
     let line = line_at(job, at);
     let end = at + line.len();
     let form = read_line(line, fields);
-    Next { form, end }
+    LineRead { form, end }
 }
 
 // Whether a line begins with a byte.
@@ -115,14 +115,14 @@ fn read_known(line: &[u8], fields: &mut [u64]) -> Form
 }
 
 // Reads the line of an accepted job that begins at a place, as next_line does.
-pub fn next_known(job: &[u8], at: usize, fields: &mut [u64]) -> Next
+pub fn next_known(job: &[u8], at: usize, fields: &mut [u64]) -> LineRead
     requires { ⌜ KnownAt (now job) at × Whole (now fields) ⌝ }
     ensures { λ r. ⌜ NextLine (now (job .entry)) at r (now (fields .exit)) ⌝ }
 {
     let line = line_at(job, at);
     let end = at + line.len();
     let form = read_known(line, fields);
-    Next { form, end }
+    LineRead { form, end }
 }
 
 pub fn is_noise(form: Form) -> bool

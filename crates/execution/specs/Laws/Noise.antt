@@ -11,7 +11,7 @@ use Rattle.job.specs.declared.Header.{Header}
 use Rattle.job.specs.Line.{Noise, Instruction, Placed}
 use Rattle.job.specs.Float.{float, zeroFloat}
 use Rattle.job.specs.Job.{noiseOf, placedAt}
-use Rattle.instructions.specs.declared.Next.{Next}
+use Rattle.instructions.specs.declared.LineRead.{LineRead}
 use Rattle.instructions.specs.Ahead.{instructionsAt}
 use Rattle.draws.specs.Draws.{Lent, partOf, mainAfter}
 use Rattle.draws.specs.Left.{spentOn, leftSpent}
@@ -80,7 +80,7 @@ module _ (h : Header) (lent : Lent) (main : List ℕ) (n : Noise) (text : List �
   unfolding execute executeThen leftSpent
   head-spent e = (rw e, left-stopped h lent (placedAt k text (Instruction.noise n)) rest (drop position main) states e)
 
-module _ {job : List ℕ} (place : Place) (next : Next) {values noiseless : List ℕ} (shape : Shape)
+module _ {job : List ℕ} (place : Place) (next : LineRead) {values noiseless : List ℕ} (shape : Shape)
     (q : NoiseLines job (next .end + 1) (next .form) values noiseless (shape .width)) (same : q .header ≡ headerOf job shape) (lent : Lent) (main : List ℕ)
     (line : q .line ≡ place .line + 1) (text deltas : List ℕ) (states : States)
   where
@@ -117,7 +117,7 @@ module _ {job : List ℕ} (place : Place) (next : Next) {values noiseless : List
 
 -- ---- what the code does
 
-module _ {job : List ℕ} (next : Next) {values noiseless : List ℕ} (shape : Shape) {elements : List ℕ} {sums : List Float} {mask : List ℕ} {r : Prepared}
+module _ {job : List ℕ} (next : LineRead) {values noiseless : List ℕ} (shape : Shape) {elements : List ℕ} {sums : List Float} {mask : List ℕ} {r : Prepared}
     (prepared : (q : NoiseLines job (next .end + 1) (next .form) values noiseless (shape .width)) → PreparedAs q elements sums mask r)
   where
     line-ready : (second : List ℕ) (base : ℕ) (q : NoiseLines job (next .end + 1) (next .form) values noiseless (shape .width)) → q .header ≡ headerOf job shape
@@ -161,7 +161,7 @@ module _ {job : List ℕ} (next : Next) {values noiseless : List ℕ} (shape : S
             of-z = room .of-z;
           }
 
-module _ {job : List ℕ} (place : Place) (next : Next) {values noiseless : List ℕ} (shape : Shape) (main second : List ℕ) (base : ℕ)
+module _ {job : List ℕ} (place : Place) (next : LineRead) {values noiseless : List ℕ} (shape : Shape) (main second : List ℕ) (base : ℕ)
     {elements : List ℕ} {sums : List Float} {mask : List ℕ} {r : Prepared}
     (prepared : (q : NoiseLines job (next .end + 1) (next .form) values noiseless (shape .width)) → PreparedAs q elements sums mask r)
     (within : place .position ≤ length main)

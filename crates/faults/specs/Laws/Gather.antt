@@ -17,7 +17,7 @@ use Rattle.job.specs.Line.{WeightedPauli}
 use Rattle.job.specs.Float.{float, zeroFloat, isWeight}
 use Rattle.job.specs.Sound.{weightsOf}
 use Rattle.draws.specs.Draws.{noPauli}
-use Rattle.instructions.specs.declared.Next.{Next}
+use Rattle.instructions.specs.declared.LineRead.{LineRead}
 use Rattle.instructions.specs.Reading.{NextLine}
 use Rattle.instructions.specs.Lines.{KnownAt}
 use Rattle.instructions.specs.Ahead.{elementBy, ElementRead}
@@ -50,7 +50,7 @@ module _ {job : List ℕ} {at n : ℕ} {weighted : Bool} (q : ElementLines job a
   pub gathered-known : Gathered q elements weights place i → i < n → KnownAt job place
   gathered-known g h = among-known (g .among) (omega (arith, q .count))
 
-  module _ (g : Gathered q elements weights place i) (h : i < n) {next : Next} {f : List ℕ} (l : NextLine job place next f) where
+  module _ (g : Gathered q elements weights place i) (h : i < n) {next : LineRead} {f : List ℕ} (l : NextLine job place next f) where
     read : ElementRead job (q .header) (q .recorded) weighted (q .elements) (q .rest) (q .line) i next f
     read = element-read (g .among) (omega (arith, q .count)) l
 

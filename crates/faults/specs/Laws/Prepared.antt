@@ -20,7 +20,7 @@ use Rattle.job.specs.Laws.Lists.{below-at}
 use Rattle.reader.specs.declared.Form.{Form}
 use Rattle.reader.specs.declared.Form.the-variants as form
 use Rattle.reader.specs.Parsed.{placeOf, Said}
-use Rattle.instructions.specs.declared.Next.{Next}
+use Rattle.instructions.specs.declared.LineRead.{LineRead}
 use Rattle.instructions.specs.Reading.{hasTotal}
 use Rattle.instructions.specs.Ahead.{instructionsAt, Among, hasWeights, NoiseRead}
 use Rattle.instructions.specs.Laws.Meaning.{noiseBy}
@@ -45,7 +45,7 @@ use Rattle.faults.specs.Laws.Gather.{weighed-all}
 use Rattle.faults.specs.Laws.Line.{NoiseView, noise-view, probability-held}
 
 -- a noise line that was read
-unfoldable pub noise-lines : {job : List ℕ} {h : Header} {r k at : ℕ} {next : Next} {words : List ℕ} → NoiseRead job h r k at next words
+unfoldable pub noise-lines : {job : List ℕ} {h : Header} {r k at : ℕ} {next : LineRead} {words : List ℕ} → NoiseRead job h r k at next words
     → (noiseless : List ℕ) (w : ℕ) → h .outcomes * w ≤ length noiseless → NoiseLines job (next .end + 1) (next .form) words noiseless w
 noise-lines {job} {h} {r} {k} {at} {next} m noiseless w fits =
     record {

@@ -25,7 +25,7 @@ use Rattle.job.specs.Laws.Gather.{WeightsSound, PartSound, gathered-sound}
 use Rattle.job.specs.Laws.Instructions.{accepted-between, due-says}
 use Rattle.reader.specs.declared.Form.{Form}
 use Rattle.reader.specs.Parsed.{placeOf, Said}
-use Rattle.instructions.specs.declared.Next.{Next}
+use Rattle.instructions.specs.declared.LineRead.{LineRead}
 use Rattle.instructions.specs.Reading.{lineAt, NextLine, elementForm, hasTotal}
 use Rattle.instructions.specs.Lines.{KnownAt}
 use Rattle.instructions.specs.Ahead.{instructionsAt, Ahead, Among, elementBy, ElementRead}
@@ -115,7 +115,7 @@ module _ {job : List ℕ} {h : Header} {r : ℕ} {weighted : Bool} {elements : L
         ap (λ (g : Gathered). g .instructions) (m .left),
       )
 
-  module _ {next : Next} {fields : List ℕ} (more : i < length elements) (n : NextLine job at next fields) where
+  module _ {next : LineRead} {fields : List ℕ} (more : i < length elements) (n : NextLine job at next fields) where
     abbrev text : List ℕ
     text = lineAt job at (next .end)
 

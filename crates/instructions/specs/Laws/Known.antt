@@ -28,7 +28,7 @@ use Rattle.reader.specs.Laws.Tried.{says, by-bytes, one-form, by-values}
 use Rattle.gate_text.specs.declared.Gate.{Gate as GateWords}
 use Rattle.gate_text.specs.Gate.{gateTemplate, GateBytes, GateLine, GateRead}
 use Rattle.gate_text.specs.Laws.Gate.{parts}
-use Rattle.instructions.specs.declared.Next.{Next}
+use Rattle.instructions.specs.declared.LineRead.{LineRead}
 use Rattle.instructions.specs.Reading.{lineAt, LineAt, NextLine}
 use Rattle.instructions.specs.Lines.{Passes, WrittenSound, KnownLine, KnownAt}
 use Rattle.instructions.specs.Laws.Places.{found-line}
@@ -54,7 +54,7 @@ module _ (job line : List ℕ) (at : ℕ) (handed : line ≡ lineFrom job at) wh
 
   -- it is the next line
   pub handed-read : wellEnded job ≡ true → at < length job → {f : Form} {fields : List ℕ} → Parsed line f fields
-      → (r : Next) → r .form ≡ f → r .end ≡ at + length line → NextLine job at r fields
+      → (r : LineRead) → r .form ≡ f → r .end ≡ at + length line → NextLine job at r fields
   handed-read ended inside {f} {fields} p r a b =
       let here : Parsed (lineAt job at (at + length line)) f fields = subst (λ (l : List ℕ). Parsed l f fields) handed-same p in
       let so-formed : Parsed (lineAt job at (at + length line)) (r .form) fields =

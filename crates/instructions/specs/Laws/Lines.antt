@@ -17,7 +17,7 @@ use Rattle.job.specs.Laws.Forms.{line-fits}
 use Rattle.job.specs.Laws.Lines.{line-sound}
 use Rattle.job.specs.Laws.Accepted.{passes-first, passing, good-says}
 use Rattle.job.specs.Laws.Begun.{ended-parts, job-passes}
-use Rattle.instructions.specs.declared.Next.{Next}
+use Rattle.instructions.specs.declared.LineRead.{LineRead}
 use Rattle.instructions.specs.Reading.{lineAt, NextLine}
 use Rattle.instructions.specs.Lines.{Passes, Left, WrittenSound, KnownAt, SoundRead, SomeRead, numbered}
 use Rattle.instructions.specs.Laws.Meaning.{read-says}
@@ -79,7 +79,7 @@ left-all job e =
 pub left-known : {job : List ℕ} {k at : ℕ} → Left job k at → at < length job → KnownAt job at
 left-known {k = k} a inside = record { ended = a .ended; inside = inside; number = k; passes = a .passes }
 
-module _ {job : List ℕ} {k at : ℕ} (a : Left job k at) {next : Next} {fields : List ℕ} (n : NextLine job at next fields) where
+module _ {job : List ℕ} {k at : ℕ} (a : Left job k at) {next : LineRead} {fields : List ℕ} (n : NextLine job at next fields) where
   pub here : Passed k (lineAt job at (next .end)) (lines (drop (next .end + 1) job))
   here = passes-line (subst (Passes k) (n .place .cut) (a .passes))
 

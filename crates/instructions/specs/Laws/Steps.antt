@@ -23,7 +23,7 @@ use Rattle.job.specs.Laws.Gather.{gathered-sound}
 use Rattle.job.specs.Laws.Recorded.{instruction-within}
 use Rattle.job.specs.Laws.Instructions.{LineStep, FirstInstruction, first-instruction}
 use Rattle.reader.specs.declared.Form.the-variants as form
-use Rattle.instructions.specs.declared.Next.{Next}
+use Rattle.instructions.specs.declared.LineRead.{LineRead}
 use Rattle.instructions.specs.Reading.{lineAt, LineAt, NextLine, noiseForm}
 use Rattle.instructions.specs.Ahead.{instructionsAt, Ahead, Started, PlainRead, NoiseRead}
 use Rattle.instructions.specs.Lines.{KnownAt}
@@ -73,7 +73,7 @@ few-elements n (Kind.depolarizing qs) es count s = omega arith
 few-elements n (Kind.uniform m) es count s = omega (arith, s .few, length-map es (λ (e : WeightedPauli). e .pauli))
 few-elements n (Kind.weighted m) es count s = s .few
 
-module _ {job : List ℕ} {h : Header} {r k at : ℕ} {next : Next} {fields : List ℕ} (a : Ahead job h r k at) (n : NextLine job at next fields) where
+module _ {job : List ℕ} {h : Header} {r k at : ℕ} {next : LineRead} {fields : List ℕ} (a : Ahead job h r k at) (n : NextLine job at next fields) where
   abbrev text : List ℕ
   text = lineAt job at (next .end)
 
