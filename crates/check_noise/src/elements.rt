@@ -21,7 +21,7 @@ use check_values::floats::weight;
 use check_values::lists::pauli_number;
 use job::refusals;
 use reader::Form;
-use reader::slots::ELEMENTS;
+use reader::slots::ELEMENT_COUNT;
 use reader::slots::PAULI_END;
 use reader::slots::WEIGHT;
 use reader::slots::X;
@@ -88,8 +88,8 @@ pub fn due_after(c: Context, form: Form, f: &[u64]) -> u64
     ensures { λ r. ⌜ ((vs : List Value) (w : Written) → Said form (now (f .entry)) vs w → r ≡ Checks·next (contextOf c) w .due) ⌝ }
 {
     match form {
-        Form::Uniform => number(f, ELEMENTS),
-        Form::Weighted => number(f, ELEMENTS),
+        Form::Uniform => number(f, ELEMENT_COUNT),
+        Form::Weighted => number(f, ELEMENT_COUNT),
         Form::Element => one_less(c.due),
         Form::WeightedElement => one_less(c.due),
         _ => 0,

@@ -26,7 +26,7 @@ use reader::slots::CONDITION;
 use reader::slots::CONDITION_END;
 use reader::slots::DEPOLARIZED;
 use reader::slots::DEPOLARIZED_END;
-use reader::slots::ELEMENTS;
+use reader::slots::ELEMENT_COUNT;
 use reader::slots::LISTED_SIZE;
 use reader::slots::PROBABILITY;
 use reader::slots::SINGLE_END;
@@ -113,7 +113,7 @@ pub fn listed_number(c: Context, f: &[u64]) -> u64
     if refusal != 0 {
         return refusal;
     }
-    let elements = number(f, ELEMENTS);
+    let elements = number(f, ELEMENT_COUNT);
     if elements == 0 {
         return refusals::ELEMENTS;
     }

@@ -16,7 +16,7 @@ use reader::Form;
 use reader::slots::CONDITION;
 use reader::slots::CORRELATION;
 use reader::slots::DEPOLARIZED;
-use reader::slots::ELEMENTS;
+use reader::slots::ELEMENT_COUNT;
 use reader::slots::PARITY;
 use reader::slots::PROBABILITY;
 use template::values::KEPT;
@@ -35,7 +35,7 @@ fn distribution_of(form: Form, values: &[u64], total: f64) -> PauliDistribution
             qubits: count(values, DEPOLARIZED),
         },
         Form::Uniform => PauliDistribution::Uniform {
-            elements: number(values, ELEMENTS),
+            elements: number(values, ELEMENT_COUNT),
         },
         Form::Weighted => PauliDistribution::Weighted { total },
         _ => PauliDistribution::Single,

@@ -22,7 +22,7 @@ use line_reader::line_at;
 use numbers::known::known_hex;
 use reader::Form;
 use reader::read_line;
-use reader::slots::ELEMENTS;
+use reader::slots::ELEMENT_COUNT;
 use reader::slots::GATE;
 use reader::slots::OPERANDS;
 use reader::slots::WEIGHT;
@@ -143,8 +143,8 @@ pub fn element_lines(form: Form, f: &[u64]) -> usize
     ensures { λ r. ⌜ ((vs : List Value) (n : NoiseLine) → Said form (now (f .entry)) vs (Written.noise n) → r ≡ elementLines (n .kind)) ⌝ }
 {
     match form {
-        Form::Uniform => number(f, ELEMENTS) as usize,
-        Form::Weighted => number(f, ELEMENTS) as usize,
+        Form::Uniform => number(f, ELEMENT_COUNT) as usize,
+        Form::Weighted => number(f, ELEMENT_COUNT) as usize,
         _ => 0,
     }
 }
