@@ -17,8 +17,8 @@ use instructions::next_known;
 use line_qubits::fit;
 use line_qubits::noise_qubits;
 use reader::Form;
-use template::values::EACH;
 use template::values::KEPT;
+use template::values::MAX_SLOTS;
 use template::values::WORDS;
 use writer::noise_lines::put_depolarizing;
 use writer::noise_lines::put_start;
@@ -77,7 +77,7 @@ pub fn put_annotated(out: &mut [u8], job: &[u8], p: u64) -> Progress
     ensures { λ r. ⌜ Annotates (now (job .entry)) p r (now (out .entry)) (now (out .exit)) ⌝ }
 {
     let mut fields = [0u64; WORDS];
-    let mut qubits = [0u64; EACH * KEPT];
+    let mut qubits = [0u64; MAX_SLOTS * KEPT];
     let mut start = [0u8; 50];
     put_start(&mut start, p);
     let mut at = 0;

@@ -9,8 +9,8 @@ use instructions::next_known;
 use job::Answer;
 use job::CountReply;
 use line_qubits::located;
-use template::values::EACH;
 use template::values::KEPT;
+use template::values::MAX_SLOTS;
 use template::values::WORDS;
 
 // The locations of an accepted job.
@@ -19,7 +19,7 @@ fn count(job: &[u8]) -> u64
     ensures { λ r. ⌜ r ≡ Annotate·locations (Bytes·lines (now (job .entry))) ⌝ }
 {
     let mut fields = [0u64; WORDS];
-    let mut qubits = [0u64; EACH * KEPT];
+    let mut qubits = [0u64; MAX_SLOTS * KEPT];
     let mut at = 0;
     let mut total: u64 = 0;
     while at < job.len() {

@@ -57,9 +57,9 @@ pub record ListPut (before after : List ℕ) (l : ℕ) (members : List ℕ) : Ty
   pub others : (k : ℕ) → k ≢ 4 + l → k ≢ 8 + l → k < 12 + l * 31 → getD after k 0 ≡ getD before k 0
 
 -- a list of at most two members, by how many they are and what they are, 0 in place of one that it hasn't
-pub record FewAre (members : List ℕ) (many first second : ℕ) : Type 0 where
+pub record FewAre (members : List ℕ) (count first second : ℕ) : Type 0 where
   pub few : length members ≤ 2
-  pub size : many ≡ length members
+  pub size : count ≡ length members
   pub is-first : first ≡ getD members 0 0
   pub is-second : second ≡ getD members 1 0
 

@@ -24,9 +24,9 @@ use numbers::number;
 use numbers::pieces::find;
 use numbers::pieces::find_far;
 use values::COUNTS;
-use values::EACH;
 use values::KEPT;
 use values::LARGEST;
+use values::MAX_SLOTS;
 use values::MEMBERS;
 
 // How far a line was read: whether it has its template's form so far, up to which byte, and how many numbers and lists it had.
@@ -72,7 +72,7 @@ fn put_number(v: Value, numbers: usize, lists: usize, fields: &mut [u64]) -> Sto
     let Value::Of(x) = v else {
         return not_put();
     };
-    if EACH <= numbers {
+    if MAX_SLOTS <= numbers {
         return not_put();
     }
     fields[numbers] = x;
@@ -99,7 +99,7 @@ fn put_list(letter: u8, bytes: &[u8], numbers: usize, lists: usize, fields: &mut
     requires { ⌜ Whole (now fields) ⌝ }
     ensures { λ r. ⌜ StoresAs 0 1 (aList (listBy letter (now (bytes .entry)))) numbers lists r (now (fields .entry)) (now (fields .exit)) ⌝ }
 {
-    if EACH <= lists {
+    if MAX_SLOTS <= lists {
         return not_put();
     }
     let from = MEMBERS + lists * KEPT;

@@ -11,20 +11,20 @@ use numbers::known::known_list;
 use numbers::lists::larger;
 
 // At most so many numbers, and so many lists.
-pub const EACH: usize = 4;
+pub const MAX_SLOTS: usize = 4;
 
-// How many members of a list are kept.
+// How many members of a list are kept: as many as MAX_MEMBERS of crate job, and so all of an accepted job.
 pub const KEPT: usize = 31;
 
 // Where the counts of the lists, their largest members and their members begin; the numbers begin at 0.
-pub const COUNTS: usize = EACH;
+pub const COUNTS: usize = MAX_SLOTS;
 
-pub const LARGEST: usize = COUNTS + EACH;
+pub const LARGEST: usize = COUNTS + MAX_SLOTS;
 
-pub const MEMBERS: usize = LARGEST + EACH;
+pub const MEMBERS: usize = LARGEST + MAX_SLOTS;
 
 // All the words.
-pub const WORDS: usize = MEMBERS + EACH * KEPT;
+pub const WORDS: usize = MEMBERS + MAX_SLOTS * KEPT;
 
 // The i-th number.
 pub fn number(v: &[u64], i: usize) -> u64
@@ -89,13 +89,13 @@ pub fn set_number(v: &mut [u64], i: usize, n: u64)
 }
 
 // Puts the i-th list, of at most two members, by how many they are; 0 is put in place of one that it hasn't.
-pub fn set_few(v: &mut [u64], i: usize, many: u64, first: u64, second: u64)
+pub fn set_few(v: &mut [u64], i: usize, count: u64, first: u64, second: u64)
     requires { ⌜ (i < 4) × Whole (now v) ⌝ }
-    ensures { λ _. ⌜ ((members : List ℕ) → FewAre members many first second → ListPut (now (v .entry)) (now (v .exit)) i members) ⌝ }
+    ensures { λ _. ⌜ ((members : List ℕ) → FewAre members count first second → ListPut (now (v .entry)) (now (v .exit)) i members) ⌝ }
 {
     let most = larger(first, second);
     let a = MEMBERS + i * KEPT;
-    v[COUNTS + i] = many;
+    v[COUNTS + i] = count;
     v[LARGEST + i] = most;
     v[a] = first;
     v[a + 1] = second;
