@@ -40,7 +40,7 @@ pub record Weighed (words : List ℕ) (at : ℕ) (sums : List Float) (r : Answer
 
 -- the numbers beside the kind are its own
 pub record Sized (c : Chooser) : Type 0 where
-  pub bound : c .bound ≡ boundOf (c .kind)
+  pub bound : c .bound ≡ boundOf (c .distribution)
   pub limit : c .limit ≡ limitOf (c .bound)
 
 -- the total that the weighted kind carries is that of these weights, which are not none

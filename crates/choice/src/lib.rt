@@ -24,7 +24,7 @@ pub enum Choice {
 // A kind of distribution; for a choice in which each element is as likely as another also its bound, how many elements it is among, and its limit,
 // which takes a division.
 pub struct Chooser {
-    pub kind: PauliDistribution,
+    pub distribution: PauliDistribution,
     pub bound: u64,
     pub limit: u64,
 }
@@ -34,14 +34,14 @@ const MAX_WORD: u64 = 0xffffffffffffffff;
 // ---- A choice in which each element is as likely as another
 
 // The bound of such a choice; 0 for the kinds that choose otherwise.
-fn bound(d: PauliDistribution) -> u64
-    requires { ⌜ Small d ⌝ }
-    ensures { λ r. ⌜ r ≡ boundOf d ⌝ }
+fn bound(distribution: PauliDistribution) -> u64
+    requires { ⌜ Small distribution ⌝ }
+    ensures { λ r. ⌜ r ≡ boundOf distribution ⌝ }
 {
-    match d {
+    match distribution {
         PauliDistribution::Single => 0,
-        PauliDistribution::Depolarizing { qubits } => depolarizing_size(qubits),
-        PauliDistribution::Uniform { elements } => elements,
+        PauliDistribution::Depolarizing { qubit_count } => depolarizing_size(qubit_count),
+        PauliDistribution::Uniform { element_count } => element_count,
         PauliDistribution::Weighted { total: _ } => 0,
     }
 }
@@ -64,11 +64,11 @@ pub fn choose(words: &[u64], more: &[u64], at: usize, bound: u64, limit: u64) ->
     let mut i = at;
     loop {
         match next_word(words, more, i) {
-            NextWord::Word(w) => {
+            NextWord::Word(word) => {
                 i += 1;
-                if w < limit {
+                if word < limit {
                     return Choice::Chosen {
-                        element: w % bound,
+                        element: word % bound,
                         next_word: i,
                     };
                 }
@@ -95,7 +95,7 @@ pub fn total(weights: &[f64]) -> f64
     sum
 }
 
-// The running sums of the weights, each adding w / total, and the last set to 1.0.
+// The running sums of the weights, each adding a weight / total, and the last set to 1.0.
 pub fn running_sums(sums: &mut [f64], weights: &[f64], total: f64)
     requires { ⌜ (0 < length (now weights)) × (length (now sums) ≡ length (now weights)) × (total ≡ totalFrom zeroFloat (now weights)) ⌝ }
     ensures { λ _. ⌜ now (sums .exit) ≡ runningSums (now (weights .entry)) ⌝ }
@@ -112,11 +112,11 @@ pub fn running_sums(sums: &mut [f64], weights: &[f64], total: f64)
 
 // A running sum beside its weight, so that `element_by` needs one comparison: -1.0, which is below every u, if the weight isn't positive, and 1.0,
 // which is below none, if it is the last that is.
-fn mark(weight: f64, sum: f64, later: bool) -> f64
-    ensures { λ r. ⌜ r ≡ marked weight sum later ⌝ }
+fn mark(weight: f64, sum: f64, positive_behind: bool) -> f64
+    ensures { λ r. ⌜ r ≡ marked weight sum «positive_behind» ⌝ }
 {
     if 0.0 < weight {
-        if later {
+        if positive_behind {
             return sum;
         }
         return 1.0;
@@ -125,10 +125,10 @@ fn mark(weight: f64, sum: f64, later: bool) -> f64
 }
 
 // Whether a weight is positive, or one behind it.
-fn any_positive(weight: f64, later: bool) -> bool
-    ensures { λ r. ⌜ r ≡ (later || isPositive weight) ⌝ }
+fn any_positive(weight: f64, positive_behind: bool) -> bool
+    ensures { λ r. ⌜ r ≡ («positive_behind» || isPositive weight) ⌝ }
 {
-    if later {
+    if positive_behind {
         return true;
     }
     0.0 < weight
@@ -139,22 +139,22 @@ fn mark_sums(sums: &mut [f64], weights: &[f64])
     requires { ⌜ length (now sums) ≡ length (now weights) ⌝ }
     ensures { λ _. ⌜ now (sums .exit) ≡ markedBy (now (weights .entry)) (now (sums .entry)) ⌝ }
 {
-    let mut later = false;
+    let mut positive_behind = false;
     let mut i = weights.len();
     while 0 < i {
         i -= 1;
-        let w = weights[i];
-        sums[i] = mark(w, sums[i], later);
-        later = any_positive(w, later);
+        let weight = weights[i];
+        sums[i] = mark(weight, sums[i], positive_behind);
+        positive_behind = any_positive(weight, positive_behind);
     }
 }
 
 // The sums by which the weighted one of the distributions chooses, by the total that it carries. The others have none.
-pub fn fill_sums(d: PauliDistribution, sums: &mut [f64], weights: &[f64])
-    requires { ⌜ (length (now sums) ≡ length (now weights)) × Totals d (now weights) ⌝ }
-    ensures { λ _. ⌜ SumsOf d (now (weights .entry)) (now (sums .exit)) ⌝ }
+pub fn fill_sums(distribution: PauliDistribution, sums: &mut [f64], weights: &[f64])
+    requires { ⌜ (length (now sums) ≡ length (now weights)) × Totals distribution (now weights) ⌝ }
+    ensures { λ _. ⌜ SumsOf distribution (now (weights .entry)) (now (sums .exit)) ⌝ }
 {
-    match d {
+    match distribution {
         PauliDistribution::Weighted { total } => {
             running_sums(&mut *sums, weights, total);
             mark_sums(sums, weights)
@@ -183,8 +183,8 @@ pub fn weigh(words: &[u64], more: &[u64], at: usize, sums: &[f64]) -> Choice
     ensures { λ r. ⌜ Weighed (now (words .entry) ++ now (more .entry)) at (now (sums .entry)) r ⌝ }
 {
     match next_word(words, more, at) {
-        NextWord::Word(w) => Choice::Chosen {
-            element: element_by(sums, unit(w)) as u64,
+        NextWord::Word(word) => Choice::Chosen {
+            element: element_by(sums, unit(word)) as u64,
             next_word: at + 1,
         },
         NextWord::Spent => Choice::Spent,
@@ -194,13 +194,13 @@ pub fn weigh(words: &[u64], more: &[u64], at: usize, sums: &[f64]) -> Choice
 // ---- A choice by the kind of distribution
 
 // The kind of a distribution with its numbers, which are the same for all shots of a line.
-pub fn chooser_of(d: PauliDistribution) -> Chooser
-    requires { ⌜ Small d ⌝ }
-    ensures { λ r. ⌜ (r .kind ≡ d) × Sized r ⌝ }
+pub fn chooser_of(distribution: PauliDistribution) -> Chooser
+    requires { ⌜ Small distribution ⌝ }
+    ensures { λ r. ⌜ (r .distribution ≡ distribution) × Sized r ⌝ }
 {
-    let bound = bound(d);
+    let bound = bound(distribution);
     Chooser {
-        kind: d,
+        distribution,
         bound,
         limit: limit(bound),
     }
@@ -209,22 +209,22 @@ pub fn chooser_of(d: PauliDistribution) -> Chooser
 // The element that the words from a position on choose.
 pub fn element(words: &[u64], more: &[u64], at: usize, chooser: Chooser, sums: &[f64]) -> Choice
     requires { ⌜ (at ≤ length (now words ++ now more)) × Sized chooser ⌝ }
-    ensures { λ r. ⌜ ElementChosen (now (words .entry) ++ now (more .entry)) at (chooser .kind) (now (sums .entry)) r ⌝ }
+    ensures { λ r. ⌜ ElementChosen (now (words .entry) ++ now (more .entry)) at (chooser .distribution) (now (sums .entry)) r ⌝ }
 {
-    let kind = chooser.kind;
-    match kind {
+    let distribution = chooser.distribution;
+    match distribution {
         PauliDistribution::Single => Choice::Chosen {
             element: 0,
             next_word: at,
         },
-        PauliDistribution::Depolarizing { qubits: _ } => choose(
+        PauliDistribution::Depolarizing { qubit_count: _ } => choose(
             words,
             more,
             at,
             chooser.bound,
             chooser.limit,
         ),
-        PauliDistribution::Uniform { elements: _ } => choose(
+        PauliDistribution::Uniform { element_count: _ } => choose(
             words,
             more,
             at,

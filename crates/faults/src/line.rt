@@ -32,10 +32,10 @@ fn distribution_of(form: Form, values: &[u64], total: f64) -> PauliDistribution
 {
     match form {
         Form::Depolarizing => PauliDistribution::Depolarizing {
-            qubits: count(values, DEPOLARIZED),
+            qubit_count: count(values, DEPOLARIZED),
         },
         Form::Uniform => PauliDistribution::Uniform {
-            elements: number(values, ELEMENT_COUNT),
+            element_count: number(values, ELEMENT_COUNT),
         },
         Form::Weighted => PauliDistribution::Weighted { total },
         _ => PauliDistribution::Single,

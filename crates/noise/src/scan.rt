@@ -46,17 +46,17 @@ pub fn threshold(p: f64) -> u64
 }
 
 // A fault falls if floor(w / 2048) is below the threshold.
-fn falls_below(w: u64, threshold: u64) -> bool
-    ensures { λ r. ⌜ ((p : Float) → threshold ≡ thresholdOf p → r ≡ falls w p) ⌝ }
+fn falls_below(word: u64, threshold: u64) -> bool
+    ensures { λ r. ⌜ ((p : Float) → threshold ≡ thresholdOf p → r ≡ falls word p) ⌝ }
 {
-    w / STEP_WORDS < threshold
+    word / STEP_WORDS < threshold
 }
 
 // Their difference, which wraps, and so has its top bit set, where a fault falls.
-fn difference(w: u64, threshold: u64) -> u64
-    ensures { λ r. ⌜ ((p : Float) → threshold ≡ thresholdOf p → leb (2 ^ 63) r ≡ falls w p) ⌝ }
+fn difference(word: u64, threshold: u64) -> u64
+    ensures { λ r. ⌜ ((p : Float) → threshold ≡ thresholdOf p → leb (2 ^ 63) r ≡ falls word p) ⌝ }
 {
-    std::num::wrapping_sub_u64(w / STEP_WORDS, threshold)
+    std::num::wrapping_sub_u64(word / STEP_WORDS, threshold)
 }
 
 // Whether there is a next word, and it brings a fault.
@@ -64,7 +64,7 @@ pub fn falls_next(words: &[u64], more: &[u64], at: usize, threshold: u64) -> boo
     ensures { λ r. ⌜ (r ≡ true → (p : Float) → threshold ≡ thresholdOf p → falls (getD (now (words .entry) ++ now (more .entry)) at 0) p ≡ true) ⌝ }
 {
     match next_word(words, more, at) {
-        NextWord::Word(w) => falls_below(w, threshold),
+        NextWord::Word(word) => falls_below(word, threshold),
         NextWord::Spent => false,
     }
 }

@@ -71,7 +71,7 @@ fn put_element(
     ensures { λ r. ⌜ Puts place (injectText (shot .0) (elementIn d (now (elements .entry)) e) ++ LF ∷ []) (now (out .entry)) (now (out .exit)) r ⌝ }
 {
     match d {
-        PauliDistribution::Depolarizing { qubits: _ } => {
+        PauliDistribution::Depolarizing { qubit_count: _ } => {
             put_depolarizing(out, place, shot, element_x(elements, 0), e)
         }
         _ => put_kept(out, place, shot, elements, e as usize),

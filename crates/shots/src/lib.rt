@@ -27,13 +27,13 @@ pub struct DrawRule {
 }
 
 // The rule of a line's p and its distribution.
-pub fn rule_of(p: f64, d: PauliDistribution) -> DrawRule
-    requires { ⌜ Small d ⌝ }
-    ensures { λ r. ⌜ RuleOf p d r ⌝ }
+pub fn rule_of(p: f64, distribution: PauliDistribution) -> DrawRule
+    requires { ⌜ Small distribution ⌝ }
+    ensures { λ r. ⌜ RuleOf p distribution r ⌝ }
 {
     DrawRule {
         threshold: threshold(p),
-        chooser: chooser_of(d),
+        chooser: chooser_of(distribution),
     }
 }
 
@@ -55,7 +55,7 @@ pub fn draw_shot(
     satisfied: bool,
 ) -> ShotDraw
     requires { ⌜ Sized chooser ⌝ }
-    ensures { λ r. ⌜ ShotDrawn (now (words .entry) ++ now (more .entry)) at (chooser .kind) (now (sums .entry)) satisfied r ⌝ }
+    ensures { λ r. ⌜ ShotDrawn (now (words .entry) ++ now (more .entry)) at (chooser .distribution) (now (sums .entry)) satisfied r ⌝ }
 {
     if count(words, more) <= at {
         return ShotDraw::Spent;
@@ -75,13 +75,16 @@ pub fn draw_shot(
     }
 }
 
+// A word of a mask has a bit for each of so many shots.
+const WORD_BITS: usize = 64;
+
 // Whether a shot is in a mask.
 pub fn is_set(mask: &[u64], shot: Shot) -> bool
     requires { ⌜ shot .0 < 64 * length (now mask) ⌝ }
     ensures { λ r. ⌜ r ≡ bit (getD (now (mask .entry)) (shot .0 / 64) 0) (shot .0 % 64) ⌝ }
 {
     let s = shot.0;
-    (mask[s / 64] >> (s % 64)) % 2 == 1
+    (mask[s / WORD_BITS] >> (s % WORD_BITS)) % 2 == 1
 }
 
 // The next fault of a line: its shot, its element and the position of the next word. Or no shot that is left has one, with the position of the next
@@ -110,7 +113,7 @@ fn fault_from(
     sums: &[f64],
 ) -> NextFault
     requires { ⌜ (at ≤ length (now words ++ now more)) × (shot .0 ≤ shots) × (shots ≤ 64 * length (now mask)) × Sized (rule .chooser) ⌝ }
-    ensures { λ r. ⌜ ((p : Float) (d : PauliDistribution) → RuleOf p d rule → FaultFound (now (words .entry) ++ now (more .entry)) at (now (mask .entry)) (shot .0) shots p d (now (sums .entry)) r) ⌝ }
+    ensures { λ r. ⌜ ((p : Float) (distribution : PauliDistribution) → RuleOf p distribution rule → FaultFound (now (words .entry) ++ now (more .entry)) at (now (mask .entry)) (shot .0) shots p distribution (now (sums .entry)) r) ⌝ }
 {
     let threshold = rule.threshold;
     let chooser = rule.chooser;
@@ -162,7 +165,7 @@ pub fn next_fault(
     sums: &[f64],
 ) -> NextFault
     requires { ⌜ (at ≤ length (now words ++ now more)) × (shot .0 ≤ shots) × (shots ≤ 64 * length (now mask)) × Sized (rule .chooser) ⌝ }
-    ensures { λ r. ⌜ ((p : Float) (d : PauliDistribution) → RuleOf p d rule → FaultFound (now (words .entry) ++ now (more .entry)) at (now (mask .entry)) (shot .0) shots p d (now (sums .entry)) r) ⌝ }
+    ensures { λ r. ⌜ ((p : Float) (distribution : PauliDistribution) → RuleOf p distribution rule → FaultFound (now (words .entry) ++ now (more .entry)) at (now (mask .entry)) (shot .0) shots p distribution (now (sums .entry)) r) ⌝ }
 {
     if shot.0 < shots {
         if falls_next(words, more, at, rule.threshold) {

@@ -15,7 +15,7 @@ use Rattle.shots.proofs.fault_from.Tie as tie
 abbrev Inv-loop : tie.InvT-loop
 Inv-loop words more at mask shots sums threshold chooser position₀ s₀ position s =
     (position ≤ length (words ++ more)) × (s₀ ≤ s) × (s ≤ shots)
-    × ((p : Float) → threshold ≡ thresholdOf p → Later (words ++ more) mask shots p (chooser .kind) sums s₀ at s position)
+    × ((p : Float) → threshold ≡ thresholdOf p → Later (words ++ more) mask shots p (chooser .distribution) sums s₀ at s position)
 
 abbrev μ-loop : tie.MeasureT-loop
 μ-loop words more at mask shots sums threshold chooser position₀ s₀ position s = shots - s
