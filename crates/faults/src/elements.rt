@@ -9,6 +9,7 @@ ghost use Rattle.job.specs.Float.{float, zeroFloat, isWeight};
 ghost use Rattle.faults.specs.Elements.{Inside, xCount, zCount, elementX, elementZ, elementCounts, elementMembers, Kept};
 ghost use Rattle.faults.specs.Prepared.{ElementLines, Gathered};
 use instructions::next_known;
+use job::limits::MAX_ELEMENTS;
 use reader::slots::WEIGHT;
 use reader::slots::X;
 use template::values::KEPT;
@@ -18,26 +19,28 @@ use template::values::number;
 
 // ---- Where they lie
 
-// The words of all elements, at most 64, and of one.
-pub const ALL_WORDS: usize = 4096;
-
-pub const ELEMENT_WORDS: usize = 64;
-
-// In an element, behind the count of its first list: the count of its second, and the members of both.
+// An element starts with the count of its first list. Behind that lie the count of its second, and the members of both.
 const Z_COUNT: usize = 1;
 
-const X_MEMBERS: usize = 2;
+const COUNTS: usize = 2;
 
-const Z_MEMBERS: usize = 33;
+const X_MEMBERS: usize = COUNTS;
+
+const Z_MEMBERS: usize = X_MEMBERS + KEPT;
+
+// The words of one element, and of all.
+pub const ELEMENT_WORDS: usize = Z_MEMBERS + KEPT;
+
+pub const ALL_WORDS: usize = MAX_ELEMENTS as usize * ELEMENT_WORDS;
 
 // The first list of element e.
 pub fn element_x<'a>(elements: &'a [u64], e: usize) -> &'a [u64]
     requires { ⌜ Inside (now elements) e × (xCount (now elements) e ≤ 31) ⌝ }
     ensures { λ r. ⌜ now r ≡ elementX (now (elements .entry)) e ⌝ }
 {
-    let a = e * ELEMENT_WORDS;
-    let from = a + X_MEMBERS;
-    let to = from + elements[a] as usize;
+    let start = e * ELEMENT_WORDS;
+    let from = start + X_MEMBERS;
+    let to = from + elements[start] as usize;
     &elements[from..to]
 }
 
@@ -46,9 +49,9 @@ pub fn element_z<'a>(elements: &'a [u64], e: usize) -> &'a [u64]
     requires { ⌜ Inside (now elements) e × (zCount (now elements) e ≤ 31) ⌝ }
     ensures { λ r. ⌜ now r ≡ elementZ (now (elements .entry)) e ⌝ }
 {
-    let a = e * ELEMENT_WORDS;
-    let from = a + Z_MEMBERS;
-    let to = from + elements[a + Z_COUNT] as usize;
+    let start = e * ELEMENT_WORDS;
+    let from = start + Z_MEMBERS;
+    let to = from + elements[start + Z_COUNT] as usize;
     &elements[from..to]
 }
 
@@ -58,7 +61,7 @@ pub fn element_counts<'a>(elements: &'a [u64], e: usize) -> &'a [u64]
     ensures { λ r. ⌜ now r ≡ elementCounts (now (elements .entry)) e ⌝ }
 {
     let from = e * ELEMENT_WORDS;
-    let to = from + X_MEMBERS;
+    let to = from + COUNTS;
     &elements[from..to]
 }
 
@@ -89,20 +92,20 @@ pub fn keep_element(elements: &mut [u64], e: usize, values: &[u64], first: usize
     requires { ⌜ Inside (now elements) e × Whole (now values) × (first ≤ 2) ⌝ }
     ensures { λ _. ⌜ Kept e first (now (values .entry)) (now (elements .entry)) (now (elements .exit)) ⌝ }
 {
-    let a = e * ELEMENT_WORDS;
+    let start = e * ELEMENT_WORDS;
     let second = first + 1;
-    elements[a] = count(values, first);
-    elements[a + Z_COUNT] = count(values, second);
+    elements[start] = count(values, first);
+    elements[start + Z_COUNT] = count(values, second);
     rows::copy(
         &mut *elements,
-        a + X_MEMBERS,
+        start + X_MEMBERS,
         template::values::kept(values, first),
         0,
         kept_count(values, first),
     );
     rows::copy(
         elements,
-        a + Z_MEMBERS,
+        start + Z_MEMBERS,
         template::values::kept(values, second),
         0,
         kept_count(values, second),

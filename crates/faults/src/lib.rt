@@ -48,7 +48,8 @@ fn read_fault(
     let form = line.form;
     let from = line.end + 1;
     let weighted = has_weights(form);
-    // Element 0 is the Pauli of d=1, or has the qubits of d=2 as its first list. d=3 and d=4 have neither: `gather` writes over what is kept here.
+    // Element 0 is the Pauli of d=1, or has the qubits of d=2 as its first list; its second is then an earlier line's, and not looked at. d=3 and d=4
+    // have neither: `gather` writes over what is kept here.
     keep_element(&mut *elements, 0, values, OWN_LISTS);
     let behind = gather(job, from, following, weighted, elements, &mut *weights);
     let fault = fault_of(form, values, total(weights));

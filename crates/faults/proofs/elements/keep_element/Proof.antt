@@ -7,8 +7,8 @@ use borrow.Author.Needs.{needs}
 use Rattle.faults.proofs.elements.keep_element.Statement.{statement}
 use Rattle.faults.proofs.elements.keep_element.Tie as tie
 
-mul-a : tie.Need-mul-a
-mul-a c = search needs
+mul-start : tie.Need-mul-start
+mul-start c = search needs
 
 add-second : tie.Need-add-second
 add-second c = search needs
@@ -72,7 +72,7 @@ pub keep-element-spec : {M : Type 1} → statement M
 keep-element-spec =
     tie.close
     (tie.spec
-    mul-a
+    mul-start
     add-second
     count-requires
     mul-elements
