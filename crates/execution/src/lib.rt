@@ -84,10 +84,10 @@ fn apply_noise<'a>(
     }
     let correlation = fault.correlation;
     let words = part(main, second, correlation, base, place.position);
-    let rest = more_part(more, correlation, place.position, main.len());
+    let more_words = more_part(more, correlation, place.position, main.len());
     let drawn = inject_faults(
         words,
-        rest,
+        more_words,
         &mask,
         fault,
         &sums[..following],
@@ -98,7 +98,7 @@ fn apply_noise<'a>(
     );
     let Drawn::Done { next_word: read } = drawn else {
         return Moved::Spent {
-            position: position_after(correlation, place.position, count(words, rest)),
+            position: position_after(correlation, place.position, count(words, more_words)),
         };
     };
     Moved::To(Place {
@@ -156,7 +156,10 @@ fn step<'a>(
     })
 }
 
-// The instructions behind the header, line 1, which ends before byte `from` of the job.
+// The header is line 1.
+const FIRST_INSTRUCTION_LINE: u64 = 2;
+
+// The instructions behind the header, which ends before byte `from` of the job.
 // The room for elements and the scratch are made once, since they are large.
 pub fn execute<'a>(
     job: &[u8],
@@ -180,7 +183,7 @@ pub fn execute<'a>(
     let mut scratch = [0u64; SCRATCH_WORDS];
     let mut place = Place {
         byte: from,
-        line: 2,
+        line: FIRST_INSTRUCTION_LINE,
         position: 0,
     };
     while place.byte < job.len() {
