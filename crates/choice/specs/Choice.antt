@@ -38,7 +38,7 @@ pub record Weighed (words : List ℕ) (at : ℕ) (sums : List Float) (r : Answer
 
 -- ---- a choice by the kind of distribution
 
--- the numbers beside the kind are its own
+-- the numbers beside the distribution are its own
 pub record Sized (c : Chooser) : Type 0 where
   pub bound : c .bound ≡ boundOf (c .distribution)
   pub limit : c .limit ≡ limitOf (c .bound)

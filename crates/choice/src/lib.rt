@@ -21,8 +21,8 @@ pub enum Choice {
     Spent,
 }
 
-// A kind of distribution; for a choice in which each element is as likely as another also its bound, how many elements it is among, and its limit,
-// which takes a division.
+// A distribution; for a choice in which each element is as likely as another also its bound, how many elements it is among, and its limit, which
+// takes a division.
 pub struct Chooser {
     pub distribution: PauliDistribution,
     pub bound: u64,
@@ -193,7 +193,7 @@ pub fn weigh(words: &[u64], more: &[u64], at: usize, sums: &[f64]) -> Choice
 
 // ---- A choice by the kind of distribution
 
-// The kind of a distribution with its numbers, which are the same for all shots of a line.
+// A distribution with its bound and limit, which are the same for all shots of a line.
 pub fn chooser_of(distribution: PauliDistribution) -> Chooser
     requires { ⌜ Small distribution ⌝ }
     ensures { λ r. ⌜ (r .distribution ≡ distribution) × Sized r ⌝ }

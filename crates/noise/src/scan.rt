@@ -26,8 +26,8 @@ const TOP_BIT: u64 = 9223372036854775808;
 
 // ---- A word beside the threshold
 
-// The least whole number that is not below p * 2^53: floor(w / 2048) is below it where a fault falls. It is 0 for a p that is not above zero, NaN
-// included, and 2^53, above every floor(w / 2048), for one that is not below 1.
+// The least whole number that is not below p * 2^53: floor(word / 2048) is below it where a fault falls. It is 0 for a p that is not above zero, NaN
+// included, and 2^53, above every floor(word / 2048), for one that is not below 1.
 pub fn threshold(p: f64) -> u64
     ensures { λ r. ⌜ r ≡ thresholdOf p ⌝ }
 {
@@ -45,7 +45,7 @@ pub fn threshold(p: f64) -> u64
     0
 }
 
-// A fault falls if floor(w / 2048) is below the threshold.
+// A fault falls if floor(word / 2048) is below the threshold.
 fn falls_below(word: u64, threshold: u64) -> bool
     ensures { λ r. ⌜ ((p : Float) → threshold ≡ thresholdOf p → r ≡ falls word p) ⌝ }
 {
