@@ -113,12 +113,12 @@ pub fn listed_number(c: Context, f: &[u64]) -> u64
     if refusal != 0 {
         return refusal;
     }
-    let elements = number(f, ELEMENT_COUNT);
-    if elements == 0 {
+    let element_count = number(f, ELEMENT_COUNT);
+    if element_count == 0 {
         return refusals::ELEMENTS;
     }
-    if MAX_ELEMENTS < elements {
+    if MAX_ELEMENTS < element_count {
         return refusals::ELEMENTS;
     }
-    size_number(f, LISTED_SIZE, elements)
+    size_number(f, LISTED_SIZE, element_count)
 }

@@ -9,6 +9,7 @@ use noise::scan::next_skip;
 use noise::scan::threshold;
 use noise::words::count;
 use pauli::Shot;
+use pauli::WORD_BITS;
 ghost use mathlib.Core.Path.{_≡_};
 ghost use mathlib.Core.List.{_++_};
 ghost use Prim.Native.Nat.{_*_, _/_, _%_, _<_, _≤_};
@@ -74,9 +75,6 @@ pub fn draw_shot(
         Choice::Spent => ShotDraw::Spent,
     }
 }
-
-// A word of a mask has a bit for each of so many shots.
-const WORD_BITS: usize = 64;
 
 // Whether a shot is in a mask.
 pub fn is_set(mask: &[u64], shot: Shot) -> bool
