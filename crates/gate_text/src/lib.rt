@@ -5,17 +5,22 @@ ghost use mathlib.Core.Bool.{true};
 ghost use Rattle.gate_text.specs.Gate.{ListThere, OperandsRead, GateBytes, GateLine, GateRead};
 use numbers::known::read_digits;
 
+// Where the letter of an operation stands, behind `op=`, and where it ends.
+const LETTER: usize = 3;
+
+const LETTER_END: usize = LETTER + 1;
+
 // Whether a line begins as a gate line does.
 pub fn is_gate(line: &[u8]) -> bool
     ensures { λ r. ⌜ (r ≡ true → GateBytes (now (line .entry))) ⌝ }
 {
-    if line.len() < 4 {
+    if line.len() < LETTER_END {
         return false;
     }
     if line[0] != b'o' {
         return false;
     }
-    line[3] == b'u'
+    line[LETTER] == b'u'
 }
 
 // The first two members of a list, the second 0 where there is none, and how many of the two there are.

@@ -222,13 +222,13 @@ fn read_member(s: &[u8], at: usize, hex: bool) -> Member
     requires { ⌜ at ≤ length (now s) ⌝ }
     ensures { λ r. ⌜ MemberAt hex (now (s .entry)) at r ⌝ }
 {
-    let m = short_at(s, at, hex);
-    if m.digits == 0 {
+    let short = short_at(s, at, hex);
+    if short.digits == 0 {
         return cut_member(s, at, hex);
     }
     Member {
-        value: Value::Of(m.value),
-        end: at + m.digits,
+        value: Value::Of(short.value),
+        end: at + short.digits,
     }
 }
 
@@ -239,9 +239,9 @@ pub fn list_by(s: &[u8], hex: bool, out: &mut [u64]) -> Listed
     let mut l = empty();
     let mut at = 0;
     loop {
-        let m = read_member(s, at, hex);
-        let e = m.end;
-        let value = m.value;
+        let member = read_member(s, at, hex);
+        let e = member.end;
+        let value = member.value;
         let Value::Of(n) = value else {
             return no_list();
         };

@@ -83,6 +83,9 @@ fn put_number(v: Value, numbers: usize, lists: usize, fields: &mut [u64]) -> Sto
     }
 }
 
+// The pieces of a table are hexadecimal.
+const HEX: bool = true;
+
 // A list by its letter: L, Q, T or C.
 fn list(letter: u8, bytes: &[u8], out: &mut [u64]) -> Listed
     ensures { λ r. ⌜ ListRead (listBy letter (now (bytes .entry))) r (now (out .entry)) (now (out .exit)) ⌝ }
@@ -90,7 +93,7 @@ fn list(letter: u8, bytes: &[u8], out: &mut [u64]) -> Listed
     match letter {
         b'L' => list_l(bytes, out),
         b'Q' => list_q(bytes, out),
-        b'T' => list_by(bytes, true, out),
+        b'T' => list_by(bytes, HEX, out),
         _ => list_c(bytes, out),
     }
 }
