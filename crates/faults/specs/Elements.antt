@@ -44,7 +44,8 @@ elementCounts words e = take 2 (drop (e * 64) words)
 abbrev pub elementMembers : List ℕ → ℕ → List ℕ
 elementMembers words e = take 62 (xMembers words e)
 
--- two lists of a line's values, the one in slot `first` and the next, were kept as element e
+-- two lists of a line's values, the one in slot `first` and the next, were kept as element e; its words behind the members may be any, those of other
+-- elements stay
 pub record Kept (e first : ℕ) (values before after : List ℕ) : Type 0 where
   pub long : length after ≡ length before
   pub x-count : xCount after e ≡ heldCount values first

@@ -87,7 +87,7 @@ fn kept_count(values: &[u64], i: usize) -> usize
     n
 }
 
-// Keeps two lists of a line, the one in slot `first` and the next, as element e. The words behind their members stay.
+// Keeps two lists of a line, the one in slot `first` and the next, as element e. What the words behind their members hold is not promised.
 pub fn keep_element(elements: &mut [u64], e: usize, values: &[u64], first: usize)
     requires { ⌜ Inside (now elements) e × Whole (now values) × (first ≤ 2) ⌝ }
     ensures { λ _. ⌜ Kept e first (now (values .entry)) (now (elements .entry)) (now (elements .exit)) ⌝ }

@@ -22,7 +22,6 @@ use job::limits::MAX_ELEMENTS;
 use noise::OutcomeCondition;
 use noise::PauliFault;
 use noise::condition::condition_mask;
-use reader::Form;
 use reader::slots::OWN_LISTS;
 
 // A noise line by value, how many element lines follow it, and the place in the job behind them.

@@ -36,13 +36,13 @@ WrittenSound (Written.line i) = (h : Header) × (r : ℕ) × LineSound h r i
 WrittenSound (Written.noise n) = Unit {0}
 WrittenSound (Written.element w P) = Unit {0}
 
--- a line of an accepted job, by its text: it says something
+-- a line of an accepted job, by its text: it says something, and is as sound as WrittenSound has it
 pub record KnownLine (text : List ℕ) : Type 0 where
   pub written : Written
   pub reads : readLine text ≡ some written
   pub sound : WrittenSound written
 
--- a line of an accepted job begins at a place
+-- from a place on the lines of a job pass, as those of an accepted job do from the start of each line
 pub record KnownAt (job : List ℕ) (at : ℕ) : Type 0 where
   pub ended : wellEnded job ≡ true
   pub inside : at < length job

@@ -15,7 +15,7 @@ use Rattle.numbers.specs.declared.known.KnownList.{KnownList}
 
 -- ---- a number
 
--- the bytes up to the first that is below `0`
+-- the bytes up to the first that is below `0`: where a number stands in a line, its digits
 unfoldable pub digitsOf : List ℕ → List ℕ
 digitsOf [] = []
 digitsOf (b ∷ l) = let more = b ∷ digitsOf l in cond (ltb b 48) [] more
@@ -24,7 +24,7 @@ digitsOf (b ∷ l) = let more = b ∷ digitsOf l in cond (ltb b 48) [] more
 abbrev pub digitsAt : List ℕ → ℕ → List ℕ
 digitsAt s from = digitsOf (drop from s)
 
--- they make a number
+-- what they come to, as if each were a digit, fits a word
 pub record DigitsThere (s : List ℕ) (from : ℕ) : Type 0 where
   pub within : from ≤ length s
   pub small : decimalFrom 0 (digitsAt s from) < 2 ^ 64

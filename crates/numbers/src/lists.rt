@@ -95,7 +95,7 @@ fn piece(s: &[u8], hex: bool) -> Value
     number(s)
 }
 
-// A number of at most three digits that ends at a comma: its digits, 0 where there is no such number, and its value.
+// A number of at most three digits that ends at a comma or with the bytes: its digits, 0 where there is no such number, and its value.
 struct Short {
     digits: usize,
     value: u64,

@@ -233,16 +233,18 @@ demand-3-shared job m s zero =
     let same = shared-run-is-plain job m s (run-passed job m s (takes-zero (sharedRunReply job m s .reply .answered) zero)) in
     (same, demand-3-calls job (withSource m (shared s (m .source))) (ap (λ (r : RunReply). r .answered .number) (sym same) ∙ zero))
 
--- The list of that walk is the one to which the words settle that the run was handed.
+-- As one theorem, with the words handed out: the list of that walk is the one to which they settle.
 pub demand-3-handed : (job : List ℕ) (m : Memory) (s : Share) → sharedRunReply job m s .reply .answered .number ≡ 0
     → let out = handed (jobOf job) s (m .source) (sharedRunReply job m s .reply .answered) in
-    (d : Demand3 job (withSource m (shared s (m .source))))
+    (sharedRunReply job m s .reply ≡ runReply job (withSource m (shared s (m .source))))
+    × (d : Demand3 job (withSource m (shared s (m .source))))
     × (settle (lentOf (jobOf job .header) (m .source)) (jobOf job .instructions) (wordsAt (m .source .main) out) ≡ Settled.settled (d .lines))
 unfolding handed
 demand-3-handed job m s zero =
     let j = jobOf job in
     let from = m .source in
-    let d = demand-3-shared job m s zero .1 in (
+    let (same, d) = demand-3-shared job m s zero in (
+      same,
       d,
       rw (takes-zero (sharedRunReply job m s .reply .answered) zero)
           (ap (settle (lentOf (j .header) from) (j .instructions)) (first-words j s from) ∙ taken-suffice j s from ∙ d .settles),

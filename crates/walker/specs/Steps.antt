@@ -15,8 +15,7 @@ use Rattle.backward.specs.Walk.{Walk, walkBack, walk}
 use Rattle.backward.specs.Walking.{firstNoise, plainLines}
 use Rattle.carry.specs.Full.{full}
 use Rattle.lines_back.specs.declared.Walk.{Walk as WalkWords}
-use Rattle.lines_from_last.specs.Line.{OfJob}
-use Rattle.lines_from_last.specs.Laws.Left.{LinesLeft}
+use Rattle.lines_from_last.specs.Line.{OfJob, LinesLeft}
 use Rattle.lines_back.specs.Back.{walkOf, writtenBack, noiseBack}
 
 -- B starts as identity, the count at 0, and no noise was seen
@@ -68,8 +67,8 @@ pub record Left (job : List ℕ) (k e : ℕ) : Type 0 where
   pub done : List (List ℕ)
   pub left : LinesLeft job k e done
 
--- Gate lines were walked back over, from place e₀, before which k₀ lines are left, to place e, before which k are. They changed the observable b₀ to
--- b, and nothing else of a walk.
+-- Lines were walked back over, from place e₀, before which k₀ lines are left, to place e, before which k are. Of every walk that comes to e₀ with the
+-- observable b₀ they make the one with b, and change nothing else of it.
 pub record GatesGone (job : List ℕ) (b₀ : PauliWords) (k₀ e₀ : ℕ) (b : PauliWords) (k e : ℕ) : Type 0 where
   pub within : e ≤ e₀
   pub left : Left job k e
