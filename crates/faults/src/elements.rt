@@ -137,6 +137,10 @@ pub fn gather(
     requires { ⌜ ElementLines (now job) from n weighted × (n * 64 ≤ length (now elements)) × (length (now weights) ≡ n) ⌝ }
     ensures { λ r. ⌜ (n ≡ 0 → now (elements .exit) ≡ now (elements .entry)) × ((q : ElementLines (now (job .entry)) from n weighted) → Gathered q (now (elements .exit)) (now (weights .exit)) r n) ⌝ }
 {
+    // No words are cleared for a line without elements.
+    if n == 0 {
+        return from;
+    }
     let mut values = [0u64; WORDS];
     let mut at = from;
     let mut e = 0;

@@ -20,15 +20,18 @@ Inv-loop job from n weighted elements₀ weights₀ values₀ at₀ e₀ element
 abbrev μ-loop : tie.MeasureT-loop
 μ-loop job from n weighted elements₀ weights₀ values₀ at₀ e₀ elements weights values at e = n - e
 
+returns : tie.Need-returns Inv-loop μ-loop
+returns c = (λ z. refl, λ q. subst (Gathered q _ _ _) (sym (c .if1 .taken)) (gathered-none q _ _))
+
 loop-holds : tie.Need-loop-holds Inv-loop μ-loop
-loop-holds c = (omega arith, refl, c .before .before .before .pre .2, λ z. refl, λ q. gathered-none q _ _, refl)
+loop-holds c = (omega arith, refl, c .before .before .before .before .pre .2, λ z. refl, λ q. gathered-none q _ _, refl)
 
 slice-aggregate-next-known : tie.Need-slice-aggregate-next-known Inv-loop μ-loop
 slice-aggregate-next-known c = omega (arith, c .before .before .loop .inv .5)
 
 next-known-requires : tie.Need-next-known-requires Inv-loop μ-loop
 next-known-requires c κs =
-    let q = c .before .before .before .before .before .before .pre .0 in
+    let q = c .before .before .before .before .before .before .before .pre .0 in
     let g = c .before .before .loop .inv .4 q in
     (gathered-known q g (c .before .loop-test .taken), omega (arith, c .before .before .loop .inv .5))
 
@@ -36,7 +39,7 @@ slice-aggregate-keep-element : tie.Need-slice-aggregate-keep-element Inv-loop μ
 slice-aggregate-keep-element c = omega (arith, c .before .before .before .before .before .before .loop .inv .5, c .before .before .before .next-known .kept)
 
 keep-element-requires : tie.Need-keep-element-requires Inv-loop μ-loop
-keep-element-requires c κs = (omega (arith, c .before .before .before .before .before .before .before .before .before .before .pre .1), omega (arith, c .before .before .before .before .before .before .loop .inv .5, c .before .before .before .next-known .kept), omega arith)
+keep-element-requires c κs = (omega (arith, c .before .before .before .before .before .before .before .before .before .before .before .pre .1), omega (arith, c .before .before .before .before .before .before .loop .inv .5, c .before .before .before .next-known .kept), omega arith)
 
 slice-aggregate-number : tie.Need-slice-aggregate-number Inv-loop μ-loop
 slice-aggregate-number c = omega (arith, c .before .before .before .before .before .before .before .before .before .before .loop .inv .5, c .before .before .before .before .before .before .before .next-known .kept)
@@ -46,7 +49,7 @@ number-requires c κs = (omega arith, omega (arith, c .before .before .before .b
 
 weight-of-requires : tie.Need-weight-of-requires Inv-loop μ-loop
 weight-of-requires c κs =
-    let q = c .before .before .before .before .before .before .before .before .before .before .before .before .before .before .before .pre .0 in
+    let q = c .before .before .before .before .before .before .before .before .before .before .before .before .before .before .before .before .pre .0 in
     weight-sound q (c .before .before .before .before .before .before .before .before .before .before .before .loop .inv .4 q) (c .before .before .before .before .before .before .before .before .before .before .loop-test .taken) (c .before .before .before .before .before .before .before .before .next-known .ensures) (c .number .ensures)
 
 mul-weights : tie.Need-mul-weights Inv-loop μ-loop
@@ -70,9 +73,9 @@ loop-again c =
       omega arith,
       c .before .before .before .before .before .before .keep-element .ensures .long ∙ inv .1,
       simp length-set (inv .2),
-      λ (z : c .before .before .before .before .before .before .before .before .before .before .before .before .before .before .before .before .before .args .n ≡ 0). absurd (omega arith),
+      λ (z : c .before .before .before .before .before .before .before .before .before .before .before .before .before .before .before .before .before .before .args .n ≡ 0). absurd (omega arith),
       λ q.
-          gathered-more q (inv .4 q) (c .before .before .before .before .before .before .before .before .before .before .before .before .loop-test .taken) (c .before .before .before .before .before .before .before .before .before .before .next-known .ensures) (omega (arith, c .before .before .before .before .before .before .before .before .before .before .before .before .before .before .before .before .before .pre .1)) (inv .2) (c .before .before .before .before .before .before .keep-element .ensures) (c .before .before .number .ensures) _ (c .before .weight-of .ensures),
+          gathered-more q (inv .4 q) (c .before .before .before .before .before .before .before .before .before .before .before .before .loop-test .taken) (c .before .before .before .before .before .before .before .before .before .before .next-known .ensures) (omega (arith, c .before .before .before .before .before .before .before .before .before .before .before .before .before .before .before .before .before .before .pre .1)) (inv .2) (c .before .before .before .before .before .before .keep-element .ensures) (c .before .before .number .ensures) _ (c .before .weight-of .ensures),
       omega (arith, inv .5, c .before .before .before .before .before .before .before .before .before .before .next-known .kept),
     )
 
@@ -80,12 +83,12 @@ same-length : tie.Need-same-length Inv-loop μ-loop
 same-length c = c .before .loop .inv .1
 
 same-length-2 : tie.Need-same-length-2 Inv-loop μ-loop
-same-length-2 c = c .before .loop .inv .2 ∙ sym (c .before .before .before .before .before .pre .2)
+same-length-2 c = c .before .loop .inv .2 ∙ sym (c .before .before .before .before .before .before .pre .2)
 
-returns : tie.Need-returns Inv-loop μ-loop
-returns c =
+returns-2 : tie.Need-returns-2 Inv-loop μ-loop
+returns-2 c =
     let inv = c .before .loop .inv in
-    let done : c .before .loop .e ≡ c .before .before .before .before .before .args .n = omega arith in
+    let done : c .before .loop .e ≡ c .before .before .before .before .before .before .args .n = omega arith in
     (inv .3, λ q. subst (Gathered q _ _ _) done (inv .4 q))
 
 pub gather-spec : {M : Type 1} → statement M
@@ -94,6 +97,7 @@ gather-spec =
     (tie.spec
     Inv-loop
     μ-loop
+    returns
     loop-holds
     slice-aggregate-next-known
     next-known-requires
@@ -110,4 +114,4 @@ gather-spec =
     loop-again
     same-length
     same-length-2
-    returns)
+    returns-2)
