@@ -1,11 +1,11 @@
 // Lists of numbers or words with commas. The members go into lent words, as many as there is room for; a list is read to its end, however long it is.
 ghost use mathlib.Core.Path.{_≡_};
-ghost use mathlib.Core.Bool.{false, _&&_, _||_};
+ghost use mathlib.Core.Bool.{_&&_, _||_};
 ghost use mathlib.Core.List.{List, [], _∷_, _++_};
 ghost use mathlib.Core.Option.{none, some};
 ghost use Prim.Native.Nat.{ℕ, _+_, _^_, _<_, _≤_, max};
 ghost use lib.Dec.{eqb, ltb};
-ghost use lib.ListN.{set, length, getD};
+ghost use lib.ListN.{set, length};
 ghost use Rattle.text.specs.Bytes.{comma, split};
 ghost use Rattle.text.specs.List.{piecesOf, pieceOf, listQ, listL, listC, isDash};
 ghost use Rattle.text.specs.Number.{isDecimal};
@@ -95,7 +95,7 @@ fn piece(s: &[u8], hex: bool) -> Value
     number(s)
 }
 
-// A number of at most three digits that ends at a comma or with the bytes: its digits, 0 where there is no such number, and its value.
+// A number of at most three digits that ends at a comma: its digits, 0 where there is no such number, and its value.
 struct Short {
     digits: usize,
     value: u64,
@@ -174,32 +174,6 @@ fn cut_member(s: &[u8], at: usize, hex: bool) -> Member
     Member { value, end }
 }
 
-// The byte at a place, and a comma behind the last: a list's last member ends there.
-fn byte_at(s: &[u8], at: usize) -> u8
-    ensures { λ r. ⌜ r ≡ getD (now (s .entry)) at comma ⌝ }
-{
-    if at < s.len() {
-        return s[at];
-    }
-    b','
-}
-
-// The short number from `at` on, with which the bytes end or soon do.
-fn short_end(s: &[u8], at: usize) -> Short
-    requires { ⌜ at ≤ length (now s) ⌝ }
-    ensures { λ r. ⌜ (0 < r .digits → MemberAt false (now (s .entry)) at (record { value = Of (r .value); end = at + r .digits })) ⌝ }
-{
-    let second = at + 1;
-    let third = second + 1;
-    let fourth = third + 1;
-    short_number(
-        byte_at(s, at),
-        byte_at(s, second),
-        byte_at(s, third),
-        byte_at(s, fourth),
-    )
-}
-
 // The short number from `at` on.
 fn short_at(s: &[u8], at: usize, hex: bool) -> Short
     requires { ⌜ at ≤ length (now s) ⌝ }
@@ -209,7 +183,7 @@ fn short_at(s: &[u8], at: usize, hex: bool) -> Short
         return not_short();
     }
     if s.len() - at < 4 {
-        return short_end(s, at);
+        return not_short();
     }
     let second = at + 1;
     let third = second + 1;

@@ -1,21 +1,20 @@
 -- Short numbers in front of a comma, as members of a list. Laws. Assumes nothing.
-use Prim.Native.Nat.{ℕ, zero, suc, _+_, _-_, _*_, _^_, _≤_, _<_}
+use Prim.Native.Nat.{ℕ, _+_, _-_, _*_, _^_, _≤_, _<_}
 use native.Mathlib.Numerals.{add-one}
 use native.Mathlib.Omega.{arith}
 use mathlib.Core.Path.{_≡_, refl, sym, ap, _∙_}
-use mathlib.Core.Bool.{Bool, true, false, cond}
+use mathlib.Core.Bool.{Bool, true, false}
 use mathlib.Core.List.{List, [], _∷_}
 use mathlib.Core.Option.{some}
 use borrow.Author.Tests.{leb-true, le-leb, eq-eqb, ne-eqb}
-use lib.Dec.{eqb, leb}
-use lib.ListN.{length, getD, take, drop, length-drop}
-use lib.Seq.{getD-drop}
+use lib.Dec.{leb}
+use lib.ListN.{length, getD, take, drop}
 use Rattle.text.specs.Bytes.{comma, until}
 use Rattle.text.specs.List.{pieceOf}
 use Rattle.text.specs.Number.{isDecimal, allDecimal, decimalFrom, proper, numberOf}
 use Rattle.text.specs.Laws.Values.{both}
 use Rattle.text.specs.Laws.Numbers.{number-good}
-use Rattle.text.specs.Laws.Pieces.{step, until-le}
+use Rattle.text.specs.Laws.Pieces.{step}
 use Rattle.numbers.specs.declared.Value.the-variants.{Of}
 use Rattle.numbers.specs.Read.{ShortIn, MemberAt}
 use Rattle.numbers.specs.Laws.Read.{read-of}
@@ -113,62 +112,3 @@ module _ (hex : Bool) (s : List ℕ) (at digits value : ℕ) (room : at + 4 ≤ 
       ∙ ap (λ (h : Bool). pieceOf h (take digits (getD s at 0 ∷ getD s (at + 1) 0 ∷ getD s (at + 1 + 1) 0 ∷ getD s (at + 1 + 1 + 1) 0 ∷ rest))) plain
       ∙ q .reads in
       record { found = omega arith; onward = omega arith; within = omega (arith, q .few); reads = read-of refl ∙ sym piece }
-
--- ---- a short number with which the bytes end
-
--- inside a list it is the same whatever stands for what is missing
-pub inside-same : (l : List ℕ) (i a b : ℕ) → i < length l → getD l i a ≡ getD l i b
-inside-same [] i a b h = absurd (omega arith)
-inside-same (n ∷ l) zero a b h = refl
-inside-same (n ∷ l) (suc i) a b h = inside-same l i a b (omega arith)
-
--- the first k bytes, with commas behind the last of them
-abbrev padded : ℕ → List ℕ → List ℕ
-padded zero l = []
-padded (suc k) [] = comma ∷ padded k []
-padded (suc k) (b ∷ l) = b ∷ padded k l
-
-padded-four : (l : List ℕ) → getD l 0 comma ∷ getD l 1 comma ∷ getD l 2 comma ∷ getD l 3 comma ∷ [] ≡ padded 4 l
-padded-four [] = refl
-padded-four (a ∷ []) = refl
-padded-four (a ∷ b ∷ []) = refl
-padded-four (a ∷ b ∷ c ∷ []) = refl
-padded-four (a ∷ b ∷ c ∷ d ∷ l) = refl
-
--- up to the first comma they are the bytes themselves
-abbrev Unpadded : ℕ → List ℕ → Type 0
-Unpadded k l =
-    (until comma l ≡ until comma (padded k l)) × (take (until comma (padded k l)) l ≡ take (until comma (padded k l)) (padded k l))
-
-unpadded : (k : ℕ) (l : List ℕ) → until comma (padded k l) < k → Unpadded k l
-unfolding until
-unpadded zero l h = absurd (omega arith)
-unpadded (suc k) [] h = (refl, refl)
-unpadded (suc k) (b ∷ l) h = go (eqb b comma) h (unpadded k l)
-  where
-    go : (t : Bool) → cond t 0 (suc (until comma (padded k l))) < suc k → (until comma (padded k l) < k → Unpadded k l)
-        → (cond t 0 (suc (until comma l)) ≡ cond t 0 (suc (until comma (padded k l))))
-        × (take (cond t 0 (suc (until comma (padded k l)))) (b ∷ l) ≡ take (cond t 0 (suc (until comma (padded k l)))) (b ∷ padded k l))
-    go true less rest = (refl, refl)
-    go false less rest = let q = rest (omega arith) in (ap suc (q .0), ap (λ (m : List ℕ). b ∷ m) (q .1))
-
-module _ (s : List ℕ) (at digits value : ℕ) (here : at ≤ length s) where
-  pub member-end : ((rest : List ℕ) → ShortIn digits value (getD s at comma ∷ getD s (at + 1) comma ∷ getD s (at + 1 + 1) comma ∷ getD s (at + 1 + 1 + 1) comma ∷ rest))
-      → MemberAt false s at (record { value = Of value; end = at + digits })
-  member-end short =
-      let q = short [] in
-      let from : (j k : ℕ) → at + j ≡ k → getD s k comma ≡ getD (drop at s) j comma = λ j k e. ap (λ (i : ℕ). getD s i comma) (sym e) ∙ sym (getD-drop at s j comma) in
-      let front : getD s at comma ∷ getD s (at + 1) comma ∷ getD s (at + 1 + 1) comma ∷ getD s (at + 1 + 1 + 1) comma ∷ [] ≡ padded 4 (drop at s) =
-      rw (from 0 at (omega arith), from 1 (at + 1) (omega arith), from 2 (at + 1 + 1) (omega arith), from 3 (at + 1 + 1 + 1) (omega arith)) (padded-four (drop at s)) in
-      let ends : until comma (padded 4 (drop at s)) ≡ digits = ap (until comma) (sym front) ∙ q .ends in
-      let same = unpadded 4 (drop at s) (omega (arith, q .few)) in
-      let wide : at + digits - at ≡ digits = omega arith in
-      let piece : numberOf (take (at + digits - at) (drop at s)) ≡ some value =
-      ap (λ (k : ℕ). numberOf (take k (drop at s))) (wide ∙ sym ends) ∙ ap numberOf (same .1) ∙ ap (λ (k : ℕ). numberOf (take k (padded 4 (drop at s)))) ends
-      ∙ ap (λ (l : List ℕ). numberOf (take digits l)) (sym front) ∙ q .reads in
-      record {
-        found = omega (arith, same .0);
-        onward = omega arith;
-        within = omega (arith, same .0, until-le comma (drop at s), length-drop at s);
-        reads = read-of refl ∙ sym piece;
-      }

@@ -14,11 +14,11 @@ returns c = λ h. absurd (omega (arith, c .not-short .ensures))
 sub-if2 : tie.Need-sub-if2
 sub-if2 c = search needs
 
-short-end-requires : tie.Need-short-end-requires
-short-end-requires c κs = search needs
+not-short-requires-2 : tie.Need-not-short-requires-2
+not-short-requires-2 c κs = search needs
 
 returns-2 : tie.Need-returns-2
-returns-2 c = λ h. rw (c .before .before .if1 .left) (c .short-end .ensures h)
+returns-2 c = λ h. absurd (omega (arith, c .not-short2 .ensures))
 
 add-second : tie.Need-add-second
 add-second c = search needs
@@ -57,7 +57,7 @@ short-at-spec =
     not-short-requires
     returns
     sub-if2
-    short-end-requires
+    not-short-requires-2
     returns-2
     add-second
     add-third
