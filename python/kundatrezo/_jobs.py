@@ -53,7 +53,7 @@ TEXTS = {
 class Refused(ValueError):
     """A call says no: the first bad line counts, and its lowest number."""
 
-    def __init__(self, number: int, line: int = 0, line_text: str = "", figure: int = 0) -> None:
+    def __init__(self, number: int, line: int = 0, line_text: str = "", figure: int = 0, hint: str = "") -> None:
         self.number = number
         """The number, by which docs/REFUSALS.md explains it."""
         self.line = line
@@ -62,7 +62,9 @@ class Refused(ValueError):
         """That line."""
         self.figure = figure
         """With 15 from settling, the bytes that the text takes."""
-        super().__init__(number, line, line_text, figure)
+        self.hint = hint
+        """What may help, where something can be said."""
+        super().__init__(number, line, line_text, figure, hint)
 
     @property
     def text(self) -> str:
@@ -71,15 +73,28 @@ class Refused(ValueError):
 
     def __str__(self) -> str:
         line = f" at line {self.line}: {self.line_text}" if self.line else ""
-        return f"{self.number} ({self.text}){line}"
+        hint = f"\nhint: {self.hint}" if self.hint else ""
+        return f"{self.number} ({self.text}){line}{hint}"
 
 
-def test(answer: Answer, job: bytes = b"", figure: int = 0) -> None:
+def test(answer: Answer, job: bytes = b"", figure: int = 0, hint: str = "") -> None:
     """Raise what an answer refuses by."""
     if answer.number:
         part = call("line", job, answer.line)
         line = job[part.start : part.start + part.len].decode(errors="backslashreplace")
-        raise Refused(answer.number, answer.line, line, figure)
+        raise Refused(answer.number, answer.line, line, figure, hint)
+
+
+def test_job(job: Job) -> None:
+    """That a job is none of the things that are easily taken for one."""
+    if not isinstance(job, Job):
+        raise TypeError(f"job is to be a Job, and not of {type(job).__name__}: Job.read(path) reads one")
+
+
+def test_lists(lists: Sequence[Sequence[int]], name: str) -> None:
+    """That these are lists of outcomes, and not outcomes."""
+    if any(np.ndim(list_) != 1 for list_ in lists):
+        raise TypeError(f"{name} is to be a list of lists of outcomes, such as [[4, 5]]")
 
 
 @dataclass(frozen=True)
@@ -247,9 +262,11 @@ class Job:
                 return once(main, other)
             except Refused as refusal:
                 corr = refusal.line_text.partition(" corr=")[2].partition(" ")[0]
-                stream = main_stream if corr == "-" else second_stream
-                if refusal.number != 14 or stream is None:
+                stream, name = (main_stream, "seed") if corr == "-" else (second_stream, "second_seed")
+                if refusal.number != 14:
                     raise
+                if stream is None:
+                    raise Refused(14, refusal.line, refusal.line_text, hint=f"{name}=N makes as many words as are needed") from None
                 if corr == "-":
                     main = stream.first(max(2 * main.size, 2 * self.shots * self.text.count(b"\nop=n ")))
                 else:
@@ -262,8 +279,16 @@ class Job:
         """How many of a job's injections and flips in the shot change the parity of a set of outcomes, by carrying its observable back. The job has no noise:
         settle it first."""
         said = call("walk", self.text, shot, read_words(set))
-        test(said.answer, self.text)
+        shots = f"the job's shots are 0 to {self.shots - 1}" if shot >= self.shots else ""
+        test(said.answer, self.text, hint=(shots or self._wanted("set", set)) if said.answer.number == 17 else "")
         return said.figure
+
+    def _wanted(self, what: str, *lists: Sequence[int]) -> str:
+        """What is wrong with the first of these that is no list of recorded outcomes, rising strictly."""
+        rises = lambda list_: all(one < other for one, other in zip(list_, [*list_[1:], self.recorded]))
+        wrong = next((",".join(map(str, list_)) for list_ in lists if not rises(list_)), "")
+        recorded = f"it names recorded outcomes, 0 to {self.recorded - 1}, and rises strictly"
+        return f"the {what} {wrong}: {recorded}" if self.recorded else "the job records no outcome"
 
     def annotate(self, p: float) -> Job:
         """The job with depolarizing noise of probability p before each measurement and after each gate."""
@@ -286,6 +311,7 @@ class Job:
     def fault_table(self, groups: Sequence[Sequence[int]]) -> FaultTable:
         """Which groups of outcomes each possible fault flips, as the only one: a row for each element of each noise line. The engine is asked for sixteen
         groups at a time, and where the text of a table is too long, for each half of the noise lines by itself."""
+        test_lists(groups, "groups")
         try:
             tables = [self._fault_table(groups[first : first + MAX_GROUPS]) for first in range(0, max(len(groups), 1), MAX_GROUPS)]
         except Refused as refusal:
@@ -309,7 +335,7 @@ class Job:
     def _fault_table(self, groups: Sequence[Sequence[int]]) -> FaultTable:
         out = np.zeros(MAX_BYTES, dtype=np.uint8)
         said = call("fault_table", self.text, read_words([number for group in groups for number in (len(group), *group)]), out)
-        test(said.answer, self.text)
+        test(said.answer, self.text, hint=self._wanted("group", *groups) if said.answer.number == 17 else "")
         fields = [[field.partition(b"=")[2] for field in row.split()] for row in out[: said.figure].tobytes().splitlines()]
         line, element = (np.array([int(row[place]) for row in fields], dtype=np.int64) for place in (0, 1))
         flips = np.frombuffer(b"".join(row[2] for row in fields), dtype=np.uint8).reshape(len(fields), len(groups)) == ord("1")

@@ -108,14 +108,23 @@ def call(name: str, *arguments: Union[int, bytes, np.ndarray]) -> Any:
         elif isinstance(argument, bytes):
             lent += [argument, len(argument)]
         else:
-            if not 0 <= argument < 2**64:
-                raise ValueError(f"{argument} is no number from 0 to below 2^64")
-            lent.append(argument)
+            lent.append(whole(argument))
     for place, own in enumerate(written):
         others = written[:place] + [argument for argument in arguments if isinstance(argument, np.ndarray) and argument is not own]
         if any(own is other or np.may_share_memory(own, other) for other in others):
             raise ValueError("an array that a call writes overlaps another that it is lent")
     return _in_default_state(function, lent)
+
+
+def whole(number: int, name: str = "an argument", least: int = 0) -> int:
+    """A number that a caller gives, which is to be below 2^64. One that is not whole is an error, and not rounded."""
+    try:
+        given = operator.index(number)
+    except TypeError:
+        raise TypeError(f"{name} is to be a whole number, not {number!r}") from None
+    if not least <= given < 2**64:
+        raise ValueError(f"{name} is to be from {least} to below 2^64, not {given}")
+    return given
 
 
 def read_words(words: Lendable) -> Words:

@@ -10,7 +10,7 @@ from typing import Iterator, Sequence
 import numpy as np
 import numpy.typing as npt
 
-from ._jobs import Job
+from ._jobs import Job, test_job, test_lists
 
 
 @dataclass
@@ -29,6 +29,9 @@ class Mechanism:
 
 def mechanisms(job: Job, detectors: Sequence[Sequence[int]], observables: Sequence[Sequence[int]] = ()) -> list[Mechanism]:
     """Each element of each noise line with its probability and what it flips. Lines of one correlation that draw alike have theirs in common."""
+    test_job(job)
+    test_lists(detectors, "detectors")
+    test_lists(observables, "observables")
     table = job.fault_table([*detectors, *observables])
     faults = iter(zip(table.element, table.flips))
     found: list[Mechanism] = []

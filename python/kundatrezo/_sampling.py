@@ -14,8 +14,8 @@ from typing import Any, Callable, Iterable, Iterator, Optional, Sequence
 import numpy as np
 import numpy.typing as npt
 
-from ._jobs import MAX_SHOTS, Job, Refused, Rows, bits, by_outcome, by_shot, words
-from ._library import Lendable, Words, read_words
+from ._jobs import MAX_SHOTS, Job, Refused, Rows, bits, by_outcome, by_shot, test_job, test_lists, words
+from ._library import Lendable, Words, read_words, whole
 from ._words import Stream, state_of_block
 
 Bools = npt.NDArray[np.bool_]
@@ -148,7 +148,7 @@ def sample(
         marks += f" noiseless={zlib.crc32(read_words(noiseless)[: job.outcomes * job.row_words].astype('<u8').tobytes()):08x}"
     elif given is not None:
         marks += " noiseless=shots"
-    return Counts(job, seed, shots, sum_.totals, plan.sets, sum_.sets, sum_.counted, marks)
+    return Counts(job, plan.seed, plan.shots, sum_.totals, plan.sets, sum_.sets, sum_.counted, marks)
 
 
 def sample_shots(
@@ -253,8 +253,9 @@ class _Plan:
 
     @staticmethod
     def of(job: Job, shots: int, seed: int, sets: Sequence[Sequence[int]], named: Optional[str], noiseless: Optional[Lendable]) -> _Plan:
-        if not 1 <= shots < 2**64 or not 0 <= seed < 2**64:
-            raise ValueError("shots are to be from 1, a seed from 0, to below 2^64")
+        test_job(job)
+        shots, seed = whole(shots, "shots", least=1), whole(seed, "a seed")
+        test_lists(sets, "sets")
         if named not in (None, "whole", "block"):
             raise ValueError("named is to be 'whole' or 'block'")
         if named is None and (line := _first_named(job.text)):

@@ -38,8 +38,7 @@ def _mixed(state: int) -> int:
 
 def state_of_seed(seed: int) -> int:
     """The first state of a seed: the first word of SplitMix64 from it, or the second where that is zero. The program's --seed takes it so."""
-    if not 0 <= seed <= _MASK:
-        raise ValueError("a seed is a number from 0 to below 2^64")
+    seed = _library.whole(seed, "a seed")
     return _mixed(seed + _GOLDEN & _MASK) or _mixed(seed + 2 * _GOLDEN & _MASK)
 
 

@@ -134,6 +134,21 @@ def test_fault_tables_are_refused():
         assert (refusal.value.number, refusal.value.line) == (number, 0)
 
 
+def test_outcomes_that_are_refused_are_named():
+    wanted = "it names recorded outcomes, 0 to 6, and rises strictly"
+    settled = SYNDROME.settle(seed=1)
+    for call, hint in (
+        (lambda: settled.walk(0, [3, 7]), f"the set 3,7: {wanted}"),
+        (lambda: settled.walk(64, [3, 7]), "the job's shots are 0 to 63"),
+        (lambda: kundatrezo.sample(SYNDROME, 10, 1, [[0], [3, 3]]), f"the set 3,3: {wanted}"),
+        (lambda: error_model(SYNDROME, [[0], [3, 2]]), f"the group 3,2: {wanted}"),
+        (lambda: Circuit().job().fault_table([[0]]), "the job records no outcome"),
+    ):
+        with pytest.raises(Refused) as refusal:
+            call()
+        assert (refusal.value.number, refusal.value.hint) == (17, hint)
+
+
 @given(st.integers(0, 150), st.integers(1, 200), st.integers(0, 2**32))
 def test_by_shot_and_back(outcomes, shots, seed):
     given_ = np.random.default_rng(seed).random((outcomes, shots)) < 0.5
@@ -226,6 +241,19 @@ def test_what_is_no_list_of_words():
     for numbers in ([-1], [2**64], np.array([-1])):
         with pytest.raises(ValueError, match="from 0 to below"):
             SYNDROME.run(numbers)
+    for call, text in (
+        (lambda: kundatrezo.sample("file.job", 10, 1), "job is to be a Job, and not of str"),
+        (lambda: error_model("file.job", [[0]]), "job is to be a Job, and not of str"),
+        (lambda: kundatrezo.sample(SYNDROME, 1e6, 1), "shots is to be a whole number, not 1000000.0"),
+        (lambda: kundatrezo.sample(SYNDROME, 10, 1.5), "a seed is to be a whole number, not 1.5"),
+        (lambda: SYNDROME.run(seed=1.5), "a seed is to be a whole number, not 1.5"),
+        (lambda: BELL.walk(0.5, [0]), "an argument is to be a whole number, not 0.5"),
+        (lambda: kundatrezo.sample(SYNDROME, 10, 1, [4, 5]), "sets is to be a list of lists of outcomes, such as"),
+        (lambda: SYNDROME.fault_table([4, 5]), "groups is to be a list of lists of outcomes, such as"),
+        (lambda: error_model(SYNDROME, [[4]], [5]), "observables is to be a list of lists of outcomes, such as"),
+    ):
+        with pytest.raises(TypeError, match=text):
+            call()
     with pytest.raises(ValueError, match="not both"):
         SYNDROME.run(fill(1, 10), seed=1)
     with pytest.raises(ValueError, match="to differ"):
@@ -233,9 +261,12 @@ def test_what_is_no_list_of_words():
 
 
 def test_words_past_the_list():
-    with pytest.raises(Refused) as refusal:
+    with pytest.raises(Refused, match="at line 2: op=n .*\nhint: seed=N makes as many words as are needed$") as refusal:
         SYNDROME.run()
     assert (refusal.value.number, refusal.value.line) == (14, 2)
+    assert str(pickle.loads(pickle.dumps(refusal.value))) == str(refusal.value)
+    with pytest.raises(Refused, match="hint: second_seed=N makes"):
+        Circuit().fault(0.5, "X0", corr=7).job().settle(seed=1)
     far = Circuit().fault(0.5, "X0", corr=2**64 - 1).job()
     with pytest.raises(Refused) as refusal:
         far.run(second_seed=1)

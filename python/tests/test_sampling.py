@@ -148,7 +148,7 @@ def test_noiseless_bits(tmp_path):
 def test_wrong_arguments():
     with pytest.raises(ValueError, match="for each of 10 shots"):
         sample(SYNDROME, 10, 1, count=lambda shots: shots)
-    for wrong in ({"shots": 0}, {"seed": -1}, {"named": "here"}):
+    for wrong in ({"shots": 0}, {"shots": 2**64}, {"seed": -1}, {"named": "here"}):
         with pytest.raises(ValueError):
             sample(**{"job": SYNDROME, "shots": 10, "seed": 1, **wrong})
     with pytest.raises(Refused) as refusal:

@@ -13,12 +13,12 @@ ghost use Rattle.writer.specs.Placed.{Puts};
 ghost use Rattle.writer.specs.Line.{depolarizingStart, StartOf};
 ghost use Rattle.circuit.specs.Annotate.{noiseLines};
 ghost use Rattle.annotation.specs.Lines.{beforeIt, aroundText, Annotates};
-use instructions::next_line;
+use instructions::next_known;
 use line_qubits::fit;
 use line_qubits::noise_qubits;
 use reader::Form;
-use template::values::EACH;
 use template::values::KEPT;
+use template::values::MAX_SLOTS;
 use template::values::WORDS;
 use writer::noise_lines::put_depolarizing;
 use writer::noise_lines::put_start;
@@ -77,14 +77,14 @@ pub fn put_annotated(out: &mut [u8], job: &[u8], p: u64) -> Progress
     ensures { λ r. ⌜ Annotates (now (job .entry)) p r (now (out .entry)) (now (out .exit)) ⌝ }
 {
     let mut fields = [0u64; WORDS];
-    let mut qubits = [0u64; EACH * KEPT];
+    let mut qubits = [0u64; MAX_SLOTS * KEPT];
     let mut start = [0u8; 50];
     put_start(&mut start, p);
     let mut at = 0;
     let mut k: u64 = 1;
     let mut next = 0;
     while at < job.len() {
-        let line = next_line(job, at, &mut fields);
+        let line = next_known(job, at, &mut fields);
         let form = line.form;
         let end = line.end + 1;
         let n = noise_qubits(form, &fields, &mut qubits);

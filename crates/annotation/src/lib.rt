@@ -14,6 +14,7 @@ use check_values::floats::probability;
 use checker::check;
 use job::Answer;
 use job::limits::MAX_BYTES;
+use job::refusals;
 use writer::TextAnswer;
 use writer::refused;
 
@@ -25,19 +26,19 @@ fn annotate_accepted(job: &[u8], p: u64, out: &mut [u8]) -> TextAnswer
     let r = put_annotated(&mut out[..0], job, p);
     if r.unfit != 0 {
         return refused(Answer {
-            number: 18,
+            number: refusals::ANNOTATION,
             line: r.unfit,
         });
     }
     if out.len() < r.bytes {
         return refused(Answer {
-            number: 15,
+            number: refusals::ROOM,
             line: 0,
         });
     }
     if MAX_BYTES < r.bytes {
         return refused(Answer {
-            number: 15,
+            number: refusals::ROOM,
             line: 0,
         });
     }
@@ -58,7 +59,7 @@ pub fn annotate(job: &[u8], p: u64, out: &mut [u8]) -> TextAnswer
     }
     let Checked::Accepted(_) = probability(p) else {
         return refused(Answer {
-            number: 11,
+            number: refusals::PROBABILITY,
             line: 0,
         });
     };

@@ -13,6 +13,7 @@ use blocks::scatter;
 use job::Answer;
 use job::limits::MAX_OUTCOMES;
 use job::limits::MAX_SHOTS;
+use job::refusals;
 
 // ---- The blocks
 
@@ -84,13 +85,13 @@ fn rearrange(rows: usize, columns: usize, source: &[u64], target: &mut [u64]) ->
     let needed = columns * ((rows + 63) / 64);
     if source.len() < rows * ((columns + 63) / 64) {
         return Answer {
-            number: 13,
+            number: refusals::WORDS,
             line: 0,
         };
     }
     if target.len() < needed {
         return Answer {
-            number: 13,
+            number: refusals::WORDS,
             line: 0,
         };
     }
@@ -115,7 +116,10 @@ fn may_hold(outcomes: u64, shots: u64) -> bool
 fn out_of_range() -> Answer
     ensures { λ r. ⌜ r ≡ record { number = 3; line = 0 } ⌝ }
 {
-    Answer { number: 3, line: 0 }
+    Answer {
+        number: refusals::HEADER,
+        line: 0,
+    }
 }
 
 // The deltas by shot: each shot becomes a row of ceil(outcomes/64) words. A refusal writes nothing, and words beyond those that are needed stay.

@@ -8,19 +8,24 @@ ghost use Rattle.job.specs.Checks.{isSecond, inEdition};
 ghost use Rattle.reader.specs.Parsed.{Said};
 ghost use Rattle.check_values.specs.Contexts.{contextOf};
 use check_values::context::Context;
+use job::SECOND_EDITION;
+use pauli::CONTROLLED_Y;
 use reader::Form;
 use reader::slots::GATE;
 use reader::slots::OPERANDS;
 use template::values::count;
 use template::values::number;
 
-// ControlledY's code is 15, the last.
+// The last code of a gate of the first edition: ControlledY's, which is of the second, follows it.
+const FIRST_EDITION_LAST_GATE: u64 = CONTROLLED_Y - 1;
+
+// Whether a line has a form that the second edition adds.
 fn is_second(form: Form, f: &[u64]) -> bool
     requires { ⌜ Whole (now f) ⌝ }
     ensures { λ r. ⌜ ((vs : List Value) (w : Written) → Said form (now (f .entry)) vs w → r ≡ isSecond w) ⌝ }
 {
     match form {
-        Form::Unitary => 14 < number(f, GATE),
+        Form::Unitary => FIRST_EDITION_LAST_GATE < number(f, GATE),
         Form::Reset => count(f, OPERANDS) != 1,
         Form::Barrier => true,
         _ => false,
@@ -32,7 +37,7 @@ pub fn in_edition(c: Context, form: Form, f: &[u64]) -> bool
     requires { ⌜ Whole (now f) ⌝ }
     ensures { λ r. ⌜ ((vs : List Value) (w : Written) → Said form (now (f .entry)) vs w → r ≡ inEdition (contextOf c) w) ⌝ }
 {
-    if c.header.edition == 2 {
+    if c.header.edition == SECOND_EDITION {
         return true;
     }
     !is_second(form, f)

@@ -10,11 +10,13 @@ ghost use Rattle.job.specs.Checks.{inRange, knownEdition, test, lowest, headerF
 ghost use Rattle.reader.specs.Parsed.{Said};
 ghost use Rattle.check_values.specs.Contexts.{contextOf};
 use check_values::context::Context;
+use job::FIRST_EDITION;
 use job::Header;
 use job::limits::MAX_EDITION;
 use job::limits::MAX_OUTCOMES;
 use job::limits::MAX_QUBITS;
 use job::limits::MAX_SHOTS;
+use job::refusals;
 use reader::Form;
 use reader::slots::EDITION;
 use reader::slots::EDITION_OUTCOMES;
@@ -30,7 +32,7 @@ fn header_in(f: &[u64]) -> Header
     ensures { λ r. ⌜ r ≡ headerBy (heldNumber (now (f .entry))) ⌝ }
 {
     Header {
-        edition: 1,
+        edition: FIRST_EDITION,
         qubits: number(f, QUBITS),
         outcomes: number(f, OUTCOMES),
         shots: number(f, SHOTS),
@@ -104,10 +106,10 @@ pub fn edition_number(edition: u64) -> u64
     ensures { λ r. ⌜ r ≡ lowest (test 23 (knownEdition edition) ∷ []) ⌝ }
 {
     if edition == 0 {
-        return 23;
+        return refusals::EDITION;
     }
     if MAX_EDITION < edition {
-        return 23;
+        return refusals::EDITION;
     }
     0
 }

@@ -24,6 +24,7 @@ use check_values::lists::overlap_is_odd;
 use check_values::lists::pauli_number;
 use check_values::lists::short;
 use check_values::lists::slot_distinct;
+use job::refusals;
 use reader::Form;
 use reader::slots::FLIPPED;
 use reader::slots::GATE;
@@ -51,19 +52,19 @@ use template::values::kept;
 use template::values::list;
 use template::values::number;
 
-// The number that refuses operands of no fixed number: 4 and 5; n is the number of qubits.
-pub fn operands_number(f: &[u64], n: u64) -> u64
+// The number that refuses operands of no fixed number, on so many qubits: 4 and 5.
+pub fn operands_number(f: &[u64], qubits: u64) -> u64
     requires { ⌜ Whole (now f) ⌝ }
-    ensures { λ r. ⌜ ((numbers lists : ℕ) (vs : List Value) → Held (now (f .entry)) numbers lists vs → 1 ≤ lists → r ≡ lowest (test 4 (eachBelow n (listsFrom 0 1 vs)) ∷ test 5 (distinct (listAt 0 vs) && eachShort (listsFrom 0 1 vs)) ∷ [])) ⌝ }
+    ensures { λ r. ⌜ ((numbers lists : ℕ) (vs : List Value) → Held (now (f .entry)) numbers lists vs → 1 ≤ lists → r ≡ lowest (test 4 (eachBelow qubits (listsFrom 0 1 vs)) ∷ test 5 (distinct (listAt 0 vs) && eachShort (listsFrom 0 1 vs)) ∷ [])) ⌝ }
 {
-    if !below(f, OPERANDS, OPERANDS_END, n) {
-        return 4;
+    if !below(f, OPERANDS, OPERANDS_END, qubits) {
+        return refusals::QUBIT;
     }
     if !short(f, OPERANDS, OPERANDS_END) {
-        return 5;
+        return refusals::OPERANDS;
     }
     if !slot_distinct(f, OPERANDS) {
-        return 5;
+        return refusals::OPERANDS;
     }
     0
 }
@@ -73,13 +74,13 @@ pub fn unitary_number(c: Context, f: &[u64]) -> u64
     ensures { λ r. ⌜ ((vs : List Value) (w : Written) → Said form.Unitary (now (f .entry)) vs w → r ≡ lowest (ownTests (contextOf c) w)) ⌝ }
 {
     if !below(f, OPERANDS, OPERANDS_END, c.header.qubits) {
-        return 4;
+        return refusals::QUBIT;
     }
-    if count(f, OPERANDS) != pauli::operands(number(f, GATE)) as u64 {
-        return 5;
+    if count(f, OPERANDS) != pauli::operand_count(number(f, GATE)) as u64 {
+        return refusals::OPERANDS;
     }
     if !slot_distinct(f, OPERANDS) {
-        return 5;
+        return refusals::OPERANDS;
     }
     0
 }
@@ -89,19 +90,19 @@ pub fn clifford_number(c: Context, f: &[u64]) -> u64
     ensures { λ r. ⌜ ((vs : List Value) (w : Written) → Said form.Clifford (now (f .entry)) vs w → r ≡ lowest (ownTests (contextOf c) w)) ⌝ }
 {
     if !below(f, OPERANDS, OPERANDS_END, c.header.qubits) {
-        return 4;
+        return refusals::QUBIT;
     }
     let k = count(f, OPERANDS);
     if MAX_CLIFFORD_QUBITS < k {
-        return 5;
+        return refusals::OPERANDS;
     }
     if !slot_distinct(f, OPERANDS) {
-        return 5;
+        return refusals::OPERANDS;
     }
     let n = table_words(k as usize);
     let words = kept(f, TABLE);
     if !is_clifford(&words[..n], k as usize) {
-        return 7;
+        return refusals::CLIFFORD;
     }
     0
 }
@@ -112,15 +113,15 @@ pub fn controlled_number(c: Context, f: &[u64]) -> u64
     ensures { λ r. ⌜ ((vs : List Value) (w : Written) → Said form.Controlled (now (f .entry)) vs w → r ≡ lowest (ownTests (contextOf c) w)) ⌝ }
 {
     if !below(f, X, TARGET_END, c.header.qubits) {
-        return 4;
+        return refusals::QUBIT;
     }
     if !short(f, X, TARGET_END) {
-        return 5;
+        return refusals::OPERANDS;
     }
     let x_on_z = overlap_is_odd(list(f, X), list(f, TARGET_Z));
     let z_on_x = overlap_is_odd(list(f, Z), list(f, TARGET_X));
     if x_on_z != z_on_x {
-        return 20;
+        return refusals::CONTROL;
     }
     0
 }
@@ -130,23 +131,23 @@ pub fn permute_number(c: Context, f: &[u64]) -> u64
     ensures { λ r. ⌜ ((vs : List Value) (w : Written) → Said form.Permute (now (f .entry)) vs w → r ≡ lowest (ownTests (contextOf c) w)) ⌝ }
 {
     if !below(f, PERMUTED, PERMUTED_END, c.header.qubits) {
-        return 4;
+        return refusals::QUBIT;
     }
     if !short(f, PLACES, PERMUTED_END) {
-        return 5;
+        return refusals::OPERANDS;
     }
     let k = count(f, PERMUTED);
     if !slot_distinct(f, PERMUTED) {
-        return 5;
+        return refusals::OPERANDS;
     }
     if count(f, PLACES) != k {
-        return 6;
+        return refusals::PERMUTATION;
     }
     if !below(f, PLACES, PLACES_END, k) {
-        return 6;
+        return refusals::PERMUTATION;
     }
     if !slot_distinct(f, PLACES) {
-        return 6;
+        return refusals::PERMUTATION;
     }
     0
 }
@@ -156,10 +157,10 @@ pub fn id_number(c: Context, id: u64) -> u64
     ensures { λ r. ⌜ r ≡ lowest (idTest (contextOf c) id ∷ []) ⌝ }
 {
     if id != c.recorded {
-        return 8;
+        return refusals::NEXT_ID;
     }
     if c.header.outcomes <= id {
-        return 8;
+        return refusals::NEXT_ID;
     }
     0
 }
@@ -168,9 +169,9 @@ pub fn measure_number(c: Context, f: &[u64]) -> u64
     requires { ⌜ Whole (now f) ⌝ }
     ensures { λ r. ⌜ ((vs : List Value) (w : Written) → Said form.Measure (now (f .entry)) vs w → r ≡ lowest (ownTests (contextOf c) w)) ⌝ }
 {
-    let n = pauli_number(f, X, PAULI_END, c.header.qubits);
-    if n != 0 {
-        return n;
+    let refusal = pauli_number(f, X, PAULI_END, c.header.qubits);
+    if refusal != 0 {
+        return refusal;
     }
     id_number(c, number(f, ID))
 }
@@ -180,13 +181,13 @@ pub fn conditional_number(c: Context, f: &[u64]) -> u64
     ensures { λ r. ⌜ ((vs : List Value) (w : Written) → Said form.Conditional (now (f .entry)) vs w → r ≡ lowest (ownTests (contextOf c) w)) ⌝ }
 {
     if !below(f, X, PAULI_END, c.header.qubits) {
-        return 4;
+        return refusals::QUBIT;
     }
     if !short(f, X, IDS_END) {
-        return 5;
+        return refusals::OPERANDS;
     }
     if !below(f, IDS, IDS_END, c.recorded) {
-        return 9;
+        return refusals::NOT_RECORDED;
     }
     0
 }
@@ -195,12 +196,12 @@ pub fn inject_number(c: Context, f: &[u64]) -> u64
     requires { ⌜ Whole (now f) ⌝ }
     ensures { λ r. ⌜ ((vs : List Value) (w : Written) → Said form.Inject (now (f .entry)) vs w → r ≡ lowest (ownTests (contextOf c) w)) ⌝ }
 {
-    let n = pauli_number(f, X, PAULI_END, c.header.qubits);
-    if n != 0 {
-        return n;
+    let refusal = pauli_number(f, X, PAULI_END, c.header.qubits);
+    if refusal != 0 {
+        return refusal;
     }
     if c.header.shots <= number(f, SHOT) {
-        return 10;
+        return refusals::SHOT;
     }
     0
 }
@@ -210,10 +211,10 @@ pub fn flip_number(c: Context, f: &[u64]) -> u64
     ensures { λ r. ⌜ ((vs : List Value) (w : Written) → Said form.Flip (now (f .entry)) vs w → r ≡ lowest (ownTests (contextOf c) w)) ⌝ }
 {
     if c.recorded <= number(f, FLIPPED) {
-        return 9;
+        return refusals::NOT_RECORDED;
     }
     if c.header.shots <= number(f, SHOT) {
-        return 10;
+        return refusals::SHOT;
     }
     0
 }

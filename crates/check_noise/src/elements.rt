@@ -19,8 +19,9 @@ use check_values::floats::Checked;
 use check_values::floats::is_total;
 use check_values::floats::weight;
 use check_values::lists::pauli_number;
+use job::refusals;
 use reader::Form;
-use reader::slots::ELEMENTS;
+use reader::slots::ELEMENT_COUNT;
 use reader::slots::PAULI_END;
 use reader::slots::WEIGHT;
 use reader::slots::X;
@@ -31,30 +32,30 @@ pub fn weighted_element_number(c: Context, f: &[u64]) -> u64
     requires { ⌜ Whole (now f) ⌝ }
     ensures { λ r. ⌜ ((vs : List Value) (w : Written) → Said form.WeightedElement (now (f .entry)) vs w → c .weighted ≡ true → r ≡ lowest (ownTests (contextOf c) w)) ⌝ }
 {
-    let n = pauli_number(f, X, PAULI_END, c.header.qubits);
-    if n != 0 {
-        return n;
+    let refusal = pauli_number(f, X, PAULI_END, c.header.qubits);
+    if refusal != 0 {
+        return refusal;
     }
-    let Checked::Accepted(w) = weight(number(f, WEIGHT)) else {
-        return 12;
+    let Checked::Accepted(element_weight) = weight(number(f, WEIGHT)) else {
+        return refusals::ELEMENTS;
     };
     if c.due != 1 {
         return 0;
     }
-    if !is_total(c.total + w) {
-        return 12;
+    if !is_total(c.total + element_weight) {
+        return refusals::ELEMENTS;
     }
     0
 }
 
 // Whether an element line is due, with a weight or without.
-fn element_due(c: Context, weight: bool) -> bool
-    ensures { λ r. ⌜ r ≡ (ltb 0 (c .due) && cond weight (c .weighted) (not (c .weighted))) ⌝ }
+fn element_due(c: Context, weighted: bool) -> bool
+    ensures { λ r. ⌜ r ≡ (ltb 0 (c .due) && cond weighted (c .weighted) (not (c .weighted))) ⌝ }
 {
     if c.due == 0 {
         return false;
     }
-    if weight {
+    if weighted {
         return c.weighted;
     }
     !c.weighted
@@ -87,8 +88,8 @@ pub fn due_after(c: Context, form: Form, f: &[u64]) -> u64
     ensures { λ r. ⌜ ((vs : List Value) (w : Written) → Said form (now (f .entry)) vs w → r ≡ Checks·next (contextOf c) w .due) ⌝ }
 {
     match form {
-        Form::Uniform => number(f, ELEMENTS),
-        Form::Weighted => number(f, ELEMENTS),
+        Form::Uniform => number(f, ELEMENT_COUNT),
+        Form::Weighted => number(f, ELEMENT_COUNT),
         Form::Element => one_less(c.due),
         Form::WeightedElement => one_less(c.due),
         _ => 0,
@@ -115,7 +116,7 @@ pub fn total_after(c: Context, form: Form, f: &[u64]) -> f64
         return 0.0;
     };
     match weight(number(f, WEIGHT)) {
-        Checked::Accepted(w) => c.total + w,
+        Checked::Accepted(element_weight) => c.total + element_weight,
         Checked::Refused => c.total,
     }
 }

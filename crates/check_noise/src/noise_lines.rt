@@ -21,11 +21,12 @@ use check_values::lists::short;
 use check_values::lists::slot_distinct;
 use job::depolarizing_size;
 use job::limits::MAX_ELEMENTS;
+use job::refusals;
 use reader::slots::CONDITION;
 use reader::slots::CONDITION_END;
 use reader::slots::DEPOLARIZED;
 use reader::slots::DEPOLARIZED_END;
-use reader::slots::ELEMENTS;
+use reader::slots::ELEMENT_COUNT;
 use reader::slots::LISTED_SIZE;
 use reader::slots::PROBABILITY;
 use reader::slots::SINGLE_END;
@@ -40,33 +41,33 @@ fn noise_number(c: Context, f: &[u64]) -> u64
     ensures { λ r. ⌜ ((numbers lists : ℕ) (vs : List Value) → Held (now (f .entry)) numbers lists vs → 0 < numbers → 1 < lists → r ≡ lowest (outcomeTest (contextOf c) (listAt 1 vs) ∷ test 11 (isProbability (float (numberAt 0 vs))) ∷ [])) ⌝ }
 {
     if !below(f, CONDITION, CONDITION_END, c.recorded) {
-        return 9;
+        return refusals::NOT_RECORDED;
     }
     let Checked::Accepted(_) = probability(number(f, PROBABILITY)) else {
-        return 11;
+        return refusals::PROBABILITY;
     };
     0
 }
 
-// 21, which every noise line has: the size is number i.
-fn size_number(f: &[u64], i: usize, size: u64) -> u64
-    requires { ⌜ (i < 4) × Whole (now f) ⌝ }
-    ensures { λ r. ⌜ ((numbers lists : ℕ) (vs : List Value) → Held (now (f .entry)) numbers lists vs → i < numbers → r ≡ lowest (test 21 (eqb (numberAt i vs) size) ∷ [])) ⌝ }
+// 21, which every noise line has: the number in `slot` is the line's size.
+fn size_number(f: &[u64], slot: usize, size: u64) -> u64
+    requires { ⌜ (slot < 4) × Whole (now f) ⌝ }
+    ensures { λ r. ⌜ ((numbers lists : ℕ) (vs : List Value) → Held (now (f .entry)) numbers lists vs → slot < numbers → r ≡ lowest (test 21 (eqb (numberAt slot vs) size) ∷ [])) ⌝ }
 {
-    if number(f, i) != size {
-        return 21;
+    if number(f, slot) != size {
+        return refusals::SIZE;
     }
     0
 }
 
 // 9, 11 and 21 of a noise line without element lines.
-fn alone_number(c: Context, f: &[u64], size: u64) -> u64
+fn unlisted_number(c: Context, f: &[u64], size: u64) -> u64
     requires { ⌜ Whole (now f) ⌝ }
     ensures { λ r. ⌜ ((lists : ℕ) (vs : List Value) → Held (now (f .entry)) 3 lists vs → 1 < lists → r ≡ lowest (outcomeTest (contextOf c) (listAt 1 vs) ∷ test 11 (isProbability (float (numberAt 0 vs))) ∷ test 21 (eqb (numberAt 2 vs) size) ∷ [])) ⌝ }
 {
-    let n = noise_number(c, f);
-    if n != 0 {
-        return n;
+    let refusal = noise_number(c, f);
+    if refusal != 0 {
+        return refusal;
     }
     size_number(f, SIZE, size)
 }
@@ -76,12 +77,12 @@ pub fn single_number(c: Context, f: &[u64]) -> u64
     ensures { λ r. ⌜ ((vs : List Value) (w : Written) → Said form.Single (now (f .entry)) vs w → r ≡ lowest (ownTests (contextOf c) w)) ⌝ }
 {
     if !below(f, SINGLE_X, SINGLE_END, c.header.qubits) {
-        return 4;
+        return refusals::QUBIT;
     }
     if !short(f, CONDITION, SINGLE_END) {
-        return 5;
+        return refusals::OPERANDS;
     }
-    alone_number(c, f, 1)
+    unlisted_number(c, f, 1)
 }
 
 pub fn depolarizing_number(c: Context, f: &[u64]) -> u64
@@ -89,15 +90,15 @@ pub fn depolarizing_number(c: Context, f: &[u64]) -> u64
     ensures { λ r. ⌜ ((vs : List Value) (w : Written) → Said form.Depolarizing (now (f .entry)) vs w → r ≡ lowest (ownTests (contextOf c) w)) ⌝ }
 {
     if !below(f, DEPOLARIZED, DEPOLARIZED_END, c.header.qubits) {
-        return 4;
+        return refusals::QUBIT;
     }
     if !short(f, CONDITION, DEPOLARIZED_END) {
-        return 5;
+        return refusals::OPERANDS;
     }
     if !slot_distinct(f, DEPOLARIZED) {
-        return 5;
+        return refusals::OPERANDS;
     }
-    alone_number(c, f, depolarizing_size(count(f, DEPOLARIZED)))
+    unlisted_number(c, f, depolarizing_size(count(f, DEPOLARIZED)))
 }
 
 // d=3 and d=4.
@@ -106,18 +107,18 @@ pub fn listed_number(c: Context, f: &[u64]) -> u64
     ensures { λ r. ⌜ ((vs : List Value) → Held (now (f .entry)) 4 2 vs → r ≡ lowest (listedTests (contextOf c) vs)) ⌝ }
 {
     if !short(f, CONDITION, CONDITION_END) {
-        return 5;
+        return refusals::OPERANDS;
     }
-    let n = noise_number(c, f);
-    if n != 0 {
-        return n;
+    let refusal = noise_number(c, f);
+    if refusal != 0 {
+        return refusal;
     }
-    let elements = number(f, ELEMENTS);
-    if elements == 0 {
-        return 12;
+    let element_count = number(f, ELEMENT_COUNT);
+    if element_count == 0 {
+        return refusals::ELEMENTS;
     }
-    if MAX_ELEMENTS < elements {
-        return 12;
+    if MAX_ELEMENTS < element_count {
+        return refusals::ELEMENTS;
     }
-    size_number(f, LISTED_SIZE, elements)
+    size_number(f, LISTED_SIZE, element_count)
 }

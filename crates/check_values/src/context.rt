@@ -2,6 +2,7 @@
 ghost use mathlib.Core.Path.{_≡_};
 ghost use Rattle.job.specs.Checks.{noContext};
 ghost use Rattle.check_values.specs.Contexts.{contextOf};
+use job::FIRST_EDITION;
 use job::Header;
 
 // What the lines before say: whether there was a header, and its numbers; how many outcomes are recorded; how many element lines are due, whether
@@ -21,7 +22,7 @@ pub fn no_context() -> Context
     Context {
         begun: false,
         header: Header {
-            edition: 1,
+            edition: FIRST_EDITION,
             qubits: 0,
             outcomes: 0,
             shots: 0,

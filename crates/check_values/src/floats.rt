@@ -17,7 +17,7 @@ const SIGN: u64 = 0x8000000000000000;
 const INFINITY: u64 = 0x7ff0000000000000;
 
 // The float of some bits: refused where they are a NaN's, at which `f64::from_bits` is undefined.
-pub fn number(bits: u64) -> Checked
+pub fn float_of(bits: u64) -> Checked
     ensures { λ r. ⌜ r ≡ onlyIf (not (isNan (float bits))) (float bits) ⌝ }
 {
     if INFINITY < bits % SIGN {
@@ -30,7 +30,7 @@ pub fn number(bits: u64) -> Checked
 pub fn probability(bits: u64) -> Checked
     ensures { λ r. ⌜ r ≡ onlyIf (isProbability (float bits)) (float bits) ⌝ }
 {
-    let Checked::Accepted(p) = number(bits) else {
+    let Checked::Accepted(p) = float_of(bits) else {
         return Checked::Refused;
     };
     if 1.0 < p {
@@ -53,7 +53,7 @@ pub fn is_weight(x: f64) -> bool
 pub fn weight(bits: u64) -> Checked
     ensures { λ r. ⌜ r ≡ onlyIf (isWeight (float bits)) (float bits) ⌝ }
 {
-    let Checked::Accepted(w) = number(bits) else {
+    let Checked::Accepted(w) = float_of(bits) else {
         return Checked::Refused;
     };
     if !is_weight(w) {

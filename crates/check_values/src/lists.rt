@@ -14,6 +14,7 @@ ghost use Rattle.check_values.specs.Slots.{listsFrom};
 ghost use Rattle.check_values.specs.Marks.{Unmarked, MarksOf};
 use job::limits::MAX_MEMBERS;
 use job::limits::MAX_QUBITS;
+use job::refusals;
 use template::values::count;
 use template::values::largest;
 use template::values::list;
@@ -29,13 +30,13 @@ fn slot_below(f: &[u64], slot: usize, n: u64) -> bool
     largest(f, slot) < n
 }
 
-// Whether every member of the lists from slot a up to slot e is below n.
-pub fn below(f: &[u64], a: usize, e: usize, n: u64) -> bool
-    requires { ⌜ (e ≤ 4) × Whole (now f) ⌝ }
-    ensures { λ r. ⌜ ((numbers lists : ℕ) (vs : List Value) → Held (now (f .entry)) numbers lists vs → e ≤ lists → r ≡ eachBelow n (listsFrom a (e - a) vs)) ⌝ }
+// Whether every member of the lists from slot `first` up to slot `end` is below n.
+pub fn below(f: &[u64], first: usize, end: usize, n: u64) -> bool
+    requires { ⌜ (end ≤ 4) × Whole (now f) ⌝ }
+    ensures { λ r. ⌜ ((numbers lists : ℕ) (vs : List Value) → Held (now (f .entry)) numbers lists vs → end ≤ lists → r ≡ eachBelow n (listsFrom first (end - first) vs)) ⌝ }
 {
-    let mut i = a;
-    while i < e {
+    let mut i = first;
+    while i < end {
         if !slot_below(f, i, n) {
             return false;
         }
@@ -44,14 +45,14 @@ pub fn below(f: &[u64], a: usize, e: usize, n: u64) -> bool
     true
 }
 
-// Whether the lists from slot a up to slot e hold at most 31 each.
-pub fn short(f: &[u64], a: usize, e: usize) -> bool
-    requires { ⌜ (e ≤ 4) × Whole (now f) ⌝ }
-    ensures { λ r. ⌜ ((numbers lists : ℕ) (vs : List Value) → Held (now (f .entry)) numbers lists vs → e ≤ lists → r ≡ eachShort (listsFrom a (e - a) vs)) ⌝ }
-    ensures { λ r. ⌜ (r ≡ true → (i : ℕ) → a ≤ i → i < e → AllKept (now (f .entry)) i) ⌝ }
+// Whether the lists from slot `first` up to slot `end` hold at most 31 each.
+pub fn short(f: &[u64], first: usize, end: usize) -> bool
+    requires { ⌜ (end ≤ 4) × Whole (now f) ⌝ }
+    ensures { λ r. ⌜ ((numbers lists : ℕ) (vs : List Value) → Held (now (f .entry)) numbers lists vs → end ≤ lists → r ≡ eachShort (listsFrom first (end - first) vs)) ⌝ }
+    ensures { λ r. ⌜ (r ≡ true → (i : ℕ) → first ≤ i → i < end → AllKept (now (f .entry)) i) ⌝ }
 {
-    let mut i = a;
-    while i < e {
+    let mut i = first;
+    while i < end {
         if MAX_MEMBERS < count(f, i) {
             return false;
         }
@@ -147,16 +148,16 @@ pub fn overlap_is_odd(a: &[u64], b: &[u64]) -> bool
     odd
 }
 
-// The number that refuses Paulis: 4 and 5 of the lists from slot a up to slot e; n is the number of qubits.
-pub fn pauli_number(f: &[u64], a: usize, e: usize, n: u64) -> u64
-    requires { ⌜ (e ≤ 4) × Whole (now f) ⌝ }
-    ensures { λ r. ⌜ ((numbers lists : ℕ) (vs : List Value) → Held (now (f .entry)) numbers lists vs → e ≤ lists → r ≡ lowest (test 4 (eachBelow n (listsFrom a (e - a) vs)) ∷ test 5 (eachShort (listsFrom a (e - a) vs)) ∷ [])) ⌝ }
+// The number that refuses Paulis on so many qubits: 4 and 5 of the lists from slot `first` up to slot `end`.
+pub fn pauli_number(f: &[u64], first: usize, end: usize, qubits: u64) -> u64
+    requires { ⌜ (end ≤ 4) × Whole (now f) ⌝ }
+    ensures { λ r. ⌜ ((numbers lists : ℕ) (vs : List Value) → Held (now (f .entry)) numbers lists vs → end ≤ lists → r ≡ lowest (test 4 (eachBelow qubits (listsFrom first (end - first) vs)) ∷ test 5 (eachShort (listsFrom first (end - first) vs)) ∷ [])) ⌝ }
 {
-    if !below(f, a, e, n) {
-        return 4;
+    if !below(f, first, end, qubits) {
+        return refusals::QUBIT;
     }
-    if !short(f, a, e) {
-        return 5;
+    if !short(f, first, end) {
+        return refusals::OPERANDS;
     }
     0
 }

@@ -10,8 +10,10 @@ use crate::tests::refusal;
 use check_values::context::no_context;
 use instructions::next_line;
 use job::Answer;
+use job::FIRST_EDITION;
 use job::Header;
 use job::limits::MAX_BYTES;
+use job::refusals;
 use template::values::WORDS;
 
 // Not empty, not too long, LF at the end.
@@ -43,7 +45,7 @@ fn refused(number: u64, line: u64) -> Examined
     Examined {
         answer: Answer { number, line },
         header: Header {
-            edition: 1,
+            edition: FIRST_EDITION,
             qubits: 0,
             outcomes: 0,
             shots: 0,
@@ -58,29 +60,29 @@ pub fn examine(job: &[u8]) -> Examined
     ensures { λ r. ⌜ Examines (now (job .entry)) r ⌝ }
 {
     if !well_ended(job) {
-        return refused(1, 0);
+        return refused(refusals::LENGTH, 0);
     }
     let mut fields = [0u64; WORDS];
-    let mut c = no_context();
+    let mut context = no_context();
     let mut at = 0;
-    let mut k: u64 = 0;
+    let mut lines: u64 = 0;
     while at < job.len() {
         let line = next_line(job, at, &mut fields);
         let form = line.form;
         at = line.end + 1;
-        k += 1;
-        let number = refusal(c, at == job.len(), form, &fields);
+        lines += 1;
+        let number = refusal(context, at == job.len(), form, &fields);
         if number != 0 {
-            return refused(number, k);
+            return refused(number, lines);
         }
-        c = next(c, form, &fields);
+        context = next(context, form, &fields);
     }
-    let header = c.header;
+    let header = context.header;
     Examined {
         answer: Answer { number: 0, line: 0 },
         header,
-        recorded: c.recorded,
-        lines: k,
+        recorded: context.recorded,
+        lines,
     }
 }
 

@@ -36,6 +36,7 @@ use check_noise::noise_lines::listed_number;
 use check_noise::noise_lines::single_number;
 use check_values::context::Context;
 use check_values::lists::pauli_number;
+use job::refusals;
 use reader::Form;
 use reader::slots::EDITION;
 use reader::slots::ID;
@@ -49,7 +50,7 @@ fn own_number(c: Context, form: Form, f: &[u64]) -> u64
     ensures { λ r. ⌜ ((vs : List Value) (w : Written) → Said form (now (f .entry)) vs w → Checks·expected (contextOf c) w ≡ true → r ≡ lowest (ownTests (contextOf c) w)) ⌝ }
 {
     match form {
-        Form::Unread => 2,
+        Form::Unread => refusals::FORM,
         Form::Header => 0,
         Form::Unitary => unitary_number(c, f),
         Form::Clifford => clifford_number(c, f),
@@ -80,16 +81,16 @@ pub fn refusal(c: Context, last: bool, form: Form, f: &[u64]) -> u64
     ensures { λ r. ⌜ (isUnread form ≡ true → r ≡ 2) × ((vs : List Value) (w : Written) → Said form (now (f .entry)) vs w → r ≡ refusalOf (contextOf c) last (some w)) ⌝ }
 {
     if !expected(c, form, f) {
-        return 2;
+        return refusals::FORM;
     }
     if missing(c, last, form, f) {
-        return 2;
+        return refusals::FORM;
     }
     if !in_edition(c, form, f) {
-        return 2;
+        return refusals::FORM;
     }
     if !header_fits(c, form, f) {
-        return 3;
+        return refusals::HEADER;
     }
     own_number(c, form, f)
 }

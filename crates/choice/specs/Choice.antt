@@ -16,12 +16,12 @@ use Rattle.choice.specs.declared.Choice.{Choice as Answer}
 use Rattle.choice.specs.declared.Choice.the-variants.{Chosen, Spent}
 use Rattle.noise.specs.Kinds.{boundOf, PlacesBy, Chooses}
 
--- the words that are left are those from a place on
+-- the words that are left are those from a position on
 unfoldable pub choiceOf : List ℕ → Answer → Choice
 choiceOf words (Chosen e next) = Choice.chosen e (drop next words)
 choiceOf words Spent = Choice.spent
 
--- the place of the next word
+-- the position of the next word
 unfoldable pub nextOf : Answer → ℕ
 nextOf (Chosen e next) = next
 nextOf Spent = 0
@@ -31,17 +31,17 @@ pub record Chose (words : List ℕ) (o : Choice) (r : Answer) : Type 0 where
   pub within : nextOf r ≤ length words
   pub is : choiceOf words r ≡ o
 
--- a choice by sums, from a place of the words on: for all weights beside which these sums lie
+-- a choice by sums, from a position of the words on: for all weights beside which these sums lie
 pub record Weighed (words : List ℕ) (at : ℕ) (sums : List Float) (r : Answer) : Type 0 where
   pub within : nextOf r ≤ length words
   pub is : (weights : List Float) → PlacesBy weights sums → choiceOf words r ≡ byWeight (placeOf weights) (drop at words)
 
 -- ---- a choice by the kind of distribution
 
--- the numbers beside the kind are its own
+-- the numbers beside the distribution are its own
 pub record Sized (c : Chooser) : Type 0 where
-  pub size : c .size ≡ boundOf (c .kind)
-  pub limit : c .limit ≡ limitOf (c .size)
+  pub bound : c .bound ≡ boundOf (c .distribution)
+  pub limit : c .limit ≡ limitOf (c .bound)
 
 -- the total that the weighted kind carries is that of these weights, which are not none
 pub record Totals (d : PauliDistribution) (weights : List Float) : Type 0 where
@@ -66,7 +66,7 @@ markedBy (w ∷ ws) (s ∷ sums) = marked w s (anyPositive ws) ∷ markedBy ws s
 pub record SumsOf (d : PauliDistribution) (weights sums : List Float) : Type 0 where
   pub is : (t : Float) → d ≡ Weighted t → sums ≡ markedBy weights (runningSums weights)
 
--- the choice of an element, from a place of the words on: for every distribution that the kind and the sums stand for
+-- the choice of an element, from a position of the words on: for every distribution that the kind and the sums stand for
 pub record ElementChosen (words : List ℕ) (at : ℕ) (d : PauliDistribution) (sums : List Float) (r : Answer) : Type 0 where
   pub within : nextOf r ≤ length words
   pub is : (D : Distribution) → Chooses D d sums → choiceOf words r ≡ chooseFrom D (drop at words)

@@ -15,16 +15,17 @@ ghost use Rattle.draws.specs.Known.{rustPlace};
 ghost use Rattle.noise.specs.Kinds.{boundOf, Small};
 ghost use Rattle.choice.specs.Choice.{Chose, Weighed, Sized, ElementChosen, Totals, marked, markedBy, SumsOf};
 
-// An element, with the place of the next word; or a word was needed past the end.
+// An element, with the position of the next word; or a word was needed past the end.
 pub enum Choice {
-    Chosen { element: u64, next: usize },
+    Chosen { element: u64, next_word: usize },
     Spent,
 }
 
-// A kind of distribution, with the number of elements of which each is as likely as another, and the limit of that choice, which takes a division.
+// A distribution; for a choice in which each element is as likely as another also its bound, how many elements it is among, and its limit, which
+// takes a division.
 pub struct Chooser {
-    pub kind: PauliDistribution,
-    pub size: u64,
+    pub distribution: PauliDistribution,
+    pub bound: u64,
     pub limit: u64,
 }
 
@@ -32,43 +33,43 @@ const MAX_WORD: u64 = 0xffffffffffffffff;
 
 // ---- A choice in which each element is as likely as another
 
-// How many elements such a choice is among; 0 for the kinds that choose otherwise.
-fn bound(d: PauliDistribution) -> u64
-    requires { ⌜ Small d ⌝ }
-    ensures { λ r. ⌜ r ≡ boundOf d ⌝ }
+// The bound of such a choice; 0 for the kinds that choose otherwise.
+fn bound(distribution: PauliDistribution) -> u64
+    requires { ⌜ Small distribution ⌝ }
+    ensures { λ r. ⌜ r ≡ boundOf distribution ⌝ }
 {
-    match d {
+    match distribution {
         PauliDistribution::Single => 0,
-        PauliDistribution::Depolarizing { qubits: k } => depolarizing_size(k),
-        PauliDistribution::Uniform { elements: n } => n,
+        PauliDistribution::Depolarizing { qubit_count } => depolarizing_size(qubit_count),
+        PauliDistribution::Uniform { element_count } => element_count,
         PauliDistribution::Weighted { total: _ } => 0,
     }
 }
 
 // Words from this one up are rejected.
-fn limit(c: u64) -> u64
-    ensures { λ r. ⌜ r ≡ limitOf c ⌝ }
+fn limit(bound: u64) -> u64
+    ensures { λ r. ⌜ r ≡ limitOf bound ⌝ }
 {
-    if c == 0 {
+    if bound == 0 {
         return 0;
     }
-    MAX_WORD - MAX_WORD % c
+    MAX_WORD - MAX_WORD % bound
 }
 
-// The first word that is not rejected, mod c. The limit is handed in, since it takes a division.
-pub fn choose(words: &[u64], more: &[u64], at: usize, c: u64, limit: u64) -> Choice
-    requires { ⌜ limit ≡ limitOf c ⌝ }
-    ensures { λ r. ⌜ Chose (now (words .entry) ++ now (more .entry)) (bounded c (drop at (now (words .entry) ++ now (more .entry)))) r ⌝ }
+// The first word that is not rejected, mod the bound. The limit is handed in, since it takes a division.
+pub fn choose(words: &[u64], more: &[u64], at: usize, bound: u64, limit: u64) -> Choice
+    requires { ⌜ limit ≡ limitOf bound ⌝ }
+    ensures { λ r. ⌜ Chose (now (words .entry) ++ now (more .entry)) (bounded bound (drop at (now (words .entry) ++ now (more .entry)))) r ⌝ }
 {
     let mut i = at;
     loop {
         match next_word(words, more, i) {
-            NextWord::Word(w) => {
+            NextWord::Word(word) => {
                 i += 1;
-                if w < limit {
+                if word < limit {
                     return Choice::Chosen {
-                        element: w % c,
-                        next: i,
+                        element: word % bound,
+                        next_word: i,
                     };
                 }
             }
@@ -94,7 +95,7 @@ pub fn total(weights: &[f64]) -> f64
     sum
 }
 
-// The running sums of the weights, each adding w / total, and the last set to 1.0.
+// The running sums of the weights, each adding a weight / total, and the last set to 1.0.
 pub fn running_sums(sums: &mut [f64], weights: &[f64], total: f64)
     requires { ⌜ (0 < length (now weights)) × (length (now sums) ≡ length (now weights)) × (total ≡ totalFrom zeroFloat (now weights)) ⌝ }
     ensures { λ _. ⌜ now (sums .exit) ≡ runningSums (now (weights .entry)) ⌝ }
@@ -109,13 +110,13 @@ pub fn running_sums(sums: &mut [f64], weights: &[f64], total: f64)
     sums[weights.len() - 1] = 1.0;
 }
 
-// A running sum beside its weight, so that `place` needs one comparison: -1.0, which is below every u, if the weight isn't positive, and 1.0, which
-// is below none, if it is the last that is.
-fn mark(weight: f64, sum: f64, later: bool) -> f64
-    ensures { λ r. ⌜ r ≡ marked weight sum later ⌝ }
+// A running sum beside its weight, so that `element_by` needs one comparison: -1.0, which is below every u, if the weight isn't positive, and 1.0,
+// which is below none, if it is the last that is.
+fn mark(weight: f64, sum: f64, positive_behind: bool) -> f64
+    ensures { λ r. ⌜ r ≡ marked weight sum «positive_behind» ⌝ }
 {
     if 0.0 < weight {
-        if later {
+        if positive_behind {
             return sum;
         }
         return 1.0;
@@ -124,10 +125,10 @@ fn mark(weight: f64, sum: f64, later: bool) -> f64
 }
 
 // Whether a weight is positive, or one behind it.
-fn any_positive(weight: f64, later: bool) -> bool
-    ensures { λ r. ⌜ r ≡ (later || isPositive weight) ⌝ }
+fn any_positive(weight: f64, positive_behind: bool) -> bool
+    ensures { λ r. ⌜ r ≡ («positive_behind» || isPositive weight) ⌝ }
 {
-    if later {
+    if positive_behind {
         return true;
     }
     0.0 < weight
@@ -138,22 +139,22 @@ fn mark_sums(sums: &mut [f64], weights: &[f64])
     requires { ⌜ length (now sums) ≡ length (now weights) ⌝ }
     ensures { λ _. ⌜ now (sums .exit) ≡ markedBy (now (weights .entry)) (now (sums .entry)) ⌝ }
 {
-    let mut later = false;
+    let mut positive_behind = false;
     let mut i = weights.len();
     while 0 < i {
         i -= 1;
-        let w = weights[i];
-        sums[i] = mark(w, sums[i], later);
-        later = any_positive(w, later);
+        let weight = weights[i];
+        sums[i] = mark(weight, sums[i], positive_behind);
+        positive_behind = any_positive(weight, positive_behind);
     }
 }
 
 // The sums by which the weighted one of the distributions chooses, by the total that it carries. The others have none.
-pub fn fill_sums(d: PauliDistribution, sums: &mut [f64], weights: &[f64])
-    requires { ⌜ (length (now sums) ≡ length (now weights)) × Totals d (now weights) ⌝ }
-    ensures { λ _. ⌜ SumsOf d (now (weights .entry)) (now (sums .exit)) ⌝ }
+pub fn fill_sums(distribution: PauliDistribution, sums: &mut [f64], weights: &[f64])
+    requires { ⌜ (length (now sums) ≡ length (now weights)) × Totals distribution (now weights) ⌝ }
+    ensures { λ _. ⌜ SumsOf distribution (now (weights .entry)) (now (sums .exit)) ⌝ }
 {
-    match d {
+    match distribution {
         PauliDistribution::Weighted { total } => {
             running_sums(&mut *sums, weights, total);
             mark_sums(sums, weights)
@@ -162,8 +163,8 @@ pub fn fill_sums(d: PauliDistribution, sums: &mut [f64], weights: &[f64])
     }
 }
 
-// The first place whose running sum is not below u, else the last.
-fn place(sums: &[f64], u: f64) -> usize
+// The element that u chooses: the first whose running sum is not below u, else the last.
+fn element_by(sums: &[f64], u: f64) -> usize
     ensures { λ r. ⌜ r ≡ rustPlace u (now (sums .entry)) ⌝ }
 {
     let mut i = 0;
@@ -177,14 +178,14 @@ fn place(sums: &[f64], u: f64) -> usize
     i
 }
 
-// One word chooses a place by its running sum.
+// One word chooses an element by its running sum.
 pub fn weigh(words: &[u64], more: &[u64], at: usize, sums: &[f64]) -> Choice
     ensures { λ r. ⌜ Weighed (now (words .entry) ++ now (more .entry)) at (now (sums .entry)) r ⌝ }
 {
     match next_word(words, more, at) {
-        NextWord::Word(w) => Choice::Chosen {
-            element: place(sums, unit(w)) as u64,
-            next: at + 1,
+        NextWord::Word(word) => Choice::Chosen {
+            element: element_by(sums, unit(word)) as u64,
+            next_word: at + 1,
         },
         NextWord::Spent => Choice::Spent,
     }
@@ -192,42 +193,42 @@ pub fn weigh(words: &[u64], more: &[u64], at: usize, sums: &[f64]) -> Choice
 
 // ---- A choice by the kind of distribution
 
-// The kind of a distribution with its numbers, which are the same for all shots of a line.
-pub fn chooser_of(d: PauliDistribution) -> Chooser
-    requires { ⌜ Small d ⌝ }
-    ensures { λ r. ⌜ (r .kind ≡ d) × Sized r ⌝ }
+// A distribution with its bound and limit, which are the same for all shots of a line.
+pub fn chooser_of(distribution: PauliDistribution) -> Chooser
+    requires { ⌜ Small distribution ⌝ }
+    ensures { λ r. ⌜ (r .distribution ≡ distribution) × Sized r ⌝ }
 {
-    let size = bound(d);
+    let bound = bound(distribution);
     Chooser {
-        kind: d,
-        size,
-        limit: limit(size),
+        distribution,
+        bound,
+        limit: limit(bound),
     }
 }
 
-// The element that the words from a place on choose.
+// The element that the words from a position on choose.
 pub fn element(words: &[u64], more: &[u64], at: usize, chooser: Chooser, sums: &[f64]) -> Choice
     requires { ⌜ (at ≤ length (now words ++ now more)) × Sized chooser ⌝ }
-    ensures { λ r. ⌜ ElementChosen (now (words .entry) ++ now (more .entry)) at (chooser .kind) (now (sums .entry)) r ⌝ }
+    ensures { λ r. ⌜ ElementChosen (now (words .entry) ++ now (more .entry)) at (chooser .distribution) (now (sums .entry)) r ⌝ }
 {
-    let d = chooser.kind;
-    match d {
+    let distribution = chooser.distribution;
+    match distribution {
         PauliDistribution::Single => Choice::Chosen {
             element: 0,
-            next: at,
+            next_word: at,
         },
-        PauliDistribution::Depolarizing { qubits: _ } => choose(
+        PauliDistribution::Depolarizing { qubit_count: _ } => choose(
             words,
             more,
             at,
-            chooser.size,
+            chooser.bound,
             chooser.limit,
         ),
-        PauliDistribution::Uniform { elements: _ } => choose(
+        PauliDistribution::Uniform { element_count: _ } => choose(
             words,
             more,
             at,
-            chooser.size,
+            chooser.bound,
             chooser.limit,
         ),
         PauliDistribution::Weighted { total: _ } => weigh(words, more, at, sums),

@@ -21,8 +21,9 @@ ghost use Rattle.correlations.specs.Links.{remainderOf, Unseen, Linked, 
 ghost use Rattle.correlations.specs.Rounds.{unlike, earliest, Looks, Remembers, Collects, RoundOf};
 use checker::check;
 use instructions::is_noise;
-use instructions::next_line;
+use instructions::next_known;
 use job::Answer;
+use job::refusals;
 use reader::Form;
 use reader::slots::CORRELATION;
 use reader::slots::LISTED_SIZE;
@@ -183,7 +184,7 @@ fn collect(
     let mut k = number;
     let mut n = 0;
     while at < job.len() {
-        let line = next_line(job, at, &mut fields);
+        let line = next_known(job, at, &mut fields);
         let form = line.form;
         let l = look(form, &fields, &seen[..n], &sizes[..n], &*links);
         if !l.fits {
@@ -223,7 +224,7 @@ fn compare(job: &[u8], from: usize, number: u64, seen: &[u64], sizes: &[u64], li
     let mut at = from;
     let mut k = number;
     while at < job.len() {
-        let line = next_line(job, at, &mut fields);
+        let line = next_known(job, at, &mut fields);
         let form = line.form;
         let l = look(form, &fields, seen, sizes, links);
         if !l.fits {
@@ -347,5 +348,8 @@ pub fn correlation(job: &[u8]) -> Answer
     if line == 0 {
         return Answer { number: 0, line: 0 };
     }
-    Answer { number: 19, line }
+    Answer {
+        number: refusals::SIZES,
+        line,
+    }
 }

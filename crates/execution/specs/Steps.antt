@@ -8,7 +8,7 @@ use Rattle.job.specs.declared.Answer.{Answer}
 use Rattle.job.specs.Line.{Instruction, Placed}
 use Rattle.job.specs.Grammar.{headerWith}
 use Rattle.job.specs.Job.{answer, accepted, placedAt, jobOf}
-use Rattle.instructions.specs.declared.Next.{Next}
+use Rattle.instructions.specs.declared.LineRead.{LineRead}
 use Rattle.instructions.specs.Ahead.{instructionsAt, Ahead}
 use Rattle.draws.specs.Draws.{Lent}
 use Rattle.draws.specs.Left.{leftAfter}
@@ -78,7 +78,7 @@ pub record EndsAs (job : List ℕ) (shape : Shape) (lent : Lent) (main : List �
   pub by : EndsBy job shape lent main all count k x z d r
 
 -- a noise line at a place was read; its element lines begin behind it
-pub record NoiseReady (job : List ℕ) (place : Place) (line : Next) (values noiseless : List ℕ) (shape : Shape) : Type 0 where
+pub record NoiseReady (job : List ℕ) (place : Place) (line : LineRead) (values noiseless : List ℕ) (shape : Shape) : Type 0 where
   pub lines : NoiseLines job (line .end + 1) (line .form) values noiseless (shape .width)
   pub header : lines .header ≡ headerOf job shape
   pub number : lines .line ≡ place .line + 1
@@ -92,7 +92,7 @@ pub record NoiseRoom (shape : Shape) (values elements x z : List ℕ) : Type 0 w
   pub of-x : length x ≡ shape .qubits * shape .width
   pub of-z : length z ≡ shape .qubits * shape .width
 
-pub record NoiseDone (job : List ℕ) (place : Place) (line : Next) (values : List ℕ) (shape : Shape) (noiseless main second : List ℕ) (base : ℕ)
+pub record NoiseDone (job : List ℕ) (place : Place) (line : LineRead) (values : List ℕ) (shape : Shape) (noiseless main second : List ℕ) (base : ℕ)
     (x z x′ z′ : List ℕ) (r : Moved) : Type 0 where
   pub by : (q : NoiseLines job (line .end + 1) (line .form) values noiseless (shape .width)) → q .header ≡ headerOf job shape → q .line ≡ place .line + 1
       → (text deltas : List ℕ) (states : States) → Holds (shape .width) x z deltas states

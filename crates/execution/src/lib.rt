@@ -3,12 +3,13 @@ use faults::elements::ALL_WORDS;
 use faults::prepare;
 use injection::Drawn;
 use injection::inject_faults;
-use instructions::Next;
+use instructions::LineRead;
 use instructions::is_noise;
-use instructions::next_line;
+use instructions::next_known;
 use job::Answer;
 use job::limits::MAX_ELEMENTS;
 use job::limits::MAX_WIDTH;
+use job::refusals;
 use lines::apply_line;
 use noise::Place;
 use noise::words::count;
@@ -16,6 +17,7 @@ use noise::words::more_part;
 use noise::words::part;
 use noise::words::position_after;
 use rows::Shape;
+use template::values::KEPT;
 use template::values::WORDS;
 ghost use mathlib.Core.List.{_++_};
 ghost use Prim.Native.Nat.{ℕ, _*_, _≤_};
@@ -25,7 +27,7 @@ ghost use Rattle.totals.specs.Held.{TotalsHeld};
 ghost use Rattle.execution.specs.Steps.{headerOf, RowsFor, NoiseReady, NoiseRoom, NoiseDone, StepReady, Stepped, Executes};
 
 // As many rows as a line has operands.
-const SCRATCH_WORDS: usize = 31 * MAX_WIDTH;
+const SCRATCH_WORDS: usize = KEPT * MAX_WIDTH;
 
 // The place of the next instruction; or the draws were spent, and the main list was read up to a position.
 pub enum Moved {
@@ -43,7 +45,7 @@ pub struct Answered {
 fn apply_noise<'a>(
     job: &[u8],
     place: Place,
-    line: Next,
+    line: LineRead,
     values: &[u64],
     elements: &mut [u64],
     x: &mut [u64],
@@ -60,7 +62,7 @@ fn apply_noise<'a>(
 {
     let mut sums = [0.0; MAX_ELEMENTS as usize];
     let mut mask = [0u64; MAX_WIDTH];
-    let r = prepare(
+    let ready = prepare(
         job,
         line,
         values,
@@ -70,11 +72,11 @@ fn apply_noise<'a>(
         &mut sums,
         &mut mask,
     );
-    let fault = r.fault;
-    let lines = r.lines;
+    let fault = ready.fault;
+    let following = ready.following;
     let next = Place {
-        byte: r.next,
-        line: place.line + 1 + lines as u64,
+        byte: ready.behind,
+        line: place.line + 1 + following as u64,
         position: place.position,
     };
     if fault.probability <= 0.0 {
@@ -82,21 +84,21 @@ fn apply_noise<'a>(
     }
     let correlation = fault.correlation;
     let words = part(main, second, correlation, base, place.position);
-    let rest = more_part(more, correlation, place.position, main.len());
+    let more_words = more_part(more, correlation, place.position, main.len());
     let drawn = inject_faults(
         words,
-        rest,
+        more_words,
         &mask,
         fault,
-        &sums[..lines],
+        &sums[..following],
         elements,
         x,
         z,
         shape,
     );
-    let Drawn::Done { next: read } = drawn else {
+    let Drawn::Done { next_word: read } = drawn else {
         return Moved::Spent {
-            position: position_after(correlation, place.position, count(words, rest)),
+            position: position_after(correlation, place.position, count(words, more_words)),
         };
     };
     Moved::To(Place {
@@ -127,7 +129,7 @@ fn step<'a>(
     requires { ⌜ StepReady (now job) shape place (now values) (now elements) (now main ++ now more) × RowsFor shape (now x) (now z) (now deltas) (now noiseless) × (31 * shape .width ≤ length (now scratch)) × TotalsHeld (shape .width) (shape .outcomes) (now deltas) (now totals) ⌝ }
     ensures { λ r. ⌜ Stepped (now (job .entry)) shape (now (noiseless .entry)) (now (main .entry) ++ now (more .entry)) (now (second .entry)) base place (now (x .entry)) (now (z .entry)) (now (deltas .entry)) (now (x .exit)) (now (z .exit)) (now (deltas .exit)) r × TotalsHeld (shape .width) (shape .outcomes) (now (deltas .exit)) (now (totals .exit)) ⌝ }
 {
-    let line = next_line(job, place.byte, &mut *values);
+    let line = next_known(job, place.byte, &mut *values);
     let form = line.form;
     if is_noise(form) {
         return apply_noise(
@@ -154,7 +156,10 @@ fn step<'a>(
     })
 }
 
-// The instructions behind the header, which ends before a place of the job.
+// The header is line 1.
+const FIRST_INSTRUCTION_LINE: u64 = 2;
+
+// The instructions behind the header, which ends before byte `from` of the job.
 // The room for elements and the scratch are made once, since they are large.
 pub fn execute<'a>(
     job: &[u8],
@@ -178,7 +183,7 @@ pub fn execute<'a>(
     let mut scratch = [0u64; SCRATCH_WORDS];
     let mut place = Place {
         byte: from,
-        line: 2,
+        line: FIRST_INSTRUCTION_LINE,
         position: 0,
     };
     while place.byte < job.len() {
@@ -203,7 +208,7 @@ pub fn execute<'a>(
             Moved::Spent { position } => {
                 return Answered {
                     answer: Answer {
-                        number: 14,
+                        number: refusals::DRAWS,
                         line: place.line,
                     },
                     taken: position,

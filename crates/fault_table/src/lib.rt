@@ -27,9 +27,10 @@ use groups::Tested;
 use groups::grouping;
 use groups_back::line_on_groups;
 use instructions::is_noise;
-use instructions::next_line;
+use instructions::next_known;
 use job::Answer;
 use job::limits::MAX_BYTES;
+use job::refusals;
 use lines_from_last::line_start;
 use noise_rows::is_wide;
 use noise_rows::keep_marks;
@@ -70,7 +71,7 @@ fn measure(job: &[u8], groups: usize) -> Measured
     let mut k: u64 = 1;
     let mut bytes = 0;
     while at < job.len() {
-        let line = next_line(job, at, &mut fields);
+        let line = next_known(job, at, &mut fields);
         let form = line.form;
         if is_wide(form, &fields) {
             return Measured { wide: k, bytes: 0 };
@@ -137,14 +138,14 @@ fn table_accepted(job: &[u8], lines: u64, list: &[u64], groups: usize, out: &mut
 {
     let m = measure(job, groups);
     if m.wide != 0 {
-        return refusal(24, m.wide);
+        return refusal(refusals::GROUPS, m.wide);
     }
     let bytes = m.bytes;
     if out.len() < bytes {
-        return refusal(15, 0);
+        return refusal(refusals::ROOM, 0);
     }
     if MAX_BYTES < bytes {
-        return refusal(15, 0);
+        return refusal(refusals::ROOM, 0);
     }
     let mut words = [0u64; MAX_GROUPS * GROUP_WORDS];
     let end = groups * GROUP_WORDS;
@@ -166,13 +167,13 @@ pub fn fault_table(job: &[u8], groups: &[u64], out: &mut [u8]) -> TextAnswer
         return refused(answer);
     }
     match grouping(groups, found.recorded) {
-        Tested::Refused => refusal(17, 0),
+        Tested::Refused => refusal(refusals::WALK, 0),
         Tested::Count(n) => {
             if n == 0 {
-                return refusal(24, 0);
+                return refusal(refusals::GROUPS, 0);
             }
             if MAX_GROUPS < n {
-                return refusal(24, 0);
+                return refusal(refusals::GROUPS, 0);
             }
             table_accepted(job, found.lines, groups, n, out)
         }

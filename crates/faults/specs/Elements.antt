@@ -2,11 +2,10 @@
 use Prim.Native.Nat.{ℕ, _+_, _*_, _≤_, _<_}
 use mathlib.Core.Path.{_≡_}
 use mathlib.Core.List.{List}
-use lib.ListN.{length, getD, take, drop, set}
-use Rattle.template.specs.Values.{heldCount, keptMembers}
+use lib.ListN.{length, getD, take, drop}
+use Rattle.template.specs.Values.{heldCount, heldMember}
 use Rattle.job.specs.Line.{SparsePauli, Distribution}
 use Rattle.draws.specs.Draws.{noPauli}
-use Rattle.rows.specs.Overwrite.{copied}
 
 -- ---- where they lie: element e in 64 words, the counts of its two lists, then 31 words for each
 
@@ -45,11 +44,15 @@ elementCounts words e = take 2 (drop (e * 64) words)
 abbrev pub elementMembers : List ℕ → ℕ → List ℕ
 elementMembers words e = take 62 (xMembers words e)
 
--- the words with two lists of a line's values, the one in slot `first` and the next, kept as element e
-unfoldable pub kept : ℕ → ℕ → List ℕ → List ℕ → List ℕ
-kept e first values words =
-    copied (e * 64 + 33) 0 31 (keptMembers values (first + 1))
-    (copied (e * 64 + 2) 0 31 (keptMembers values first) (set (set words (e * 64) (heldCount values first)) (e * 64 + 1) (heldCount values (first + 1))))
+-- two lists of a line's values, the one in slot `first` and the next, were kept as element e; its words behind the members may be any, those of other
+-- elements stay
+pub record Kept (e first : ℕ) (values before after : List ℕ) : Type 0 where
+  pub long : length after ≡ length before
+  pub x-count : xCount after e ≡ heldCount values first
+  pub z-count : zCount after e ≡ heldCount values (first + 1)
+  pub x : (j : ℕ) → j < 31 → j < heldCount values first → getD after (e * 64 + 2 + j) 0 ≡ heldMember values first j
+  pub z : (j : ℕ) → j < 31 → j < heldCount values (first + 1) → getD after (e * 64 + 33 + j) 0 ≡ heldMember values (first + 1) j
+  pub others : (k : ℕ) → (e * 64 ≤ k → k < e * 64 + 64 → ⊥) → getD after k 0 ≡ getD before k 0
 
 -- ---- what they hold
 

@@ -15,7 +15,7 @@ use Rattle.job.specs.Job.{noiseOf}
 use Rattle.job.specs.Sound.{NoiseSound, weightsOf}
 use Rattle.reader.specs.declared.Form.{Form}
 use Rattle.reader.specs.Parsed.{Said}
-use Rattle.instructions.specs.declared.Next.{Next}
+use Rattle.instructions.specs.declared.LineRead.{LineRead}
 use Rattle.instructions.specs.Ahead.{instructionsAt, Ahead, Among, hasWeights}
 use Rattle.draws.specs.Draws.{noPauli}
 use Rattle.rows.specs.Words.{bitIn}
@@ -64,7 +64,7 @@ pub record NoiseLines (job : List ℕ) (at : ℕ) (form : Form) (words noiseless
   pub rows : header .outcomes * w ≤ length noiseless
 
 -- a noise line of an accepted job was read, with so many element lines behind it
-pub record SomeNoise (job : List ℕ) (line : Next) (words : List ℕ) (n : ℕ) : Type 0 where
+pub record SomeNoise (job : List ℕ) (line : LineRead) (words : List ℕ) (n : ℕ) : Type 0 where
   pub noiseless : List ℕ
   pub width : ℕ
   pub lines : NoiseLines job (line .end + 1) (line .form) words noiseless width
@@ -91,9 +91,9 @@ module _ {job : List ℕ} {at : ℕ} {form : Form} {words noiseless : List ℕ} 
 
   -- Its values and its elements were read, and the job can be read on behind them.
   pub record FaultRead (elements : List ℕ) (sums : List Float) (r : Prepared) : Type 0 where
-    pub lines : r .lines ≡ length (q .elements)
-    pub ahead : Ahead job (q .header) (q .recorded) (q .line + r .lines) (r .next)
-    pub instructions : instructionsAt job (q .line + r .lines) (r .next) ≡ q .rest
+    pub lines : r .following ≡ length (q .elements)
+    pub ahead : Ahead job (q .header) (q .recorded) (q .line + r .following) (r .behind)
+    pub instructions : instructionsAt job (q .line + r .following) (r .behind) ≡ q .rest
     pub total : Float
     pub fault : FaultOf (q .noise) total (r .fault)
     pub stands : Represents noiseIn (r .fault .probability) (r .fault .distribution) sums
@@ -101,10 +101,10 @@ module _ {job : List ℕ} {at : ℕ} {form : Form} {words noiseless : List ℕ} 
 
   -- It is ready for its draws, and the job can be read on behind it.
   pub record PreparedAs (elements : List ℕ) (sums : List Float) (mask : List ℕ) (r : Prepared) : Type 0 where
-    pub lines : r .lines ≡ length (q .elements)
-    pub ahead : Ahead job (q .header) (q .recorded) (q .line + r .lines) (r .next)
-    pub instructions : instructionsAt job (q .line + r .lines) (r .next) ≡ q .rest
-    pub stands : Represents noiseIn (r .fault .probability) (r .fault .distribution) (take (r .lines) sums)
+    pub lines : r .following ≡ length (q .elements)
+    pub ahead : Ahead job (q .header) (q .recorded) (q .line + r .following) (r .behind)
+    pub instructions : instructionsAt job (q .line + r .following) (r .behind) ≡ q .rest
+    pub stands : Represents noiseIn (r .fault .probability) (r .fault .distribution) (take (r .following) sums)
     pub small : Small (r .fault .distribution)
     pub correlation : correlationOf (r .fault .correlation) ≡ noiseIn .correlation
     pub held : DistributionHeld (noiseIn .distribution) elements

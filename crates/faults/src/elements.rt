@@ -2,13 +2,14 @@
 // a depolarizing distribution stand as the first list of element 0.
 ghost use mathlib.Core.Path.{_≡_};
 ghost use mathlib.Core.Bool.{Bool, true, cond};
-ghost use Prim.Native.Nat.{_*_, _≤_, _<_};
+ghost use Prim.Native.Nat.{_*_, _≤_, _<_, min};
 ghost use lib.ListN.{length};
-ghost use Rattle.template.specs.Values.{Whole};
+ghost use Rattle.template.specs.Values.{Whole, heldCount};
 ghost use Rattle.job.specs.Float.{float, zeroFloat, isWeight};
-ghost use Rattle.faults.specs.Elements.{Inside, xCount, zCount, elementX, elementZ, elementCounts, elementMembers, kept};
+ghost use Rattle.faults.specs.Elements.{Inside, xCount, zCount, elementX, elementZ, elementCounts, elementMembers, Kept};
 ghost use Rattle.faults.specs.Prepared.{ElementLines, Gathered};
-use instructions::next_line;
+use instructions::next_known;
+use job::limits::MAX_ELEMENTS;
 use reader::slots::WEIGHT;
 use reader::slots::X;
 use template::values::KEPT;
@@ -18,26 +19,28 @@ use template::values::number;
 
 // ---- Where they lie
 
-// The words of all elements, at most 64, and of one.
-pub const ALL_WORDS: usize = 4096;
-
-pub const ELEMENT_WORDS: usize = 64;
-
-// In an element, behind the count of its first list: the count of its second, and the members of both.
+// An element starts with the count of its first list. Behind that lie the count of its second, and the members of both.
 const Z_COUNT: usize = 1;
 
-const X_MEMBERS: usize = 2;
+const COUNTS: usize = 2;
 
-const Z_MEMBERS: usize = 33;
+const X_MEMBERS: usize = COUNTS;
+
+const Z_MEMBERS: usize = X_MEMBERS + KEPT;
+
+// The words of one element, and of all.
+pub const ELEMENT_WORDS: usize = Z_MEMBERS + KEPT;
+
+pub const ALL_WORDS: usize = MAX_ELEMENTS as usize * ELEMENT_WORDS;
 
 // The first list of element e.
 pub fn element_x<'a>(elements: &'a [u64], e: usize) -> &'a [u64]
     requires { ⌜ Inside (now elements) e × (xCount (now elements) e ≤ 31) ⌝ }
     ensures { λ r. ⌜ now r ≡ elementX (now (elements .entry)) e ⌝ }
 {
-    let a = e * ELEMENT_WORDS;
-    let from = a + X_MEMBERS;
-    let to = from + elements[a] as usize;
+    let start = e * ELEMENT_WORDS;
+    let from = start + X_MEMBERS;
+    let to = from + elements[start] as usize;
     &elements[from..to]
 }
 
@@ -46,9 +49,9 @@ pub fn element_z<'a>(elements: &'a [u64], e: usize) -> &'a [u64]
     requires { ⌜ Inside (now elements) e × (zCount (now elements) e ≤ 31) ⌝ }
     ensures { λ r. ⌜ now r ≡ elementZ (now (elements .entry)) e ⌝ }
 {
-    let a = e * ELEMENT_WORDS;
-    let from = a + Z_MEMBERS;
-    let to = from + elements[a + Z_COUNT] as usize;
+    let start = e * ELEMENT_WORDS;
+    let from = start + Z_MEMBERS;
+    let to = from + elements[start + Z_COUNT] as usize;
     &elements[from..to]
 }
 
@@ -58,7 +61,7 @@ pub fn element_counts<'a>(elements: &'a [u64], e: usize) -> &'a [u64]
     ensures { λ r. ⌜ now r ≡ elementCounts (now (elements .entry)) e ⌝ }
 {
     let from = e * ELEMENT_WORDS;
-    let to = from + X_MEMBERS;
+    let to = from + COUNTS;
     &elements[from..to]
 }
 
@@ -72,28 +75,40 @@ pub fn element_members<'a>(elements: &'a [u64], e: usize) -> &'a [u64]
     &elements[from..to]
 }
 
-// Keeps two lists of a line, the one in slot `first` and the next, as element e.
+// How many members of a list are kept.
+fn kept_count(values: &[u64], i: usize) -> usize
+    requires { ⌜ (i < 4) × Whole (now values) ⌝ }
+    ensures { λ r. ⌜ r ≡ min (heldCount (now (values .entry)) i) 31 ⌝ }
+{
+    let n = count(values, i) as usize;
+    if KEPT < n {
+        return KEPT;
+    }
+    n
+}
+
+// Keeps two lists of a line, the one in slot `first` and the next, as element e. What the words behind their members hold is not promised.
 pub fn keep_element(elements: &mut [u64], e: usize, values: &[u64], first: usize)
     requires { ⌜ Inside (now elements) e × Whole (now values) × (first ≤ 2) ⌝ }
-    ensures { λ _. ⌜ now (elements .exit) ≡ kept e first (now (values .entry)) (now (elements .entry)) ⌝ }
+    ensures { λ _. ⌜ Kept e first (now (values .entry)) (now (elements .entry)) (now (elements .exit)) ⌝ }
 {
-    let a = e * ELEMENT_WORDS;
+    let start = e * ELEMENT_WORDS;
     let second = first + 1;
-    elements[a] = count(values, first);
-    elements[a + Z_COUNT] = count(values, second);
+    elements[start] = count(values, first);
+    elements[start + Z_COUNT] = count(values, second);
     rows::copy(
         &mut *elements,
-        a + X_MEMBERS,
+        start + X_MEMBERS,
         template::values::kept(values, first),
         0,
-        KEPT,
+        kept_count(values, first),
     );
     rows::copy(
         elements,
-        a + Z_MEMBERS,
+        start + Z_MEMBERS,
         template::values::kept(values, second),
         0,
-        KEPT,
+        kept_count(values, second),
     );
 }
 
@@ -122,11 +137,15 @@ pub fn gather(
     requires { ⌜ ElementLines (now job) from n weighted × (n * 64 ≤ length (now elements)) × (length (now weights) ≡ n) ⌝ }
     ensures { λ r. ⌜ (n ≡ 0 → now (elements .exit) ≡ now (elements .entry)) × ((q : ElementLines (now (job .entry)) from n weighted) → Gathered q (now (elements .exit)) (now (weights .exit)) r n) ⌝ }
 {
+    // No words are cleared for a line without elements.
+    if n == 0 {
+        return from;
+    }
     let mut values = [0u64; WORDS];
     let mut at = from;
     let mut e = 0;
     while e < n {
-        let line = next_line(job, at, &mut values);
+        let line = next_known(job, at, &mut values);
         keep_element(&mut *elements, e, &values, X);
         weights[e] = weight_of(weighted, number(&values, WEIGHT));
         at = line.end + 1;

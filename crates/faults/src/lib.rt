@@ -15,66 +15,66 @@ use crate::elements::keep_element;
 use crate::line::fault_of;
 use choice::fill_sums;
 use choice::total;
-use instructions::Next;
+use instructions::LineRead;
 use instructions::element_lines;
 use instructions::has_weights;
 use job::limits::MAX_ELEMENTS;
 use noise::OutcomeCondition;
 use noise::PauliFault;
 use noise::condition::condition_mask;
-use reader::Form;
 use reader::slots::OWN_LISTS;
 
-// A noise line by value, the number of its element lines and the place behind them.
+// A noise line by value, how many element lines follow it, and the place in the job behind them.
 pub struct Prepared {
     pub fault: PauliFault,
-    pub lines: usize,
-    pub next: usize,
+    pub following: usize,
+    pub behind: usize,
 }
 
-// A noise line by value, with its elements: the n lines behind it are read, and the total of their weights is the weighted kind's.
+// A noise line by value, with its elements: the lines that follow it are read, and the total of their weights is the weighted kind's.
 fn read_fault(
     job: &[u8],
-    line: Next,
-    n: usize,
+    line: LineRead,
+    following: usize,
     values: &[u64],
     elements: &mut [u64],
     sums: &mut [f64],
     weights: &mut [f64],
 ) -> Prepared
-    requires { ⌜ SomeNoise (now job) line (now values) n × FaultRoom n (now values) (now elements) (now sums) (now weights) ⌝ }
+    requires { ⌜ SomeNoise (now job) line (now values) following × FaultRoom following (now values) (now elements) (now sums) (now weights) ⌝ }
     ensures { λ r. ⌜ ((noiseless : List ℕ) (w : ℕ) (q : NoiseLines (now (job .entry)) (line .end + 1) (line .form) (now (values .entry)) noiseless w) → FaultRead q (now (elements .exit)) (now (sums .exit)) r) ⌝ }
 {
     let form = line.form;
     let from = line.end + 1;
     let weighted = has_weights(form);
-    // Element 0 is the Pauli of d=1, or has the qubits of d=2 as its first list. d=3 and d=4 have neither: `gather` writes over what is kept here.
+    // Element 0 is the Pauli of d=1, or has the qubits of d=2 as its first list; its second is then an earlier line's, and not looked at. d=3 and d=4
+    // have neither: `gather` writes over what is kept here.
     keep_element(&mut *elements, 0, values, OWN_LISTS);
-    let next = gather(job, from, n, weighted, elements, &mut *weights);
+    let behind = gather(job, from, following, weighted, elements, &mut *weights);
     let fault = fault_of(form, values, total(weights));
     let distribution = fault.distribution;
     fill_sums(distribution, sums, weights);
     Prepared {
         fault,
-        lines: n,
-        next,
+        following,
+        behind,
     }
 }
 
 // The shots in which a condition is satisfied.
-fn satisfied_shots(condition: OutcomeCondition, noiseless: &[u64], w: usize, mask: &mut [u64])
-    requires { ⌜ (condition .count ≤ 31) × RowsIn w (take (condition .count) (condition .outcomes)) (now noiseless) × (w ≤ length (now mask)) ⌝ }
-    ensures { λ _. ⌜ Masks w (now (mask .exit)) (conditionOf (take (condition .count) (condition .outcomes)) (condition .parity)) (bitIn w (now (noiseless .entry))) ⌝ }
+fn satisfied_shots(condition: OutcomeCondition, noiseless: &[u64], width: usize, mask: &mut [u64])
+    requires { ⌜ (condition .count ≤ 31) × RowsIn width (take (condition .count) (condition .outcomes)) (now noiseless) × (width ≤ length (now mask)) ⌝ }
+    ensures { λ _. ⌜ Masks width (now (mask .exit)) (conditionOf (take (condition .count) (condition .outcomes)) (condition .parity)) (bitIn width (now (noiseless .entry))) ⌝ }
 {
     let outcomes = condition.outcomes;
     let count = condition.count;
-    condition_mask(mask, &outcomes[..count], condition.parity, noiseless, w);
+    condition_mask(mask, &outcomes[..count], condition.parity, noiseless, width);
 }
 
 // Makes ready the noise line that was read, by its values. Its element lines begin behind it.
 pub fn prepare(
     job: &[u8],
-    line: Next,
+    line: LineRead,
     values: &[u64],
     noiseless: &[u64],
     width: usize,
@@ -86,19 +86,19 @@ pub fn prepare(
     ensures { λ r. ⌜ ((q : NoiseLines (now (job .entry)) (line .end + 1) (line .form) (now (values .entry)) (now (noiseless .entry)) width) → PreparedAs q (now (elements .exit)) (now (sums .exit)) (now (mask .exit)) r) ⌝ }
 {
     let form = line.form;
-    let n = element_lines(form, values);
+    let following = element_lines(form, values);
     let mut weights = [0.0; MAX_ELEMENTS as usize];
-    let r = read_fault(
+    let ready = read_fault(
         job,
         line,
-        n,
+        following,
         values,
         elements,
-        &mut sums[..n],
-        &mut weights[..n],
+        &mut sums[..following],
+        &mut weights[..following],
     );
-    let fault = r.fault;
+    let fault = ready.fault;
     let condition = fault.condition;
     satisfied_shots(condition, noiseless, width, mask);
-    r
+    ready
 }

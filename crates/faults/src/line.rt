@@ -16,7 +16,7 @@ use reader::Form;
 use reader::slots::CONDITION;
 use reader::slots::CORRELATION;
 use reader::slots::DEPOLARIZED;
-use reader::slots::ELEMENTS;
+use reader::slots::ELEMENT_COUNT;
 use reader::slots::PARITY;
 use reader::slots::PROBABILITY;
 use template::values::KEPT;
@@ -32,10 +32,10 @@ fn distribution_of(form: Form, values: &[u64], total: f64) -> PauliDistribution
 {
     match form {
         Form::Depolarizing => PauliDistribution::Depolarizing {
-            qubits: count(values, DEPOLARIZED),
+            qubit_count: count(values, DEPOLARIZED),
         },
         Form::Uniform => PauliDistribution::Uniform {
-            elements: number(values, ELEMENTS),
+            element_count: number(values, ELEMENT_COUNT),
         },
         Form::Weighted => PauliDistribution::Weighted { total },
         _ => PauliDistribution::Single,

@@ -1,5 +1,5 @@
 -- Laws, for the proofs that cite them. Nothing here has to be believed.
--- A number that is known to stand at a place, digit by digit.
+-- A number that is known to stand at a place, by its digits.
 pub mod Digits
 -- The first members of a list that is known to stand at a place.
 pub mod Operands

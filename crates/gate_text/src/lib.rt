@@ -1,42 +1,33 @@
 // A gate line that is known to have its form, as each line of a job that passed the tests has: its code and its operands are read in one pass over
 // their bytes, and nothing of the form is tested again.
 ghost use mathlib.Core.Path.{_≡_};
-ghost use Rattle.gate_text.specs.Gate.{NumberThere, NumberRead, ListThere, OperandsRead, GateLine, GateRead};
+ghost use mathlib.Core.Bool.{true};
+ghost use Rattle.gate_text.specs.Gate.{ListThere, OperandsRead, GateBytes, GateLine, GateRead};
+use numbers::known::read_digits;
 
-// A number, and the place behind its digits.
-struct Number {
-    value: u64,
-    behind: usize,
-}
+// Where the letter of an operation stands, behind `op=`, and where it ends.
+const LETTER: usize = 3;
 
-// The number that stands from a place up to a separator or the line's end.
-fn read_number(line: &[u8], from: usize, sep: u8) -> Number
-    requires { ⌜ NumberThere (now line) from sep ⌝ }
-    ensures { λ r. ⌜ NumberRead (now (line .entry)) from sep r ⌝ }
+const LETTER_END: usize = LETTER + 1;
+
+// Whether a line begins as a gate line does.
+pub fn is_gate(line: &[u8]) -> bool
+    ensures { λ r. ⌜ (r ≡ true → GateBytes (now (line .entry))) ⌝ }
 {
-    let mut v: u64 = 0;
-    let mut i = from;
-    while i < line.len() {
-        let b = line[i];
-        if b == sep {
-            return Number {
-                value: v,
-                behind: i,
-            };
-        }
-        v = v * 10 + (b - b'0') as u64;
-        i += 1;
+    if line.len() < LETTER_END {
+        return false;
     }
-    Number {
-        value: v,
-        behind: i,
+    if line[0] != b'o' {
+        return false;
     }
+    line[LETTER] == b'u'
 }
 
-// The first two members of a list, the second 0 where there is none.
+// The first two members of a list, the second 0 where there is none, and how many of the two there are.
 struct Operands {
     first: u64,
     second: u64,
+    count: u64,
 }
 
 // The operands that stand from a place up to the line's end.
@@ -44,36 +35,45 @@ fn read_operands(line: &[u8], from: usize) -> Operands
     requires { ⌜ ListThere (now line) from ⌝ }
     ensures { λ r. ⌜ OperandsRead (now (line .entry)) from r ⌝ }
 {
-    let first = read_number(line, from, b',');
+    let first = read_digits(line, from);
     if first.behind == line.len() {
         return Operands {
             first: first.value,
             second: 0,
+            count: 1,
         };
     }
-    let second = read_number(line, first.behind + 1, b',');
+    let second = read_digits(line, first.behind + 1);
     Operands {
         first: first.value,
         second: second.value,
+        count: 2,
     }
 }
 
-// What a gate line says: the gate's code and its first two operands, the second 0 where there is none.
+// What a gate line says: the gate's code and its first two operands, the second 0 where there is none, and how many of the two there are.
 pub struct Gate {
     pub code: u64,
     pub first: u64,
     pub second: u64,
+    pub count: u64,
 }
+
+// The code begins behind `op=u g=`, and the operands behind ` q=`, so many bytes behind the code.
+const CODE: usize = 7;
+
+const OPERANDS_BEHIND: usize = 3;
 
 pub fn read_gate(line: &[u8]) -> Gate
     requires { ⌜ GateLine (now line) ⌝ }
     ensures { λ r. ⌜ GateRead (now (line .entry)) r ⌝ }
 {
-    let code = read_number(line, 7, b' ');
-    let qubits = read_operands(line, code.behind + 3);
+    let code = read_digits(line, CODE);
+    let qubits = read_operands(line, code.behind + OPERANDS_BEHIND);
     Gate {
         code: code.value,
         first: qubits.first,
         second: qubits.second,
+        count: qubits.count,
     }
 }

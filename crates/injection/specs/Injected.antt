@@ -68,7 +68,7 @@ unfoldable pub executedAs : List ℕ → States → Drawn → Executed
 executedAs words states (Done at) = Executed.done states (drop at words)
 executedAs words states Spent = Executed.spent
 
--- the place of the next word
+-- the position of the next word
 unfoldable pub placeOf : Drawn → ℕ
 placeOf (Done at) = at
 placeOf Spent = 0

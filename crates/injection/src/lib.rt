@@ -25,32 +25,32 @@ ghost use Rattle.injection.specs.Injected.{ListedHeld, ElementReady, Ele
 // ---- The elements of d=2
 
 // Adds 1 to a bit of a row, if asked to.
-fn flip_if(rows: &mut [u64], w: usize, row: usize, shot: Shot, on: bool)
-    requires { ⌜ (row * w + w ≤ length (now rows)) × (shot .0 < 64 * w) ⌝ }
-    ensures { λ _. ⌜ now (rows .exit) ≡ cond on (flipped w (shot .0) row (now (rows .entry))) (now (rows .entry)) ⌝ }
+fn flip_if(rows: &mut [u64], width: usize, row: usize, shot: Shot, on: bool)
+    requires { ⌜ (row * width + width ≤ length (now rows)) × (shot .0 < 64 * width) ⌝ }
+    ensures { λ _. ⌜ now (rows .exit) ≡ cond on (flipped width (shot .0) row (now (rows .entry))) (now (rows .entry)) ⌝ }
 {
     if !on {
         return;
     }
-    rows::flip_bit(rows, w, row, shot.0);
+    rows::flip_bit(rows, width, row, shot.0);
 }
 
-// Adds 1, in one shot, to the rows of the qubits whose bit is set in v, which gives each qubit two bits; the lower one is looked at.
-fn flip_selected(rows: &mut [u64], w: usize, qubits: &[u64], v: u64, shot: Shot)
-    requires { ⌜ (shot .0 < 64 * w) × RowsIn w (now qubits) (now rows) ⌝ }
-    ensures { λ _. ⌜ now (rows .exit) ≡ overList (flipped w (shot .0)) (selected v (now (qubits .entry))) (now (rows .entry)) ⌝ }
+// Adds 1, in one shot, to the rows of the qubits whose bit is set in `bits`, which has two for each qubit; the lower one is looked at.
+fn flip_selected(rows: &mut [u64], width: usize, qubits: &[u64], bits: u64, shot: Shot)
+    requires { ⌜ (shot .0 < 64 * width) × RowsIn width (now qubits) (now rows) ⌝ }
+    ensures { λ _. ⌜ now (rows .exit) ≡ overList (flipped width (shot .0)) (selected bits (now (qubits .entry))) (now (rows .entry)) ⌝ }
 {
-    let mut left = v;
+    let mut left = bits;
     let mut i = 0;
     while i < qubits.len() {
         let q = qubits[i] as usize;
-        flip_if(rows, w, q, shot, left % 2 == 1);
+        flip_if(rows, width, q, shot, left % 2 == 1);
         left = left / 4;
         i += 1;
     }
 }
 
-// The element with number e adds 1 and gives each qubit two bits, X lowest.
+// Element e: e + 1 has two bits for each qubit, X lowest.
 pub fn inject_depolarizing(
     x: &mut [u64],
     z: &mut [u64],
@@ -60,11 +60,11 @@ pub fn inject_depolarizing(
     e: u64,
 )
     requires { ⌜ (length (now x) ≡ shape .qubits * shape .width) × (length (now z) ≡ shape .qubits * shape .width) × (allBelow (shape .qubits) (now qubits) ≡ true) × (distinct (now qubits) ≡ true) × (e + 1 < 2 ^ 64) × (shot .0 < 64 * shape .width) ⌝ }
-    ensures { λ _. ⌜ ((m : ℕ) (d : List ℕ) → Acts (shape .width) (lineRule (shape .qubits) m (Line.inject (shot .0) (depolarizingElement (now (qubits .entry)) e))) (now (x .entry)) (now (z .entry)) d (now (x .exit)) (now (z .exit)) d) ⌝ }
+    ensures { λ _. ⌜ ((m : ℕ) (deltas : List ℕ) → Acts (shape .width) (lineRule (shape .qubits) m (Line.inject (shot .0) (depolarizingElement (now (qubits .entry)) e))) (now (x .entry)) (now (z .entry)) deltas (now (x .exit)) (now (z .exit)) deltas) ⌝ }
 {
-    let v = e + 1;
-    flip_selected(x, shape.width, qubits, v, shot);
-    flip_selected(z, shape.width, qubits, v / 2, shot);
+    let bits = e + 1;
+    flip_selected(x, shape.width, qubits, bits, shot);
+    flip_selected(z, shape.width, qubits, bits / 2, shot);
 }
 
 // ---- Any element
@@ -72,7 +72,7 @@ pub fn inject_depolarizing(
 // Element e of a distribution, by its two lists.
 fn inject_listed(x: &mut [u64], z: &mut [u64], shape: Shape, shot: Shot, elements: &[u64], e: usize)
     requires { ⌜ ListedHeld (shape .qubits) (now elements) e × (length (now x) ≡ shape .qubits * shape .width) × (length (now z) ≡ shape .qubits * shape .width) × (shot .0 < 64 * shape .width) ⌝ }
-    ensures { λ _. ⌜ ((P : SparsePauli) → ElementHeld (now (elements .entry)) e P → (m : ℕ) (d : List ℕ) → Acts (shape .width) (lineRule (shape .qubits) m (Line.inject (shot .0) P)) (now (x .entry)) (now (z .entry)) d (now (x .exit)) (now (z .exit)) d) ⌝ }
+    ensures { λ _. ⌜ ((P : SparsePauli) → ElementHeld (now (elements .entry)) e P → (m : ℕ) (deltas : List ℕ) → Acts (shape .width) (lineRule (shape .qubits) m (Line.inject (shot .0) P)) (now (x .entry)) (now (z .entry)) deltas (now (x .exit)) (now (z .exit)) deltas) ⌝ }
 {
     propagator::paulis::inject_pauli(
         x,
@@ -90,15 +90,15 @@ pub fn inject_element(
     z: &mut [u64],
     shape: Shape,
     shot: Shot,
-    d: PauliDistribution,
+    distribution: PauliDistribution,
     elements: &[u64],
     e: u64,
 )
-    requires { ⌜ ElementReady (shape .qubits) d (now elements) e × (length (now x) ≡ shape .qubits * shape .width) × (length (now z) ≡ shape .qubits * shape .width) × (shot .0 < 64 * shape .width) ⌝ }
-    ensures { λ _. ⌜ ElementInjected (shape .width) (shape .qubits) (shot .0) d (now (elements .entry)) e (now (x .entry)) (now (z .entry)) (now (x .exit)) (now (z .exit)) ⌝ }
+    requires { ⌜ ElementReady (shape .qubits) distribution (now elements) e × (length (now x) ≡ shape .qubits * shape .width) × (length (now z) ≡ shape .qubits * shape .width) × (shot .0 < 64 * shape .width) ⌝ }
+    ensures { λ _. ⌜ ElementInjected (shape .width) (shape .qubits) (shot .0) distribution (now (elements .entry)) e (now (x .entry)) (now (z .entry)) (now (x .exit)) (now (z .exit)) ⌝ }
 {
-    match d {
-        PauliDistribution::Depolarizing { qubits: _ } => {
+    match distribution {
+        PauliDistribution::Depolarizing { qubit_count: _ } => {
             inject_depolarizing(x, z, shape, shot, element_x(elements, 0), e)
         }
         _ => inject_listed(x, z, shape, shot, elements, e as usize),
@@ -107,9 +107,9 @@ pub fn inject_element(
 
 // ---- The faults of a line
 
-// The faults of all shots were injected, with the place of the next word; or a word was needed past the end.
+// The faults of all shots were injected, with the position of the next word; or a word was needed past the end.
 pub enum Drawn {
-    Done { next: usize },
+    Done { next_word: usize },
     Spent,
 }
 
@@ -130,27 +130,27 @@ pub fn inject_faults(
     ensures { λ r. ⌜ FaultsInjected (shape .qubits) (shape .shots) (shape .width) (fault .probability) (fault .distribution) (now (sums .entry)) (now (elements .entry)) (now (mask .entry)) (now (words .entry) ++ now (more .entry)) (now (x .entry)) (now (z .entry)) (now (x .exit)) (now (z .exit)) r ⌝ }
 {
     let p = fault.probability;
-    let d = fault.distribution;
-    let rule = rule_of(p, d);
+    let distribution = fault.distribution;
+    let rule = rule_of(p, distribution);
     let shots = shape.shots;
     let mut at = 0;
-    let mut shot = 0;
+    let mut next_shot = 0;
     loop {
-        match next_fault(words, more, at, mask, Shot(shot), shots, rule, sums) {
+        match next_fault(words, more, at, mask, Shot(next_shot), shots, rule, sums) {
             NextFault::Spent => {
                 return Drawn::Spent;
             }
-            NextFault::Done { next } => {
-                return Drawn::Done { next };
+            NextFault::Done { next_word } => {
+                return Drawn::Done { next_word };
             }
             NextFault::At {
-                shot: s,
+                shot,
                 element: e,
-                next,
+                next_word,
             } => {
-                inject_element(x, z, shape, s, d, elements, e);
-                at = next;
-                shot = s.0 + 1;
+                inject_element(x, z, shape, shot, distribution, elements, e);
+                at = next_word;
+                next_shot = shot.0 + 1;
             }
         }
     }

@@ -9,9 +9,9 @@ ghost use Rattle.instructions.specs.Reading.{NextLine, noiseForm};
 ghost use Rattle.faults.specs.Elements.{AllInside};
 ghost use Rattle.instruction_text.specs.Pass.{passOf, Between, InstructionPut};
 use faults::prepare;
-use instructions::Next;
+use instructions::LineRead;
 use instructions::is_noise;
-use instructions::next_line;
+use instructions::next_known;
 use job::limits::MAX_ELEMENTS;
 use job::limits::MAX_WIDTH;
 use noise::Place;
@@ -36,7 +36,7 @@ pub enum Moved {
 fn put_noise_line<'a>(
     out: &mut [u8],
     from: Reached,
-    line: Next,
+    line: LineRead,
     job: &[u8],
     values: &[u64],
     elements: &mut [u64],
@@ -64,12 +64,12 @@ fn put_noise_line<'a>(
         &mut mask,
     );
     let fault = ready.fault;
-    let lines = ready.lines;
+    let following = ready.following;
     match put_noise(
         out,
         from.text,
         fault,
-        &sums[..lines],
+        &sums[..following],
         &mask,
         elements,
         shape.shots,
@@ -85,8 +85,8 @@ fn put_noise_line<'a>(
             next_byte: text,
         } => Moved::To(Reached {
             place: Place {
-                byte: ready.next,
-                line: place.line + 1 + lines as u64,
+                byte: ready.behind,
+                line: place.line + 1 + following as u64,
                 position,
             },
             text,
@@ -113,7 +113,7 @@ pub fn put_instruction<'a>(
 {
     let place = from.place;
     let at = place.byte;
-    let line = next_line(job, at, &mut *values);
+    let line = next_known(job, at, &mut *values);
     let form = line.form;
     if is_noise(form) {
         return put_noise_line(

@@ -15,7 +15,7 @@ use Rattle.job.specs.Job.{wellEnded, noiseOf, placedAt, gathered, jobOf, record
 use Rattle.job.specs.Sound.{PauliSound, LineSound, NoiseSound, HeaderSound, WeightSound}
 use Rattle.job.specs.Contexts.{between, Accepted}
 use Rattle.reader.specs.Parsed.{Said}
-use Rattle.instructions.specs.declared.Next.{Next}
+use Rattle.instructions.specs.declared.LineRead.{LineRead}
 use Rattle.instructions.specs.Reading.{lineAt, elementForm, hasTotal}
 
 -- the instructions from a place on, where the line with number k begins
@@ -39,7 +39,7 @@ pub record Started (job : List ℕ) (end : ℕ) : Type 0 where
   pub instructions : instructionsAt job 2 (end + 1) ≡ jobOf job .instructions
 
 -- a line that is no noise was read at `at`
-pub record PlainRead (job : List ℕ) (h : Header) (r k at : ℕ) (next : Next) (fields : List ℕ) : Type 0 where
+pub record PlainRead (job : List ℕ) (h : Header) (r k at : ℕ) (next : LineRead) (fields : List ℕ) : Type 0 where
   pub line : Line
   pub values : List Value
   pub said : Said (next .form) fields values (Written.line line)
@@ -69,7 +69,7 @@ abbrev pub hasWeights : Kind → Bool
 hasWeights kind = hasTotal (firstTotal kind)
 
 -- a noise line was read at `at`
-pub record NoiseRead (job : List ℕ) (h : Header) (r k at : ℕ) (next : Next) (fields : List ℕ) : Type 0 where
+pub record NoiseRead (job : List ℕ) (h : Header) (r k at : ℕ) (next : LineRead) (fields : List ℕ) : Type 0 where
   pub noise : NoiseLine
   pub values : List Value
   pub said : Said (next .form) fields values (Written.noise noise)
@@ -86,7 +86,7 @@ abbrev pub elementBy : Bool → List Value → WeightedPauli
 elementBy weighted vs = record { weight = cond weighted (numberAt 0 vs) 0; pauli = pauliAt 0 1 vs }
 
 -- the i-th element line was read
-pub record ElementRead (job : List ℕ) (h : Header) (r : ℕ) (weighted : Bool) (elements : List WeightedPauli) (is : List Placed) (k i : ℕ) (next : Next)
+pub record ElementRead (job : List ℕ) (h : Header) (r : ℕ) (weighted : Bool) (elements : List WeightedPauli) (is : List Placed) (k i : ℕ) (next : LineRead)
     (fields : List ℕ) : Type 0 where
   pub values : List Value
   pub form : next .form ≡ elementForm weighted

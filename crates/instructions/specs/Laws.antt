@@ -11,3 +11,7 @@ pub mod Elements
 pub mod Lines
 -- What the values of a plain line say.
 pub mod Read
+-- The line at a place of a job, as it is handed out; and a line that is known to be one of an accepted job.
+pub mod Known
+-- An element line that is known to be one of an accepted job.
+pub mod KnownElements

@@ -10,7 +10,7 @@ use Rattle.text.specs.Bytes.{LF, lines}
 use Rattle.reader.specs.declared.Form.{Form}
 use Rattle.reader.specs.declared.Form.the-variants as form
 use Rattle.reader.specs.Parsed.{Parsed}
-use Rattle.instructions.specs.declared.Next.{Next}
+use Rattle.instructions.specs.declared.LineRead.{LineRead}
 
 -- the bytes between two places
 unfoldable pub lineAt : List ℕ → ℕ → ℕ → List ℕ
@@ -25,7 +25,7 @@ pub record LineAt (job : List ℕ) (at end : ℕ) : Type 0 where
   pub cut : lines (drop at job) ≡ lineAt job at end ∷ lines (drop (end + 1) job)
 
 -- the line that begins at `at` was read
-pub record NextLine (job : List ℕ) (at : ℕ) (r : Next) (fields : List ℕ) : Type 0 where
+pub record NextLine (job : List ℕ) (at : ℕ) (r : LineRead) (fields : List ℕ) : Type 0 where
   pub place : LineAt job at (r .end)
   pub parsed : Parsed (lineAt job at (r .end)) (r .form) fields
 

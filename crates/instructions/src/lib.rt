@@ -5,36 +5,124 @@ ghost use mathlib.Core.Bool.{true};
 ghost use mathlib.Core.List.{List};
 ghost use mathlib.Core.Option.{some};
 ghost use Prim.Native.Nat.{_<_};
-ghost use lib.ListN.{length};
+ghost use lib.ListN.{length, getD};
 ghost use Rattle.text.specs.Template.{Value};
 ghost use Rattle.job.specs.Grammar.{NoiseLine, Written};
 ghost use Rattle.job.specs.Checks.{elementLines};
 ghost use Rattle.job.specs.Job.{wellEnded};
 ghost use Rattle.template.specs.Values.{Whole};
-ghost use Rattle.reader.specs.Parsed.{formOf, Said};
+ghost use Rattle.reader.specs.Parsed.{formOf, Parsed, Said};
 ghost use Rattle.instructions.specs.Reading.{NextLine, noiseForm};
 ghost use Rattle.instructions.specs.Ahead.{hasWeights};
+ghost use Rattle.instructions.specs.Lines.{KnownLine, KnownAt};
+ghost use Rattle.instructions.specs.Known.{ListsThere, ListsPut};
+use gate_text::is_gate;
+use gate_text::read_gate;
 use line_reader::line_at;
+use numbers::known::known_hex;
 use reader::Form;
 use reader::read_line;
-use reader::slots::ELEMENTS;
+use reader::slots::ELEMENT_COUNT;
+use reader::slots::GATE;
+use reader::slots::OPERANDS;
+use reader::slots::WEIGHT;
+use reader::slots::X;
+use reader::slots::Z;
 use template::values::number;
+use template::values::set_few;
+use template::values::set_known;
+use template::values::set_number;
 
 // A line that was read: its form, and the place of the LF that ends it. The next line begins behind that.
-pub struct Next {
+pub struct LineRead {
     pub form: Form,
     pub end: usize,
 }
 
 // Reads the line that begins at a place. Its values go into the lent words.
-pub fn next_line(job: &[u8], at: usize, fields: &mut [u64]) -> Next
+pub fn next_line(job: &[u8], at: usize, fields: &mut [u64]) -> LineRead
     requires { ⌜ (wellEnded (now job) ≡ true) × (at < length (now job)) × Whole (now fields) ⌝ }
     ensures { λ r. ⌜ NextLine (now (job .entry)) at r (now (fields .exit)) ⌝ }
 {
     let line = line_at(job, at);
     let end = at + line.len();
     let form = read_line(line, fields);
-    Next { form, end }
+    LineRead { form, end }
+}
+
+// Whether a line begins with a byte.
+fn begins(line: &[u8], b: u8) -> bool
+    ensures { λ r. ⌜ (r ≡ true → getD (now (line .entry)) 0 0 ≡ b) ⌝ }
+{
+    if line.len() == 0 {
+        return false;
+    }
+    line[0] == b
+}
+
+// The first list of an element line begins behind `x=`, and the second behind ` z=`, so many bytes behind the first. A weight stands in front of
+// them, with `w=` before it and a space behind it.
+const LIST_BEHIND: usize = 2;
+
+const NEXT_BEHIND: usize = 3;
+
+const WEIGHT_START: usize = 2;
+
+const WEIGHT_END: usize = WEIGHT_START + 16;
+
+const WEIGHED: usize = WEIGHT_END + 1;
+
+// The two lists of an element line, `x=L z=L` from a place on.
+fn read_lists(line: &[u8], from: usize, fields: &mut [u64])
+    requires { ⌜ ListsThere (now line) from × Whole (now fields) ⌝ }
+    ensures { λ _. ⌜ ListsPut (now (line .entry)) from (now (fields .entry)) (now (fields .exit)) ⌝ }
+{
+    let behind = set_known(&mut *fields, X, line, from + LIST_BEHIND);
+    set_known(fields, Z, line, behind + NEXT_BEHIND);
+}
+
+// What a line of an accepted job says that is no gate line. Of an element line the form isn't tested again either; its weight stands first, where it
+// has one.
+fn read_other(line: &[u8], fields: &mut [u64]) -> Form
+    requires { ⌜ KnownLine (now line) × Whole (now fields) ⌝ }
+    ensures { λ r. ⌜ Parsed (now (line .entry)) r (now (fields .exit)) ⌝ }
+{
+    if begins(line, b'x') {
+        read_lists(line, 0, fields);
+        return Form::Element;
+    }
+    if !begins(line, b'w') {
+        return read_line(line, fields);
+    }
+    let weight = known_hex(&line[WEIGHT_START..WEIGHT_END]);
+    set_number(&mut *fields, WEIGHT, weight);
+    read_lists(line, WEIGHED, fields);
+    Form::WeightedElement
+}
+
+// What a line of an accepted job says. A gate line, of which there are many, is read without testing its form again.
+fn read_known(line: &[u8], fields: &mut [u64]) -> Form
+    requires { ⌜ KnownLine (now line) × Whole (now fields) ⌝ }
+    ensures { λ r. ⌜ Parsed (now (line .entry)) r (now (fields .exit)) ⌝ }
+{
+    if !is_gate(line) {
+        return read_other(line, fields);
+    }
+    let g = read_gate(line);
+    set_number(&mut *fields, GATE, g.code);
+    set_few(fields, OPERANDS, g.count, g.first, g.second);
+    Form::Unitary
+}
+
+// Reads the line of an accepted job that begins at a place, as next_line does.
+pub fn next_known(job: &[u8], at: usize, fields: &mut [u64]) -> LineRead
+    requires { ⌜ KnownAt (now job) at × Whole (now fields) ⌝ }
+    ensures { λ r. ⌜ NextLine (now (job .entry)) at r (now (fields .exit)) ⌝ }
+{
+    let line = line_at(job, at);
+    let end = at + line.len();
+    let form = read_known(line, fields);
+    LineRead { form, end }
 }
 
 pub fn is_noise(form: Form) -> bool
@@ -55,8 +143,8 @@ pub fn element_lines(form: Form, f: &[u64]) -> usize
     ensures { λ r. ⌜ ((vs : List Value) (n : NoiseLine) → Said form (now (f .entry)) vs (Written.noise n) → r ≡ elementLines (n .kind)) ⌝ }
 {
     match form {
-        Form::Uniform => number(f, ELEMENTS) as usize,
-        Form::Weighted => number(f, ELEMENTS) as usize,
+        Form::Uniform => number(f, ELEMENT_COUNT) as usize,
+        Form::Weighted => number(f, ELEMENT_COUNT) as usize,
         _ => 0,
     }
 }

@@ -4,8 +4,14 @@ ghost use mathlib.Core.Path.{_≡_};
 ghost use Prim.Native.Nat.{_-_, _^_, _<_};
 
 pub mod limits;
+pub mod refusals;
 
-// The header's numbers; the edition is 1 where the header has none.
+// A header that names no edition is of the first.
+pub const FIRST_EDITION: u64 = 1;
+
+pub const SECOND_EDITION: u64 = 2;
+
+// The header's numbers.
 pub struct Header {
     pub edition: u64,
     pub qubits: u64,

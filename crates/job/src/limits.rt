@@ -1,10 +1,11 @@
 // The limits of a job.
+use crate::SECOND_EDITION;
 
 // Bytes of its text.
 pub const MAX_BYTES: usize = 1048576;
 
 // The header's numbers.
-pub const MAX_EDITION: u64 = 2;
+pub const MAX_EDITION: u64 = SECOND_EDITION;
 
 pub const MAX_QUBITS: u64 = 256;
 

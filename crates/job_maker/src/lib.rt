@@ -12,6 +12,10 @@ ghost use Rattle.job_maker.specs.Whole.{JobPut};
 use job::Answer;
 use job::Header;
 use job::limits::MAX_BYTES;
+use job::limits::MAX_OUTCOMES;
+use job::limits::MAX_QUBITS;
+use job::limits::MAX_SHOTS;
+use job::refusals;
 use made_fields::Making;
 use made_lines::put_instruction;
 use stream::step;
@@ -71,16 +75,16 @@ fn may_hold(qubits: u64, outcomes: u64, shots: u64) -> bool
     if qubits == 0 {
         return false;
     }
-    if 256 < qubits {
+    if MAX_QUBITS < qubits {
         return false;
     }
-    if 1024 < outcomes {
+    if MAX_OUTCOMES < outcomes {
         return false;
     }
     if shots == 0 {
         return false;
     }
-    shots <= 4096
+    shots <= MAX_SHOTS
 }
 
 // A refusal of the call.
@@ -102,10 +106,10 @@ pub fn make(
     ensures { λ r. ⌜ textReply r (now (out .exit)) ≡ makeReply qubits outcomes shots lines seed (now (out .entry)) ⌝ }
 {
     if !may_hold(qubits, outcomes, shots) {
-        return no(3);
+        return no(refusals::HEADER);
     }
     if seed == 0 {
-        return no(22);
+        return no(refusals::SEED);
     }
     let state = step(seed);
     let h = Header {
@@ -116,10 +120,10 @@ pub fn make(
     };
     let length = put_job(&mut out[..0], h, lines, state);
     if MAX_BYTES < length {
-        return no(15);
+        return no(refusals::ROOM);
     }
     if out.len() < length {
-        return no(15);
+        return no(refusals::ROOM);
     }
     put_job(&mut *out, h, lines, state);
     TextAnswer {

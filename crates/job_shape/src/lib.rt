@@ -26,10 +26,14 @@ pub fn test(job: &[u8]) -> Tested
             shape: shape_of(0, 0, 0),
         };
     }
-    let h = examined.header;
+    let header = examined.header;
     Tested {
         answer,
-        shape: shape_of(h.qubits as usize, h.outcomes as usize, h.shots as usize),
+        shape: shape_of(
+            header.qubits as usize,
+            header.outcomes as usize,
+            header.shots as usize,
+        ),
     }
 }
 

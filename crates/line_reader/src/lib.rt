@@ -5,7 +5,7 @@ ghost use mathlib.Core.List.{[]};
 ghost use lib.ListN.{getD};
 ghost use Rattle.text.specs.Bytes.{lines};
 ghost use Rattle.line_reader.specs.Reading.{lineFrom, behind, behindLines, lineNumbered, partNumbered};
-use numbers::pieces::find;
+use numbers::pieces::find_far;
 
 pub struct Reader<'a> {
     pub job: &'a [u8],
@@ -17,7 +17,7 @@ pub fn line_from<'a>(job: &'a [u8], at: usize) -> &'a [u8]
     ensures { λ r. ⌜ now r ≡ lineFrom (now (job .entry)) at ⌝ }
 {
     if at < job.len() {
-        let end = find(job, at, b'\n');
+        let end = find_far(job, at, b'\n');
         &job[at..end]
     } else {
         &job[job.len()..]

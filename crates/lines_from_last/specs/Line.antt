@@ -3,7 +3,7 @@ use Prim.Native.Nat.{ℕ, _+_, _-_, _≤_, _<_}
 use mathlib.Core.Path.{_≡_}
 use mathlib.Core.List.{List, [], _∷_, _++_}
 use mathlib.Core.Option.{Option, some}
-use lib.ListN.{getD, take}
+use lib.ListN.{length, getD, take}
 use Rattle.text.specs.Bytes.{LF, lines}
 use Rattle.job.specs.declared.Header.{Header}
 use Rattle.job.specs.Line.{SparsePauli, Line}
@@ -24,6 +24,13 @@ pub record LineBefore (job : List ℕ) (e r : ℕ) : Type 0 where
   pub within : r ≤ e
   pub starts : LineStart job r
   pub splits : lines (take (e + 1) job) ≡ lines (take r job) ++ lineAt job r e ∷ []
+
+-- The k lines before place e are left; those from there on are `done`.
+pub record LinesLeft (job : List ℕ) (k e : ℕ) (done : List (List ℕ)) : Type 0 where
+  pub within : e ≤ length job
+  pub starts : LineStart job e
+  pub number : k ≡ length (lines (take e job))
+  pub whole : lines job ≡ lines (take e job) ++ done
 
 -- a line of a job with this header: it says something, and a plain line is sound, as is the Pauli of an element
 pub record Known (h : Header) (text : List ℕ) : Type 0 where

@@ -3,6 +3,7 @@ ghost use mathlib.Core.Path.{_≡_};
 ghost use mathlib.Core.Bool.{false};
 ghost use Prim.Native.Nat.{_+_, _≤_, _<_};
 ghost use lib.ListN.{length, getD};
+ghost use Rattle.text.specs.Bytes.{LF};
 ghost use Rattle.text.specs.Written.{Free};
 ghost use Rattle.instructions.specs.Reading.{lineAt};
 ghost use Rattle.lines_from_last.specs.Line.{LineBefore, NoLf};
@@ -24,7 +25,7 @@ fn has_lf(job: &[u8], from: usize) -> bool
 // Back from e over blocks of eight bytes without LF.
 fn skip_blocks(job: &[u8], e: usize) -> usize
     requires { ⌜ e < length (now job) ⌝ }
-    ensures { λ r. ⌜ (r ≤ e) × Free 10 (lineAt (now (job .entry)) r e) ⌝ }
+    ensures { λ r. ⌜ (r ≤ e) × Free LF (lineAt (now (job .entry)) r e) ⌝ }
 {
     let mut i = e;
     while 8 <= i {
@@ -38,7 +39,7 @@ fn skip_blocks(job: &[u8], e: usize) -> usize
 
 // The place where the line starts whose LF is at e. Blocks are skipped first; then two bytes are looked at in a turn.
 pub fn line_start(job: &[u8], e: usize) -> usize
-    requires { ⌜ (e < length (now job)) × (getD (now job) e 0 ≡ 10) ⌝ }
+    requires { ⌜ (e < length (now job)) × (getD (now job) e 0 ≡ LF) ⌝ }
     ensures { λ r. ⌜ LineBefore (now (job .entry)) e r ⌝ }
 {
     let mut i = skip_blocks(job, e);

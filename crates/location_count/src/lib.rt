@@ -5,12 +5,12 @@ ghost use Rattle.job.specs.Job.{checkJob};
 ghost use Rattle.circuit.specs.Annotate.{locations as Annotate·locations};
 ghost use Rattle.circuit.specs.Replies.{locationsReply};
 use checker::check;
-use instructions::next_line;
+use instructions::next_known;
 use job::Answer;
 use job::CountReply;
 use line_qubits::located;
-use template::values::EACH;
 use template::values::KEPT;
+use template::values::MAX_SLOTS;
 use template::values::WORDS;
 
 // The locations of an accepted job.
@@ -19,11 +19,11 @@ fn count(job: &[u8]) -> u64
     ensures { λ r. ⌜ r ≡ Annotate·locations (Bytes·lines (now (job .entry))) ⌝ }
 {
     let mut fields = [0u64; WORDS];
-    let mut qubits = [0u64; EACH * KEPT];
+    let mut qubits = [0u64; MAX_SLOTS * KEPT];
     let mut at = 0;
     let mut total: u64 = 0;
     while at < job.len() {
-        let line = next_line(job, at, &mut fields);
+        let line = next_known(job, at, &mut fields);
         let form = line.form;
         let n = located(form, &fields, &mut qubits);
         total += 2 * n as u64;

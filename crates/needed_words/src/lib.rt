@@ -13,14 +13,14 @@ ghost use Rattle.needed_words.specs.Needed.{NeededReady, NeededRun};
 fn clear_all(x: &mut [u64], z: &mut [u64], deltas: &mut [u64], totals: &mut [u64])
     ensures { λ _. ⌜ (now (x .exit) ≡ cleared 0 (length (now (x .entry))) (now (x .entry))) × (now (z .exit) ≡ cleared 0 (length (now (z .entry))) (now (z .entry))) × (now (deltas .exit) ≡ cleared 0 (length (now (deltas .entry))) (now (deltas .entry))) × (now (totals .exit) ≡ cleared 0 (length (now (totals .entry))) (now (totals .entry))) ⌝ }
 {
-    let nx = x.len();
-    rows::clear(x, 0, nx);
-    let nz = z.len();
-    rows::clear(z, 0, nz);
-    let nd = deltas.len();
-    rows::clear(deltas, 0, nd);
-    let nt = totals.len();
-    rows::clear(totals, 0, nt);
+    let x_words = x.len();
+    rows::clear(x, 0, x_words);
+    let z_words = z.len();
+    rows::clear(z, 0, z_words);
+    let delta_words = deltas.len();
+    rows::clear(deltas, 0, delta_words);
+    let total_words = totals.len();
+    rows::clear(totals, 0, total_words);
 }
 
 // The main list lies in two parts. The words and the totals are cleared first, and again where the draws were spent.

@@ -29,7 +29,7 @@ kindOf (Distribution.depolarizing qs) = Depolarizing (length qs)
 kindOf (Distribution.uniform Ps) = Uniform (length Ps)
 kindOf (Distribution.weighted es) = Weighted (totalFrom zeroFloat (weightsOf es))
 
--- the elements that are chosen from by a bound: none where the kind chooses otherwise
+-- the bound of a choice, how many elements it is among where each is as likely as another: 0 where the kind chooses otherwise
 unfoldable pub boundOf : PauliDistribution → ℕ
 boundOf Single = 0
 boundOf (Depolarizing k) = 4 ^ k - 1

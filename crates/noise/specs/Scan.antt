@@ -20,7 +20,7 @@ thresholdOf (fin s m e) = cond s 0 (min (ceiling (m * up e * 2 ^ 53) (down e)) (
 
 -- ---- words gone over, where t is the threshold of p
 
--- n words from a place on bring no fault
+-- n words from a position on bring no fault
 pub record Quiet (t : ℕ) (words : List ℕ) (at n : ℕ) : Type 0 where
   pub none : (p : Float) → t ≡ thresholdOf p → (j : ℕ) → j < n → falls (getD words (at + j) 0) p ≡ false
 

@@ -1,4 +1,4 @@
--- Words that bring no fault, the word at a place, what follows a line's part, and the position behind the words that a line has read. Definitions.
+-- Words that bring no fault, the word at a position, what follows a line's part, and the position behind the words that a line has read. Definitions.
 -- Assumes nothing.
 use Prim.Native.Nat.{ℕ, zero, suc, _+_, _<_, _≤_}
 use mathlib.Core.Path.{_≡_}
@@ -19,7 +19,7 @@ skipOf p zero ws = 0
 skipOf p (suc most) [] = 0
 skipOf p (suc most) (w ∷ ws) = let more = suc (skipOf p most ws) in cond (falls w p) 0 more
 
--- the word at a place; or the words have ended there
+-- the word at a position; or the words have ended there
 unfoldable pub WordIs : List ℕ → ℕ → NextWord → Type 0
 WordIs words at (next.Word w) = (at < length words) × (w ≡ getD words at 0)
 WordIs words at next.Spent = length words ≤ at

@@ -25,8 +25,8 @@ fn fill(words: &mut [u64], n: usize, v: u64)
 
 const ALL_SHOTS: u64 = 0xffffffffffffffff;
 
-// A word's shots before the noiseless bits are added: all where there is no condition or its parity is 0, and else none.
-fn first_word(count: usize, parity: u64) -> u64
+// Each word of the mask before the noiseless bits are added: all its shots where there is no condition or its parity is 0, and else none.
+fn start_mask(count: usize, parity: u64) -> u64
     ensures { λ r. ⌜ ((k : ℕ) → k < 64 → bit r k ≡ (eqb count 0 || not (isOne parity))) ⌝ }
 {
     if count == 0 {
@@ -39,10 +39,16 @@ fn first_word(count: usize, parity: u64) -> u64
 }
 
 // The shots whose condition is satisfied: the noiseless bits of the listed outcomes sum to the parity. All where none is listed.
-pub fn condition_mask(mask: &mut [u64], outcomes: &[u64], parity: u64, noiseless: &[u64], w: usize)
-    requires { ⌜ (w ≤ length (now mask)) × RowsIn w (now outcomes) (now noiseless) ⌝ }
-    ensures { λ _. ⌜ Masks w (now (mask .exit)) (conditionOf (now (outcomes .entry)) parity) (bitIn w (now (noiseless .entry))) ⌝ }
+pub fn condition_mask(
+    mask: &mut [u64],
+    outcomes: &[u64],
+    parity: u64,
+    noiseless: &[u64],
+    width: usize,
+)
+    requires { ⌜ (width ≤ length (now mask)) × RowsIn width (now outcomes) (now noiseless) ⌝ }
+    ensures { λ _. ⌜ Masks width (now (mask .exit)) (conditionOf (now (outcomes .entry)) parity) (bitIn width (now (noiseless .entry))) ⌝ }
 {
-    fill(&mut *mask, w, first_word(outcomes.len(), parity));
-    rows::add_listed(mask, 0, noiseless, w, outcomes);
+    fill(&mut *mask, width, start_mask(outcomes.len(), parity));
+    rows::add_listed(mask, 0, noiseless, width, outcomes);
 }

@@ -4,22 +4,24 @@ pub mod condition;
 pub mod scan;
 pub mod words;
 
+use job::limits::MAX_MEMBERS;
+
 // The four kinds of distribution: one element; every Pauli on so many qubits but the identity; so many elements that are alike; elements with
 // weights, whose total it carries. Elements, and the running sums of weights, lie in arrays beside it.
 pub enum PauliDistribution {
     Single,
-    Depolarizing { qubits: u64 },
-    Uniform { elements: u64 },
+    Depolarizing { qubit_count: u64 },
+    Uniform { element_count: u64 },
     Weighted { total: f64 },
 }
 
-// Words come from the main list, or from the second at the place that a correlation names.
+// Words come from the main list, or from the second at the position that a correlation names.
 pub enum Correlation {
     Uncorrelated,
     Shared { correlation: u64 },
 }
 
-// The word at a place, or that the words have ended there.
+// The word at a position, or that the words have ended there.
 pub enum NextWord {
     Word(u64),
     Spent,
@@ -27,7 +29,7 @@ pub enum NextWord {
 
 // The noiseless bits of the first `count` of `outcomes` sum to `parity`. A count of 0 is no condition.
 pub struct OutcomeCondition {
-    pub outcomes: [u64; 31],
+    pub outcomes: [u64; MAX_MEMBERS as usize],
     pub count: usize,
     pub parity: u64,
 }

@@ -1,6 +1,9 @@
 // Words gone over for the next one that brings a fault. For that p becomes a threshold, a whole number: so a word is tested with no float, and eight
 // words with one branch.
 use crate::NextWord;
+use crate::words::STEP_WORDS;
+use crate::words::STEPS;
+use crate::words::STEPS_FLOAT;
 use crate::words::count;
 use crate::words::is_fault;
 use crate::words::next_word;
@@ -18,47 +21,50 @@ ghost use Rattle.noise.specs.Scan.{thresholdOf, Quiet, Passed, Stopped, 
 // As many words make a block.
 const BLOCK: usize = 8;
 
+// A word with its top bit alone, 2^63.
+const TOP_BIT: u64 = 9223372036854775808;
+
 // ---- A word beside the threshold
 
-// The least whole number that is not below p * 2^53: floor(w / 2048) is below it where a fault falls. It is 0 for a p that is not above zero, NaN
-// included, and 2^53, above every floor(w / 2048), for one that is not below 1.
+// The least whole number that is not below p * 2^53: floor(word / 2048) is below it where a fault falls. It is 0 for a p that is not above zero, NaN
+// included, and 2^53, above every floor(word / 2048), for one that is not below 1.
 pub fn threshold(p: f64) -> u64
     ensures { λ r. ⌜ r ≡ thresholdOf p ⌝ }
 {
     if p > 0.0 {
         if p < 1.0 {
             // the product is exact, and its whole part is below it where that, as a word, brings a fault
-            let whole = std::num::truncating_f64_to_u64(p * 9007199254740992.0);
-            if is_fault(whole * 2048, p) {
+            let whole = std::num::truncating_f64_to_u64(p * STEPS_FLOAT);
+            if is_fault(whole * STEP_WORDS, p) {
                 return whole + 1;
             }
             return whole;
         }
-        return 9007199254740992;
+        return STEPS;
     }
     0
 }
 
-// A fault falls if floor(w / 2048) is below the threshold.
-fn falls_below(w: u64, t: u64) -> bool
-    ensures { λ r. ⌜ ((p : Float) → t ≡ thresholdOf p → r ≡ falls w p) ⌝ }
+// A fault falls if floor(word / 2048) is below the threshold.
+fn falls_below(word: u64, threshold: u64) -> bool
+    ensures { λ r. ⌜ ((p : Float) → threshold ≡ thresholdOf p → r ≡ falls word p) ⌝ }
 {
-    w / 2048 < t
+    word / STEP_WORDS < threshold
 }
 
 // Their difference, which wraps, and so has its top bit set, where a fault falls.
-fn difference(w: u64, t: u64) -> u64
-    ensures { λ r. ⌜ ((p : Float) → t ≡ thresholdOf p → leb (2 ^ 63) r ≡ falls w p) ⌝ }
+fn difference(word: u64, threshold: u64) -> u64
+    ensures { λ r. ⌜ ((p : Float) → threshold ≡ thresholdOf p → leb (2 ^ 63) r ≡ falls word p) ⌝ }
 {
-    std::num::wrapping_sub_u64(w / 2048, t)
+    std::num::wrapping_sub_u64(word / STEP_WORDS, threshold)
 }
 
 // Whether there is a next word, and it brings a fault.
-pub fn falls_next(words: &[u64], more: &[u64], at: usize, t: u64) -> bool
-    ensures { λ r. ⌜ (r ≡ true → (p : Float) → t ≡ thresholdOf p → falls (getD (now (words .entry) ++ now (more .entry)) at 0) p ≡ true) ⌝ }
+pub fn falls_next(words: &[u64], more: &[u64], at: usize, threshold: u64) -> bool
+    ensures { λ r. ⌜ (r ≡ true → (p : Float) → threshold ≡ thresholdOf p → falls (getD (now (words .entry) ++ now (more .entry)) at 0) p ≡ true) ⌝ }
 {
     match next_word(words, more, at) {
-        NextWord::Word(w) => falls_below(w, t),
+        NextWord::Word(word) => falls_below(word, threshold),
         NextWord::Spent => false,
     }
 }
@@ -66,27 +72,27 @@ pub fn falls_next(words: &[u64], more: &[u64], at: usize, t: u64) -> bool
 // ---- Words passed over
 
 // Whether one of a block's words brings a fault. With no branch between them a compiler can take several words at once.
-fn has_fault(words: &[u64], at: usize, t: u64) -> bool
+fn has_fault(words: &[u64], at: usize, threshold: u64) -> bool
     requires { ⌜ at + 8 ≤ length (now words) ⌝ }
-    ensures { λ r. ⌜ (r ≡ false → Quiet t (now (words .entry)) at 8) ⌝ }
+    ensures { λ r. ⌜ (r ≡ false → Quiet threshold (now (words .entry)) at 8) ⌝ }
 {
     let mut seen = 0;
     let mut i = 0;
     while i < BLOCK {
-        seen = seen | difference(words[at + i], t);
+        seen = seen | difference(words[at + i], threshold);
         i += 1;
     }
-    seen >= 9223372036854775808
+    seen >= TOP_BIT
 }
 
-// Of n words from a place on, how many are passed over in whole blocks.
-fn pass_blocks(words: &[u64], at: usize, n: usize, t: u64) -> usize
+// Of n words from a position on, how many are passed over in whole blocks.
+fn pass_blocks(words: &[u64], at: usize, n: usize, threshold: u64) -> usize
     requires { ⌜ n ≤ length (now words) - at ⌝ }
-    ensures { λ r. ⌜ Passed t (now (words .entry)) at n r ⌝ }
+    ensures { λ r. ⌜ Passed threshold (now (words .entry)) at n r ⌝ }
 {
     let mut i = 0;
     while BLOCK <= n - i {
-        if has_fault(words, at + i, t) {
+        if has_fault(words, at + i, threshold) {
             return i;
         }
         i += BLOCK;
@@ -104,25 +110,25 @@ fn least(a: usize, b: usize) -> usize
     b
 }
 
-// The same where the words lie in two parts, the second behind the first, up to the end of the part that has the place.
-fn pass_far(words: &[u64], more: &[u64], at: usize, n: usize, t: u64) -> usize
+// The same where the words lie in two parts, the second behind the first, up to the end of the part that has the position.
+fn pass_far(words: &[u64], more: &[u64], at: usize, n: usize, threshold: u64) -> usize
     requires { ⌜ n ≤ length (now words ++ now more) - at ⌝ }
-    ensures { λ r. ⌜ Passed t (now (words .entry) ++ now (more .entry)) at n r ⌝ }
+    ensures { λ r. ⌜ Passed threshold (now (words .entry) ++ now (more .entry)) at n r ⌝ }
 {
     if at < words.len() {
-        return pass_blocks(words, at, least(n, words.len() - at), t);
+        return pass_blocks(words, at, least(n, words.len() - at), threshold);
     }
-    pass_blocks(more, at - words.len(), n, t)
+    pass_blocks(more, at - words.len(), n, threshold)
 }
 
 // How many of n words bring no fault before one that does, one by one.
-fn pass_near(words: &[u64], more: &[u64], at: usize, n: usize, t: u64) -> usize
+fn pass_near(words: &[u64], more: &[u64], at: usize, n: usize, threshold: u64) -> usize
     requires { ⌜ n ≤ length (now words ++ now more) - at ⌝ }
-    ensures { λ r. ⌜ Stopped t (now (words .entry) ++ now (more .entry)) at n r ⌝ }
+    ensures { λ r. ⌜ Stopped threshold (now (words .entry) ++ now (more .entry)) at n r ⌝ }
 {
     let mut i = 0;
     while i < n {
-        if falls_below(word_at(words, more, at + i), t) {
+        if falls_below(word_at(words, more, at + i), threshold) {
             return i;
         }
         i += 1;
@@ -132,18 +138,18 @@ fn pass_near(words: &[u64], more: &[u64], at: usize, n: usize, t: u64) -> usize
 
 // How many shots, of so many, are passed over before the next fault: as many words bring none. Fewer where the words end. The first words are taken
 // one by one, since with a large p a fault is among them, and so are those of the block that ends the blocks.
-pub fn next_skip(words: &[u64], more: &[u64], at: usize, shots: usize, t: u64) -> usize
+pub fn next_skip(words: &[u64], more: &[u64], at: usize, shots: usize, threshold: u64) -> usize
     requires { ⌜ at ≤ length (now words ++ now more) ⌝ }
-    ensures { λ r. ⌜ Skipped t (now (words .entry) ++ now (more .entry)) at shots r ⌝ }
+    ensures { λ r. ⌜ Skipped threshold (now (words .entry) ++ now (more .entry)) at shots r ⌝ }
 {
     let n = least(shots, count(words, more) - at);
     let mut i = 0;
     loop {
-        let near = pass_near(words, more, at + i, least(n - i, BLOCK), t);
+        let near = pass_near(words, more, at + i, least(n - i, BLOCK), threshold);
         i += near;
         if near < BLOCK {
             return i;
         }
-        i += pass_far(words, more, at + i, n - i, t);
+        i += pass_far(words, more, at + i, n - i, threshold);
     }
 }

@@ -10,21 +10,28 @@ ghost use Rattle.draws.specs.Draws.{unitOf, falls, Lent, partOf};
 ghost use Rattle.noise.specs.Kinds.{correlationOf};
 ghost use Rattle.noise.specs.Words.{moreOf, positionAfter, WordRead};
 
-// u = floor(w / 2048) / 2^53. A number below 2^53 is cast without loss, and scaling by a power of two is exact.
-pub fn unit(w: u64) -> f64
-    ensures { λ r. ⌜ r ≡ unitOf w ⌝ }
+// A word w stands for u = floor(w / 2048) / 2^53: 2048 words in a row, a step, have the same u, and there are 2^53 steps.
+pub const STEP_WORDS: u64 = 2048;
+
+pub const STEPS: u64 = 9007199254740992;
+
+pub const STEPS_FLOAT: f64 = 9007199254740992.0;
+
+// The u of a word. A number below 2^53 is cast without loss, and scaling by a power of two is exact.
+pub fn unit(word: u64) -> f64
+    ensures { λ r. ⌜ r ≡ unitOf word ⌝ }
 {
-    (w / 2048) as f64 / 9007199254740992.0
+    (word / STEP_WORDS) as f64 / STEPS_FLOAT
 }
 
 // A fault falls if u < p.
-pub fn is_fault(w: u64, p: f64) -> bool
-    ensures { λ r. ⌜ r ≡ falls w p ⌝ }
+pub fn is_fault(word: u64, p: f64) -> bool
+    ensures { λ r. ⌜ r ≡ falls word p ⌝ }
 {
-    unit(w) < p
+    unit(word) < p
 }
 
-// What a list holds from a place on: nothing where that is past the end.
+// The words of a list from a position on: none where that is past the end.
 fn tail<'a>(words: &'a [u64], from: usize) -> &'a [u64]
     ensures { λ r. ⌜ now r ≡ drop from (now (words .entry)) ⌝ }
 {
@@ -36,13 +43,13 @@ fn tail<'a>(words: &'a [u64], from: usize) -> &'a [u64]
 }
 
 // A position counted from another: 0 where it lies before.
-fn behind(position: usize, first: usize) -> usize
-    ensures { λ r. ⌜ r ≡ position - first ⌝ }
+fn offset(position: usize, from: usize) -> usize
+    ensures { λ r. ⌜ r ≡ position - from ⌝ }
 {
-    if position < first {
+    if position < from {
         return 0;
     }
-    position - first
+    position - from
 }
 
 // The part of one of the two lists that a noise line reads from: the main list from a position on, or the second from base + c on, wrapping at 2^64.
@@ -70,12 +77,12 @@ pub fn more_part<'a>(
     more: &'a [u64],
     correlation: Correlation,
     position: usize,
-    first: usize,
+    first_len: usize,
 ) -> &'a [u64]
-    ensures { λ r. ⌜ now r ≡ moreOf (correlationOf correlation) (drop (position - first) (now (more .entry))) ⌝ }
+    ensures { λ r. ⌜ now r ≡ moreOf (correlationOf correlation) (drop (position - «first_len») (now (more .entry))) ⌝ }
 {
     match correlation {
-        Correlation::Uncorrelated => tail(more, behind(position, first)),
+        Correlation::Uncorrelated => tail(more, offset(position, first_len)),
         Correlation::Shared { correlation: _ } => tail(more, more.len()),
     }
 }
@@ -98,7 +105,7 @@ pub fn count(words: &[u64], more: &[u64]) -> usize
     words.len() + more.len()
 }
 
-// The word at a place of the two.
+// The word at a position of the two.
 pub fn word_at(words: &[u64], more: &[u64], at: usize) -> u64
     requires { ⌜ at < length (now words ++ now more) ⌝ }
     ensures { λ r. ⌜ r ≡ getD (now (words .entry) ++ now (more .entry)) at 0 ⌝ }

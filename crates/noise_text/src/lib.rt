@@ -71,7 +71,7 @@ fn put_element(
     ensures { λ r. ⌜ Puts place (injectText (shot .0) (elementIn d (now (elements .entry)) e) ++ LF ∷ []) (now (out .entry)) (now (out .exit)) r ⌝ }
 {
     match d {
-        PauliDistribution::Depolarizing { qubits: _ } => {
+        PauliDistribution::Depolarizing { qubit_count: _ } => {
             put_depolarizing(out, place, shot, element_x(elements, 0), e)
         }
         _ => put_kept(out, place, shot, elements, e as usize),
@@ -80,7 +80,7 @@ fn put_element(
 
 // ---- A noise line
 
-// A word was needed past the end, `end_word`; or the places of the next word and of the next byte.
+// A word was needed past the end, `end_word`; or the position of the next word and the place of the next byte.
 pub enum Drawn {
     Spent { end_word: usize },
     Done { next_word: usize, next_byte: usize },
@@ -114,19 +114,19 @@ fn put_faults(
                     end_word: count(words, more),
                 };
             }
-            NextFault::Done { next } => {
+            NextFault::Done { next_word } => {
                 return Drawn::Done {
-                    next_word: next,
+                    next_word,
                     next_byte: place,
                 };
             }
             NextFault::At {
                 shot: s,
                 element: e,
-                next,
+                next_word,
             } => {
                 place = put_element(&mut *out, place, s, d, elements, e);
-                at = next;
+                at = next_word;
                 shot = s.0 + 1;
             }
         }

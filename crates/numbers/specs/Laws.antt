@@ -5,3 +5,4 @@ pub mod Lists
 pub mod Members
 pub mod Hex
 pub mod Rising
+pub mod Known

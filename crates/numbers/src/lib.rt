@@ -1,4 +1,5 @@
 // Numbers and lists as text, and bytes cut at a separator. The definitions are in the crate text.
+pub mod known;
 pub mod lists;
 pub mod pieces;
 pub mod rising;
@@ -75,20 +76,24 @@ pub fn number(s: &[u8]) -> Value
     Value::Of(v)
 }
 
-// The lower-case hexadecimal digit that a byte is, if it is one.
+// The lower-case hexadecimal digit that a byte is, if it is one. Its low four bits are the digit for `0` to `9`; for a letter, whose b / 64 is 1,
+// they begin at 1.
 fn hex_value(b: u8) -> u8
     ensures { λ r. ⌜ r ≡ hexValue b ⌝ }
 {
     (b % 16 + 9 * (b / 64)) % 16
 }
 
-// 0 for a lower-case hexadecimal digit, 1 for any other byte: whether it is the byte of its digit. Digits follow no pattern, so that a branch would
-// often be foretold wrongly; this has none.
+// So many bytes lie between `9` and `a`.
+const LETTER_GAP: u8 = b'a' - b'0' - 10;
+
+// 0 for a lower-case hexadecimal digit, 1 for any other byte: whether it is the byte of its digit. (d + 6) / 16 is 1 for a letter. Digits follow no
+// pattern, so that a branch would often be foretold wrongly; this has none.
 fn not_hex(b: u8) -> u8
     ensures { λ r. ⌜ r ≡ cond (ltb (hexDigit b) 16) 0 1 ⌝ }
 {
     let d = hex_value(b);
-    (b'0' + d + 39 * ((d + 6) / 16) != b) as u8
+    (b'0' + d + LETTER_GAP * ((d + 6) / 16) != b) as u8
 }
 
 // Whether 16 bytes are lower-case hexadecimal digits. None is looked for, so that all are tested at once.

@@ -24,7 +24,7 @@ pub struct Listed {
     pub rising: bool,
 }
 
-fn larger(a: u64, b: u64) -> u64
+pub fn larger(a: u64, b: u64) -> u64
     ensures { λ r. ⌜ r ≡ max a b ⌝ }
 {
     if a < b { b } else { a }
@@ -43,7 +43,7 @@ fn rises(l: Listed, n: u64) -> bool
 }
 
 // The list with one more member at its end.
-fn push(l: Listed, n: u64) -> Listed
+pub fn push(l: Listed, n: u64) -> Listed
     requires { ⌜ l .count + 1 < 2 ^ 64 ⌝ }
     ensures { λ r. ⌜ ((d : List ℕ) → l ≡ listedAs (some d) → r ≡ listedAs (some (d ++ n ∷ []))) ⌝ }
 {
@@ -55,7 +55,7 @@ fn push(l: Listed, n: u64) -> Listed
     }
 }
 
-fn store(out: &mut [u64], at: usize, n: u64)
+pub fn store(out: &mut [u64], at: usize, n: u64)
     ensures { λ _. ⌜ now (out .exit) ≡ set (now (out .entry)) at n ⌝ }
 {
     if at < out.len() {
@@ -196,13 +196,13 @@ fn read_member(s: &[u8], at: usize, hex: bool) -> Member
     requires { ⌜ at ≤ length (now s) ⌝ }
     ensures { λ r. ⌜ MemberAt hex (now (s .entry)) at r ⌝ }
 {
-    let m = short_at(s, at, hex);
-    if m.digits == 0 {
+    let short = short_at(s, at, hex);
+    if short.digits == 0 {
         return cut_member(s, at, hex);
     }
     Member {
-        value: Value::Of(m.value),
-        end: at + m.digits,
+        value: Value::Of(short.value),
+        end: at + short.digits,
     }
 }
 
@@ -213,9 +213,9 @@ pub fn list_by(s: &[u8], hex: bool, out: &mut [u64]) -> Listed
     let mut l = empty();
     let mut at = 0;
     loop {
-        let m = read_member(s, at, hex);
-        let e = m.end;
-        let value = m.value;
+        let member = read_member(s, at, hex);
+        let e = member.end;
+        let value = member.value;
         let Value::Of(n) = value else {
             return no_list();
         };

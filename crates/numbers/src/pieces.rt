@@ -1,5 +1,6 @@
 // Bytes cut at a separator.
 ghost use mathlib.Core.Path.{_≡_};
+ghost use mathlib.Core.Bool.{false};
 ghost use Prim.Native.Nat.{_+_, _≤_};
 ghost use lib.ListN.{length, drop};
 ghost use Rattle.text.specs.Bytes.{until};
@@ -46,4 +47,47 @@ pub fn find(s: &[u8], at: usize, sep: u8) -> usize
         i = fourth + 1;
     }
     find_singly(s, i, sep)
+}
+
+// ---- A separator that is likely far away
+
+// So many bytes make a block.
+const BLOCK: usize = 16;
+
+// Whether a byte of a block is sep. With no branch between them a compiler can take all at once.
+fn has_sep(s: &[u8], at: usize, sep: u8) -> bool
+    requires { ⌜ at + 16 ≤ length (now s) ⌝ }
+    ensures { λ r. ⌜ (r ≡ false → until sep (drop at (now (s .entry))) ≡ 16 + until sep (drop (at + 16) (now (s .entry)))) ⌝ }
+{
+    let mut seen = 0u8;
+    let mut i = 0;
+    while i < BLOCK {
+        seen |= (s[at + i] == sep) as u8;
+        i += 1;
+    }
+    seen != 0
+}
+
+// The place up to which whole blocks have no sep.
+fn pass_blocks(s: &[u8], at: usize, sep: u8) -> usize
+    requires { ⌜ at ≤ length (now s) ⌝ }
+    ensures { λ r. ⌜ (at + until sep (drop at (now (s .entry))) ≡ r + until sep (drop r (now (s .entry)))) × (at ≤ r) × (r ≤ length (now (s .entry))) ⌝ }
+{
+    let mut i = at;
+    while BLOCK <= s.len() - i {
+        if has_sep(s, i, sep) {
+            return i;
+        }
+        i += BLOCK;
+    }
+    i
+}
+
+// What `find` finds. Whole blocks are passed over first, which is quicker where sep is far away.
+pub fn find_far(s: &[u8], at: usize, sep: u8) -> usize
+    requires { ⌜ at ≤ length (now s) ⌝ }
+    ensures { λ r. ⌜ r ≡ at + until sep (drop at (now (s .entry))) ⌝ }
+    ensures { λ r. ⌜ (at ≤ r) × (r ≤ length (now (s .entry))) ⌝ }
+{
+    find(s, pass_blocks(s, at, sep), sep)
 }

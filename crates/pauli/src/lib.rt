@@ -23,14 +23,24 @@ pub struct OutcomeId(pub usize);
 
 pub struct Shot(pub usize);
 
-// How many qubits the gate of a code takes, and 0 above 15, where there is no gate.
-pub fn operands(gate: u64) -> u8
-    ensures { λ r. ⌜ r ≡ operandCount (gateOf gate) ⌝ }
+// The bits of a word.
+pub const WORD_BITS: usize = 64;
+
+// Codes of gates: those up to this take one qubit, the others two; the last is ControlledY's.
+pub const LAST_ONE_QUBIT_GATE: u64 = 10;
+
+pub const CONTROLLED_Y: u64 = 15;
+
+pub const LAST_GATE: u64 = CONTROLLED_Y;
+
+// How many qubits the gate of a code takes, and 0 above the last, where there is no gate.
+pub fn operand_count(code: u64) -> u8
+    ensures { λ r. ⌜ r ≡ operandCount (gateOf code) ⌝ }
 {
-    if gate <= 10 {
+    if code <= LAST_ONE_QUBIT_GATE {
         return 1;
     }
-    if gate <= 15 {
+    if code <= LAST_GATE {
         return 2;
     }
     0
@@ -119,9 +129,9 @@ impl Pauli {
         ensures { λ r. ⌜ asPauli r ≡ addedAt (q .0) x z (asPauli self) ⌝ }
     {
         let q = q.0;
-        let k = q / 64;
-        self.x[k] ^= (x as u64) << (q % 64);
-        self.z[k] ^= (z as u64) << (q % 64);
+        let k = q / WORD_BITS;
+        self.x[k] ^= (x as u64) << (q % WORD_BITS);
+        self.z[k] ^= (z as u64) << (q % WORD_BITS);
         self
     }
 
@@ -203,23 +213,31 @@ impl Pauli {
     }
 
     // Conjugated by the gate of a code on its operands a and b, of which a gate on one qubit has
-    // no b. A code above 15 has no gate and changes nothing.
+    // no b. A code above the last has no gate and changes nothing.
     pub fn conjugate(self, gate: u64, a: QubitId, b: QubitId) -> Pauli
         requires { ⌜ (a .0 < 256) × (b .0 < 256) ⌝ }
         ensures { λ r. ⌜ asPauli r ≡ byGate conjugated (gateOf gate) (a .0) (b .0) (asPauli self) ⌝ }
     {
-        // The codes: I, X, Y, Z; Hadamard; SqrtZ, SqrtX and SqrtY, each with its inverse; ControlledX, ControlledZ, Swap, PrepareBell,
-        // ControlledY.
         match gate {
+            // I, X, Y, Z
             0..=3 => self,
+            // Hadamard
             4 => self.swap_parts(a),
+            // SqrtZ and its inverse
             5..=6 => self.add_x_to_z(a),
+            // SqrtX and its inverse
             7..=8 => self.add_z_to_x(a),
+            // SqrtY and its inverse
             9..=10 => self.swap_parts(a),
+            // ControlledX
             11 => self.controlled_x(a, b),
+            // ControlledZ
             12 => self.controlled_z(a, b),
+            // Swap
             13 => self.swap(a, b),
+            // PrepareBell
             14 => self.swap_parts(a).controlled_x(a, b),
+            // ControlledY
             15 => self.controlled_y(a, b),
             _ => self,
         }
@@ -232,7 +250,9 @@ impl Pauli {
     {
         match gate {
             0..=13 => self.conjugate(gate, a, b),
+            // PrepareBell
             14 => self.controlled_x(a, b).swap_parts(a),
+            // ControlledY
             15 => self.controlled_y(a, b),
             _ => self,
         }

@@ -5,6 +5,7 @@
 // function from numbers to Bool, and nothing of words.
 use super::OutcomeId;
 use super::QubitId;
+use super::WORD_BITS;
 ghost use mathlib.Core.Path.{_≡_};
 ghost use mathlib.Core.Bool.{true};
 ghost use Prim.Native.Nat.{_*_, _/_, _<_};
@@ -16,11 +17,11 @@ ghost use Rattle.pauli.specs.Fixed.{inSet, AllBelow};
 fn contains(set: &[u64], q: usize) -> bool
     ensures { λ r. ⌜ r ≡ inSet (now (set .entry)) q ⌝ }
 {
-    let k = q / 64;
+    let k = q / WORD_BITS;
     if set.len() <= k {
         return false;
     }
-    (set[k] >> (q % 64)) % 2 == 1
+    (set[k] >> (q % WORD_BITS)) % 2 == 1
 }
 
 // Adds a set of as many words to another: the symmetric difference.
@@ -40,8 +41,8 @@ fn insert(set: &mut [u64], q: usize)
     requires { ⌜ q / 64 < length (now set) ⌝ }
     ensures { λ _. ⌜ (length (now (set .exit)) ≡ length (now (set .entry))) × (inSet (now (set .exit)) ≡ replaced (inSet (now (set .entry))) q true) ⌝ }
 {
-    let k = q / 64;
-    set[k] |= 1u64 << (q % 64);
+    let k = q / WORD_BITS;
+    set[k] |= 1u64 << (q % WORD_BITS);
 }
 
 // Puts the listed numbers into a set.

@@ -6,6 +6,7 @@ ghost use Rattle.printing.specs.Ran.{ranText, RunsSmall, Lends};
 use checker::examine;
 use job::Answer;
 use job::Header;
+use job::refusals;
 use runner::run;
 use session_text::put_refusal;
 use session_text::put_session;
@@ -37,7 +38,7 @@ fn too_large() -> Answer
     ensures { λ r. ⌜ r ≡ record { number = 13; line = 0 } ⌝ }
 {
     Answer {
-        number: 13,
+        number: refusals::WORDS,
         line: 0,
     }
 }

@@ -18,8 +18,10 @@ use crate::slots::GATE;
 use crate::slots::OPERANDS;
 use crate::slots::PARITY;
 use crate::slots::TABLE;
+use pauli::LAST_GATE;
 use tables::words_fit;
 use template::Progress;
+use template::far_value;
 use template::literal;
 use template::read_all;
 use template::start;
@@ -97,7 +99,7 @@ fn gate_form(line: &[u8], fields: &mut [u64]) -> bool
     whole(line, q)
 }
 
-// A gate code above 15 is no gate.
+// A code above the last is no gate's.
 fn unitary(line: &[u8], fields: &mut [u64]) -> Form
     requires { ⌜ Whole (now fields) ⌝ }
     ensures { λ r. ⌜ Tried (only Forms.Unitary) (now (line .entry)) r (now (fields .exit)) ⌝ }
@@ -105,58 +107,58 @@ fn unitary(line: &[u8], fields: &mut [u64]) -> Form
     if !gate_form(line, &mut *fields) {
         return Form::Unread;
     }
-    if 15 < number(fields, GATE) {
+    if LAST_GATE < number(fields, GATE) {
         return Form::Unread;
     }
     Form::Unitary
 }
 
-fn single(line: &[u8], p: Progress, fields: &mut [u64]) -> Form
-    requires { ⌜ NoiseBegun (now line) p (now fields) × Whole (now fields) ⌝ }
+fn single(line: &[u8], begun: Progress, fields: &mut [u64]) -> Form
+    requires { ⌜ NoiseBegun (now line) begun (now fields) × Whole (now fields) ⌝ }
     ensures { λ r. ⌜ Tried (only Forms.Single) (now (line .entry)) r (now (fields .exit)) ⌝ }
 {
-    let pauli = pauli_lists(line, literal(line, p, b"1 "), &mut *fields);
+    let pauli = pauli_lists(line, literal(line, begun, b"1 "), &mut *fields);
     let size = value(line, literal(line, pauli, b" size="), b'N', fields);
     ended(line, size, Form::Single)
 }
 
-fn depolarizing(line: &[u8], p: Progress, fields: &mut [u64]) -> Form
-    requires { ⌜ NoiseBegun (now line) p (now fields) × Whole (now fields) ⌝ }
+fn depolarizing(line: &[u8], begun: Progress, fields: &mut [u64]) -> Form
+    requires { ⌜ NoiseBegun (now line) begun (now fields) × Whole (now fields) ⌝ }
     ensures { λ r. ⌜ Tried (only Forms.Depolarizing) (now (line .entry)) r (now (fields .exit)) ⌝ }
 {
-    let q = value(line, literal(line, p, b"2 q="), b'Q', &mut *fields);
+    let q = value(line, literal(line, begun, b"2 q="), b'Q', &mut *fields);
     let size = value(line, literal(line, q, b" size="), b'N', fields);
     ended(line, size, Form::Depolarizing)
 }
 
-fn uniform(line: &[u8], p: Progress, fields: &mut [u64]) -> Form
-    requires { ⌜ NoiseBegun (now line) p (now fields) × Whole (now fields) ⌝ }
+fn uniform(line: &[u8], begun: Progress, fields: &mut [u64]) -> Form
+    requires { ⌜ NoiseBegun (now line) begun (now fields) × Whole (now fields) ⌝ }
     ensures { λ r. ⌜ Tried (only Forms.Uniform) (now (line .entry)) r (now (fields .exit)) ⌝ }
 {
-    let n = value(line, literal(line, p, b"3 n="), b'N', &mut *fields);
+    let n = value(line, literal(line, begun, b"3 n="), b'N', &mut *fields);
     let size = value(line, literal(line, n, b" size="), b'N', fields);
     ended(line, size, Form::Uniform)
 }
 
-fn weighted(line: &[u8], p: Progress, fields: &mut [u64]) -> Form
-    requires { ⌜ NoiseBegun (now line) p (now fields) × Whole (now fields) ⌝ }
+fn weighted(line: &[u8], begun: Progress, fields: &mut [u64]) -> Form
+    requires { ⌜ NoiseBegun (now line) begun (now fields) × Whole (now fields) ⌝ }
     ensures { λ r. ⌜ Tried (only Forms.Weighted) (now (line .entry)) r (now (fields .exit)) ⌝ }
 {
-    let n = value(line, literal(line, p, b"4 n="), b'N', &mut *fields);
+    let n = value(line, literal(line, begun, b"4 n="), b'N', &mut *fields);
     let size = value(line, literal(line, n, b" size="), b'N', fields);
     ended(line, size, Form::Weighted)
 }
 
 // The last fields of a noise line, by its digit of d.
-fn noise_kind(line: &[u8], digit: u8, p: Progress, fields: &mut [u64]) -> Form
-    requires { ⌜ NoiseBegun (now line) p (now fields) × (digit ≡ getD (now line) (p .at) 0) × Whole (now fields) ⌝ }
+fn noise_kind(line: &[u8], digit: u8, begun: Progress, fields: &mut [u64]) -> Form
+    requires { ⌜ NoiseBegun (now line) begun (now fields) × (digit ≡ getD (now line) (begun .at) 0) × Whole (now fields) ⌝ }
     ensures { λ r. ⌜ Tried noiseForms (now (line .entry)) r (now (fields .exit)) ⌝ }
 {
     match digit {
-        b'1' => single(line, p, fields),
-        b'2' => depolarizing(line, p, fields),
-        b'3' => uniform(line, p, fields),
-        b'4' => weighted(line, p, fields),
+        b'1' => single(line, begun, fields),
+        b'2' => depolarizing(line, begun, fields),
+        b'3' => uniform(line, begun, fields),
+        b'4' => weighted(line, begun, fields),
         _ => Form::Unread,
     }
 }
@@ -188,18 +190,18 @@ fn noise(line: &[u8], fields: &mut [u64]) -> Form
     requires { ⌜ Whole (now fields) ⌝ }
     ensures { λ r. ⌜ Tried noiseForms (now (line .entry)) r (now (fields .exit)) ⌝ }
 {
-    let p = noise_begin(line, &mut *fields);
-    if !p.ok {
+    let begun = noise_begin(line, &mut *fields);
+    if !begun.ok {
         return Form::Unread;
     }
-    let at = p.at;
+    let at = begun.at;
     if line.len() <= at {
         return Form::Unread;
     }
     if parity_alone(count(fields, CONDITION), number(fields, PARITY)) {
         return Form::Unread;
     }
-    noise_kind(line, line[at], p, fields)
+    noise_kind(line, line[at], begun, fields)
 }
 
 fn edition_header(line: &[u8], fields: &mut [u64]) -> Form
@@ -265,13 +267,15 @@ fn exponential(line: &[u8], fields: &mut [u64]) -> Form
     ended(line, pauli, Form::Exponential)
 }
 
+// Its lists may be long, and are read as such.
 fn controlled(line: &[u8], fields: &mut [u64]) -> Form
     requires { ⌜ Whole (now fields) ⌝ }
     ensures { λ r. ⌜ Tried (only Forms.Controlled) (now (line .entry)) r (now (fields .exit)) ⌝ }
 {
-    let pauli = pauli_lists(line, literal(line, start(), b"op=k "), &mut *fields);
-    let u = value(line, literal(line, pauli, b" u="), b'L', &mut *fields);
-    let v = value(line, literal(line, u, b" v="), b'L', fields);
+    let x = far_value(line, literal(line, start(), b"op=k x="), b'L', &mut *fields);
+    let z = far_value(line, literal(line, x, b" z="), b'L', &mut *fields);
+    let u = far_value(line, literal(line, z, b" u="), b'L', &mut *fields);
+    let v = far_value(line, literal(line, u, b" v="), b'L', fields);
     ended(line, v, Form::Controlled)
 }
 
@@ -375,12 +379,17 @@ fn weighted_element(line: &[u8], fields: &mut [u64]) -> Form
     requires { ⌜ Whole (now fields) ⌝ }
     ensures { λ r. ⌜ Tried (only Forms.WeightedElement) (now (line .entry)) r (now (fields .exit)) ⌝ }
 {
-    let w = value(line, literal(line, start(), b"w="), b'H', &mut *fields);
-    let pauli = pauli_lists(line, literal(line, w, b" "), fields);
+    let weight = value(line, literal(line, start(), b"w="), b'H', &mut *fields);
+    let pauli = pauli_lists(line, literal(line, weight, b" "), fields);
     ended(line, pauli, Form::WeightedElement)
 }
 
-// A line that begins with `op=`, by the letter after that.
+// Where the letter of an operation stands, behind `op=`, and where it ends.
+const LETTER: usize = 3;
+
+const LETTER_END: usize = LETTER + 1;
+
+// A line that begins with `op=`, by its letter. In the contract 111 is the byte of `o`.
 fn operation(line: &[u8], letter: u8, fields: &mut [u64]) -> Form
     requires { ⌜ (getD (now line) 0 0 ≡ 111) × (letter ≡ getD (now line) 3 0) × Whole (now fields) ⌝ }
     ensures { λ r. ⌜ Parsed (now (line .entry)) r (now (fields .exit)) ⌝ }
@@ -410,11 +419,11 @@ pub fn read_line(line: &[u8], fields: &mut [u64]) -> Form
     requires { ⌜ Whole (now fields) ⌝ }
     ensures { λ r. ⌜ Parsed (now (line .entry)) r (now (fields .exit)) ⌝ }
 {
-    if line.len() < 4 {
+    if line.len() < LETTER_END {
         return Form::Unread;
     }
     match line[0] {
-        b'o' => operation(line, line[3], fields),
+        b'o' => operation(line, line[LETTER], fields),
         b'x' => element(line, fields),
         b'w' => weighted_element(line, fields),
         _ => Form::Unread,

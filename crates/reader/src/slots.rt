@@ -39,7 +39,7 @@ pub const PARITY: usize = 1;
 pub const SIZE: usize = 2;
 
 // d=3 and d=4: n, and the size behind it.
-pub const ELEMENTS: usize = 2;
+pub const ELEMENT_COUNT: usize = 2;
 
 pub const LISTED_SIZE: usize = 3;
 

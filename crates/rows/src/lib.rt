@@ -7,6 +7,10 @@ ghost use lib.ListN.{length};
 ghost use Rattle.rows.specs.Overwrite.{cleared, copied, xored, swapped, flipped};
 ghost use Rattle.rows.specs.Listed.{RowsIn, overList, collected};
 ghost use Rattle.rows.specs.Shape.{shapeOf};
+use pauli::WORD_BITS;
+
+// The last bit of a word.
+const LAST_BIT: usize = WORD_BITS - 1;
 
 // How a job's bits lie in words: a row for each of its qubits or outcomes, in each row a bit for each of its shots. The width is the words of a row.
 pub struct Shape {
@@ -25,7 +29,7 @@ pub fn shape_of(qubits: usize, outcomes: usize, shots: usize) -> Shape
         qubits,
         outcomes,
         shots,
-        width: (shots + 63) / 64,
+        width: (shots + LAST_BIT) / WORD_BITS,
     }
 }
 
@@ -67,38 +71,42 @@ pub fn xor_words(dst: &mut [u64], at: usize, src: &[u64], from: usize, n: usize)
     }
 }
 
-// Adds four runs of n words of src, from a, b, c and d on, to the words of dst from `at` on, which are read and written once for the four.
+// Adds four runs of n words of src, from the four places on, to the words of dst from `at` on, which are read and written once for the four.
 fn xor_four(
     dst: &mut [u64],
     at: usize,
     src: &[u64],
-    a: usize,
-    b: usize,
-    c: usize,
-    d: usize,
+    first: usize,
+    second: usize,
+    third: usize,
+    fourth: usize,
     n: usize,
 )
-    requires { ⌜ (at + n ≤ length (now dst)) × (a + n ≤ length (now src)) × (b + n ≤ length (now src)) × (c + n ≤ length (now src)) × (d + n ≤ length (now src)) ⌝ }
-    ensures { λ _. ⌜ now (dst .exit) ≡ xored at d n (now (src .entry)) (xored at c n (now (src .entry)) (xored at b n (now (src .entry)) (xored at a n (now (src .entry)) (now (dst .entry))))) ⌝ }
+    requires { ⌜ (at + n ≤ length (now dst)) × (first + n ≤ length (now src)) × (second + n ≤ length (now src)) × (third + n ≤ length (now src)) × (fourth + n ≤ length (now src)) ⌝ }
+    ensures { λ _. ⌜ now (dst .exit) ≡ xored at fourth n (now (src .entry)) (xored at third n (now (src .entry)) (xored at second n (now (src .entry)) (xored at first n (now (src .entry)) (now (dst .entry))))) ⌝ }
 {
     let mut j = 0;
     while j < n {
-        dst[at + j] = dst[at + j] ^ src[a + j] ^ src[b + j] ^ src[c + j] ^ src[d + j];
+        dst[at + j] = dst[at + j]
+            ^ src[first + j]
+            ^ src[second + j]
+            ^ src[third + j]
+            ^ src[fourth + j];
         j += 1;
     }
 }
 
-// Adds n words of src, from `from` on, to those of dst from p on and to those from q on, where the two runs are the same or don't meet. The
-// words of src are read once for both.
-fn xor_twice(dst: &mut [u64], p: usize, q: usize, src: &[u64], from: usize, n: usize)
-    requires { ⌜ (p + n ≤ length (now dst)) × (q + n ≤ length (now dst)) × (from + n ≤ length (now src)) × (p < q → p + n ≤ q) ⌝ }
-    ensures { λ _. ⌜ now (dst .exit) ≡ xored q from n (now (src .entry)) (xored p from n (now (src .entry)) (now (dst .entry))) ⌝ }
+// Adds n words of src, from `from` on, to those of dst from `first` on and to those from `second` on; a second place above the first is behind
+// the whole run from there. The words of src are read once for both.
+fn xor_twice(dst: &mut [u64], first: usize, second: usize, src: &[u64], from: usize, n: usize)
+    requires { ⌜ (first + n ≤ length (now dst)) × (second + n ≤ length (now dst)) × (from + n ≤ length (now src)) × (first < second → first + n ≤ second) ⌝ }
+    ensures { λ _. ⌜ now (dst .exit) ≡ xored second from n (now (src .entry)) (xored first from n (now (src .entry)) (now (dst .entry))) ⌝ }
 {
     let mut j = 0;
     while j < n {
         let word = src[from + j];
-        dst[p + j] ^= word;
-        dst[q + j] ^= word;
+        dst[first + j] ^= word;
+        dst[second + j] ^= word;
         j += 1;
     }
 }
@@ -138,13 +146,13 @@ pub fn swap_rows(rows: &mut [u64], w: usize, a: usize, b: usize)
     requires { ⌜ (a * w + w ≤ length (now rows)) × (b * w + w ≤ length (now rows)) × (a ≡ b → ⊥) ⌝ }
     ensures { λ _. ⌜ now (rows .exit) ≡ swapped (a * w) (b * w) w (now (rows .entry)) ⌝ }
 {
-    let p = a * w;
-    let q = b * w;
+    let first = a * w;
+    let second = b * w;
     let mut j = 0;
     while j < w {
-        let word = rows[p + j];
-        rows[p + j] = rows[q + j];
-        rows[q + j] = word;
+        let word = rows[first + j];
+        rows[first + j] = rows[second + j];
+        rows[second + j] = word;
         j += 1;
     }
 }
@@ -154,8 +162,8 @@ pub fn flip_bit(rows: &mut [u64], w: usize, r: usize, s: usize)
     requires { ⌜ (r * w + w ≤ length (now rows)) × (s < 64 * w) ⌝ }
     ensures { λ _. ⌜ now (rows .exit) ≡ flipped w s r (now (rows .entry)) ⌝ }
 {
-    let k = r * w + s / 64;
-    rows[k] ^= 1u64 << (s % 64);
+    let k = r * w + s / WORD_BITS;
+    rows[k] ^= 1u64 << (s % WORD_BITS);
 }
 
 // ---- Rows that are listed
@@ -176,8 +184,8 @@ pub fn add_listed(sums: &mut [u64], r: usize, rows: &[u64], w: usize, list: &[u6
         i += 4;
     }
     while i < list.len() {
-        let q = list[i] as usize;
-        xor_words(sums, at, rows, q * w, w);
+        let row = list[i] as usize;
+        xor_words(sums, at, rows, row * w, w);
         i += 1;
     }
 }
@@ -199,14 +207,14 @@ pub fn add_mask_listed(rows: &mut [u64], w: usize, list: &[u64], masks: &[u64], 
     let from = r * w;
     let mut i = 0;
     while 2 <= list.len() - i {
-        let p = list[i] as usize;
-        let q = list[i + 1] as usize;
-        xor_twice(&mut *rows, p * w, q * w, masks, from, w);
+        let a = list[i] as usize;
+        let b = list[i + 1] as usize;
+        xor_twice(&mut *rows, a * w, b * w, masks, from, w);
         i += 2;
     }
     while i < list.len() {
-        let q = list[i] as usize;
-        xor_words(rows, q * w, masks, from, w);
+        let row = list[i] as usize;
+        xor_words(rows, row * w, masks, from, w);
         i += 1;
     }
 }
@@ -218,8 +226,8 @@ pub fn clear_listed(rows: &mut [u64], w: usize, list: &[u64])
 {
     let mut i = 0;
     while i < list.len() {
-        let q = list[i] as usize;
-        clear(rows, q * w, w);
+        let row = list[i] as usize;
+        clear(rows, row * w, w);
         i += 1;
     }
 }
@@ -231,8 +239,8 @@ pub fn flip_listed(rows: &mut [u64], w: usize, list: &[u64], s: usize)
 {
     let mut i = 0;
     while i < list.len() {
-        let q = list[i] as usize;
-        flip_bit(rows, w, q, s);
+        let row = list[i] as usize;
+        flip_bit(rows, w, row, s);
         i += 1;
     }
 }
@@ -244,8 +252,8 @@ pub fn save_listed(saved: &mut [u64], first: usize, rows: &[u64], w: usize, list
 {
     let mut i = 0;
     while i < list.len() {
-        let q = list[i] as usize;
-        copy(saved, (first + i) * w, rows, q * w, w);
+        let row = list[i] as usize;
+        copy(saved, (first + i) * w, rows, row * w, w);
         i += 1;
     }
 }

@@ -1,6 +1,7 @@
 // A run of a job: the tests, then its instructions one after the other on the lent words.
 use execution::Answered;
 use job::Answer;
+use job::refusals;
 use job_shape::Tested;
 use job_shape::behind_header;
 use needed_words::run_needed;
@@ -51,7 +52,7 @@ fn too_few() -> Answer
     ensures { λ r. ⌜ r ≡ record { number = 13; line = 0 } ⌝ }
 {
     Answer {
-        number: 13,
+        number: refusals::WORDS,
         line: 0,
     }
 }

@@ -16,6 +16,7 @@ use instruction_text::Reached;
 use instruction_text::put_instruction;
 use job::Answer;
 use job::limits::MAX_BYTES;
+use job::refusals;
 use job_shape::Tested;
 use job_shape::behind_header;
 use noise::Place;
@@ -127,7 +128,7 @@ pub fn tested(job: &[u8], noiseless: usize) -> Tested
     if noiseless < shape.outcomes * shape.width {
         return Tested {
             answer: Answer {
-                number: 13,
+                number: refusals::WORDS,
                 line: 0,
             },
             shape,
@@ -163,7 +164,7 @@ pub fn settle_tested<'a>(
     ) {
         TextLength::SpentAt { line: k, taken } => Answered {
             answer: refused(Answer {
-                number: 14,
+                number: refusals::DRAWS,
                 line: k,
             }),
             taken,
@@ -171,7 +172,7 @@ pub fn settle_tested<'a>(
         TextLength::Length { bytes: need, taken } => {
             if !text_fits(need, out.len()) {
                 return Answered {
-                    answer: measured(15, need),
+                    answer: measured(refusals::ROOM, need),
                     taken: 0,
                 };
             }

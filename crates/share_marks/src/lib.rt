@@ -4,6 +4,7 @@ ghost use Prim.Native.Nat.{ℕ, _+_, _-_, _^_, _<_, _≤_, min};
 ghost use lib.ListN.{length, getD, take};
 ghost use Rattle.shares.specs.Shares.{sum, ownLeft, commonLeft, moved, eachWithin, sharesFit};
 ghost use Rattle.share_marks.specs.Fit.{Fit, shareNumber};
+use job::refusals;
 
 const MAX_CALLERS: usize = 8;
 
@@ -67,13 +68,13 @@ pub fn share_number(main: &[u64], shares: &[u64], marks: &[u64], caller: u64) ->
     ensures { λ r. ⌜ r ≡ shareNumber (record { shares = now (shares .entry); marks = now (marks .entry); caller = caller }) (now (main .entry)) ⌝ }
 {
     if marks.len() <= shares.len() {
-        return 13;
+        return refusals::WORDS;
     }
     if !shares_fit(main, shares, marks) {
-        return 25;
+        return refusals::SHARES;
     }
     if shares.len() as u64 <= caller {
-        return 26;
+        return refusals::CALLER;
     }
     0
 }

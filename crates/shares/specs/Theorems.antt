@@ -14,7 +14,7 @@ use Rattle.job.specs.Line.{Placed}
 use Rattle.job.specs.Job.{answer, accepted, maxBytes, Job, jobOf}
 use Rattle.job.specs.Reply.{TextReply, refusedText}
 use Rattle.draws.specs.Draws.{Lent}
-use Rattle.draws.specs.Settle.{settle}
+use Rattle.draws.specs.Settle.{Settled, settle}
 use Rattle.draws.specs.Known.{SpentAt, mainLeft}
 use Rattle.draws.specs.Left.{spentOn, leftAfter}
 use Rattle.draws.specs.Laws.Spent.{spent-at}
@@ -25,7 +25,7 @@ use Rattle.backward.specs.SizeTheorems.{figure-enough}
 use Rattle.backward.specs.CallTheorems.{Demand3, demand-3-calls}
 use Rattle.shares.specs.Shares.{Share, sum, stretchFrom, ownLeft, commonLeft, available, marksFit, marksAfter}
 use Rattle.shares.specs.Replies.{shared, takenBy, takesWords, tested, sharedReply, sharedRunReply, sharedSettleReply}
-use Rattle.shares.specs.Account.{times, wordsAt, availablePlaces, Passes, Call, callerOf, callsOf, replyTo, handedBy, marksThrough, handedThrough, StaysOwn, TakeAlike, AllRunOrStay, nothingTaken, Within, leftInStretches, leftInCommon}
+use Rattle.shares.specs.Account.{times, wordsAt, availablePlaces, Passes, Call, callerOf, callsOf, replyTo, handed, handedBy, marksThrough, handedThrough, StaysOwn, TakeAlike, AllRunOrStay, nothingTaken, Within, leftInStretches, leftInCommon}
 use Rattle.shares.specs.Laws.Places.{marked, marked-once, marked-behind, marked-none, left-none}
 use Rattle.shares.specs.Laws.Words.{map-take, available-words, taken-left}
 use Rattle.shares.specs.Laws.Moves.{takes-zero, takes-none, takes-by, kept, moves}
@@ -143,6 +143,12 @@ pub others-untouched : (main shares marks : List ℕ) (c : Call) (p : ℕ) → p
     → times p (handedBy main shares c marks) ≡ 0
 others-untouched main shares marks c p below apart = others-none main shares marks c p below apart
 
+first-words : (j : Job) (s : Share) (from : Source)
+    → wordsAt (from .main) (take (takenBy j (shared s from)) (availablePlaces s (from .main))) ≡ take (takenBy j (shared s from)) (available s (from .main))
+first-words j s from =
+    map-take (λ (p : ℕ). getD (from .main) p 0) (takenBy j (shared s from)) (availablePlaces s (from .main))
+    ∙ ap (take (takenBy j (shared s from))) (available-words s (from .main))
+
 -- The words at the places that a call is handed are the first of those available, and what is left are the others.
 pub handed-words : (j : Job) (s : Share) (from : Source)
     → wordsAt (from .main) (take (takenBy j (shared s from)) (availablePlaces s (from .main)))
@@ -150,8 +156,7 @@ pub handed-words : (j : Job) (s : Share) (from : Source)
     ≡ available s (from .main)
 unfolding takenBy
 handed-words j s from =
-    ap (λ (l : List ℕ). l ++ leftAfter (lentOf (j .header) from) (j .instructions) (available s (from .main)))
-    (map-take (λ (p : ℕ). getD (from .main) p 0) (takenBy j (shared s from)) (availablePlaces s (from .main)) ∙ ap (take (takenBy j (shared s from))) (available-words s (from .main)))
+    ap (λ (l : List ℕ). l ++ leftAfter (lentOf (j .header) from) (j .instructions) (available s (from .main))) (first-words j s from)
     ∙ taken-left (lentOf (j .header) from) (j .instructions) (available s (from .main))
 
 -- Take any calls of a caller among those of others, and one more, which stays within the caller's own stretch. If each of the earlier ones takes its words where
@@ -227,3 +232,20 @@ pub demand-3-shared : (job : List ℕ) (m : Memory) (s : Share) → sharedRunRep
 demand-3-shared job m s zero =
     let same = shared-run-is-plain job m s (run-passed job m s (takes-zero (sharedRunReply job m s .reply .answered) zero)) in
     (same, demand-3-calls job (withSource m (shared s (m .source))) (ap (λ (r : RunReply). r .answered .number) (sym same) ∙ zero))
+
+-- As one theorem, with the words handed out: the list of that walk is the one to which they settle.
+pub demand-3-handed : (job : List ℕ) (m : Memory) (s : Share) → sharedRunReply job m s .reply .answered .number ≡ 0
+    → let out = handed (jobOf job) s (m .source) (sharedRunReply job m s .reply .answered) in
+    (sharedRunReply job m s .reply ≡ runReply job (withSource m (shared s (m .source))))
+    × (d : Demand3 job (withSource m (shared s (m .source))))
+    × (settle (lentOf (jobOf job .header) (m .source)) (jobOf job .instructions) (wordsAt (m .source .main) out) ≡ Settled.settled (d .lines))
+unfolding handed
+demand-3-handed job m s zero =
+    let j = jobOf job in
+    let from = m .source in
+    let (same, d) = demand-3-shared job m s zero in (
+      same,
+      d,
+      rw (takes-zero (sharedRunReply job m s .reply .answered) zero)
+          (ap (settle (lentOf (j .header) from) (j .instructions)) (first-words j s from) ∙ taken-suffice j s from ∙ d .settles),
+    )

@@ -25,29 +25,29 @@ use Rattle.noise.specs.Condition.{Masks}
 -- the threshold is that of p, and the chooser that of the kind of distribution
 pub record RuleOf (p : Float) (d : PauliDistribution) (r : DrawRule) : Type 0 where
   pub threshold : r .threshold ≡ thresholdOf p
-  pub kind : r .chooser .kind ≡ d
+  pub kind : r .chooser .distribution ≡ d
   pub sized : Sized (r .chooser)
 
 -- ---- one shot
 
--- the words that are left are those from a place on
+-- the words that are left are those from a position on
 unfoldable pub drawOf : List ℕ → Draw → ShotDraw
 drawOf words draw.Spent = ShotDraw.spent
 drawOf words (draw.Quiet next) = ShotDraw.drew none (drop next words)
 drawOf words (draw.Fault e next) = ShotDraw.drew (some e) (drop next words)
 
--- the place of the next word
+-- the position of the next word
 unfoldable pub nextOf : Draw → ℕ
 nextOf draw.Spent = 0
 nextOf (draw.Quiet next) = next
 nextOf (draw.Fault e next) = next
 
--- the word at a place, if there is one, brings a fault
+-- the word at a position, if there is one, brings a fault
 abbrev pub FallsAt : Float → List ℕ → ℕ → Type 0
 FallsAt p words at = at < length words → falls (getD words at 0) p ≡ true
 
--- One shot's draw, from a place of the words on: for every noise line that the values stand for, by whose p the word there brings a fault, and all noiseless
--- bits in which its condition is satisfied or not, as was said.
+-- One shot's draw, from a position of the words on: for every noise line that the values stand for, by whose p the word there brings a fault, and all
+-- noiseless bits in which its condition is satisfied or not, as was said.
 pub record ShotDrawn (words : List ℕ) (at : ℕ) (d : PauliDistribution) (sums : List Float) (satisfied : Bool) (r : Draw) : Type 0 where
   pub within : nextOf r ≤ length words
   pub is : {p : Float} → FallsAt p words at → (n : Noise) (bits : Bits) → Represents n p d sums → isSatisfied (n .condition) bits ≡ satisfied
@@ -76,7 +76,7 @@ faultOf words next.Spent = FirstFault.spent
 faultOf words (next.Done at) = FirstFault.quiet (drop at words)
 faultOf words (next.At shot e at) = FirstFault.fault (shot .0) e (drop at words)
 
--- the place of the next word
+-- the position of the next word
 unfoldable pub wordAfter : NextFault → ℕ
 wordAfter next.Spent = 0
 wordAfter (next.Done at) = at
@@ -88,8 +88,8 @@ InShots shot shots next.Spent = Unit
 InShots shot shots (next.Done at) = Unit
 InShots shot shots (next.At s e at) = (shot ≤ s .0) × (s .0 < shots)
 
--- The next fault in the shots from one on, from a place of the words on: for every noise line that the values stand for, where the mask has the shots in
--- which its condition is satisfied.
+-- The next fault in the shots from one on, from a position of the words on: for every noise line that the values stand for, where the mask has the
+-- shots in which its condition is satisfied.
 pub record FaultFound (words : List ℕ) (at : ℕ) (mask : List ℕ) (shot shots : ℕ) (p : Float) (d : PauliDistribution) (sums : List Float) (r : NextFault)
     : Type 0 where
   pub within : wordAfter r ≤ length words

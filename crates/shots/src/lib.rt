@@ -9,6 +9,7 @@ use noise::scan::next_skip;
 use noise::scan::threshold;
 use noise::words::count;
 use pauli::Shot;
+use pauli::WORD_BITS;
 ghost use mathlib.Core.Path.{_≡_};
 ghost use mathlib.Core.List.{_++_};
 ghost use Prim.Native.Nat.{_*_, _/_, _%_, _<_, _≤_};
@@ -27,25 +28,25 @@ pub struct DrawRule {
 }
 
 // The rule of a line's p and its distribution.
-pub fn rule_of(p: f64, d: PauliDistribution) -> DrawRule
-    requires { ⌜ Small d ⌝ }
-    ensures { λ r. ⌜ RuleOf p d r ⌝ }
+pub fn rule_of(p: f64, distribution: PauliDistribution) -> DrawRule
+    requires { ⌜ Small distribution ⌝ }
+    ensures { λ r. ⌜ RuleOf p distribution r ⌝ }
 {
     DrawRule {
         threshold: threshold(p),
-        chooser: chooser_of(d),
+        chooser: chooser_of(distribution),
     }
 }
 
-// What one shot draws: no fault, or an element, each with the place of the next word; or a word was needed past the end.
+// What one shot draws: no fault, or an element, each with the position of the next word; or a word was needed past the end.
 pub enum ShotDraw {
     Spent,
-    Quiet { next: usize },
-    Fault { element: u64, next: usize },
+    Quiet { next_word: usize },
+    Fault { element: u64, next_word: usize },
 }
 
-// One shot's draw, where the word at its place, if there is one, brings a fault. The words lie in two parts, the second behind the first. `satisfied`
-// says whether the condition is, in that shot.
+// One shot's draw, where the word at its position, if there is one, brings a fault. The words lie in two parts, the second behind the first.
+// `satisfied` says whether the condition is, in that shot.
 pub fn draw_shot(
     words: &[u64],
     more: &[u64],
@@ -55,16 +56,22 @@ pub fn draw_shot(
     satisfied: bool,
 ) -> ShotDraw
     requires { ⌜ Sized chooser ⌝ }
-    ensures { λ r. ⌜ ShotDrawn (now (words .entry) ++ now (more .entry)) at (chooser .kind) (now (sums .entry)) satisfied r ⌝ }
+    ensures { λ r. ⌜ ShotDrawn (now (words .entry) ++ now (more .entry)) at (chooser .distribution) (now (sums .entry)) satisfied r ⌝ }
 {
     if count(words, more) <= at {
         return ShotDraw::Spent;
     }
     if !satisfied {
-        return ShotDraw::Quiet { next: at + 1 };
+        return ShotDraw::Quiet { next_word: at + 1 };
     }
     match element(words, more, at + 1, chooser, sums) {
-        Choice::Chosen { element: e, next } => ShotDraw::Fault { element: e, next },
+        Choice::Chosen {
+            element: e,
+            next_word,
+        } => ShotDraw::Fault {
+            element: e,
+            next_word,
+        },
         Choice::Spent => ShotDraw::Spent,
     }
 }
@@ -75,20 +82,20 @@ pub fn is_set(mask: &[u64], shot: Shot) -> bool
     ensures { λ r. ⌜ r ≡ bit (getD (now (mask .entry)) (shot .0 / 64) 0) (shot .0 % 64) ⌝ }
 {
     let s = shot.0;
-    (mask[s / 64] >> (s % 64)) % 2 == 1
+    (mask[s / WORD_BITS] >> (s % WORD_BITS)) % 2 == 1
 }
 
-// The next fault of a line: its shot, its element and the place of the next word. Or no shot that is left has one, with the place of the next
+// The next fault of a line: its shot, its element and the position of the next word. Or no shot that is left has one, with the position of the next
 // word; or a word was needed past the end.
 pub enum NextFault {
     Spent,
     Done {
-        next: usize,
+        next_word: usize,
     },
     At {
         shot: Shot,
         element: u64,
-        next: usize,
+        next_word: usize,
     },
 }
 
@@ -104,37 +111,44 @@ fn fault_from(
     sums: &[f64],
 ) -> NextFault
     requires { ⌜ (at ≤ length (now words ++ now more)) × (shot .0 ≤ shots) × (shots ≤ 64 * length (now mask)) × Sized (rule .chooser) ⌝ }
-    ensures { λ r. ⌜ ((p : Float) (d : PauliDistribution) → RuleOf p d rule → FaultFound (now (words .entry) ++ now (more .entry)) at (now (mask .entry)) (shot .0) shots p d (now (sums .entry)) r) ⌝ }
+    ensures { λ r. ⌜ ((p : Float) (distribution : PauliDistribution) → RuleOf p distribution rule → FaultFound (now (words .entry) ++ now (more .entry)) at (now (mask .entry)) (shot .0) shots p distribution (now (sums .entry)) r) ⌝ }
 {
-    let t = rule.threshold;
+    let threshold = rule.threshold;
     let chooser = rule.chooser;
-    let mut i = at;
+    let mut position = at;
     let mut s = shot.0;
     while s < shots {
-        let skip = next_skip(words, more, i, shots - s, t);
-        i += skip;
+        let skip = next_skip(words, more, position, shots - s, threshold);
+        position += skip;
         s += skip;
         if s == shots {
-            return NextFault::Done { next: i };
+            return NextFault::Done {
+                next_word: position,
+            };
         }
-        match draw_shot(words, more, i, chooser, sums, is_set(mask, Shot(s))) {
+        match draw_shot(words, more, position, chooser, sums, is_set(mask, Shot(s))) {
             ShotDraw::Spent => {
                 return NextFault::Spent;
             }
-            ShotDraw::Quiet { next } => {
-                i = next;
+            ShotDraw::Quiet { next_word } => {
+                position = next_word;
             }
-            ShotDraw::Fault { element: e, next } => {
+            ShotDraw::Fault {
+                element: e,
+                next_word,
+            } => {
                 return NextFault::At {
                     shot: Shot(s),
                     element: e,
-                    next,
+                    next_word,
                 };
             }
         }
         s += 1;
     }
-    NextFault::Done { next: i }
+    NextFault::Done {
+        next_word: position,
+    }
 }
 
 // The same with a look at the first shot by itself: with a p near 1 that has a fault, and what the loop prepares would cost more than the draw.
@@ -149,7 +163,7 @@ pub fn next_fault(
     sums: &[f64],
 ) -> NextFault
     requires { ⌜ (at ≤ length (now words ++ now more)) × (shot .0 ≤ shots) × (shots ≤ 64 * length (now mask)) × Sized (rule .chooser) ⌝ }
-    ensures { λ r. ⌜ ((p : Float) (d : PauliDistribution) → RuleOf p d rule → FaultFound (now (words .entry) ++ now (more .entry)) at (now (mask .entry)) (shot .0) shots p d (now (sums .entry)) r) ⌝ }
+    ensures { λ r. ⌜ ((p : Float) (distribution : PauliDistribution) → RuleOf p distribution rule → FaultFound (now (words .entry) ++ now (more .entry)) at (now (mask .entry)) (shot .0) shots p distribution (now (sums .entry)) r) ⌝ }
 {
     if shot.0 < shots {
         if falls_next(words, more, at, rule.threshold) {
@@ -158,12 +172,15 @@ pub fn next_fault(
                 ShotDraw::Spent => {
                     return NextFault::Spent;
                 }
-                ShotDraw::Quiet { next: _ } => {}
-                ShotDraw::Fault { element: e, next } => {
+                ShotDraw::Quiet { next_word: _ } => {}
+                ShotDraw::Fault {
+                    element: e,
+                    next_word,
+                } => {
                     return NextFault::At {
                         shot,
                         element: e,
-                        next,
+                        next_word,
                     };
                 }
             }

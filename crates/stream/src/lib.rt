@@ -3,6 +3,7 @@
 ghost use mathlib.Core.Path.{_≡_};
 ghost use Rattle.stream.specs.Stream.{step, fillReply};
 use job::Answer;
+use job::refusals;
 
 // The next state, which is also the word.
 pub fn step(state: u64) -> u64
@@ -19,7 +20,7 @@ pub fn fill(seed: u64, words: &mut [u64]) -> Answer
 {
     if seed == 0 {
         return Answer {
-            number: 22,
+            number: refusals::SEED,
             line: 0,
         };
     }

@@ -1,14 +1,17 @@
 -- How lent words hold the values of a line, and what reading a line by its template says. Definitions. Assumes nothing.
-use Prim.Native.Nat.{ℕ, _+_, _≤_, _<_}
+use Prim.Native.Nat.{ℕ, _+_, _*_, _≤_, _<_}
+use mathlib.Core.Logic.{_≢_}
 use mathlib.Core.Path.{_≡_}
 use mathlib.Core.Bool.{Bool, true, false, cond, not, _&&_, _||_}
 use mathlib.Core.List.{List, [], _∷_, _++_}
 use mathlib.Core.Option.{Option, none, some}
 use lib.Dec.{eqb}
 use lib.ListN.{length, getD, drop}
+use Rattle.text.specs.Bytes.{space, until}
 use Rattle.text.specs.List.{listL, listQ, listT, listC}
 use Rattle.text.specs.Template.{Value, isLetter, valuesOf, numbersIn, listsIn, numberAt, listAt}
 use Rattle.numbers.specs.Read.{largestOf, inFront}
+use Rattle.numbers.specs.Known.{field}
 use Rattle.template.specs.Values.{heldNumber, heldCount, heldLargest, heldMember}
 use Rattle.template.specs.declared.Progress.{Progress}
 use Rattle.template.specs.declared.Stored.{Stored}
@@ -45,6 +48,25 @@ pub record Held (words : List ℕ) (numbers lists : ℕ) (vs : List Value) : Typ
   pub count : (i : ℕ) → i < lists → heldCount words i ≡ length (listAt i vs)
   pub largest : (i : ℕ) → i < lists → heldLargest words i ≡ largestOf (listAt i vs)
   pub member : (i j : ℕ) → i < lists → j < 31 → j < length (listAt i vs) → heldMember words i j ≡ getD (listAt i vs) j 0
+
+-- the l-th list was put into the words: its count, its largest member and its members; nothing else before its members is changed
+pub record ListPut (before after : List ℕ) (l : ℕ) (members : List ℕ) : Type 0 where
+  pub count : heldCount after l ≡ length members
+  pub largest : heldLargest after l ≡ largestOf members
+  pub member : (j : ℕ) → j < 31 → j < length members → heldMember after l j ≡ getD members j 0
+  pub others : (k : ℕ) → k ≢ 4 + l → k ≢ 8 + l → k < 12 + l * 31 → getD after k 0 ≡ getD before k 0
+
+-- a list of at most two members, by how many they are and what they are, 0 in place of one that it hasn't
+pub record FewAre (members : List ℕ) (count first second : ℕ) : Type 0 where
+  pub few : length members ≤ 2
+  pub size : count ≡ length members
+  pub is-first : first ≡ getD members 0 0
+  pub is-second : second ≡ getD members 1 0
+
+-- the l-th list was put into the words, an L that is known to stand on the line from a place on; r is the place behind it
+pub record KnownPut (line : List ℕ) (from l r : ℕ) (before after : List ℕ) : Type 0 where
+  pub put : (members : List ℕ) → listL (field line from) ≡ some members → ListPut before after l members
+  pub behind : r ≡ from + until space (drop from line)
 
 -- there is room for the values of a template after so many numbers and lists
 pub record Room (numbers lists : ℕ) (template : List ℕ) : Type 0 where

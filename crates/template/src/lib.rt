@@ -22,13 +22,14 @@ use numbers::lists::list_l;
 use numbers::lists::list_q;
 use numbers::number;
 use numbers::pieces::find;
+use numbers::pieces::find_far;
 use values::COUNTS;
-use values::EACH;
 use values::KEPT;
 use values::LARGEST;
+use values::MAX_SLOTS;
 use values::MEMBERS;
 
-// How far a line was read: whether it has its template's form so far, up to which place, and how many numbers and lists it had.
+// How far a line was read: whether it has its template's form so far, up to which byte, and how many numbers and lists it had.
 pub struct Progress {
     pub ok: bool,
     pub at: usize,
@@ -64,83 +65,86 @@ fn not_put() -> Stored
     }
 }
 
-fn put_number(v: Value, n: usize, l: usize, fields: &mut [u64]) -> Stored
+fn put_number(v: Value, numbers: usize, lists: usize, fields: &mut [u64]) -> Stored
     requires { ⌜ Whole (now fields) ⌝ }
-    ensures { λ r. ⌜ StoresAs 1 0 (aNumber (read v)) n l r (now (fields .entry)) (now (fields .exit)) ⌝ }
+    ensures { λ r. ⌜ StoresAs 1 0 (aNumber (read v)) numbers lists r (now (fields .entry)) (now (fields .exit)) ⌝ }
 {
     let Value::Of(x) = v else {
         return not_put();
     };
-    if EACH <= n {
+    if MAX_SLOTS <= numbers {
         return not_put();
     }
-    fields[n] = x;
+    fields[numbers] = x;
     Stored {
         ok: true,
-        numbers: n + 1,
-        lists: l,
+        numbers: numbers + 1,
+        lists,
     }
 }
+
+// The pieces of a table are hexadecimal.
+const HEX: bool = true;
 
 // A list by its letter: L, Q, T or C.
-fn list(t: u8, s: &[u8], out: &mut [u64]) -> Listed
-    ensures { λ r. ⌜ ListRead (listBy t (now (s .entry))) r (now (out .entry)) (now (out .exit)) ⌝ }
+fn list(letter: u8, bytes: &[u8], out: &mut [u64]) -> Listed
+    ensures { λ r. ⌜ ListRead (listBy letter (now (bytes .entry))) r (now (out .entry)) (now (out .exit)) ⌝ }
 {
-    match t {
-        b'L' => list_l(s, out),
-        b'Q' => list_q(s, out),
-        b'T' => list_by(s, true, out),
-        _ => list_c(s, out),
+    match letter {
+        b'L' => list_l(bytes, out),
+        b'Q' => list_q(bytes, out),
+        b'T' => list_by(bytes, HEX, out),
+        _ => list_c(bytes, out),
     }
 }
 
-fn put_list(t: u8, s: &[u8], n: usize, l: usize, fields: &mut [u64]) -> Stored
+fn put_list(letter: u8, bytes: &[u8], numbers: usize, lists: usize, fields: &mut [u64]) -> Stored
     requires { ⌜ Whole (now fields) ⌝ }
-    ensures { λ r. ⌜ StoresAs 0 1 (aList (listBy t (now (s .entry)))) n l r (now (fields .entry)) (now (fields .exit)) ⌝ }
+    ensures { λ r. ⌜ StoresAs 0 1 (aList (listBy letter (now (bytes .entry)))) numbers lists r (now (fields .entry)) (now (fields .exit)) ⌝ }
 {
-    if EACH <= l {
+    if MAX_SLOTS <= lists {
         return not_put();
     }
-    let a = MEMBERS + l * KEPT;
-    let b = a + KEPT;
-    let r = list(t, s, &mut fields[a..b]);
-    if !r.ok {
+    let from = MEMBERS + lists * KEPT;
+    let to = from + KEPT;
+    let listed = list(letter, bytes, &mut fields[from..to]);
+    if !listed.ok {
         return not_put();
     }
-    fields[COUNTS + l] = r.count as u64;
-    fields[LARGEST + l] = r.largest;
+    fields[COUNTS + lists] = listed.count as u64;
+    fields[LARGEST + lists] = listed.largest;
     Stored {
         ok: true,
-        numbers: n,
-        lists: l + 1,
+        numbers,
+        lists: lists + 1,
     }
 }
 
-// One value more, which the bytes s are by the letter t of a template.
-fn put_value(t: u8, s: &[u8], n: usize, l: usize, fields: &mut [u64]) -> Stored
+// One value more: what the bytes are by a letter of a template. The line had so many numbers and lists before it.
+fn put_value(letter: u8, bytes: &[u8], numbers: usize, lists: usize, fields: &mut [u64]) -> Stored
     requires { ⌜ Whole (now fields) ⌝ }
-    ensures { λ r. ⌜ StoresAs (numberLetter t) (listLetter t) (valueOf t (now (s .entry))) n l r (now (fields .entry)) (now (fields .exit)) ⌝ }
+    ensures { λ r. ⌜ StoresAs (numberLetter letter) (listLetter letter) (valueOf letter (now (bytes .entry))) numbers lists r (now (fields .entry)) (now (fields .exit)) ⌝ }
 {
-    match t {
-        b'N' => put_number(number(s), n, l, fields),
-        b'H' => put_number(hex16(s), n, l, fields),
-        b'B' => put_number(bit(s), n, l, fields),
-        b'L' => put_list(t, s, n, l, fields),
-        b'Q' => put_list(t, s, n, l, fields),
-        b'T' => put_list(t, s, n, l, fields),
-        b'C' => put_list(t, s, n, l, fields),
+    match letter {
+        b'N' => put_number(number(bytes), numbers, lists, fields),
+        b'H' => put_number(hex16(bytes), numbers, lists, fields),
+        b'B' => put_number(bit(bytes), numbers, lists, fields),
+        b'L' => put_list(letter, bytes, numbers, lists, fields),
+        b'Q' => put_list(letter, bytes, numbers, lists, fields),
+        b'T' => put_list(letter, bytes, numbers, lists, fields),
+        b'C' => put_list(letter, bytes, numbers, lists, fields),
         _ => not_put(),
     }
 }
 
 // Whether a byte of a template is a letter for a value.
-pub fn is_letter(t: u8) -> bool
-    ensures { λ r. ⌜ r ≡ isLetter t ⌝ }
+pub fn is_letter(byte: u8) -> bool
+    ensures { λ r. ⌜ r ≡ isLetter byte ⌝ }
 {
-    if t < b'A' {
+    if byte < b'A' {
         return false;
     }
-    t <= b'Z'
+    byte <= b'Z'
 }
 
 // ---- A line by the parts of its template
@@ -186,22 +190,42 @@ pub fn literal(line: &[u8], p: Progress, text: &[u8]) -> Progress
 }
 
 // The line read on by a letter for a value.
-pub fn value(line: &[u8], p: Progress, t: u8, fields: &mut [u64]) -> Progress
-    requires { ⌜ (p .at ≤ length (now line)) × (isLetter t ≡ true) × Whole (now fields) ⌝ }
-    ensures { λ r. ⌜ ReadNext (now (line .entry)) (t ∷ []) p r (now (fields .entry)) (now (fields .exit)) ⌝ }
+pub fn value(line: &[u8], p: Progress, letter: u8, fields: &mut [u64]) -> Progress
+    requires { ⌜ (p .at ≤ length (now line)) × (isLetter letter ≡ true) × Whole (now fields) ⌝ }
+    ensures { λ r. ⌜ ReadNext (now (line .entry)) (letter ∷ []) p r (now (fields .entry)) (now (fields .exit)) ⌝ }
     ensures { λ r. ⌜ r .at ≤ length (now (line .entry)) ⌝ }
 {
     if !p.ok {
         return p;
     }
     let at = p.at;
-    let e = find(line, at, b' ');
-    let q = put_value(t, &line[at..e], p.numbers, p.lists, fields);
+    let end = find(line, at, b' ');
+    let stored = put_value(letter, &line[at..end], p.numbers, p.lists, fields);
     Progress {
-        ok: q.ok,
-        at: e,
-        numbers: q.numbers,
-        lists: q.lists,
+        ok: stored.ok,
+        at: end,
+        numbers: stored.numbers,
+        lists: stored.lists,
+    }
+}
+
+// The same for a value that is likely long.
+pub fn far_value(line: &[u8], p: Progress, letter: u8, fields: &mut [u64]) -> Progress
+    requires { ⌜ (p .at ≤ length (now line)) × (isLetter letter ≡ true) × Whole (now fields) ⌝ }
+    ensures { λ r. ⌜ ReadNext (now (line .entry)) (letter ∷ []) p r (now (fields .entry)) (now (fields .exit)) ⌝ }
+    ensures { λ r. ⌜ r .at ≤ length (now (line .entry)) ⌝ }
+{
+    if !p.ok {
+        return p;
+    }
+    let at = p.at;
+    let end = find_far(line, at, b' ');
+    let stored = put_value(letter, &line[at..end], p.numbers, p.lists, fields);
+    Progress {
+        ok: stored.ok,
+        at: end,
+        numbers: stored.numbers,
+        lists: stored.lists,
     }
 }
 
@@ -217,7 +241,7 @@ pub fn whole(line: &[u8], p: Progress) -> bool
 
 // ---- A line by its template
 
-// A line read on by a template, from a place up to which it had so many numbers and lists.
+// A line read on by a template, from a byte up to which it had so many numbers and lists.
 pub fn read_on(
     line: &[u8],
     template: &[u8],
@@ -230,36 +254,36 @@ pub fn read_on(
     ensures { λ r. ⌜ ReadOn (now (line .entry)) (now (template .entry)) from numbers lists r (now (fields .entry)) (now (fields .exit)) ⌝ }
 {
     let mut at = from;
-    let mut n = numbers;
-    let mut l = lists;
+    let mut numbers = numbers;
+    let mut lists = lists;
     let mut i = 0;
     while i < template.len() {
-        let t = template[i];
+        let byte = template[i];
         i += 1;
-        if !is_letter(t) {
+        if !is_letter(byte) {
             if at == line.len() {
                 return refused();
             }
-            if line[at] != t {
+            if line[at] != byte {
                 return refused();
             }
             at += 1;
             continue;
         }
-        let e = find(line, at, b' ');
-        let p = put_value(t, &line[at..e], n, l, &mut *fields);
-        if !p.ok {
+        let end = find(line, at, b' ');
+        let stored = put_value(byte, &line[at..end], numbers, lists, &mut *fields);
+        if !stored.ok {
             return refused();
         }
-        n = p.numbers;
-        l = p.lists;
-        at = e;
+        numbers = stored.numbers;
+        lists = stored.lists;
+        at = end;
     }
     Progress {
         ok: true,
         at,
-        numbers: n,
-        lists: l,
+        numbers,
+        lists,
     }
 }
 

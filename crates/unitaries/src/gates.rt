@@ -46,10 +46,10 @@ pub fn apply_cnot(x: &mut [u64], z: &mut [u64], shape: Shape, control: QubitId, 
     requires { ⌜ (length (now x) ≡ shape .qubits * shape .width) × (length (now z) ≡ shape .qubits * shape .width) × (control .0 < shape .qubits) × (target .0 < shape .qubits) × (control .0 ≡ target .0 → ⊥) ⌝ }
     ensures { λ _. ⌜ ((d : List ℕ) → Acts (shape .width) (λ s. onFrame (controlledX (control .0) (target .0))) (now (x .entry)) (now (z .entry)) d (now (x .exit)) (now (z .exit)) d) ⌝ }
 {
-    let a = control.0;
-    let b = target.0;
-    rows::add_row(x, shape.width, b, a);
-    rows::add_row(z, shape.width, a, b);
+    let control_row = control.0;
+    let target_row = target.0;
+    rows::add_row(x, shape.width, target_row, control_row);
+    rows::add_row(z, shape.width, control_row, target_row);
 }
 
 // ControlledZ adds each X to the other's Z.
@@ -57,10 +57,22 @@ pub fn apply_cz(x: &[u64], z: &mut [u64], shape: Shape, first: QubitId, second: 
     requires { ⌜ (length (now x) ≡ shape .qubits * shape .width) × (length (now z) ≡ shape .qubits * shape .width) × (first .0 < shape .qubits) × (second .0 < shape .qubits) ⌝ }
     ensures { λ _. ⌜ ((d : List ℕ) → Acts (shape .width) (λ s. onFrame (controlledZ (first .0) (second .0))) (now (x .entry)) (now (z .entry)) d (now (x .entry)) (now (z .exit)) d) ⌝ }
 {
-    let a = first.0;
-    let b = second.0;
-    rows::xor_words(z, b * shape.width, x, a * shape.width, shape.width);
-    rows::xor_words(z, a * shape.width, x, b * shape.width, shape.width);
+    let first_row = first.0;
+    let second_row = second.0;
+    rows::xor_words(
+        z,
+        second_row * shape.width,
+        x,
+        first_row * shape.width,
+        shape.width,
+    );
+    rows::xor_words(
+        z,
+        first_row * shape.width,
+        x,
+        second_row * shape.width,
+        shape.width,
+    );
 }
 
 // ControlledY adds control X to target X and Z, and the target's old X and Z to control Z: ControlledX between SqrtZInv and SqrtZ on the target.
@@ -78,10 +90,10 @@ pub fn apply_swap(x: &mut [u64], z: &mut [u64], shape: Shape, first: QubitId, se
     requires { ⌜ (length (now x) ≡ shape .qubits * shape .width) × (length (now z) ≡ shape .qubits * shape .width) × (first .0 < shape .qubits) × (second .0 < shape .qubits) × (first .0 ≡ second .0 → ⊥) ⌝ }
     ensures { λ _. ⌜ ((d : List ℕ) → Acts (shape .width) (λ s. onFrame (swapRows (first .0) (second .0))) (now (x .entry)) (now (z .entry)) d (now (x .exit)) (now (z .exit)) d) ⌝ }
 {
-    let a = first.0;
-    let b = second.0;
-    rows::swap_rows(x, shape.width, a, b);
-    rows::swap_rows(z, shape.width, a, b);
+    let first_row = first.0;
+    let second_row = second.0;
+    rows::swap_rows(x, shape.width, first_row, second_row);
+    rows::swap_rows(z, shape.width, first_row, second_row);
 }
 
 // The operand at place i.
@@ -99,20 +111,29 @@ pub fn apply_unitary_op(x: &mut [u64], z: &mut [u64], shape: Shape, gate: u64, q
 {
     let a = operand(qubits, 0);
     let b = operand(qubits, qubits.len() - 1);
-    // The codes: I, X, Y, Z; Hadamard; SqrtZ, SqrtX and SqrtY, each with its inverse; ControlledX, ControlledZ, Swap, PrepareBell, ControlledY.
     match gate {
+        // I, X, Y, Z
         0..=3 => {}
+        // Hadamard
         4 => apply_h(x, z, shape, a),
+        // SqrtZ and its inverse
         5..=6 => apply_s(x, z, shape, a),
+        // SqrtX and its inverse
         7..=8 => apply_sqrt_x(x, z, shape, a),
+        // SqrtY and its inverse
         9..=10 => apply_h(x, z, shape, a),
+        // ControlledX
         11 => apply_cnot(x, z, shape, a, b),
+        // ControlledZ
         12 => apply_cz(x, z, shape, a, b),
+        // Swap
         13 => apply_swap(x, z, shape, a, b),
+        // PrepareBell
         14 => {
             apply_h(x, z, shape, a);
             apply_cnot(x, z, shape, a, b);
         }
+        // ControlledY
         15 => apply_cy(x, z, shape, a, b),
         _ => {}
     }

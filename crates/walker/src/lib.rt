@@ -2,9 +2,8 @@
 // the count of the injections and flips that change the sum of the set's deltas.
 ghost use mathlib.Core.Path.{_≡_};
 ghost use mathlib.Core.Bool.{true};
-ghost use mathlib.Core.List.{List};
 ghost use mathlib.Core.Option.{some};
-ghost use Prim.Native.Nat.{ℕ, _+_, _^_, _<_};
+ghost use Prim.Native.Nat.{_+_, _-_, _^_, _<_};
 ghost use lib.ListN.{length, getD};
 ghost use Rattle.pauli.specs.Fixed.{inSet, AllBelow};
 ghost use Rattle.text.specs.Bytes.{lines as Bytes·lines};
@@ -13,12 +12,14 @@ ghost use Rattle.job.specs.Checks.{allBelow};
 ghost use Rattle.job.specs.Job.{checkJob};
 ghost use Rattle.backward.specs.Walking.{walkReply};
 ghost use Rattle.template.specs.Values.{Whole};
-ghost use Rattle.lines_from_last.specs.Line.{OfJob};
-ghost use Rattle.walker.specs.Steps.{Started, WalkedBack, PassedOver, GateBytes, TextBack};
+ghost use Rattle.lines_from_last.specs.Line.{LineBefore, OfJob};
+ghost use Rattle.walker.specs.Steps.{Started, WalkedBack, PassedOver, TextBack, Left, GatesGone};
 use checker::examine;
+use gate_text::is_gate;
 use gate_text::read_gate;
 use job::Answer;
 use job::CountReply;
+use job::refusals;
 use lines_back::Walk;
 use lines_back::line_back;
 use lines_back::with_observable;
@@ -68,44 +69,61 @@ fn passed_over(line: &[u8], shot: Shot, values: &mut [u64]) -> bool
     }
 }
 
-// Whether a line begins as a gate line does.
-fn is_gate(line: &[u8]) -> bool
-    ensures { λ r. ⌜ (r ≡ true → GateBytes (now (line .entry))) ⌝ }
-{
-    if line.len() < 4 {
-        return false;
-    }
-    if line[0] != b'o' {
-        return false;
-    }
-    line[3] == b'u'
-}
-
-// A gate line of an accepted job, of which there are many: read without testing its form again.
-fn gate_back(w: Walk, line: &[u8]) -> Walk
-    requires { ⌜ OfJob (now line) × GateBytes (now line) ⌝ }
-    ensures { λ r. ⌜ ((shot k : ℕ) (set : List ℕ) → length set ≡ 16 → TextBack (now (line .entry)) shot k w r set set) ⌝ }
-{
-    let g = read_gate(line);
-    let b = w.observable;
-    let first = QubitId(g.first as usize);
-    let second = QubitId(g.second as usize);
-    with_observable(w, b.conjugate_back(g.code, first, second))
-}
-
-// Any line of an accepted job, of number k, by its bytes, or by its form and its values.
+// A line of an accepted job, of number k, by its first bytes, or by its form and its values.
 fn text_back(w: Walk, line: &[u8], values: &mut [u64], set: &mut [u64], shot: Shot, k: u64) -> Walk
     requires { ⌜ OfJob (now line) × Whole (now values) × (length (now set) ≡ 16) × (w .count + 1 < 2 ^ 64) ⌝ }
     ensures { λ r. ⌜ TextBack (now (line .entry)) (shot .0) k w r (now (set .entry)) (now (set .exit)) ⌝ }
 {
-    if is_gate(line) {
-        return gate_back(w, line);
-    }
     if passed_over(line, shot, &mut *values) {
         return w;
     }
     let form = read_line(line, &mut *values);
     line_back(w, form, values, set, shot, k)
+}
+
+// ---- Gate lines, of which a job has most
+
+// What gate lines leave: the observable, and the line in front of them, by its start, the place behind its LF, and its number. With no line in front
+// the two places are 0.
+struct Gates {
+    observable: Pauli,
+    start: usize,
+    end: usize,
+    number: u64,
+}
+
+// Back over the gate lines before a place, in front of which there are so many lines. They are read without testing their form again, and the
+// observable alone is carried: the rest of the walk would be copied with it at each line.
+fn gates_back(observable: Pauli, job: &[u8], end: usize, number: u64) -> Gates
+    requires { ⌜ (checkJob (now job) .number ≡ 0) × Left (now job) number end ⌝ }
+    ensures { λ r. ⌜ GatesGone (now (job .entry)) observable number end (r .observable) (r .number) (r .end) × (0 < r .end → LineBefore (now (job .entry)) (r .end - 1) (r .start)) ⌝ }
+{
+    let mut b = observable;
+    let mut e = end;
+    let mut k = number;
+    while 0 < e {
+        let at = line_start(job, e - 1);
+        if !is_gate(&job[at..e - 1]) {
+            return Gates {
+                observable: b,
+                start: at,
+                end: e,
+                number: k,
+            };
+        }
+        let g = read_gate(&job[at..e - 1]);
+        let first = QubitId(g.first as usize);
+        let second = QubitId(g.second as usize);
+        b = b.conjugate_back(g.code, first, second);
+        k -= 1;
+        e = at;
+    }
+    Gates {
+        observable: b,
+        start: e,
+        end: e,
+        number: k,
+    }
 }
 
 // ---- All lines
@@ -130,7 +148,14 @@ fn walk_lines(job: &[u8], lines: u64, shot: Shot, set: &mut [u64]) -> Walk
     let mut e = job.len();
     let mut k = lines;
     while 0 < e {
-        let at = line_start(job, e - 1);
+        let g = gates_back(w.observable, job, e, k);
+        w = with_observable(w, g.observable);
+        e = g.end;
+        k = g.number;
+        if e == 0 {
+            return w;
+        }
+        let at = g.start;
         w = text_back(w, &job[at..e - 1], &mut values, &mut *set, shot, k);
         k -= 1;
         e = at;
@@ -177,18 +202,18 @@ pub fn walk(job: &[u8], shot: u64, set: &[u64]) -> CountReply
     }
     let header = found.header;
     if header.shots <= shot {
-        return refused(17, 0);
+        return refused(refusals::WALK, 0);
     }
     if !is_rising(set) {
-        return refused(17, 0);
+        return refused(refusals::WALK, 0);
     }
     if !all_below(set, found.recorded) {
-        return refused(17, 0);
+        return refused(refusals::WALK, 0);
     }
     let mut outcomes = pauli::outcomes(set);
     let w = walk_lines(job, found.lines, Shot(shot as usize), &mut outcomes);
     if w.noise != 0 {
-        return refused(16, w.noise);
+        return refused(refusals::NOISE, w.noise);
     }
     CountReply {
         answered: Answer { number: 0, line: 0 },

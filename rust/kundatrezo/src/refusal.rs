@@ -102,9 +102,10 @@ impl fmt::Display for Number {
 /// let refusal = check(job).unwrap_err();
 /// assert_eq!((refusal.number, refusal.line), (Number::QUBIT, 2));
 /// assert_eq!(refusal.to_string(), "refused: 4 (a qubit not below the header's qubits) at line 2");
+/// assert_eq!(format!("{refusal:?}"), refusal.to_string());
 /// assert_eq!(refusal.line_of(job), Some(b"op=z q=1".as_slice()));
 /// ```
-#[derive(Debug, Clone, Copy, PartialEq, Eq, Hash)]
+#[derive(Clone, Copy, PartialEq, Eq, Hash)]
 #[non_exhaustive]
 pub struct Refusal {
     /// The number.
@@ -129,6 +130,17 @@ impl fmt::Display for Refusal {
         write!(f, "refused: {}", self.number)?;
         if self.line != 0 {
             write!(f, " at line {}", self.line)?;
+        }
+        Ok(())
+    }
+}
+
+/// In words, as a program that ends by it shows it.
+impl fmt::Debug for Refusal {
+    fn fmt(&self, f: &mut fmt::Formatter<'_>) -> fmt::Result {
+        write!(f, "{self}")?;
+        if self.figure != 0 {
+            write!(f, "; the figure is {}", self.figure)?;
         }
         Ok(())
     }

@@ -61,7 +61,8 @@ pub struct Sampler {
 }
 
 impl Sampler {
-    /// So many shots of a job with the words of a seed. Injections and flips stand in the shots of the whole that they name.
+    /// So many shots of a job with the words of a seed. Injections and flips stand in the shots of the whole that they name; by
+    /// [`with_named`](Self::with_named) they can stand in those of each block.
     ///
     /// # Errors
     ///

@@ -174,6 +174,15 @@ impl Arguments {
         self.values.iter().filter(|(given, _)| *given == name).map(|(_, value)| parsed(value)).collect()
     }
 
+    /// What to say where options that are wanted are not all given: the missing ones.
+    pub fn missing(&self, wanted: &[&Flag]) -> Failure {
+        let names: Vec<&str> = wanted.iter().map(|flag| flag.name).filter(|name| self.value(name).is_none()).collect();
+        Failure::Other(match names.as_slice() {
+            [others @ .., last] if !others.is_empty() => format!("{} and {last} are wanted", others.join(", ")),
+            names => format!("{} is wanted", names.concat()),
+        })
+    }
+
     /// The value of an option as a number.
     pub fn number(&self, name: &str) -> Result<Option<u64>, Failure> {
         self.parsed(name, "a number below 2^64", |text| text.parse().ok())

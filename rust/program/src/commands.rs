@@ -5,6 +5,7 @@ use crate::completions::{self, SHELLS};
 use crate::words::{self, Lent};
 use crate::{Failure, counts, faults, files, load, manual, numbers, print, rates, sample, shares, shots, sizes};
 use kundatrezo::{Examination, Frames, MAX_BYTES, Number, Refusal, Shots, bit};
+use std::ffi::OsStr;
 use std::fmt::Write;
 
 const X: Flag = Flag { name: "--x", value: FILE, text: "write the X rows of the frames to this file" };
@@ -46,7 +47,7 @@ pub const COMMANDS: &[Command] = &[
     Command {
         name: "check",
         operand: Operand::Job,
-        summary: "whether a job passes the checks, and its numbers",
+        summary: "whether a job passes its tests, and its numbers",
         details: &["\
 Makes the tests of a job. Prints 'ok=1', the qubits, outcomes and shots of its header, 'recorded=' with
 the number of outcomes that it records, and 'lines=' with that of its lines."],
@@ -207,7 +208,7 @@ the injections and flips of all, each among the same lines, and twice where two 
     Command {
         name: "sizes",
         operand: Operand::Job,
-        summary: "an older job with the size of the distribution on each noise line",
+        summary: "the job with the size of the distribution on each noise line",
         details: &[sizes::DETAILS],
         options: &[&[OUTPUT]],
         obey: |arguments| write_out(arguments, &sizes::added(&files::job(arguments.operand())?)?),
@@ -252,6 +253,14 @@ fn check(arguments: &Arguments) -> Result<(), Failure> {
 }
 
 fn run(arguments: &Arguments) -> Result<(), Failure> {
+    let is_number = |path: &OsStr| path.as_encoded_bytes().iter().all(u8::is_ascii_digit);
+    if arguments.value(SHOTS.name).is_some_and(is_number) {
+        return Err(Failure::Other(format!(
+            "{0} of 'run' names a file (./5 one that is called 5); the number of shots is the header's, and \
+             'kundatrezo sample {0} N' runs any number",
+            SHOTS.name
+        )));
+    }
     let (job, examined) = examined(arguments)?;
     let mut lent = Lent::read(arguments, &job, examined)?;
     let mut frames = Frames::new();
@@ -294,7 +303,7 @@ fn walk(arguments: &Arguments) -> Result<(), Failure> {
     let shot = arguments.number(SHOT.name)?;
     let set = arguments.parsed(SET.name, "numbers with commas between, or -", list)?;
     let (Some(shot), Some(set)) = (shot, set) else {
-        return Err(Failure::Other(format!("{} and {} are wanted", SHOT.name, SET.name)));
+        return Err(arguments.missing(&[&SHOT, &SET]));
     };
     let (job, examined) = examined(arguments)?;
     let count = kundatrezo::walk(&job, shot, &set).map_err(|refusal| {
@@ -302,10 +311,7 @@ fn walk(arguments: &Arguments) -> Result<(), Failure> {
             (Number::WALK, _) if shot >= examined.shots as u64 => {
                 Some(format!("the job's shots are 0 to {}", examined.shots - 1))
             }
-            (Number::WALK, 0) => Some("the job records no outcome".into()),
-            (Number::WALK, some) => {
-                Some(format!("{} names recorded outcomes, 0 to {}, and rises strictly", SET.name, some - 1))
-            }
+            (Number::WALK, recorded) => Some(outcomes_wanted(SET.name, recorded)),
             _ => None,
         };
         Failure::refused(&refusal, &job, remedy)
@@ -326,7 +332,11 @@ fn annotate(arguments: &Arguments) -> Result<(), Failure> {
         let remedy = own.then(|| format!("the probability of {} or {} is {p:?}", P.name, P_BITS.name));
         Failure::refused(&refusal, &job, remedy.or_else(|| longer(&refusal)))
     })?;
-    write_out(arguments, &out[..bytes])
+    write_out(arguments, &out[..bytes])?;
+    if p < 0.0 {
+        eprintln!("note: p is below zero: no fault will fall");
+    }
+    Ok(())
 }
 
 fn locations(arguments: &Arguments) -> Result<(), Failure> {
@@ -344,7 +354,7 @@ fn correlation(arguments: &Arguments) -> Result<(), Failure> {
 fn split(arguments: &Arguments) -> Result<(), Failure> {
     let parts = arguments.number(PARTS.name)?;
     let (Some(parts), Some(prefix)) = (parts, arguments.value(PREFIX.name)) else {
-        return Err(Failure::Other(format!("{} and {} are wanted", PARTS.name, PREFIX.name)));
+        return Err(arguments.missing(&[&PARTS, &PREFIX]));
     };
     let (job, Examination { shots, .. }) = examined(arguments)?;
     let parts = usize::try_from(parts).ok().filter(|parts| (1..=shots).contains(parts)).ok_or_else(|| {
@@ -431,6 +441,14 @@ pub fn write_out(arguments: &Arguments, bytes: &[u8]) -> Result<(), Failure> {
     match arguments.value(OUTPUT.name) {
         Some(path) => files::write(path, bytes),
         None => print(bytes),
+    }
+}
+
+/// What a list of outcomes that is refused by 17 is to be.
+pub fn outcomes_wanted(what: &str, recorded: usize) -> String {
+    match recorded {
+        0 => "the job records no outcome".into(),
+        some => format!("{what}: it names recorded outcomes, 0 to {}, and rises strictly", some - 1),
     }
 }
 

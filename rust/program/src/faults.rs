@@ -2,7 +2,7 @@
 
 use crate::Failure;
 use crate::arguments::{Arguments, Flag};
-use crate::commands::{examined, list, write_out};
+use crate::commands::{examined, list, outcomes_wanted, write_out};
 use kundatrezo::{Answer, MAX_BYTES, MAX_GROUPS, Number, Refusal};
 
 const GROUP: Flag = Flag {
@@ -42,7 +42,7 @@ shots in which it holds. docs/FAULTS.md has more.";
 
 pub fn table(arguments: &Arguments) -> Result<(), Failure> {
     let groups = groups(arguments, &GROUP)?;
-    let table = called(arguments, |job| kundatrezo::fault_table(job, &groups))?;
+    let table = called(arguments, &[("group", &groups)], |job| kundatrezo::fault_table(job, &groups))?;
     write_out(arguments, table.text().as_bytes())
 }
 
@@ -51,7 +51,8 @@ pub fn model(arguments: &Arguments) -> Result<(), Failure> {
     if detectors.is_empty() && observables.is_empty() {
         return Err(Failure::Other(format!("{} or {} is wanted", DETECTOR.name, OBSERVABLE.name)));
     }
-    let model = called(arguments, |job| kundatrezo::error_model(job, &detectors, &observables))?;
+    let named = [("detector", detectors.as_slice()), ("observable", &observables)];
+    let model = called(arguments, &named, |job| kundatrezo::error_model(job, &detectors, &observables))?;
     write_out(arguments, model.to_string().as_bytes())?;
     if model.mechanisms().iter().any(|mechanism| mechanism.has_condition) {
         eprintln!("note: noise with a condition has the probability of shots in which it holds");
@@ -69,16 +70,25 @@ fn groups(arguments: &Arguments, flag: &Flag) -> Result<Vec<Vec<u64>>, Failure> 
     arguments.all_parsed(flag.name, "numbers with commas between, or -", list)
 }
 
-/// Make a call on the job, and say what to do where it refuses.
-fn called<T>(arguments: &Arguments, call: impl FnOnce(&[u8]) -> Answer<T>) -> Result<T, Failure> {
+/// Make a call on the job with these groups, and say what to do where it refuses.
+fn called<T>(
+    arguments: &Arguments,
+    groups: &[(&str, &[Vec<u64>])],
+    call: impl FnOnce(&[u8]) -> Answer<T>,
+) -> Result<T, Failure> {
     let (job, examined) = examined(arguments)?;
-    let remedy = |refusal: &Refusal| match (refusal.number, examined.recorded) {
-        (Number::WALK, 0) => Some("the job records no outcome".into()),
-        (Number::WALK, some) => Some(format!("a group names recorded outcomes, 0 to {}, and rises strictly", some - 1)),
-        (Number::GROUPS, _) if refusal.line == 0 => {
+    let refused = || {
+        let mut all = groups.iter().flat_map(|(what, groups)| groups.iter().map(move |group| (what, group)));
+        let (what, group) = all.find(|(_, group)| examined.test_set(group).is_err())?;
+        let members: Vec<String> = group.iter().map(u64::to_string).collect();
+        Some(outcomes_wanted(&format!("the {what} {}", members.join(",")), examined.recorded))
+    };
+    let remedy = |refusal: &Refusal| match refusal.number {
+        Number::WALK => refused(),
+        Number::GROUPS if refusal.line == 0 => {
             Some(format!("each {} is a group, and a table has 1 to {MAX_GROUPS} of them", GROUP.name))
         }
-        (Number::ROOM, _) => {
+        Number::ROOM => {
             Some(format!("the table has more than {MAX_BYTES} bytes: leave out noise lines, and make several tables"))
         }
         _ => None,

@@ -111,6 +111,7 @@ impl Job<'_> {
                 Some("put noise lines around this line by hand, and annotate the job without it".into())
             }
             Number::SIZES => Some("give this line a corr= of its own".into()),
+            Number::CONTROL => self.anticommuting(),
             Number::GROUPS => Some(format!(
                 "q= has {} qubits: write noise over fewer of them, or its likeliest Paulis with d=4",
                 field(self.line, "q")?.split(',').count()
@@ -158,7 +159,10 @@ impl Job<'_> {
             !number.is_some_and(|number| (*least..=*most).contains(&number))
         });
         match out {
-            Some((key, least, most)) if self.line.starts_with("op=job ") => format!("{key}= is from {least} to {most}"),
+            Some((key, least, most)) if self.line.starts_with("op=job ") => {
+                let more = if *key == "shots" { "; 'kundatrezo sample --shots N' runs any number" } else { "" };
+                format!("{key}= is from {least} to {most}{more}")
+            }
             _ => "the first line is the header: op=job qubits=N outcomes=N shots=N".into(),
         }
     }
@@ -181,6 +185,20 @@ impl Job<'_> {
         let code: usize = field(self.line, "g")?.parse().ok()?;
         let count = if code <= 10 { "one qubit" } else { "two qubits" };
         Some(format!("gate {code}, {}, takes {count}", GATES.get(code)?[0]))
+    }
+
+    /// The qubits on which the control and the target of a controlled Pauli act by different letters.
+    fn anticommuting(&self) -> Option<String> {
+        let [x, z, u, v] = ["x", "z", "u", "v"].map(|key| field(self.line, key).map(|list| list.split(',').collect()));
+        let (x, z, u, v): (Vec<&str>, Vec<&str>, Vec<&str>, Vec<&str>) = (x?, z?, u?, v?);
+        let has = |list: &[&str], qubit: &str| list.contains(&qubit);
+        let differ = |qubit: &&str| (has(&x, qubit) && has(&v, qubit)) != (has(&z, qubit) && has(&u, qubit));
+        let mut qubits: Vec<u64> =
+            x.iter().chain(&z).filter(|qubit| differ(qubit)).filter_map(|qubit| qubit.parse().ok()).collect();
+        qubits.sort_unstable();
+        qubits.dedup();
+        let named: Vec<String> = qubits.iter().map(u64::to_string).collect();
+        Some(format!("control and target act by different letters on an odd number of qubits: {}", named.join(",")))
     }
 
     fn clifford(&self) -> String {
@@ -210,14 +228,14 @@ impl Job<'_> {
         })
     }
 
-    /// The kind of the noise line that wants this line for an element, and how many it wants from here on.
-    fn due(&self) -> Option<(&str, u64)> {
+    /// The kind of the noise line that wants this line for an element, which one of them this is, from 1, and how many there are.
+    fn due(&self) -> Option<(&str, u64, u64)> {
         let mut due = None;
         for line in self.before {
             due = match due {
-                Some((kind, more)) if more > 1 => Some((kind, more - 1)),
+                Some((kind, place, count)) if place < count => Some((kind, place + 1, count)),
                 Some(_) => None,
-                None => wanted(line),
+                None => wanted(line).map(|(kind, count)| (kind, 1, count)),
             };
         }
         due
@@ -228,13 +246,18 @@ impl Job<'_> {
         if let Some(fault) = layout(self.line) {
             return Some(fault.into());
         }
-        if let Some((kind, more)) = self.due() {
-            let form = named(&ELEMENTS, kind)?;
-            let fault = fields(self.line, &split(form), &format!("an element line of d={kind}"));
-            let ends = self
-                .is_last
-                .then(|| format!("the job ends here; element lines of d={kind} that are missing: {}", more - 1));
-            return fault.or(ends);
+        if let Some((kind, place, count)) = self.due() {
+            let form = split(named(&ELEMENTS, kind)?);
+            if self.line.starts_with("op=") {
+                let keys = keys(&form).join(" ");
+                return Some(format!(
+                    "an element line is due here, number {place} of n={count}, with the fields {keys}"
+                ));
+            }
+            let fault = fields(self.line, &form, &format!("an element line of d={kind}"));
+            let missing =
+                || format!("the job ends here; element lines of d={kind} that are missing: {}", count - place);
+            return fault.or_else(|| self.is_last.then(missing));
         }
         let op = field(self.line, "op").filter(|_| self.line.starts_with("op="));
         let Some(op) = op else {
@@ -365,11 +388,14 @@ fn gate(name: &str) -> Option<usize> {
     GATES.iter().position(|names| names.iter().any(|own| own.eq_ignore_ascii_case(name)))
 }
 
+fn keys(fields: &[(&str, &str)]) -> Vec<String> {
+    fields.iter().map(|(key, _)| format!("{key}=")).collect()
+}
+
 /// What is wrong with the fields of a line of this form.
 fn fields(line: &str, form: &[(&str, &str)], what: &str) -> Option<String> {
     let given: Vec<(&str, &str)> = line.split(' ').map(|field| field.split_once('=').unwrap_or((field, ""))).collect();
     let given = if given.first()?.0 == "op" { &given[1..] } else { &given[..] };
-    let keys = |fields: &[(&str, &str)]| -> Vec<String> { fields.iter().map(|(key, _)| format!("{key}=")).collect() };
     if keys(given) != keys(form) {
         return Some(format!("the fields of {what} are {}, in this order", keys(form).join(" ")));
     }
@@ -503,6 +529,10 @@ mod tests {
             ),
             (&format!("{noise} parity=0 d=4 n=1 size=1\nx=0 z=-"), "the fields of an element line of d=4 are w= x= z="),
             (
+                &format!("{noise} parity=0 d=3 n=2 size=2\nx=0 z=-\nop=z q=0\nop=z q=1"),
+                "an element line is due here, number 2 of n=2, with the fields x= z=",
+            ),
+            (
                 &format!("{noise} parity=0 d=4 n=1 size=1\nw=0.5 x=0 z=-"),
                 "w= is a binary64 by its 16 hexadecimal digits, in lower case: 0.5 is 3fe0000000000000",
             ),
@@ -519,6 +549,8 @@ mod tests {
             ("op=t shot=0 id=0", "no outcome is recorded before this line"),
             ("op=r id=0 angle=0\nop=t shot=0 id=4", "before this line outcomes 0 to 0 are recorded"),
             ("op=i shot=3 x=0 z=-", "the header has shots=3"),
+            ("op=k x=0 z=- u=- v=0", "control and target act by different letters on an odd number of qubits: 0"),
+            ("op=k x=0,1 z=1 u=0 v=1", "control and target act by different letters on an odd number of qubits: 1"),
             ("op=n p=3ff8000000000000 corr=- cond=- parity=0 d=2 q=0 size=3", "p= is 1.5 in decimal"),
             (&format!("{noise} parity=0 d=3 n=65 size=65\nx=0 z=-"), "n=65: a distribution has 1 to 64 elements"),
             (&format!("{noise} parity=0 d=4 n=1 size=1\nw=bff0000000000000 x=0 z=-"), "this weight is -1.0 in decimal"),
@@ -552,7 +584,10 @@ mod tests {
             ("\u{feff}op=job qubits=1 outcomes=0 shots=1\n", "the file begins with a byte order mark"),
             ("op=job qubits=0 outcomes=0 shots=1\n", "qubits= is from 1 to 256"),
             ("op=job qubits=1 outcomes=1025 shots=1\n", "outcomes= is from 0 to 1024"),
-            ("op=job qubits=1 outcomes=0 shots=10000\n", "shots= is from 1 to 4096"),
+            (
+                "op=job qubits=1 outcomes=0 shots=10000\n",
+                "shots= is from 1 to 4096; 'kundatrezo sample --shots N' runs any number",
+            ),
             ("op=job edition=2 qubits=1 outcomes=0 shots=0\n", "shots= is from 1 to 4096"),
             ("op=job edition=3 qubits=1 outcomes=0 shots=1\n", "edition= is 1 or 2"),
             ("op=job edition=3.1 qubits=1 outcomes=0 shots=1\n", "edition= is one number"),

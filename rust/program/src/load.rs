@@ -22,7 +22,7 @@ pub const OUTPUT_WORDS: Flag =
 
 pub const JOB: &str = "\
 Writes a job with this header and as many lines behind it, whose kinds and values a seed chooses, by the rule of
-docs/MAKING.md. The same numbers give the same job on every machine, and every made job passes the checks. All
+docs/MAKING.md. The same numbers give the same job on every machine, and every made job passes its tests. All
 five are wanted. The seed is taken as it is, and not stretched as that of a run.";
 
 pub const WORDS: &str = "\
@@ -33,8 +33,7 @@ Writes words from a seed, eight bytes each, the lowest first: those that a run m
 pub fn write_job(arguments: &Arguments) -> Result<(), Failure> {
     let mut numbers = [0; PARAMETERS.len()];
     for (number, flag) in numbers.iter_mut().zip(PARAMETERS) {
-        let missing = || Failure::Other(format!("{} are wanted", PARAMETERS.map(|flag| flag.name).join(", ")));
-        *number = arguments.number(flag.name)?.ok_or_else(missing)?;
+        *number = arguments.number(flag.name)?.ok_or_else(|| arguments.missing(&PARAMETERS))?;
     }
     let [qubits, outcomes, shots, lines, seed] = numbers;
     let mut out = room(arguments)?;

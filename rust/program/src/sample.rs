@@ -1,6 +1,7 @@
 //! Any number of shots of a job: how often outcomes and parities are flipped, or the shots themselves in the forms that decoders read.
 
 use crate::arguments::{Arguments, FILE, Flag};
+use crate::commands::{list, outcomes_wanted};
 use crate::counts::{Sample, crc32};
 use crate::files::{self, Output};
 use crate::progress::Progress;
@@ -108,7 +109,7 @@ struct Asked {
 impl Asked {
     fn read(arguments: &Arguments) -> Result<Self, Failure> {
         let (Some(shots), Some(seed)) = (arguments.number(SHOTS.name)?, arguments.number(SEED.name)?) else {
-            return Err(Failure::Other(format!("{} and {} are wanted", SHOTS.name, SEED.name)));
+            return Err(arguments.missing(&[&SHOTS, &SEED]));
         };
         if shots == 0 {
             return Err(Failure::Other(format!("the value of {} is to be at least 1", SHOTS.name)));
@@ -150,18 +151,18 @@ const SET_IS: &str = "numbers with commas between, or -";
 
 /// The sets of the options.
 fn sets(arguments: &Arguments, job: Examination) -> Result<Vec<Vec<u64>>, Failure> {
-    let mut given = arguments.all_parsed(SET.name, SET_IS, |text| Some(text.to_owned()))?;
+    let option = arguments.all_parsed(SET.name, SET_IS, |text| Some(text.to_owned()))?;
+    // each with where it stands, for what is said of it
+    let mut given: Vec<(String, String)> = option.into_iter().map(|text| (String::new(), text)).collect();
     if let Some(path) = arguments.value(SETS.name) {
-        given.extend(files::text(path)?.lines().map(str::to_owned));
+        let place = |line: usize| format!("{}, line {}: ", path.display(), line + 1);
+        given.extend(files::text(path)?.lines().enumerate().map(|(line, text)| (place(line), text.to_owned())));
     }
-    let set = |text: &String| {
-        let fault = || format!("a set is to be {SET_IS}, not '{}'", text.escape_default());
-        let set = crate::commands::list(text).ok_or_else(|| Failure::Other(fault()))?;
+    let set = |(place, text): &(String, String)| {
+        let fault = || format!("{place}a set is to be {SET_IS}, not '{}'", text.escape_default());
+        let set = list(text).ok_or_else(|| Failure::Other(fault()))?;
         job.test_set(&set).map_err(|refusal| {
-            let remedy = match job.recorded {
-                0 => "the job records no outcome".to_owned(),
-                some => format!("the set {text}: it names recorded outcomes, 0 to {}, and rises strictly", some - 1),
-            };
+            let remedy = outcomes_wanted(&format!("{place}the set {text}"), job.recorded);
             Failure::refused(&refusal, &[], Some(remedy))
         })?;
         Ok(set)

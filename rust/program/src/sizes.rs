@@ -1,13 +1,13 @@
-//! The size of its distribution on each noise line, for jobs that were written before noise lines had one.
+//! The size of its distribution on each noise line, for jobs that lack it.
 
 use crate::{Failure, hints, shortened};
 use kundatrezo::MAX_BYTES;
 
 pub const DETAILS: &str = "\
 Writes the job with 'size=' at the end of each noise line that has none: 1 with d=1, 4^k - 1 with d=2 over k
-qubits, n with d=3 and d=4. So a job is accepted again that was written before noise lines had a size. Noise
-lines that have one, be it right or wrong, and all other lines are copied byte by byte. The job is not
-checked otherwise. A noise line whose size can't be told is named, with status 1, and nothing is written.";
+qubits, n with d=3 and d=4. Without it a noise line is refused by 2. Noise lines that have one, be it right
+or wrong, and all other lines are copied byte by byte. The job is not checked otherwise. A noise line whose
+size can't be told is named, with status 1, and nothing is written.";
 
 /// The job with a size on each noise line that has none.
 pub fn added(job: &[u8]) -> Result<Vec<u8>, Failure> {

@@ -14,7 +14,7 @@ use Rattle.job.specs.Grammar.{Written}
 use Rattle.job.specs.Checks.{maxMembers}
 use Rattle.job.specs.Job.{checkJob}
 use Rattle.reader.specs.Parsed.{formOf}
-use Rattle.instructions.specs.declared.Next.{Next}
+use Rattle.instructions.specs.declared.LineRead.{LineRead}
 use Rattle.instructions.specs.Reading.{lineAt, NextLine}
 use Rattle.instructions.specs.Lines.{Left, numbered}
 use Rattle.instructions.specs.Laws.Lines.{Passed, left-all, here, line-read, left-more, numbered-some}
@@ -82,7 +82,7 @@ pub put-none : {job : List ℕ} {p : ℕ} {out : List ℕ} → checkJob job .num
 unfolding annotatedText
 put-none {job} e = record { left = left-all job e; unfit = refl; rest = rest-all; bound = omega arith }
 
-module _ {job : List ℕ} {p : ℕ} {out : List ℕ} {k at next : ℕ} {after : List ℕ} (a : Annotating job p out k at next after) {line : Next} {fields : List ℕ}
+module _ {job : List ℕ} {p : ℕ} {out : List ℕ} {k at next : ℕ} {after : List ℕ} (a : Annotating job p out k at next after) {line : LineRead} {fields : List ℕ}
     (l : NextLine job at line fields) {n : ℕ} {words : List ℕ} (q : NoiseQubits (line .form) fields n words) where
   abbrev read : Passed k (lineAt job at (line .end)) (lines (drop (line .end + 1) job))
   read = here (a .left) l

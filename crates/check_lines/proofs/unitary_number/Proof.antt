@@ -29,8 +29,8 @@ count-requires c κs = search needs
 number-requires : tie.Need-number-requires
 number-requires c κs = search needs
 
-operands-requires : tie.Need-operands-requires
-operands-requires c κs = search needs
+operand-count-requires : tie.Need-operand-count-requires
+operand-count-requires c κs = search needs
 
 cast-if2 : tie.Need-cast-if2
 cast-if2 c = search needs
@@ -42,12 +42,12 @@ returns-2 c =
     let (g, e, t) = tests-unitary (c .before .before .before .before .before .before .before .args .c) h in
     let size = c .before .before .before .count .ensures ∙ t .held .count 0 (omega arith) in
     let code = ap gateOf (c .before .before .number .ensures ∙ t .held .number 0 (omega arith)) in
-    fails 5 _ _ (left-false _ _ (left-false _ _ (ne-eqb _ _ (λ z. c .if2 .taken (size ∙ z ∙ sym (c .before .operands .ensures ∙ ap operandCount (code ∙ e)))))))
+    fails 5 _ _ (left-false _ _ (left-false _ _ (ne-eqb _ _ (λ z. c .if2 .taken (size ∙ z ∙ sym (c .before .operand-count .ensures ∙ ap operandCount (code ∙ e)))))))
     ∙ passes 4 _ _ (sym (c .before .before .before .before .before .below .ensures _ _ vs (t .held) (omega arith)) ∙ not-false _ (c .before .before .before .before .if1 .left))
     ∙ t .own
 
 slot-distinct-requires : tie.Need-slot-distinct-requires
-slot-distinct-requires c κs = (omega arith, omega arith, omega (arith, few-counted _ (c .before .operands .ensures)))
+slot-distinct-requires c κs = (omega arith, omega arith, omega (arith, few-counted _ (c .before .operand-count .ensures)))
 
 returns-3 : tie.Need-returns-3
 returns-3 c =
@@ -65,7 +65,7 @@ returns-4 c =
     let (g, e, t) = tests-unitary (c .before .before .before .before .before .before .before .before .before .args .c) h in
     let size = c .before .before .before .before .before .count .ensures ∙ t .held .count 0 (omega arith) in
     let code = ap gateOf (c .before .before .before .before .number .ensures ∙ t .held .number 0 (omega arith)) in
-    let operands = c .before .before .before .operands .ensures ∙ ap operandCount (code ∙ e) in
+    let operands = c .before .before .before .operand-count .ensures ∙ ap operandCount (code ∙ e) in
     let once = c .before .slot-distinct .ensures _ _ vs (t .held) (omega arith) in
     none-bad ∙ passes 5 _ _
     (both-true
@@ -82,7 +82,7 @@ unitary-number-spec =
     returns
     count-requires
     number-requires
-    operands-requires
+    operand-count-requires
     cast-if2
     returns-2
     slot-distinct-requires

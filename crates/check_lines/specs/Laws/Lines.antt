@@ -7,11 +7,11 @@ use mathlib.Core.List.{List, [], _∷_}
 use mathlib.Core.Option.{Option, none, some}
 use borrow.Author.Tests.{eq-eqb, ne-eqb}
 use lib.Dec.{eqb, ltb, leb}
-use lib.ListN.{length, take, drop, length-drop}
+use lib.ListN.{length, take, length-drop}
 use lib.Seq.{take-take, length-take-le}
-use Rattle.pauli.specs.Bits.{_⊕_, outside, members, sumOver}
+use Rattle.pauli.specs.Bits.{_⊕_, members, sumOver}
 use Rattle.pauli.specs.Pauli.{anticommutes}
-use Rattle.pauli.specs.Gate.{Gate, I, X, Y, Z, Hadamard, SqrtZ, SqrtZInv, SqrtX, SqrtXInv, SqrtY, SqrtYInv, ControlledX, ControlledZ, Swap, PrepareBell, ControlledY, gateOf, operandsOf}
+use Rattle.pauli.specs.Gate.{Gate, gateOf, operandsOf}
 use Rattle.pauli.specs.Code.{operandCount}
 use Rattle.text.specs.Bytes.{bytes}
 use Rattle.text.specs.Template.{Value, numberAt, listAt}
@@ -31,6 +31,7 @@ use Rattle.reader.specs.Parsed.{placeOf, Said}
 use Rattle.tables.specs.Rows.{TableFor}
 use Rattle.check_values.specs.declared.context.Context.{Context as Known}
 use Rattle.instructions.specs.Laws.Meaning.{some-same, unitary-said, clifford-said}
+use Rattle.instructions.specs.Laws.Read.{few-operands}
 use Rattle.check_values.specs.Slots.{listsFrom}
 use Rattle.check_values.specs.Contexts.{contextOf}
 use Rattle.check_values.specs.Laws.Lowest.{Tested}
@@ -100,25 +101,6 @@ met {l = l} {m = m} {r = r} held whole kept i j below below′ p q rises rises�
     rw (first, second) at counted rises rises′
 
 -- ---- how many operands a gate takes
-
-pub few-operands : (g : Gate) → operandsOf g ≤ 2
-unfolding operandsOf
-few-operands I = omega arith
-few-operands X = omega arith
-few-operands Y = omega arith
-few-operands Z = omega arith
-few-operands Hadamard = omega arith
-few-operands SqrtZ = omega arith
-few-operands SqrtZInv = omega arith
-few-operands SqrtX = omega arith
-few-operands SqrtXInv = omega arith
-few-operands SqrtY = omega arith
-few-operands SqrtYInv = omega arith
-few-operands ControlledX = omega arith
-few-operands ControlledZ = omega arith
-few-operands Swap = omega arith
-few-operands PrepareBell = omega arith
-few-operands ControlledY = omega arith
 
 pub few-counted : {r : ℕ} (o : Option Gate) → r ≡ operandCount o → r ≤ 2
 unfolding operandCount

@@ -9,10 +9,10 @@ use Rattle.checker.proofs.examine.Statement.{statement}
 use Rattle.checker.proofs.examine.Tie as tie
 
 abbrev Inv-loop : tie.InvT-loop
-Inv-loop job fields₀ c₀ at₀ k₀ fields c at k = Left job c at k × (length fields ≡ 136)
+Inv-loop job fields₀ context₀ at₀ lines₀ fields context at lines = Left job context at lines × (length fields ≡ 136)
 
 abbrev μ-loop : tie.MeasureT-loop
-μ-loop job fields₀ c₀ at₀ k₀ fields c at k = length job - at
+μ-loop job fields₀ context₀ at₀ lines₀ fields context at lines = length job - at
 
 well-ended-requires : tie.Need-well-ended-requires Inv-loop μ-loop
 well-ended-requires c κs = tt
@@ -38,8 +38,8 @@ next-line-requires c κs = (c .before .before .loop .inv .0 .ended, c .before .l
 add-at : tie.Need-add-at Inv-loop μ-loop
 add-at c = omega (arith, c .before .before .next-line .ensures .place .inside)
 
-add-k : tie.Need-add-k Inv-loop μ-loop
-add-k c = omega (arith, c .before .before .before .before .before .loop .inv .0 .number, c .before .before .before .before .loop-test .taken)
+add-lines : tie.Need-add-lines Inv-loop μ-loop
+add-lines c = omega (arith, c .before .before .before .before .before .loop .inv .0 .number, c .before .before .before .before .loop-test .taken)
 
 slice-aggregate-refusal : tie.Need-slice-aggregate-refusal Inv-loop μ-loop
 slice-aggregate-refusal c = omega (arith, c .before .before .before .before .before .before .loop .inv .1, c .before .before .before .next-line .kept)
@@ -87,7 +87,7 @@ examine-spec =
     slice-aggregate-next-line
     next-line-requires
     add-at
-    add-k
+    add-lines
     slice-aggregate-refusal
     refusal-requires
     refused-requires-2

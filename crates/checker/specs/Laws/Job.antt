@@ -21,7 +21,7 @@ use Rattle.job.specs.Contexts.{contextAfter}
 use Rattle.job.specs.Laws.Recorded.{after-first}
 use Rattle.reader.specs.Parsed.{isUnread, Said}
 use Rattle.instructions.specs.Laws.Places.{last-line}
-use Rattle.instructions.specs.declared.Next.{Next as Line}
+use Rattle.instructions.specs.declared.LineRead.{LineRead as Line}
 use Rattle.instructions.specs.Reading.{lineAt, NextLine}
 use Rattle.instructions.specs.Laws.Meaning.{said-by}
 use Rattle.checker.specs.declared.Examined.{Examined}

@@ -8,14 +8,14 @@ use Rattle.choice.proofs.bound.Tie as tie
 enum-told : tie.Need-enum-told
 enum-told c = search needs
 
-enum-known-d : tie.Need-enum-known-d
-enum-known-d c = search needs
+enum-known-distribution : tie.Need-enum-known-distribution
+enum-known-distribution c = search needs
 
 depolarizing-size-requires : tie.Need-depolarizing-size-requires
-depolarizing-size-requires c κs = small-qubits _ (c .before .d .given .1) (c .before .before .before .pre)
+depolarizing-size-requires c κs = small-qubits _ (c .before .distribution .given .1) (c .before .before .before .pre)
 
-enum-known-d-2 : tie.Need-enum-known-d-2
-enum-known-d-2 c = search needs
+enum-known-distribution-2 : tie.Need-enum-known-distribution-2
+enum-known-distribution-2 c = search needs
 
 enum-told-2 : tie.Need-enum-told-2
 enum-told-2 c = search needs
@@ -26,11 +26,11 @@ returns c = rw (c .enum-told .given .1)
 
 returns-2 : tie.Need-returns-2
 unfolding boundOf
-returns-2 c = rw (c .before .before .d .given .1) (c .depolarizing-size .ensures)
+returns-2 c = rw (c .before .before .distribution .given .1) (c .depolarizing-size .ensures)
 
 returns-3 : tie.Need-returns-3
 unfolding boundOf
-returns-3 c = rw (c .before .d2 .given .1)
+returns-3 c = rw (c .before .distribution2 .given .1)
 
 returns-4 : tie.Need-returns-4
 unfolding boundOf
@@ -41,9 +41,9 @@ bound-spec =
     tie.close
     (tie.spec
     enum-told
-    enum-known-d
+    enum-known-distribution
     depolarizing-size-requires
-    enum-known-d-2
+    enum-known-distribution-2
     enum-told-2
     returns
     returns-2

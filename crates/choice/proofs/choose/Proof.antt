@@ -13,10 +13,10 @@ use Rattle.choice.proofs.choose.Statement.{statement}
 use Rattle.choice.proofs.choose.Tie as tie
 
 abbrev Inv-loop : tie.InvT-loop
-Inv-loop words more at c limit i₀ i = bounded c (drop i (words ++ more)) ≡ bounded c (drop at (words ++ more))
+Inv-loop words more at bound limit i₀ i = bounded bound (drop i (words ++ more)) ≡ bounded bound (drop at (words ++ more))
 
 abbrev μ-loop : tie.MeasureT-loop
-μ-loop words more at c limit i₀ i = length (words ++ more) - i
+μ-loop words more at bound limit i₀ i = length (words ++ more) - i
 
 loop-holds : tie.Need-loop-holds Inv-loop μ-loop
 loop-holds c = refl
@@ -24,28 +24,28 @@ loop-holds c = refl
 next-word-requires : tie.Need-next-word-requires Inv-loop μ-loop
 next-word-requires c κs = search needs
 
-enum-known-w : tie.Need-enum-known-w Inv-loop μ-loop
-enum-known-w c = search needs
+enum-known-word : tie.Need-enum-known-word Inv-loop μ-loop
+enum-known-word c = search needs
 
 add-i : tie.Need-add-i Inv-loop μ-loop
 add-i c =
     let a = c .before .before .before .before .before .before .before .args in
-    omega (arith, word-read (c .before .before .before .next-word .ensures) (c .before .w .given .1) .0, length-append (a .words .now) (a .more .now), c .before .before .before .before .before .before .before .good)
+    omega (arith, word-read (c .before .before .before .next-word .ensures) (c .before .word .given .1) .0, length-append (a .words .now) (a .more .now), c .before .before .before .before .before .before .before .good)
 
 rem-t10 : tie.Need-rem-t10 Inv-loop μ-loop
 rem-t10 c = below-limit _ _ _ (c .before .before .before .before .before .before .before .before .pre) (c .if1 .taken)
 
 returns : tie.Need-returns Inv-loop μ-loop
 returns c =
-    let read = word-read (c .before .before .before .before .next-word .ensures) (c .before .before .w .given .1) in
+    let read = word-read (c .before .before .before .before .next-word .ensures) (c .before .before .word .given .1) in
     chose _ _ (sym (c .before .before .before .before .before .loop .inv) ∙ choose-takes _ _ _ _ _ (c .before .before .before .before .before .before .before .before .pre) (read .1) (read .0) (lt-ltb _ _ (c .if1 .taken))) (omega (arith, read .0))
 
 loop-less : tie.Need-loop-less Inv-loop μ-loop
-loop-less c = omega (arith, word-read (c .before .before .before .before .next-word .ensures) (c .before .before .w .given .1) .0)
+loop-less c = omega (arith, word-read (c .before .before .before .before .next-word .ensures) (c .before .before .word .given .1) .0)
 
 loop-again : tie.Need-loop-again Inv-loop μ-loop
 loop-again c =
-    let read = word-read (c .before .before .before .before .next-word .ensures) (c .before .before .w .given .1) in
+    let read = word-read (c .before .before .before .before .next-word .ensures) (c .before .before .word .given .1) in
     sym (choose-rejects _ _ _ _ _ (c .before .before .before .before .before .before .before .before .pre) (read .1) (read .0) (le-ltb _ _ (c .if1 .left))) ∙ c .before .before .before .before .before .loop .inv
 
 enum-told : tie.Need-enum-told Inv-loop μ-loop
@@ -62,7 +62,7 @@ choose-spec =
     μ-loop
     loop-holds
     next-word-requires
-    enum-known-w
+    enum-known-word
     add-i
     rem-t10
     returns

@@ -30,10 +30,10 @@ returns : tie.Need-returns
 returns c = chosen-one _ (c .enum-told .given .1) (omega arith)
 
 returns-2 : tie.Need-returns-2
-returns-2 c = chosen-depolarizing _ _ _ (c .before .enum-told2 .given .1) (c .before .before .before .before .before .before .pre .1 .size) (c .choose .ensures)
+returns-2 c = chosen-depolarizing _ _ _ (c .before .enum-told2 .given .1) (c .before .before .before .before .before .before .pre .1 .bound) (c .choose .ensures)
 
 returns-3 : tie.Need-returns-3
-returns-3 c = chosen-uniform _ _ _ (c .before .enum-told3 .given .1) (c .before .before .before .before .before .before .pre .1 .size) (c .choose2 .ensures)
+returns-3 c = chosen-uniform _ _ _ (c .before .enum-told3 .given .1) (c .before .before .before .before .before .before .pre .1 .bound) (c .choose2 .ensures)
 
 returns-4 : tie.Need-returns-4
 returns-4 c = chosen-weighted _ _ (c .before .enum-told4 .given .1) (c .weigh .ensures)

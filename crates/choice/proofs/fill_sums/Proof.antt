@@ -8,11 +8,11 @@ use borrow.Author.Needs.{needs}
 use Rattle.choice.proofs.fill_sums.Statement.{statement}
 use Rattle.choice.proofs.fill_sums.Tie as tie
 
-enum-known-d : tie.Need-enum-known-d
-enum-known-d c = search needs
+enum-known-distribution : tie.Need-enum-known-distribution
+enum-known-distribution c = search needs
 
 running-sums-requires : tie.Need-running-sums-requires
-running-sums-requires c κs = let t = c .before .before .before .before .before .before .pre .1 .is _ (c .before .before .d .given .1) in (t .0, c .before .before .before .before .before .before .pre .0, t .1)
+running-sums-requires c κs = let t = c .before .before .before .before .before .before .pre .1 .is _ (c .before .before .distribution .given .1) in (t .0, c .before .before .before .before .before .before .pre .0, t .1)
 
 mark-sums-requires : tie.Need-mark-sums-requires
 mark-sums-requires c κs = c .before .before .before .running-sums .kept .0 ∙ c .before .before .before .before .before .before .before .before .before .before .pre .0
@@ -28,4 +28,4 @@ returns-2 c = record { is = λ t e. absurd (miss (0 ∷ 1 ∷ 2 ∷ []) 3 tt (rw
 
 pub fill-sums-spec : {M : Type 1} → statement M
 fill-sums-spec =
-    tie.close (tie.spec enum-known-d running-sums-requires mark-sums-requires same-length returns returns-2)
+    tie.close (tie.spec enum-known-distribution running-sums-requires mark-sums-requires same-length returns returns-2)

@@ -12,11 +12,11 @@ use Rattle.choice.proofs.mark_sums.Statement.{statement}
 use Rattle.choice.proofs.mark_sums.Tie as tie
 
 abbrev Inv-loop : tie.InvT-loop
-Inv-loop sums₀ weights later₀ i₀ sums later i =
-    (i ≤ length weights) × (length sums ≡ length weights) × (sums ≡ take i sums₀ ++ markedBy (drop i weights) (drop i sums₀)) × (later ≡ anyPositive (drop i weights))
+Inv-loop sums₀ weights positive-behind₀ i₀ sums positive-behind i =
+    (i ≤ length weights) × (length sums ≡ length weights) × (sums ≡ take i sums₀ ++ markedBy (drop i weights) (drop i sums₀)) × (positive-behind ≡ anyPositive (drop i weights))
 
 abbrev μ-loop : tie.MeasureT-loop
-μ-loop sums₀ weights later₀ i₀ sums later i = i
+μ-loop sums₀ weights positive-behind₀ i₀ sums positive-behind i = i
 
 loop-holds : tie.Need-loop-holds Inv-loop μ-loop
 loop-holds c =
@@ -27,11 +27,11 @@ loop-holds c =
 sub-i : tie.Need-sub-i Inv-loop μ-loop
 sub-i c = omega arith
 
-mul-w : tie.Need-mul-w Inv-loop μ-loop
-mul-w c = omega arith
+mul-weight : tie.Need-mul-weight Inv-loop μ-loop
+mul-weight c = omega arith
 
-shared-slice-read-w : tie.Need-shared-slice-read-w Inv-loop μ-loop
-shared-slice-read-w c = omega arith
+shared-slice-read-weight : tie.Need-shared-slice-read-weight Inv-loop μ-loop
+shared-slice-read-weight c = omega arith
 
 mul-mark : tie.Need-mul-mark Inv-loop μ-loop
 mul-mark c = omega arith
@@ -63,8 +63,8 @@ loop-again c =
       omega arith,
       length-set (l .sums) (l .i - 1) _ ∙ l .inv .1,
       ap (set (l .sums) (l .i - 1)) (c .before .mark .ensures)
-          ∙ mark-step (a .weights .now) (a .sums .now) (l .sums) (l .later) (l .i) (l .i - 1) k within (l .inv .3) (c .before .before .before .before .before .before .before .before .pre) (l .inv .2),
-      c .any-positive .ensures ∙ positive-step (a .weights .now) (a .sums .now) (l .sums) (l .later) (l .i) (l .i - 1) k within (l .inv .3),
+          ∙ mark-step (a .weights .now) (a .sums .now) (l .sums) (l .positive-behind) (l .i) (l .i - 1) k within (l .inv .3) (c .before .before .before .before .before .before .before .before .pre) (l .inv .2),
+      c .any-positive .ensures ∙ positive-step (a .weights .now) (a .sums .now) (l .sums) (l .positive-behind) (l .i) (l .i - 1) k within (l .inv .3),
     )
 
 same-length : tie.Need-same-length Inv-loop μ-loop
@@ -84,8 +84,8 @@ mark-sums-spec =
     μ-loop
     loop-holds
     sub-i
-    mul-w
-    shared-slice-read-w
+    mul-weight
+    shared-slice-read-weight
     mul-mark
     slice-read-mark
     mark-requires

@@ -4,6 +4,7 @@ use mathlib.Core.Path.{_≡_, refl, sym, _∙_}
 use borrow.Author.Tests.{not-true, not-false}
 use lib.ListN.{length}
 use lib.Seq.{length-take-le}
+use Rattle.instructions.specs.Laws.Lines.{left-known}
 use Rattle.correlations.specs.Rounds.{Collecting}
 use Rattle.correlations.specs.Laws.Loops.{full, not-full, collect-none, collect-stops, collect-more, collect-ends}
 use native.Mathlib.Omega.{arith}
@@ -19,14 +20,14 @@ abbrev μ-loop : tie.MeasureT-loop
 loop-holds : tie.Need-loop-holds Inv-loop μ-loop
 loop-holds c = (collect-none (c .before .before .before .before .pre .0) (c .before .before .before .before .pre .3), refl, refl, refl, refl)
 
-slice-aggregate-next-line : tie.Need-slice-aggregate-next-line Inv-loop μ-loop
-slice-aggregate-next-line c = omega arith
+slice-aggregate-next-known : tie.Need-slice-aggregate-next-known Inv-loop μ-loop
+slice-aggregate-next-known c = omega arith
 
-next-line-requires : tie.Need-next-line-requires Inv-loop μ-loop
-next-line-requires c κs = (c .before .before .loop .inv .0 .left .ended, c .before .loop-test .taken, omega (arith, c .before .before .loop .inv .1))
+next-known-requires : tie.Need-next-known-requires Inv-loop μ-loop
+next-known-requires c κs = (left-known (c .before .before .loop .inv .0 .left) (c .before .loop-test .taken), omega (arith, c .before .before .loop .inv .1))
 
 slice-aggregate-look : tie.Need-slice-aggregate-look Inv-loop μ-loop
-slice-aggregate-look c = omega (arith, c .before .before .before .before .before .loop .inv .1, c .before .before .next-line .kept)
+slice-aggregate-look c = omega (arith, c .before .before .before .before .before .loop .inv .1, c .before .before .next-known .kept)
 
 slice-reshare-prefix-look : tie.Need-slice-reshare-prefix-look Inv-loop μ-loop
 slice-reshare-prefix-look c = c .before .before .before .before .before .loop .inv .0 .holds .few
@@ -41,7 +42,7 @@ slice-aggregate-look-3 : tie.Need-slice-aggregate-look-3 Inv-loop μ-loop
 slice-aggregate-look-3 c = sym (length-take-le _ _ (omega (arith, c .before .before .before .before .before .before .before .loop .inv .0 .holds .few, c .before .before .before .before .before .before .before .loop .inv .0 .holds .beside)))
 
 look-requires : tie.Need-look-requires Inv-loop μ-loop
-look-requires c κs = (omega (arith, c .before .before .before .before .before .before .before .before .loop .inv .1, c .before .before .before .before .before .next-line .kept), length-take-le _ _ (c .before .before .before .before .before .before .before .before .loop .inv .0 .holds .few) ∙ sym (length-take-le _ _ (omega (arith, c .before .before .before .before .before .before .before .before .loop .inv .0 .holds .few, c .before .before .before .before .before .before .before .before .loop .inv .0 .holds .beside))), c .before .before .before .before .before .before .before .before .loop .inv .0 .holds .linked)
+look-requires c κs = (omega (arith, c .before .before .before .before .before .before .before .before .loop .inv .1, c .before .before .before .before .before .next-known .kept), length-take-le _ _ (c .before .before .before .before .before .before .before .before .loop .inv .0 .holds .few) ∙ sym (length-take-le _ _ (omega (arith, c .before .before .before .before .before .before .before .before .loop .inv .0 .holds .few, c .before .before .before .before .before .before .before .before .loop .inv .0 .holds .beside))), c .before .before .before .before .before .before .before .before .loop .inv .0 .holds .linked)
 
 same-length : tie.Need-same-length Inv-loop μ-loop
 same-length c = c .before .before .before .before .before .before .before .before .before .before .before .loop .inv .2
@@ -53,7 +54,7 @@ same-length-3 : tie.Need-same-length-3 Inv-loop μ-loop
 same-length-3 c = c .before .before .before .before .before .before .before .before .before .before .before .loop .inv .4
 
 returns : tie.Need-returns Inv-loop μ-loop
-returns c = collect-stops (c .before .before .before .before .before .before .before .before .before .before .before .loop .inv .0) (c .before .before .before .before .before .before .before .before .next-line .ensures) (c .before .before .look .ensures) (not-true _ (c .if1 .taken))
+returns c = collect-stops (c .before .before .before .before .before .before .before .before .before .before .before .loop .inv .0) (c .before .before .before .before .before .before .before .before .next-known .ensures) (c .before .before .look .ensures) (not-true _ (c .if1 .taken))
 
 is-full-requires : tie.Need-is-full-requires Inv-loop μ-loop
 is-full-requires c κs = tt
@@ -74,16 +75,16 @@ remember-requires : tie.Need-remember-requires Inv-loop μ-loop
 remember-requires c κs = (c .before .before .before .before .before .before .before .before .before .before .before .before .before .before .before .before .loop .inv .0 .holds, λ e. (not-full _ _ _ (c .before .before .before .before .before .before .before .before .before .before .before .before .before .before .before .before .loop .inv .0 .holds .few) (sym (c .before .before .before .before .is-full .ensures) ∙ c .before .before .before .if2 .left) e, c .before .before .before .before .before .before .before .look .ensures .fresh e))
 
 add-at : tie.Need-add-at Inv-loop μ-loop
-add-at c = omega (arith, c .before .before .before .before .before .before .before .before .before .before .before .before .before .before .before .before .before .before .before .before .before .next-line .ensures .place .inside, c .before .before .before .before .before .before .before .before .before .before .before .before .before .before .before .before .before .before .before .before .before .before .before .before .loop .inv .0 .left .size)
+add-at c = omega (arith, c .before .before .before .before .before .before .before .before .before .before .before .before .before .before .before .before .before .before .before .before .before .next-known .ensures .place .inside, c .before .before .before .before .before .before .before .before .before .before .before .before .before .before .before .before .before .before .before .before .before .before .before .before .loop .inv .0 .left .size)
 
 add-k : tie.Need-add-k Inv-loop μ-loop
 add-k c = omega (arith, c .before .before .before .before .before .before .before .before .before .before .before .before .before .before .before .before .before .before .before .before .before .before .before .before .loop .inv .0 .left .number, c .before .before .before .before .before .before .before .before .before .before .before .before .before .before .before .before .before .before .before .before .before .before .before .before .loop .inv .0 .left .within, c .before .before .before .before .before .before .before .before .before .before .before .before .before .before .before .before .before .before .before .before .before .before .before .before .loop .inv .0 .left .size)
 
 loop-less : tie.Need-loop-less Inv-loop μ-loop
-loop-less c = omega (arith, c .before .before .before .before .before .before .before .before .before .before .before .before .before .before .before .before .before .before .before .before .before .next-line .ensures .place .inside, c .before .before .before .before .before .before .before .before .before .before .before .before .before .before .before .before .before .before .before .before .before .next-line .ensures .place .begins)
+loop-less c = omega (arith, c .before .before .before .before .before .before .before .before .before .before .before .before .before .before .before .before .before .before .before .before .before .next-known .ensures .place .inside, c .before .before .before .before .before .before .before .before .before .before .before .before .before .before .before .before .before .before .before .before .before .next-known .ensures .place .begins)
 
 loop-again : tie.Need-loop-again Inv-loop μ-loop
-loop-again c = (collect-more (c .before .before .before .before .before .before .before .before .before .before .before .before .before .before .before .before .before .before .before .before .before .before .before .before .loop .inv .0) (c .before .before .before .before .before .before .before .before .before .before .before .before .before .before .before .before .before .before .before .before .before .next-line .ensures) (c .before .before .before .before .before .before .before .before .before .before .before .before .before .before .before .look .ensures) (not-false _ (c .before .before .before .before .before .before .before .before .before .before .before .before .before .if1 .left)) (c .before .before .before .before .before .before .before .remember .ensures), omega (arith, c .before .before .before .before .before .before .before .before .before .before .before .before .before .before .before .before .before .before .before .before .before .before .before .before .loop .inv .1, c .before .before .before .before .before .before .before .before .before .before .before .before .before .before .before .before .before .before .before .before .before .next-line .kept), c .before .before .before .before .before .before .before .remember .kept .1 .1 .0 ∙ c .before .before .before .before .before .before .before .before .before .before .before .before .before .before .before .before .before .before .before .before .before .before .before .before .loop .inv .2, c .before .before .before .before .before .before .before .remember .kept .1 .1 .1 .0 ∙ c .before .before .before .before .before .before .before .before .before .before .before .before .before .before .before .before .before .before .before .before .before .before .before .before .loop .inv .3, c .before .before .before .before .before .before .before .remember .kept .1 .1 .1 .1 .0 ∙ c .before .before .before .before .before .before .before .before .before .before .before .before .before .before .before .before .before .before .before .before .before .before .before .before .loop .inv .4)
+loop-again c = (collect-more (c .before .before .before .before .before .before .before .before .before .before .before .before .before .before .before .before .before .before .before .before .before .before .before .before .loop .inv .0) (c .before .before .before .before .before .before .before .before .before .before .before .before .before .before .before .before .before .before .before .before .before .next-known .ensures) (c .before .before .before .before .before .before .before .before .before .before .before .before .before .before .before .look .ensures) (not-false _ (c .before .before .before .before .before .before .before .before .before .before .before .before .before .if1 .left)) (c .before .before .before .before .before .before .before .remember .ensures), omega (arith, c .before .before .before .before .before .before .before .before .before .before .before .before .before .before .before .before .before .before .before .before .before .before .before .before .loop .inv .1, c .before .before .before .before .before .before .before .before .before .before .before .before .before .before .before .before .before .before .before .before .before .next-known .kept), c .before .before .before .before .before .before .before .remember .kept .1 .1 .0 ∙ c .before .before .before .before .before .before .before .before .before .before .before .before .before .before .before .before .before .before .before .before .before .before .before .before .loop .inv .2, c .before .before .before .before .before .before .before .remember .kept .1 .1 .1 .0 ∙ c .before .before .before .before .before .before .before .before .before .before .before .before .before .before .before .before .before .before .before .before .before .before .before .before .loop .inv .3, c .before .before .before .before .before .before .before .remember .kept .1 .1 .1 .1 .0 ∙ c .before .before .before .before .before .before .before .before .before .before .before .before .before .before .before .before .before .before .before .before .before .before .before .before .loop .inv .4)
 
 same-length-7 : tie.Need-same-length-7 Inv-loop μ-loop
 same-length-7 c = c .before .loop .inv .2
@@ -104,8 +105,8 @@ collect-spec =
     Inv-loop
     μ-loop
     loop-holds
-    slice-aggregate-next-line
-    next-line-requires
+    slice-aggregate-next-known
+    next-known-requires
     slice-aggregate-look
     slice-reshare-prefix-look
     slice-aggregate-look-2

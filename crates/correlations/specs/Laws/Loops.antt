@@ -20,7 +20,7 @@ use Rattle.job.specs.Job.{answer, accepted, noiseOf, gather, gathered, Job, che
 use Rattle.job.specs.Laws.Begun.{job-begun}
 use Rattle.reader.specs.declared.Form.{Form}
 use Rattle.reader.specs.Parsed.{Said}
-use Rattle.instructions.specs.declared.Next.{Next}
+use Rattle.instructions.specs.declared.LineRead.{LineRead}
 use Rattle.instructions.specs.Reading.{lineAt, NextLine}
 use Rattle.instructions.specs.Ahead.{instructionsAt}
 use Rattle.instructions.specs.Lines.{Left, numbered}
@@ -70,7 +70,7 @@ module _ (k : ℕ) (l : List ℕ) (ls : List (List ℕ)) (w : Written) (reads : 
 
 -- ---- a line that was read
 
-module _ {job : List ℕ} {k at : ℕ} (a : Left job k at) {next : Next} {fields : List ℕ} (n : NextLine job at next fields) where
+module _ {job : List ℕ} {k at : ℕ} (a : Left job k at) {next : LineRead} {fields : List ℕ} (n : NextLine job at next fields) where
   abbrev said : Written
   said = here a n .written
 
@@ -144,7 +144,7 @@ unfolding tableOf
 collect-none a t = record { left = a; holds = t; onward = omega arith; same = refl }
 
 module _ {job : List ℕ} {number from k at n : ℕ} {seen sizes links : List ℕ} (c : Collecting job number from k at n seen sizes links) where
-  module _ {next : Next} {fields : List ℕ} (line : NextLine job at next fields) {l : Compared}
+  module _ {next : LineRead} {fields : List ℕ} (line : NextLine job at next fields) {l : Compared}
       (looks : Looks (next .form) fields (take n seen) (take n sizes) l) where
     pub collect-stops : l .fits ≡ false → Collects job number from (record { differing = k; n = n; at = at; number = k }) seen sizes links
     collect-stops h =
@@ -177,7 +177,7 @@ pub compare-none : {job : List ℕ} {number from : ℕ} {seen : List Seen} → L
 compare-none a = record { left = a; same = refl }
 
 module _ {job : List ℕ} {number from k at : ℕ} {seen : List Seen} (c : Comparing job number from k at seen) where
-  module _ {next : Next} {fields : List ℕ} (line : NextLine job at next fields) {l : Compared}
+  module _ {next : LineRead} {fields : List ℕ} (line : NextLine job at next fields) {l : Compared}
       (looks : (vs : List Value) (w : Written) → Said (next .form) fields vs w → l ≡ lookOf seen (correlationIn w) (sizeIn w)) where
     pub compare-stops : l .fits ≡ false → numbered k ≡ unlike seen (instructionsAt job number from)
     compare-stops h =

@@ -5,7 +5,7 @@ use Prim.Native.Nat.{ℕ, _+_, _*_, _<_, _≤_}
 use native.Mathlib.Omega.{arith}
 use lib.ListN.{length, drop}
 use Rattle.job.specs.Job.{answer, accepted, jobOf}
-use Rattle.instructions.specs.declared.Next.{Next}
+use Rattle.instructions.specs.declared.LineRead.{LineRead}
 use Rattle.instructions.specs.Ahead.{instructionsAt, Ahead, PlainRead, NoiseRead}
 use Rattle.instructions.specs.Laws.Steps.{none-left}
 use Rattle.draws.specs.Draws.{Lent}
@@ -27,7 +27,7 @@ use Rattle.execution.specs.Steps.{headerOf, lentBy, RowsFor, Ending, end
 
 -- ---- a line
 
-module _ {job : List ℕ} (shape : Shape) {recorded : ℕ} (place : Place) {next : Next} {values : List ℕ}
+module _ {job : List ℕ} (shape : Shape) {recorded : ℕ} (place : Place) {next : LineRead} {values : List ℕ}
     (read : PlainRead job (headerOf job shape) recorded (place .line) (place .byte) next values) (ahead : Ahead job (headerOf job shape) recorded (place .line) (place .byte))
     {x z d noiseless : List ℕ} (rows : RowsFor shape x z d noiseless) (wide : Whole values)
   where
@@ -84,7 +84,7 @@ module _ {job : List ℕ} (shape : Shape) {recorded : ℕ} (place : Place) {next
 
 -- ---- a noise line
 
-module _ {job : List ℕ} (shape : Shape) {recorded : ℕ} (place : Place) {next : Next} {values : List ℕ}
+module _ {job : List ℕ} (shape : Shape) {recorded : ℕ} (place : Place) {next : LineRead} {values : List ℕ}
     (read : NoiseRead job (headerOf job shape) recorded (place .line) (place .byte) next values) {noiseless : List ℕ}
     (rows : shape .outcomes * shape .width ≤ length noiseless)
   where

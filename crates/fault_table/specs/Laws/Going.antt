@@ -28,8 +28,8 @@ use Rattle.draws.specs.Laws.SettledText.{element-sound}
 use Rattle.backward.specs.Walk.{Carried, Walk, backward, walkBack, walk}
 use Rattle.backward.specs.Walking.{lineFirst, plainLines}
 use Rattle.carry.specs.Laws.Same.{anti-left, same-backward}
-use Rattle.lines_from_last.specs.Line.{LineBefore}
-use Rattle.lines_from_last.specs.Laws.Left.{LinesLeft, all-left, one-done, left-known, gathered-more, none-left}
+use Rattle.lines_from_last.specs.Line.{LineBefore, LinesLeft}
+use Rattle.lines_from_last.specs.Laws.Left.{all-left, one-done, left-known, gathered-more, none-left}
 use Rattle.lines_back.specs.Back.{Readable}
 use Rattle.single_faults.specs.Carried.{rowsBy, markBy, carriedTo, carriedMarks, carriedRowsOf, carriedRows}
 use Rattle.groups.specs.Lent.{allCarried, startOf}

@@ -15,7 +15,7 @@ use Rattle.job.specs.Job.{Gathered, gather, gathered, checkJob, jobOf, Job}
 use Rattle.job.specs.Laws.Begun.{job-begun}
 use Rattle.reader.specs.declared.Form.{Form}
 use Rattle.reader.specs.Parsed.{Said}
-use Rattle.instructions.specs.declared.Next.{Next}
+use Rattle.instructions.specs.declared.LineRead.{LineRead}
 use Rattle.instructions.specs.Reading.{lineAt, NextLine, noiseForm}
 use Rattle.instructions.specs.Ahead.{instructionsAt}
 use Rattle.instructions.specs.Lines.{Left, numbered}
@@ -104,7 +104,7 @@ module _ (job : List ℕ) (passes : checkJob job .number ≡ 0) (groups : ℕ) w
         bytes = λ z. let c = subst (λ (ls : List (List ℕ)). bytes + tableBytes groups (gathered k ls .instructions) ≡ tableBytes groups (jobOf job .instructions)) none (g .count) in omega (arith, c);
       }
 
-  module _ {k at bytes : ℕ} (g : Measuring job groups k at bytes) {next : Next} {fields : List ℕ} (n : NextLine job at next fields) where
+  module _ {k at bytes : ℕ} (g : Measuring job groups k at bytes) {next : LineRead} {fields : List ℕ} (n : NextLine job at next fields) where
     abbrev text : List ℕ
     text = lineAt job at (next .end)
 

@@ -1,6 +1,5 @@
 -- `faults::read_fault` meets its contract.
 use Rattle.faults.specs.Laws.Prepared.{few-lines, element-lines, totals, probability-sound, fault-read}
-use Rattle.faults.specs.Laws.Elements.{kept-length}
 use native.Mathlib.Omega.{arith}
 use borrow.Author.Needs.{needs}
 use Rattle.faults.proofs.read_fault.Statement.{statement}
@@ -20,7 +19,7 @@ gather-requires c κs =
     let q = c .before .before .before .before .before .before .before .before .before .before .before .before .before .pre .0 .lines in
     let lines = c .before .before .before .before .before .before .before .before .before .before .before .before .before .pre .0 .count _ _ (q .said) in (
       element-lines q _ _ lines (c .before .before .before .before .before .before .has-weights .ensures _ _ (q .said .says)),
-      omega (arith, few-lines q _ lines, c .before .before .before .before .before .before .before .before .before .before .before .before .before .pre .1 .of-elements, kept-length _ _ _ _ _ (c .before .before .before .before .keep-element .ensures)),
+      omega (arith, few-lines q _ lines, c .before .before .before .before .before .before .before .before .before .before .before .before .before .pre .1 .of-elements, c .before .before .before .before .keep-element .ensures .long),
       c .before .before .before .before .before .before .before .before .before .before .before .before .before .pre .1 .of-weights,
     )
 

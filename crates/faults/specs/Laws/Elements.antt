@@ -1,5 +1,5 @@
 -- Elements kept in lent words. Laws. Assumes nothing.
-use Prim.Native.Nat.{ℕ, _+_, _*_, _≤_, _<_}
+use Prim.Native.Nat.{ℕ, _+_, _*_, _≤_, _<_, min}
 use native.Mathlib.Nat.{add-zero, zero-add}
 use native.Mathlib.Omega.{arith}
 use mathlib.Core.Path.{_≡_, sym, ap, _∙_}
@@ -13,7 +13,7 @@ use Rattle.job.specs.Line.{SparsePauli}
 use Rattle.job.specs.Grammar.{pauliAt}
 use Rattle.rows.specs.Overwrite.{copied}
 use Rattle.rows.specs.Laws.Overwrite.{overwrite-in, overwrite-out, length-copied}
-use Rattle.faults.specs.Elements.{Inside, xCount, zCount, elementX, elementZ, kept, ElementHeld, QubitsHeld}
+use Rattle.faults.specs.Elements.{Inside, xCount, zCount, elementX, elementZ, Kept, ElementHeld, QubitsHeld}
 
 -- ---- words that are copied
 
@@ -35,8 +35,8 @@ member-kept values i j h = rw (zero-add j) (getD-take 31 (membersOn values i) j 
 pub kept-size : (values : List ℕ) (i : ℕ) {members : List ℕ} → members ≡ keptMembers values i → Whole values → i < 4 → length members ≡ 31
 kept-size values i e whole h = rw e (length-take-le 31 (membersOn values i) (rw length-drop (omega arith)))
 
-module _ (e first : ℕ) (f l : List ℕ) where
-  -- after the first count, after both, and after the first list
+module _ (e first : ℕ) (f l : List ℕ) (nx nz : ℕ) (x-all : nx ≡ min (heldCount f first) 31) (z-all : nz ≡ min (heldCount f (first + 1)) 31) where
+  -- after the first count, after both, after the first list, and after both
   abbrev one-count : List ℕ
   one-count = set l (e * 64) (heldCount f first)
 
@@ -44,55 +44,43 @@ module _ (e first : ℕ) (f l : List ℕ) where
   counted = set one-count (e * 64 + 1) (heldCount f (first + 1))
 
   abbrev begun : List ℕ
-  begun = copied (e * 64 + 2) 0 31 (keptMembers f first) counted
+  begun = copied (e * 64 + 2) 0 nx (keptMembers f first) counted
+
+  abbrev done : List ℕ
+  done = copied (e * 64 + 33) 0 nz (keptMembers f (first + 1)) begun
 
   length-counted : length counted ≡ length l
   length-counted = length-set one-count (e * 64 + 1) (heldCount f (first + 1)) ∙ length-set l (e * 64) (heldCount f first)
 
   length-begun : length begun ≡ length l
-  length-begun = length-copied (e * 64 + 2) 0 31 (keptMembers f first) counted ∙ length-counted
+  length-begun = length-copied (e * 64 + 2) 0 nx (keptMembers f first) counted ∙ length-counted
 
-  pub length-kept : length (kept e first f l) ≡ length l
-  unfolding kept
-  length-kept = length-copied (e * 64 + 33) 0 31 (keptMembers f (first + 1)) begun ∙ length-begun
-
-  -- the words of other elements are as they were
-  kept-out : (k : ℕ) → (e * 64 ≤ k → k < e * 64 + 64 → ⊥) → getD (kept e first f l) k 0 ≡ getD l k 0
-  unfolding kept
-  kept-out k out =
-      copied-out (e * 64 + 33) 0 31 (keptMembers f (first + 1)) begun k (λ a b. out (omega arith) (omega arith))
-      ∙ copied-out (e * 64 + 2) 0 31 (keptMembers f first) counted k (λ a b. out (omega arith) (omega arith))
-      ∙ getD-set-other one-count (e * 64 + 1) k (heldCount f (first + 1)) 0 (λ (q : k ≡ e * 64 + 1). out (omega arith) (omega arith))
-      ∙ getD-set-other l (e * 64) k (heldCount f first) 0 (λ (q : k ≡ e * 64). out (omega arith) (omega arith))
-
-  module _ (fits : Inside l e) where
-    kept-x-count : xCount (kept e first f l) e ≡ heldCount f first
-    unfolding kept
-    kept-x-count =
-        copied-out (e * 64 + 33) 0 31 (keptMembers f (first + 1)) begun (e * 64) (λ a b. omega arith)
-        ∙ copied-out (e * 64 + 2) 0 31 (keptMembers f first) counted (e * 64) (λ a b. omega arith)
-        ∙ getD-set-other one-count (e * 64 + 1) (e * 64) (heldCount f (first + 1)) 0 (λ (q : e * 64 ≡ e * 64 + 1). omega arith)
-        ∙ getD-set-same l (e * 64) (heldCount f first) 0 (omega arith)
-
-    kept-z-count : zCount (kept e first f l) e ≡ heldCount f (first + 1)
-    unfolding kept
-    kept-z-count =
-        copied-out (e * 64 + 33) 0 31 (keptMembers f (first + 1)) begun (e * 64 + 1) (λ a b. omega arith)
-        ∙ copied-out (e * 64 + 2) 0 31 (keptMembers f first) counted (e * 64 + 1) (λ a b. omega arith)
-        ∙ getD-set-same one-count (e * 64 + 1) (heldCount f (first + 1)) 0 (rw length-set (omega arith))
-
-    kept-x : (j : ℕ) → j < 31 → getD (kept e first f l) (e * 64 + 2 + j) 0 ≡ heldMember f first j
-    unfolding kept
-    kept-x j h =
-        copied-out (e * 64 + 33) 0 31 (keptMembers f (first + 1)) begun (e * 64 + 2 + j) (λ a b. omega arith)
-        ∙ copied-in (e * 64 + 2) 0 31 (keptMembers f first) counted j h (omega (arith, length-counted))
-        ∙ member-kept f first j h
-
-    kept-z : (j : ℕ) → j < 31 → getD (kept e first f l) (e * 64 + 33 + j) 0 ≡ heldMember f (first + 1) j
-    unfolding kept
-    kept-z j h =
-        copied-in (e * 64 + 33) 0 31 (keptMembers f (first + 1)) begun j h (omega (arith, length-begun))
-        ∙ member-kept f (first + 1) j h
+  kept-steps : Inside l e → Kept e first f l done
+  kept-steps fits =
+      record {
+        long = length-copied (e * 64 + 33) 0 nz (keptMembers f (first + 1)) begun ∙ length-begun;
+        x-count =
+            copied-out (e * 64 + 33) 0 nz (keptMembers f (first + 1)) begun (e * 64) (λ a b. omega arith)
+            ∙ copied-out (e * 64 + 2) 0 nx (keptMembers f first) counted (e * 64) (λ a b. omega arith)
+            ∙ getD-set-other one-count (e * 64 + 1) (e * 64) (heldCount f (first + 1)) 0 (λ (q : e * 64 ≡ e * 64 + 1). omega arith)
+            ∙ getD-set-same l (e * 64) (heldCount f first) 0 (omega arith);
+        z-count =
+            copied-out (e * 64 + 33) 0 nz (keptMembers f (first + 1)) begun (e * 64 + 1) (λ a b. omega arith)
+            ∙ copied-out (e * 64 + 2) 0 nx (keptMembers f first) counted (e * 64 + 1) (λ a b. omega arith)
+            ∙ getD-set-same one-count (e * 64 + 1) (heldCount f (first + 1)) 0 (rw length-set (omega arith));
+        x = λ j h m.
+            copied-out (e * 64 + 33) 0 nz (keptMembers f (first + 1)) begun (e * 64 + 2 + j) (λ a b. omega arith)
+            ∙ copied-in (e * 64 + 2) 0 nx (keptMembers f first) counted j (omega arith) (omega (arith, length-counted))
+            ∙ member-kept f first j h;
+        z = λ j h m.
+            copied-in (e * 64 + 33) 0 nz (keptMembers f (first + 1)) begun j (omega arith) (omega (arith, length-begun))
+            ∙ member-kept f (first + 1) j h;
+        others = λ k out.
+            copied-out (e * 64 + 33) 0 nz (keptMembers f (first + 1)) begun k (λ a b. out (omega arith) (omega arith))
+            ∙ copied-out (e * 64 + 2) 0 nx (keptMembers f first) counted k (λ a b. out (omega arith) (omega arith))
+            ∙ getD-set-other one-count (e * 64 + 1) k (heldCount f (first + 1)) 0 (λ (q : k ≡ e * 64 + 1). out (omega arith) (omega arith))
+            ∙ getD-set-other l (e * 64) k (heldCount f first) 0 (λ (q : k ≡ e * 64). out (omega arith) (omega arith));
+      }
 
 -- ---- lists in words
 
@@ -116,26 +104,25 @@ counted-list words at n l e fits same = ap (λ (k : ℕ). take k (drop at words)
 
 -- ---- the element that is kept, and the others
 
-module _ {f : List ℕ} {a b : ℕ} {vs : List Value} (h : Held f a b vs) (e first : ℕ) (l : List ℕ) (fits : Inside l e) where
+module _ {f : List ℕ} {a b : ℕ} {vs : List Value} (h : Held f a b vs) {e first : ℕ} {l m : List ℕ} (k : Kept e first f l m) (fits : Inside l e) where
   -- one list of a line
-  count-of-x : first < b → xCount (kept e first f l) e ≡ length (listAt first vs)
-  count-of-x in-b = kept-x-count e first f l fits ∙ h .count first in-b
+  count-of-x : first < b → xCount m e ≡ length (listAt first vs)
+  count-of-x in-b = k .x-count ∙ h .count first in-b
 
-  kept-list-x : first < b → length (listAt first vs) ≤ 31 → elementX (kept e first f l) e ≡ listAt first vs
+  kept-list-x : first < b → length (listAt first vs) ≤ 31 → elementX m e ≡ listAt first vs
   kept-list-x in-b few =
-      counted-list (kept e first f l) (e * 64 + 2) _ (listAt first vs) (count-of-x in-b) (omega (arith, length-kept e first f l))
-      (λ j m. kept-x e first f l fits j (omega arith) ∙ h .member first j in-b (omega arith) m)
+      counted-list m (e * 64 + 2) _ (listAt first vs) (count-of-x in-b) (omega (arith, k .long))
+      (λ j i. k .x j (omega arith) (omega (arith, h .count first in-b)) ∙ h .member first j in-b (omega arith) i)
 
-  count-of-z : first + 1 < b → zCount (kept e first f l) e ≡ length (listAt (first + 1) vs)
-  count-of-z in-b = kept-z-count e first f l fits ∙ h .count (first + 1) in-b
+  count-of-z : first + 1 < b → zCount m e ≡ length (listAt (first + 1) vs)
+  count-of-z in-b = k .z-count ∙ h .count (first + 1) in-b
 
-  kept-list-z : first + 1 < b → length (listAt (first + 1) vs) ≤ 31 → elementZ (kept e first f l) e ≡ listAt (first + 1) vs
+  kept-list-z : first + 1 < b → length (listAt (first + 1) vs) ≤ 31 → elementZ m e ≡ listAt (first + 1) vs
   kept-list-z in-b few =
-      counted-list (kept e first f l) (e * 64 + 33) _ (listAt (first + 1) vs) (count-of-z in-b) (omega (arith, length-kept e first f l))
-      (λ j m. kept-z e first f l fits j (omega arith) ∙ h .member (first + 1) j in-b (omega arith) m)
+      counted-list m (e * 64 + 33) _ (listAt (first + 1) vs) (count-of-z in-b) (omega (arith, k .long))
+      (λ j i. k .z j (omega arith) (omega (arith, h .count (first + 1) in-b)) ∙ h .member (first + 1) j in-b (omega arith) i)
 
-  pub kept-held : first + 1 < b → length (listAt first vs) ≤ 31 → length (listAt (first + 1) vs) ≤ 31
-      → ElementHeld (kept e first f l) e (pauliAt first (first + 1) vs)
+  pub kept-held : first + 1 < b → length (listAt first vs) ≤ 31 → length (listAt (first + 1) vs) ≤ 31 → ElementHeld m e (pauliAt first (first + 1) vs)
   kept-held in-b x-few z-few =
       record {
         x-few = x-few;
@@ -147,51 +134,48 @@ module _ {f : List ℕ} {a b : ℕ} {vs : List Value} (h : Held f a b vs) (e fir
       }
 
 -- the first list alone, where it is the only one
-pub kept-qubits : {f : List ℕ} {a b : ℕ} {vs : List Value} → Held f a b vs → (first : ℕ) (l : List ℕ) → Inside l 0 → first < b → length (listAt first vs) ≤ 31
-    → QubitsHeld (kept 0 first f l) (listAt first vs)
-kept-qubits h first l fits in-b few =
+pub kept-qubits : {f : List ℕ} {a b : ℕ} {vs : List Value} → Held f a b vs → {first : ℕ} {l m : List ℕ} → Kept 0 first f l m → Inside l 0 → first < b
+    → length (listAt first vs) ≤ 31 → QubitsHeld m (listAt first vs)
+kept-qubits h k fits in-b few =
     record {
       few = few;
-      count = count-of-x h 0 first l fits in-b;
-      is = kept-list-x h 0 first l fits in-b few;
+      count = count-of-x h k fits in-b;
+      is = kept-list-x h k fits in-b few;
     }
 
-pub held-others : {l : List ℕ} {i : ℕ} {P : SparsePauli} → ElementHeld l i P → (e first : ℕ) (f : List ℕ) → (i ≡ e → ⊥) → Inside l i
-    → ElementHeld (kept e first f l) i P
-held-others {l} {i} {P} h e first f ne fits =
+pub held-others : {l : List ℕ} {i : ℕ} {P : SparsePauli} → ElementHeld l i P → {e first : ℕ} {f m : List ℕ} → Kept e first f l m → (i ≡ e → ⊥) → Inside l i
+    → ElementHeld m i P
+held-others {l} {i} {P} h {e} {first} {f} {m} k ne fits =
     record {
       x-few = h .x-few;
       z-few = h .z-few;
       x-count = count-x;
       z-count = count-z;
-      x = counted-list (kept e first f l) (i * 64 + 2) _ (P .x) count-x (omega (arith, length-kept e first f l, h .x-few)) (λ j m. near 2 j (omega (arith, h .x-few)) ∙ list-at l (i * 64 + 2) (P .x) (rw (h .x-count) at (h .x)) j m);
-      z = counted-list (kept e first f l) (i * 64 + 33) _ (P .z) count-z (omega (arith, length-kept e first f l, h .z-few)) (λ j m. near 33 j (omega (arith, h .z-few)) ∙ list-at l (i * 64 + 33) (P .z) (rw (h .z-count) at (h .z)) j m);
+      x = counted-list m (i * 64 + 2) _ (P .x) count-x (omega (arith, k .long, h .x-few)) (λ j n. near 2 j (omega (arith, h .x-few)) ∙ list-at l (i * 64 + 2) (P .x) (rw (h .x-count) at (h .x)) j n);
+      z = counted-list m (i * 64 + 33) _ (P .z) count-z (omega (arith, k .long, h .z-few)) (λ j n. near 33 j (omega (arith, h .z-few)) ∙ list-at l (i * 64 + 33) (P .z) (rw (h .z-count) at (h .z)) j n);
     }
   where
-    apart : (k : ℕ) → k < 64 → e * 64 ≤ i * 64 + k → i * 64 + k < e * 64 + 64 → ⊥
-    apart k h a b = ne (omega arith)
+    apart : (j : ℕ) → j < 64 → e * 64 ≤ i * 64 + j → i * 64 + j < e * 64 + 64 → ⊥
+    apart j h a b = ne (omega arith)
 
-    stays : (k : ℕ) → k < 64 → getD (kept e first f l) (i * 64 + k) 0 ≡ getD l (i * 64 + k) 0
-    stays k h = kept-out e first f l (i * 64 + k) (apart k h)
+    stays : (j : ℕ) → j < 64 → getD m (i * 64 + j) 0 ≡ getD l (i * 64 + j) 0
+    stays j h = k .others (i * 64 + j) (apart j h)
 
-    near : (k j : ℕ) → k + j < 64 → getD (kept e first f l) (i * 64 + k + j) 0 ≡ getD l (i * 64 + k + j) 0
-    near k j h = let sum : i * 64 + k + j ≡ i * 64 + (k + j) = omega arith in rw sum (stays (k + j) h)
+    near : (n j : ℕ) → n + j < 64 → getD m (i * 64 + n + j) 0 ≡ getD l (i * 64 + n + j) 0
+    near n j h = let sum : i * 64 + n + j ≡ i * 64 + (n + j) = omega arith in rw sum (stays (n + j) h)
 
-    count-x : xCount (kept e first f l) i ≡ length (P .x)
+    count-x : xCount m i ≡ length (P .x)
     count-x = rw add-zero at (stays 0 (omega arith)) ∙ h .x-count
 
-    count-z : zCount (kept e first f l) i ≡ length (P .z)
+    count-z : zCount m i ≡ length (P .z)
     count-z = stays 1 (omega arith) ∙ h .z-count
 
 -- the steps of the code: both counts, then one list after the other
-pub kept-by : (e first : ℕ) (f l : List ℕ) {x-count z-count : ℕ} {xs zs m m′ : List ℕ} → x-count ≡ heldCount f first → z-count ≡ heldCount f (first + 1)
-    → xs ≡ keptMembers f first → zs ≡ keptMembers f (first + 1) → m ≡ copied (e * 64 + 2) 0 31 xs (set (set l (e * 64) x-count) (e * 64 + 1) z-count)
-    → m′ ≡ copied (e * 64 + 33) 0 31 zs m → m′ ≡ kept e first f l
-unfolding kept
-kept-by e first f l a b x z m m′ = rw (m′, m, a, b, x, z)
-
-pub kept-length : (e first : ℕ) (f l m : List ℕ) → m ≡ kept e first f l → length m ≡ length l
-kept-length e first f l m q = ap length q ∙ length-kept e first f l
+pub kept-by : (e first : ℕ) (f l : List ℕ) → Inside l e → {nx nz x-count z-count : ℕ} {xs zs m m′ : List ℕ} → x-count ≡ heldCount f first
+    → z-count ≡ heldCount f (first + 1) → xs ≡ keptMembers f first → zs ≡ keptMembers f (first + 1) → nx ≡ min (heldCount f first) 31
+    → nz ≡ min (heldCount f (first + 1)) 31 → m ≡ copied (e * 64 + 2) 0 nx xs (set (set l (e * 64) x-count) (e * 64 + 1) z-count)
+    → m′ ≡ copied (e * 64 + 33) 0 nz zs m → Kept e first f l m′
+kept-by e first f l fits {nx} {nz} a b x z few-x few-z m m′ = rw (m′, m, a, b, x, z) (kept-steps e first f l nx nz few-x few-z fits)
 
 pub copy-length : (at from n : ℕ) (src l m : List ℕ) → m ≡ copied at from n src l → length m ≡ length l
 copy-length at from n src l m e = ap length e ∙ length-copied at from n src l

@@ -17,11 +17,12 @@ use Rattle.job.specs.Line.{WeightedPauli}
 use Rattle.job.specs.Float.{float, zeroFloat, isWeight}
 use Rattle.job.specs.Sound.{weightsOf}
 use Rattle.draws.specs.Draws.{noPauli}
-use Rattle.instructions.specs.declared.Next.{Next}
+use Rattle.instructions.specs.declared.LineRead.{LineRead}
 use Rattle.instructions.specs.Reading.{NextLine}
+use Rattle.instructions.specs.Lines.{KnownAt}
 use Rattle.instructions.specs.Ahead.{elementBy, ElementRead}
-use Rattle.instructions.specs.Laws.Elements.{among-inside, element-read}
-use Rattle.faults.specs.Elements.{kept, ElementHeld}
+use Rattle.instructions.specs.Laws.Elements.{among-known, element-read}
+use Rattle.faults.specs.Elements.{Kept, ElementHeld}
 use Rattle.faults.specs.Prepared.{ElementLines, Gathered}
 use Rattle.faults.specs.Laws.Elements.{kept-held, held-others}
 
@@ -45,10 +46,11 @@ weight-given true h = ap float (h .number 0 (omega arith))
 weight-given false h = refl
 
 module _ {job : List ℕ} {at n : ℕ} {weighted : Bool} (q : ElementLines job at n weighted) {elements : List ℕ} {weights : List Float} {place i : ℕ} where
-  pub gathered-inside : Gathered q elements weights place i → i < n → place < length job
-  gathered-inside g h = among-inside (g .among) (omega (arith, q .count))
+  -- the next line is one of an accepted job
+  pub gathered-known : Gathered q elements weights place i → i < n → KnownAt job place
+  gathered-known g h = among-known (g .among) (omega (arith, q .count))
 
-  module _ (g : Gathered q elements weights place i) (h : i < n) {next : Next} {f : List ℕ} (l : NextLine job place next f) where
+  module _ (g : Gathered q elements weights place i) (h : i < n) {next : LineRead} {f : List ℕ} (l : NextLine job place next f) where
     read : ElementRead job (q .header) (q .recorded) weighted (q .elements) (q .rest) (q .line) i next f
     read = element-read (g .among) (omega (arith, q .count)) l
 
@@ -57,13 +59,13 @@ module _ {job : List ℕ} {at n : ℕ} {weighted : Bool} (q : ElementLines job a
         let held : Held f 1 2 (read .values) = subst (λ (b : Bool). Held f (cond b 1 0) 2 (read .values)) e (read .held) in
         rw (b, held .number 0 (omega arith)) (read .weight e .weight)
 
-    pub gathered-more : n * 64 ≤ length elements → length weights ≡ n → {bits : ℕ} → bits ≡ heldNumber f 0 → (w : Float) → w ≡ cond weighted (float bits) zeroFloat
-        → Gathered q (kept i 0 f elements) (set weights i w) (next .end + 1) (i + 1)
-    gathered-more fits size b w e =
+    pub gathered-more : n * 64 ≤ length elements → length weights ≡ n → {elements′ : List ℕ} → Kept i 0 f elements elements′ → {bits : ℕ} → bits ≡ heldNumber f 0 → (w : Float) → w ≡ cond weighted (float bits) zeroFloat
+        → Gathered q elements′ (set weights i w) (next .end + 1) (i + 1)
+    gathered-more fits size {elements′} put b w e =
         let is : getD (q .elements) i noElement ≡ elementBy weighted (read .values) = element-at (q .elements) i _ _ (read .element) in
         let few = read .pauli in
-        let new : ElementHeld (kept i 0 f elements) i (getD (q .elements) i noElement .pauli) =
-        rw is (kept-held (read .held) i 0 elements (omega arith) (omega arith) (few .x .few) (few .z .few)) in
+        let new : ElementHeld elements′ i (getD (q .elements) i noElement .pauli) =
+        rw is (kept-held (read .held) put (omega arith) (omega arith) (few .x .few) (few .z .few)) in
         record {
           among = read .among;
           weighed =
@@ -72,10 +74,10 @@ module _ {job : List ℕ} {at n : ℕ} {weighted : Bool} (q : ElementLines job a
           held = λ k m. either k m new (ℕ-discrete k i);
         }
       where
-        either : (k : ℕ) → k < i + 1 → ElementHeld (kept i 0 f elements) i (getD (q .elements) i noElement .pauli) → Dec (k ≡ i)
-            → ElementHeld (kept i 0 f elements) k (getD (q .elements) k noElement .pauli)
+        either : (k : ℕ) → k < i + 1 → ElementHeld elements′ i (getD (q .elements) i noElement .pauli) → Dec (k ≡ i)
+            → ElementHeld elements′ k (getD (q .elements) k noElement .pauli)
         either k m new (yes s) = rw s new
-        either k m new (no ne) = held-others (g .held k (omega arith)) i 0 f ne (omega arith)
+        either k m new (no ne) = held-others (g .held k (omega arith)) put ne (omega arith)
 
 pub gathered-none : {job : List ℕ} {at n : ℕ} {weighted : Bool} (q : ElementLines job at n weighted) (elements : List ℕ) (weights : List Float)
     → Gathered q elements weights at 0

@@ -20,7 +20,7 @@ use Rattle.job.specs.Laws.Lists.{below-at}
 use Rattle.reader.specs.declared.Form.{Form}
 use Rattle.reader.specs.declared.Form.the-variants as form
 use Rattle.reader.specs.Parsed.{placeOf, Said}
-use Rattle.instructions.specs.declared.Next.{Next}
+use Rattle.instructions.specs.declared.LineRead.{LineRead}
 use Rattle.instructions.specs.Reading.{hasTotal}
 use Rattle.instructions.specs.Ahead.{instructionsAt, Among, hasWeights, NoiseRead}
 use Rattle.instructions.specs.Laws.Meaning.{noiseBy}
@@ -37,7 +37,7 @@ use Rattle.noise.specs.Condition.{conditionOf, Masks}
 use Rattle.choice.specs.Choice.{Totals, SumsOf}
 use Rattle.choice.specs.Laws.Marks.{marked-places}
 use Rattle.faults.specs.declared.Prepared.{Prepared}
-use Rattle.faults.specs.Elements.{Inside, kept, ElementHeld, DistributionHeld}
+use Rattle.faults.specs.Elements.{Inside, Kept, ElementHeld, DistributionHeld}
 use Rattle.faults.specs.Line.{kindBy, FaultOf, FaultHeld}
 use Rattle.faults.specs.Prepared.{ElementLines, Gathered, NoiseLines, noiseIn, FaultRead, PreparedAs}
 use Rattle.faults.specs.Laws.Elements.{kept-held, kept-qubits}
@@ -45,7 +45,7 @@ use Rattle.faults.specs.Laws.Gather.{weighed-all}
 use Rattle.faults.specs.Laws.Line.{NoiseView, noise-view, probability-held}
 
 -- a noise line that was read
-unfoldable pub noise-lines : {job : List ℕ} {h : Header} {r k at : ℕ} {next : Next} {words : List ℕ} → NoiseRead job h r k at next words
+unfoldable pub noise-lines : {job : List ℕ} {h : Header} {r k at : ℕ} {next : LineRead} {words : List ℕ} → NoiseRead job h r k at next words
     → (noiseless : List ℕ) (w : ℕ) → h .outcomes * w ≤ length noiseless → NoiseLines job (next .end + 1) (next .form) words noiseless w
 noise-lines {job} {h} {r} {k} {at} {next} m noiseless w fits =
     record {
@@ -126,15 +126,15 @@ noElement = record { weight = 0; pauli = noPauli }
 -- the elements that stand on lines of their own, and the element or the qubits that stand on the noise line
 elements-held : {g : Form} {f : List ℕ} {vs : List Value} {n : NoiseLine} (qubits : ℕ) (es : List WeightedPauli) → NoiseView g vs n
     → Said g f vs (Written.noise n) → DistributionSound qubits (distributionOf (n .kind) es) → length es ≡ elementLines (n .kind)
-    → (l₀ l : List ℕ) → Inside l₀ 0 → (length es ≡ 0 → l ≡ kept 0 2 f l₀)
+    → (l₀ l : List ℕ) → Inside l₀ 0 → (length es ≡ 0 → Kept 0 2 f l₀ l)
     → ((e : ℕ) → e < length es → ElementHeld l e (getD es e noElement .pauli)) → DistributionHeld (distributionOf (n .kind) es) l
 unfolding forms placeOf bytes noiseBy elementLines distributionOf DistributionHeld DistributionSound
 elements-held {g} {f} {vs} {n} qubits es (NoiseView.single e) said sound count l₀ l fits own each =
     let t : Said form.Single f vs (Written.noise n) = rw e at said in
-    rw (own count) (kept-held (t .held) 0 2 l₀ fits (omega arith) (sound .x .few) (sound .z .few))
+    kept-held (t .held) (own count) fits (omega arith) (sound .x .few) (sound .z .few)
 elements-held {g} {f} {vs} {n} qubits es (NoiseView.depolarizing e) said sound count l₀ l fits own each =
     let t : Said form.Depolarizing f vs (Written.noise n) = rw e at said in
-    rw (own count) (kept-qubits (t .held) 2 l₀ fits (omega arith) (sound .few))
+    kept-qubits (t .held) (own count) fits (omega arith) (sound .few)
 elements-held qubits es (NoiseView.uniform e) said sound count l₀ l fits own each =
     λ i m.
     rw (List·getD-map (λ (x : WeightedPauli). x .pauli) es i noElement) (each i (rw (length-map es (λ (x : WeightedPauli). x .pauli)) at m))
@@ -221,9 +221,9 @@ module _ {job : List ℕ} {at : ℕ} {g : Form} {f noiseless : List ℕ} {w : �
 
   -- what the steps of the code come to
   pub fault-read : (n : ℕ) (b : Bool) (lines : n ≡ elementLines (q .noise .kind)) (weighted : b ≡ hasWeights (q .noise .kind)) (elements₀ elements₁ elements : List ℕ)
-      → Inside elements₀ 0 → elements₁ ≡ kept 0 2 f elements₀ → (n ≡ 0 → elements ≡ elements₁) → (weights : List Float) → length weights ≡ n → (next : ℕ)
+      → Inside elements₀ 0 → Kept 0 2 f elements₀ elements₁ → (n ≡ 0 → elements ≡ elements₁) → (weights : List Float) → length weights ≡ n → (next : ℕ)
       → Gathered (element-lines n b lines weighted) elements weights next n → (t : Float) → t ≡ totalFrom zeroFloat weights → (r : PauliFault) → FaultHeld g f t r
-      → (sums : List Float) → SumsOf (r .distribution) weights sums → FaultRead q elements sums (record { fault = r; lines = n; next = next })
+      → (sums : List Float) → SumsOf (r .distribution) weights sums → FaultRead q elements sums (record { fault = r; following = n; behind = next })
   unfolding element-lines
   fault-read n b lines weighted elements₀ elements₁ elements fits own none weights size next gathered t total r held sums running =
       let fault = held .is (q .values) (q .noise) (q .said) few-outcomes in
@@ -240,14 +240,14 @@ module _ {job : List ℕ} {at : ℕ} {g : Form} {f noiseless : List ℕ} {w : �
         held = distribution n lines elements₀ elements₁ elements fits own none (λ e m. gathered .held e (omega (arith, count)));
       }
     where
-      distribution : (n : ℕ) → n ≡ elementLines (q .noise .kind) → (l₀ l₁ l : List ℕ) → Inside l₀ 0 → l₁ ≡ kept 0 2 f l₀ → (n ≡ 0 → l ≡ l₁)
+      distribution : (n : ℕ) → n ≡ elementLines (q .noise .kind) → (l₀ l₁ l : List ℕ) → Inside l₀ 0 → Kept 0 2 f l₀ l₁ → (n ≡ 0 → l ≡ l₁)
           → ((e : ℕ) → e < length (q .elements) → ElementHeld l e (getD (q .elements) e noElement .pauli)) → DistributionHeld (noiseIn q .distribution) l
       distribution n e l₀ l₁ l fits own none each =
           unfold noiseOf in
           elements-held (q .header .qubits) (q .elements) (noise-view g (q .values) (q .noise) (q .said .says)) (q .said) (q .sound .distribution) (q .count) l₀ l fits
-          (λ z. none (e ∙ sym (q .count) ∙ z) ∙ own) each
+          (λ z. subst (Kept 0 2 f l₀) (sym (none (e ∙ sym (q .count) ∙ z))) own) each
 
-  pub prepared : {elements : List ℕ} {sums part : List Float} {r : Prepared} → FaultRead q elements part r → take (r .lines) sums ≡ part → (mask : List ℕ)
+  pub prepared : {elements : List ℕ} {sums part : List Float} {r : Prepared} → FaultRead q elements part r → take (r .following) sums ≡ part → (mask : List ℕ)
       → Masks w mask (conditionOf (take (r .fault .condition .count) (r .fault .condition .outcomes)) (r .fault .condition .parity)) (bitIn w noiseless)
       → PreparedAs q elements sums mask r
   prepared read first mask masks =

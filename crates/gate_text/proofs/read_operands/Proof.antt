@@ -1,27 +1,37 @@
 -- `gate_text::read_operands` meets its contract. Assumes nothing.
 use native.Mathlib.Omega.{arith}
 use mathlib.Core.Path.{refl}
+use Rattle.gate_text.specs.Laws.Digits.{number-there, number-read}
 use Rattle.gate_text.specs.Laws.Operands.{first-there, list-behind, operands-one, operands-two}
 use borrow.Author.Needs.{needs}
 use Rattle.gate_text.proofs.read_operands.Statement.{statement}
 use Rattle.gate_text.proofs.read_operands.Tie as tie
 
-read-number-requires : tie.Need-read-number-requires
-read-number-requires c κs = first-there (c .before .pre)
+read-digits-requires : tie.Need-read-digits-requires
+read-digits-requires c κs = number-there (first-there (c .before .pre)) (omega arith)
 
 returns : tie.Need-returns
-returns c = operands-one (c .before .before .before .before .pre) (c .before .before .read-number .ensures) (c .if1 .taken) _ refl refl
+returns c =
+    let there = c .before .before .before .before .pre in
+    operands-one there (number-read (first-there there) (omega arith) (c .before .before .read-digits .ensures)) (c .if1 .taken) _ refl refl refl
 
-add-read-number : tie.Need-add-read-number
-add-read-number c = search needs
+add-read-digits : tie.Need-add-read-digits
+add-read-digits c = search needs
 
-read-number-requires-2 : tie.Need-read-number-requires-2
-read-number-requires-2 c κs = first-there (list-behind (c .before .before .before .before .before .pre) (c .before .before .before .read-number .ensures) (omega arith))
+read-digits-requires-2 : tie.Need-read-digits-requires-2
+read-digits-requires-2 c κs =
+    let there = c .before .before .before .before .before .pre in
+    let first = number-read (first-there there) (omega arith) (c .before .before .before .read-digits .ensures) in
+    number-there (first-there (list-behind there first (omega (arith, first .within)))) (omega arith)
 
 returns-2 : tie.Need-returns-2
-returns-2 c = operands-two (c .before .before .before .before .before .before .pre) (c .before .before .before .before .read-number .ensures) (omega arith) (c .read-number2 .ensures) _ refl refl
+returns-2 c =
+    let there = c .before .before .before .before .before .before .pre in
+    let first = number-read (first-there there) (omega arith) (c .before .before .before .before .read-digits .ensures) in
+    let behind = first-there (list-behind there first (omega (arith, first .within))) in
+    operands-two there first (omega (arith, first .within)) (number-read behind (omega arith) (c .read-digits2 .ensures)) _ refl refl refl
 
 pub read-operands-spec : {M : Type 1} → statement M
 read-operands-spec =
     tie.close
-    (tie.spec read-number-requires returns add-read-number read-number-requires-2 returns-2)
+    (tie.spec read-digits-requires returns add-read-digits read-digits-requires-2 returns-2)

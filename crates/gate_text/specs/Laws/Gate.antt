@@ -16,10 +16,11 @@ use Rattle.text.specs.Template.{Value, number, list, aNumber, aList, isLetter, 
 use Rattle.text.specs.Laws.Values.{both, none-some}
 use Rattle.text.specs.Laws.Pieces.{until-le}
 use Rattle.template.specs.Laws.Reading.{byte-over, byte-other, byte-same}
-use Rattle.gate_text.specs.declared.Number.{Number}
+use Rattle.numbers.specs.declared.known.Digits.{Digits}
 use Rattle.gate_text.specs.declared.Operands.{Operands}
 use Rattle.gate_text.specs.declared.Gate.{Gate}
-use Rattle.gate_text.specs.Gate.{piece, NumberThere, NumberRead, ListThere, OperandsRead, gateTemplate, GateLine, GateRead}
+use Rattle.gate_text.specs.Laws.Digits.{piece, NumberThere, NumberRead}
+use Rattle.gate_text.specs.Gate.{ListThere, OperandsRead, gateTemplate, GateLine, GateRead}
 
 -- ---- bytes that stand for themselves
 
@@ -50,7 +51,7 @@ plain-on (t ∷ s) ts line at vs e h reads =
 
 -- ---- values
 
-record FirstValue (o : Option Value) (p : Option (List Value)) (vs : List Value) : Type 0 where
+pub record FirstValue (o : Option Value) (p : Option (List Value)) (vs : List Value) : Type 0 where
   pub value : Value
   pub rest : List Value
   pub is : o ≡ some value
@@ -63,19 +64,19 @@ first-value none p vs e = absurd (none-some e)
 first-value (some v) none vs e = absurd (none-some e)
 first-value (some v) (some ws) vs e = record { value = v; rest = ws; is = refl; rest-is = refl; all = cc }
 
-letter-on : (t : ℕ) (ts line : List ℕ) (at : ℕ) (vs : List Value) → isLetter t ≡ true → valuesOf (t ∷ ts) (drop at line) ≡ some vs
+pub letter-on : (t : ℕ) (ts line : List ℕ) (at : ℕ) (vs : List Value) → isLetter t ≡ true → valuesOf (t ∷ ts) (drop at line) ≡ some vs
     → FirstValue (valueOf t (piece space (drop at line))) (valuesOf ts (drop (at + until space (drop at line)) line)) vs
 unfolding valuesOf
 letter-on t ts line at vs letter reads =
     let d : drop (at + until space (drop at line)) line ≡ drop (until space (drop at line)) (drop at line) = rw drop-drop in
     rw d (first-value _ _ vs (simp letter at reads))
 
-number-value : (o : Option ℕ) (v : Value) → aNumber o ≡ some v → (n : ℕ) × (o ≡ some n) × (v ≡ number n)
+pub number-value : (o : Option ℕ) (v : Value) → aNumber o ≡ some v → (n : ℕ) × (o ≡ some n) × (v ≡ number n)
 unfolding aNumber
 number-value none v e = absurd (none-some e)
 number-value (some n) v e = (n, refl, cc)
 
-list-value : (o : Option (List ℕ)) (v : Value) → aList o ≡ some v → (l : List ℕ) × (o ≡ some l) × (v ≡ list l)
+pub list-value : (o : Option (List ℕ)) (v : Value) → aList o ≡ some v → (l : List ℕ) × (o ≡ some l) × (v ≡ list l)
 unfolding aList
 list-value none v e = absurd (none-some e)
 list-value (some l) v e = (l, refl, cc)
@@ -98,6 +99,16 @@ two-values : {vs us ws : List Value} {v w : Value} {n : ℕ} {qs : List ℕ} →
 unfolding numbersIn listsIn
 two-values a b c d = (rw (a, b), rw (a, b, c, d))
 
+-- and no other
+all-values : {vs us ws : List Value} {v w : Value} {n : ℕ} {qs : List ℕ} → vs ≡ v ∷ us → v ≡ number n → us ≡ w ∷ ws → w ≡ list qs → ws ≡ []
+    → vs ≡ number n ∷ list qs ∷ []
+all-values a b c d e = rw (a, b, c, d, e)
+
+pub end-values : (l : List ℕ) (vs : List Value) → atEnd l ≡ some vs → vs ≡ []
+unfolding atEnd
+end-values [] vs e = cc
+end-values (b ∷ l) vs e = absurd (none-some e)
+
 -- ---- the line
 
 pub record Parts (line : List ℕ) (vs : List Value) : Type 0 where
@@ -105,6 +116,7 @@ pub record Parts (line : List ℕ) (vs : List Value) : Type 0 where
   pub code : numberOf (piece space (drop 7 line)) ≡ some (numberAt 0 vs)
   pub further : 7 + until space (drop 7 line) + 3 ≤ length line
   pub operands : listQ (drop (7 + until space (drop 7 line) + 3) line) ≡ some (listAt 0 vs)
+  pub all : vs ≡ number (numberAt 0 vs) ∷ list (listAt 0 vs) ∷ []
 
 pub parts : (line : List ℕ) (vs : List Value) → valuesOf gateTemplate line ≡ some vs → Parts line vs
 unfolding gateTemplate bytes valueOf valuesOf allPlain
@@ -122,6 +134,7 @@ parts line vs reads =
       code = is ∙ ap some first;
       further = further;
       operands = ap listQ (sym (last-piece line (e + 3) (g .rest) (g .rest-is))) ∙ members ∙ ap some second;
+      all = all-values (f .all) v (g .all) w (end-values _ (g .rest) (g .rest-is)) ∙ (λ i. number (first i) ∷ list (second i) ∷ []);
     }
 
 -- ---- what the code says
@@ -132,18 +145,19 @@ some-same e = cc
 pub code-there : {line : List ℕ} → GateLine line → NumberThere line 7 space
 code-there {line} t = let p = parts line (t .values) (t .reads) in record { within = p .long; value = numberAt 0 (t .values); is = p .code }
 
-pub operands-there : {line : List ℕ} → GateLine line → {n : Number} → NumberRead line 7 space n → ListThere line (n .behind + 3)
+pub operands-there : {line : List ℕ} → GateLine line → {n : Digits} → NumberRead line 7 space n → ListThere line (n .behind + 3)
 operands-there {line} t read =
     let p = parts line (t .values) (t .reads) in
     record { within = omega (arith, p .further, read .behind); members = listAt 0 (t .values); is = rw (read .behind) (p .operands) }
 
-pub gate-read : {line : List ℕ} {n : Number} {q : Operands} → NumberRead line 7 space n → OperandsRead line (n .behind + 3) q
-    → (r : Gate) → r .code ≡ n .value → r .first ≡ q .first → r .second ≡ q .second → GateRead line r
-gate-read {line} {n} {q} code operands r a b c =
+pub gate-read : {line : List ℕ} {n : Digits} {q : Operands} → NumberRead line 7 space n → OperandsRead line (n .behind + 3) q
+    → (r : Gate) → r .code ≡ n .value → r .first ≡ q .first → r .second ≡ q .second → r .count ≡ q .count → GateRead line r
+gate-read {line} {n} {q} code operands r a b c d =
     let list-is : (vs : List Value) → valuesOf gateTemplate line ≡ some vs → listQ (drop (n .behind + 3) line) ≡ some (listAt 0 vs)
     = λ vs e. rw (code .behind) (parts line vs e .operands) in
     record {
       code = λ vs e. a ∙ some-same (sym (code .is) ∙ parts line vs e .code);
       first = λ vs e. b ∙ operands .first (listAt 0 vs) (list-is vs e);
       second = λ vs e. c ∙ operands .second (listAt 0 vs) (list-is vs e);
+      count = λ vs e few. d ∙ operands .count (listAt 0 vs) (list-is vs e) few;
     }

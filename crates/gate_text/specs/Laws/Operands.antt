@@ -1,5 +1,5 @@
 -- The first members of a list that is known to stand at a place. Laws. Assumes nothing.
-use Prim.Native.Nat.{ℕ, _+_, _-_, _≤_, _<_}
+use Prim.Native.Nat.{ℕ, suc, _+_, _-_, _≤_, _<_}
 use native.Mathlib.Omega.{arith}
 use mathlib.Core.Path.{_≡_, refl, sym, ap, _∙_}
 use mathlib.Core.Bool.{Bool, true, false}
@@ -13,9 +13,10 @@ use Rattle.text.specs.Number.{numberOf}
 use Rattle.text.specs.List.{withFirst, piecesOf, listQ}
 use Rattle.text.specs.Laws.Values.{none-some}
 use Rattle.text.specs.Laws.Pieces.{until-le, piece-more, piece-last}
-use Rattle.gate_text.specs.declared.Number.{Number}
 use Rattle.gate_text.specs.declared.Operands.{Operands}
-use Rattle.gate_text.specs.Gate.{piece, NumberThere, NumberRead, ListThere, OperandsRead}
+use Rattle.numbers.specs.declared.known.Digits.{Digits}
+use Rattle.gate_text.specs.Gate.{ListThere, OperandsRead}
+use Rattle.gate_text.specs.Laws.Digits.{piece, NumberThere, NumberRead}
 
 -- a list that was read has a first member
 pub record First (o : Option ℕ) (p : Option (List ℕ)) (qs : List ℕ) : Type 0 where
@@ -51,30 +52,37 @@ module _ (line : List ℕ) (from : ℕ) (within : from ≤ length line) {qs : Li
         first-of _ _ qs
         (ap (λ (p : List ℕ). withFirst (numberOf p) (some [])) (sym same-piece) ∙ ap (piecesOf numberOf) (sym (piece-last comma line from e within found h)) ∙ reads)
 
-  pub first-member : numberOf (piece comma (drop from line)) ≡ some (getD qs 0 0)
-  first-member = go (ltb (from + until comma (drop from line)) (length line)) refl
+  -- either way there is a first member
+  some-first : (p : Option (List ℕ)) × First (numberOf (piece comma (drop from line))) p qs
+  some-first = go (ltb (from + until comma (drop from line)) (length line)) refl
     where
-      first : {p : Option (List ℕ)} → First (numberOf (piece comma (drop from line))) p qs → numberOf (piece comma (drop from line)) ≡ some (getD qs 0 0)
-      first f = f .is ∙ ap (λ (l : List ℕ). some (getD l 0 0)) (sym (f .all))
+      go : (b : Bool) → ltb (from + until comma (drop from line)) (length line) ≡ b → (p : Option (List ℕ)) × First (numberOf (piece comma (drop from line))) p qs
+      go true e = (listQ (drop (from + until comma (drop from line) + 1) line), list-more _ refl (ltb-true _ _ e))
+      go false e = (some [], list-alone _ refl (omega (arith, ltb-false (from + until comma (drop from line)) (length line) e, until-le comma (drop from line), length-drop from line)))
 
-      go : (b : Bool) → ltb (from + until comma (drop from line)) (length line) ≡ b → numberOf (piece comma (drop from line)) ≡ some (getD qs 0 0)
-      go true e = first (list-more _ refl (ltb-true _ _ e))
-      go false e = first (list-alone _ refl (omega (arith, ltb-false (from + until comma (drop from line)) (length line) e, until-le comma (drop from line), length-drop from line)))
+  pub first-member : numberOf (piece comma (drop from line)) ≡ some (getD qs 0 0)
+  first-member = let f = some-first .1 in f .is ∙ ap (λ (l : List ℕ). some (getD l 0 0)) (sym (f .all))
+
+  list-filled : 1 ≤ length qs
+  list-filled = let e : length qs ≡ suc (length (some-first .1 .rest)) = ap length (some-first .1 .all) in omega arith
 
 some-same : {A : Type 0} {a b : A} → some a ≡ some b → a ≡ b
 some-same e = cc
 
 -- a list of one, and its number
-module _ {line : List ℕ} {from : ℕ} (t : ListThere line from) {n : Number} (read : NumberRead line from comma n) where
+module _ {line : List ℕ} {from : ℕ} (t : ListThere line from) {n : Digits} (read : NumberRead line from comma n) where
   pub number-first : (qs : List ℕ) → listQ (drop from line) ≡ some qs → n .value ≡ getD qs 0 0
   number-first qs e = some-same (sym (read .is) ∙ first-member line from (t .within) e)
 
   -- no second member
-  pub operands-one : n .behind ≡ length line → (r : Operands) → r .first ≡ n .value → r .second ≡ 0 → OperandsRead line from r
-  operands-one last r a b =
+  pub operands-one : n .behind ≡ length line → (r : Operands) → r .first ≡ n .value → r .second ≡ 0 → r .count ≡ 1 → OperandsRead line from r
+  operands-one last r a b c =
       record {
         first = λ qs e. a ∙ number-first qs e;
         second = λ qs e. let f = list-alone line from (t .within) e (n .behind) (read .behind) last in b ∙ ap (λ (l : List ℕ). getD l 0 0) (some-same (f .rest-is)) ∙ ap (λ (l : List ℕ). getD l 1 0) (sym (f .all));
+        count = λ qs e few.
+            let f = list-alone line from (t .within) e (n .behind) (read .behind) last in
+            c ∙ ap (λ (l : List ℕ). suc (length l)) (some-same (f .rest-is)) ∙ ap length (sym (f .all));
       }
 
   module _ (more : n .behind < length line) where
@@ -84,13 +92,20 @@ module _ {line : List ℕ} {from : ℕ} (t : ListThere line from) {n : Number} (
         let f = list-more line from (t .within) (t .is) (n .behind) (read .behind) more in
         record { within = omega arith; members = f .rest; is = f .rest-is }
 
-    pub operands-two : {m : Number} → NumberRead line (n .behind + 1) comma m → (r : Operands) → r .first ≡ n .value → r .second ≡ m .value → OperandsRead line from r
-    operands-two {m} second r a b =
+    pub operands-two : {m : Digits} → NumberRead line (n .behind + 1) comma m → (r : Operands) → r .first ≡ n .value → r .second ≡ m .value
+        → r .count ≡ 2
+        → OperandsRead line from r
+    operands-two {m} second r a b c =
         record {
           first = λ qs e. a ∙ number-first qs e;
           second = λ qs e.
               let f = list-more line from (t .within) e (n .behind) (read .behind) more in
               b ∙ some-same (sym (second .is) ∙ first-member line (n .behind + 1) (omega arith) (f .rest-is)) ∙ ap (λ (l : List ℕ). getD l 1 0) (sym (f .all));
+          count = λ qs e few.
+              let f = list-more line from (t .within) e (n .behind) (read .behind) more in
+              let all : length qs ≡ suc (length (f .rest)) = ap length (f .all) in
+              let behind = list-filled line (n .behind + 1) (omega arith) (f .rest-is) in
+              omega arith;
         }
 
 pub first-there : {line : List ℕ} {from : ℕ} → ListThere line from → NumberThere line from comma

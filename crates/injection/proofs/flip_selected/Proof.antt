@@ -13,12 +13,12 @@ use Rattle.injection.proofs.flip_selected.Statement.{statement}
 use Rattle.injection.proofs.flip_selected.Tie as tie
 
 abbrev Inv-loop : tie.InvT-loop
-Inv-loop rows₀ w qubits v shot left₀ i₀ rows left i =
-    (overList (flipped w (shot .0)) (selected left (drop i qubits)) rows ≡ overList (flipped w (shot .0)) (selected v qubits) rows₀)
+Inv-loop rows₀ width qubits bits shot left₀ i₀ rows left i =
+    (overList (flipped width (shot .0)) (selected left (drop i qubits)) rows ≡ overList (flipped width (shot .0)) (selected bits qubits) rows₀)
     × (length rows ≡ length rows₀)
 
 abbrev μ-loop : tie.MeasureT-loop
-μ-loop rows₀ w qubits v shot left₀ i₀ rows left i = length qubits - i
+μ-loop rows₀ width qubits bits shot left₀ i₀ rows left i = length qubits - i
 
 loop-holds : tie.Need-loop-holds Inv-loop μ-loop
 loop-holds c = (refl, refl)

@@ -6,8 +6,8 @@ use borrow.Author.Needs.{needs}
 use Rattle.injection.proofs.inject_depolarizing.Statement.{statement}
 use Rattle.injection.proofs.inject_depolarizing.Tie as tie
 
-add-v : tie.Need-add-v
-add-v c = record { fits = omega arith }
+add-bits : tie.Need-add-bits
+add-bits c = record { fits = omega arith }
 
 flip-selected-requires : tie.Need-flip-selected-requires
 flip-selected-requires c κs = (c .before .before .before .before .pre .5, rows-in _ _ _ _ (c .before .before .before .before .pre .0) (c .before .before .before .before .pre .2))
@@ -29,7 +29,7 @@ pub inject-depolarizing-spec : {M : Type 1} → statement M
 inject-depolarizing-spec =
     tie.close
     (tie.spec
-    add-v
+    add-bits
     flip-selected-requires
     flip-selected-requires-2
     same-length

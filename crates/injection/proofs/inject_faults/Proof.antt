@@ -11,12 +11,12 @@ use Rattle.injection.proofs.inject_faults.Statement.{statement}
 use Rattle.injection.proofs.inject_faults.Tie as tie
 
 abbrev Inv-loop : tie.InvT-loop
-Inv-loop words more mask sums elements x₀ z₀ shape p d rule shots at₀ shot₀ x z at shot =
-    (at ≤ length (words ++ more)) × (shot ≤ shots) × (length x ≡ length x₀) × (length z ≡ length z₀)
-    × Injecting (shape .qubits) shots (shape .width) p d sums elements mask (words ++ more) x₀ z₀ x z at shot
+Inv-loop words more mask sums elements x₀ z₀ shape p distribution rule shots at₀ next₀ x z at next =
+    (at ≤ length (words ++ more)) × (next ≤ shots) × (length x ≡ length x₀) × (length z ≡ length z₀)
+    × Injecting (shape .qubits) shots (shape .width) p distribution sums elements mask (words ++ more) x₀ z₀ x z at next
 
 abbrev μ-loop : tie.MeasureT-loop
-μ-loop words more mask sums elements x₀ z₀ shape p d rule shots at₀ shot₀ x z at shot = shots - shot
+μ-loop words more mask sums elements x₀ z₀ shape p distribution rule shots at₀ next₀ x z at next = shots - next
 
 rule-of-requires : tie.Need-rule-of-requires Inv-loop μ-loop
 rule-of-requires c κs = c .before .before .before .before .before .before .before .pre .line .small
@@ -44,8 +44,8 @@ returns : tie.Need-returns Inv-loop μ-loop
 returns c =
     injecting-spent _ _ _ _ _ _ _ _ _ _ _ _ _ _ _ (c .before .before .before .loop .inv .1) (c .before .before .before .before .before .before .before .before .before .before .before .before .pre .in-words) _ (c .before .before .next-fault .ensures _ _ (c .before .before .before .before .rule-of .ensures)) (c .before .before .before .loop .inv .4) (c .enum-told .given .1)
 
-enum-known-next : tie.Need-enum-known-next Inv-loop μ-loop
-enum-known-next c = search needs
+enum-known-next-word : tie.Need-enum-known-next-word Inv-loop μ-loop
+enum-known-next-word c = search needs
 
 same-length-3 : tie.Need-same-length-3 Inv-loop μ-loop
 same-length-3 c = c .before .before .before .before .loop .inv .2
@@ -55,35 +55,35 @@ same-length-4 c = c .before .before .before .before .loop .inv .3
 
 returns-2 : tie.Need-returns-2 Inv-loop μ-loop
 returns-2 c =
-    injecting-done _ _ _ _ _ _ _ _ _ _ _ _ _ _ _ (c .before .before .before .before .loop .inv .1) (c .before .before .before .before .before .before .before .before .before .before .before .before .before .pre .in-words) _ (c .before .before .before .next-fault .ensures _ _ (c .before .before .before .before .before .rule-of .ensures)) (c .before .before .before .before .loop .inv .4) _ (c .before .next .given .1)
+    injecting-done _ _ _ _ _ _ _ _ _ _ _ _ _ _ _ (c .before .before .before .before .loop .inv .1) (c .before .before .before .before .before .before .before .before .before .before .before .before .before .pre .in-words) _ (c .before .before .before .next-fault .ensures _ _ (c .before .before .before .before .before .rule-of .ensures)) (c .before .before .before .before .loop .inv .4) _ (c .before .next-word .given .1)
 
-enum-known-s : tie.Need-enum-known-s Inv-loop μ-loop
-enum-known-s c = search needs
+enum-known-shot : tie.Need-enum-known-shot Inv-loop μ-loop
+enum-known-shot c = search needs
 
 inject-element-requires : tie.Need-inject-element-requires Inv-loop μ-loop
 inject-element-requires c κs =
     let i = c .before .before .before .before .before .before .loop .inv in
     let r = c .before .before .before .before .before .before .before .before .before .before .before .before .before .before .before .pre in
     let found = c .before .before .before .before .before .next-fault .ensures _ _ (c .before .before .before .before .before .before .before .rule-of .ensures) in
-    let shot = at-shot found _ _ _ (c .before .before .before .s .given .1) in
+    let shot = at-shot found _ _ _ (c .before .before .before .shot .given .1) in
     let words = r .in-words in (
-      element-ready _ _ _ _ _ _ _ _ _ _ _ _ _ _ _ (i .1) words _ found (i .4) r _ _ _ (c .before .before .before .s .given .1),
+      element-ready _ _ _ _ _ _ _ _ _ _ _ _ _ _ _ (i .1) words _ found (i .4) r _ _ _ (c .before .before .before .shot .given .1),
       i .2 ∙ r .of-x,
       i .3 ∙ r .of-z,
       omega arith,
     )
 
-add-shot : tie.Need-add-shot Inv-loop μ-loop
-add-shot c = let shot = at-shot (c .before .before .before .before .before .before .before .before .before .before .before .next-fault .ensures _ _ (c .before .before .before .before .before .before .before .before .before .before .before .before .before .rule-of .ensures)) _ _ _ (c .before .before .before .before .before .before .before .before .before .s .given .1) in record { fits = omega (arith, shot, c .before .before .before .before .before .before .before .before .before .before .before .before .before .before .before .before .before .before .before .before .before .good) }
+add-next-shot : tie.Need-add-next-shot Inv-loop μ-loop
+add-next-shot c = let shot = at-shot (c .before .before .before .before .before .before .before .before .before .before .before .next-fault .ensures _ _ (c .before .before .before .before .before .before .before .before .before .before .before .before .before .rule-of .ensures)) _ _ _ (c .before .before .before .before .before .before .before .before .before .shot .given .1) in record { fits = omega (arith, shot, c .before .before .before .before .before .before .before .before .before .before .before .before .before .before .before .before .before .before .before .before .before .good) }
 
 loop-less : tie.Need-loop-less Inv-loop μ-loop
-loop-less c = let shot = at-shot (c .before .before .before .before .before .before .before .before .before .before .before .next-fault .ensures _ _ (c .before .before .before .before .before .before .before .before .before .before .before .before .before .rule-of .ensures)) _ _ _ (c .before .before .before .before .before .before .before .before .before .s .given .1) in omega arith
+loop-less c = let shot = at-shot (c .before .before .before .before .before .before .before .before .before .before .before .next-fault .ensures _ _ (c .before .before .before .before .before .before .before .before .before .before .before .before .before .rule-of .ensures)) _ _ _ (c .before .before .before .before .before .before .before .before .before .shot .given .1) in omega arith
 
 loop-again : tie.Need-loop-again Inv-loop μ-loop
 loop-again c =
     let i = c .before .before .before .before .before .before .before .before .before .before .before .before .loop .inv in
     let found = c .before .before .before .before .before .before .before .before .before .before .before .next-fault .ensures _ _ (c .before .before .before .before .before .before .before .before .before .before .before .before .before .rule-of .ensures) in
-    let k = c .before .before .before .before .before .before .before .before .before .s .given .1 in
+    let k = c .before .before .before .before .before .before .before .before .before .shot .given .1 in
     let shot = at-shot found _ _ _ k in (
       at-within found _ _ _ k,
       omega arith,
@@ -105,12 +105,12 @@ inject-faults-spec =
     same-length
     same-length-2
     returns
-    enum-known-next
+    enum-known-next-word
     same-length-3
     same-length-4
     returns-2
-    enum-known-s
+    enum-known-shot
     inject-element-requires
-    add-shot
+    add-next-shot
     loop-less
     loop-again)

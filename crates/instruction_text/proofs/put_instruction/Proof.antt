@@ -1,5 +1,6 @@
 -- `instruction_text::put_instruction` meets its contract. Assumes nothing.
 use Rattle.instruction_text.specs.Laws.Pass.{few-lines, plain-put}
+use Rattle.instructions.specs.Laws.Steps.{ahead-known}
 use Rattle.job.specs.Laws.Begun.{ended-parts}
 use lib.ListN.{length-take}
 use mathlib.Core.Path.{sym, _∙_}
@@ -8,14 +9,14 @@ use borrow.Author.Needs.{needs}
 use Rattle.instruction_text.proofs.put_instruction.Statement.{statement}
 use Rattle.instruction_text.proofs.put_instruction.Tie as tie
 
-next-line-requires : tie.Need-next-line-requires
-next-line-requires c κs = search needs
+next-known-requires : tie.Need-next-known-requires
+next-known-requires c κs = let pre = c .before .before .before .before .before .before .before .before .before .before .pre in (ahead-known (pre .0 .ahead) (pre .1), pre .3)
 
 is-noise-requires : tie.Need-is-noise-requires
 is-noise-requires c κs = search needs
 
 put-noise-line-requires : tie.Need-put-noise-line-requires
-put-noise-line-requires c κs = (c .before .before .before .before .before .before .before .before .before .before .before .before .before .before .before .before .before .before .pre .0, omega (arith, few-lines (c .before .before .before .before .before .before .before .before .before .before .before .before .before .before .before .before .before .before .pre .0), c .before .before .before .before .before .before .before .before .before .before .before .before .before .before .before .before .before .before .pre .2), c .before .before .before .before .before .before .before .next-line .ensures, sym (c .before .before .before .before .is-noise .ensures) ∙ c .before .before .before .if1 .taken, omega (arith, c .before .before .before .before .before .before .before .next-line .kept, c .before .before .before .before .before .before .before .before .before .before .before .before .before .before .before .before .before .before .pre .3), c .before .before .before .before .before .before .before .before .before .before .before .before .before .before .before .before .before .before .pre .4)
+put-noise-line-requires c κs = (c .before .before .before .before .before .before .before .before .before .before .before .before .before .before .before .before .before .before .pre .0, omega (arith, few-lines (c .before .before .before .before .before .before .before .before .before .before .before .before .before .before .before .before .before .before .pre .0), c .before .before .before .before .before .before .before .before .before .before .before .before .before .before .before .before .before .before .pre .2), c .before .before .before .before .before .before .before .next-known .ensures, sym (c .before .before .before .before .is-noise .ensures) ∙ c .before .before .before .if1 .taken, omega (arith, c .before .before .before .before .before .before .before .next-known .kept, c .before .before .before .before .before .before .before .before .before .before .before .before .before .before .before .before .before .before .pre .3), c .before .before .before .before .before .before .before .before .before .before .before .before .before .before .before .before .before .before .pre .4)
 
 same-length : tie.Need-same-length
 same-length c = search needs
@@ -42,7 +43,7 @@ part-put-bytes-end : tie.Need-part-put-bytes-end
 part-put-bytes-end c = search needs
 
 put-bytes-requires : tie.Need-put-bytes-requires
-put-bytes-requires c κs = rw length-take (omega (arith, few-lines (c .before .before .before .before .before .before .before .before .before .before .before .before .before .before .before .before .before .before .pre .0), c .before .before .before .before .before .before .before .before .before .before .before .before .before .before .before .before .before .before .pre .2, c .before .before .before .before .before .before .before .next-line .ensures .place .inside, ended-parts _ (c .before .before .before .before .before .before .before .before .before .before .before .before .before .before .before .before .before .before .pre .0 .ahead .ended)))
+put-bytes-requires c κs = rw length-take (omega (arith, few-lines (c .before .before .before .before .before .before .before .before .before .before .before .before .before .before .before .before .before .before .pre .0), c .before .before .before .before .before .before .before .before .before .before .before .before .before .before .before .before .before .before .pre .2, c .before .before .before .before .before .before .before .next-known .ensures .place .inside, ended-parts _ (c .before .before .before .before .before .before .before .before .before .before .before .before .before .before .before .before .before .before .pre .0 .ahead .ended)))
 
 add-t33 : tie.Need-add-t33
 add-t33 c = search needs
@@ -54,13 +55,13 @@ same-length-5 : tie.Need-same-length-5
 same-length-5 c = search needs
 
 returns-2 : tie.Need-returns-2
-returns-2 c = plain-put (c .before .before .before .before .before .before .before .before .before .before .before .before .before .before .before .before .before .before .before .before .before .before .pre .0) (c .before .before .before .before .before .before .before .before .before .before .before .next-line .ensures) (sym (c .before .before .before .before .before .before .before .before .is-noise .ensures) ∙ c .before .before .before .before .before .before .before .if1 .left) (c .before .before .before .put-bytes .ensures)
+returns-2 c = plain-put (c .before .before .before .before .before .before .before .before .before .before .before .before .before .before .before .before .before .before .before .before .before .before .pre .0) (c .before .before .before .before .before .before .before .before .before .before .before .next-known .ensures) (sym (c .before .before .before .before .before .before .before .before .is-noise .ensures) ∙ c .before .before .before .before .before .before .before .if1 .left) (c .before .before .before .put-bytes .ensures)
 
 pub put-instruction-spec : {M : Type 1} → statement M
 put-instruction-spec =
     tie.close
     (tie.spec
-    next-line-requires
+    next-known-requires
     is-noise-requires
     put-noise-line-requires
     same-length

@@ -8,7 +8,7 @@ use lib.Ieee.{Float}
 use lib.ListN.{length, take, drop, length-take}
 use Rattle.job.specs.Line.{Instruction, Placed}
 use Rattle.job.specs.Laws.Begun.{ended-parts}
-use Rattle.instructions.specs.declared.Next.{Next}
+use Rattle.instructions.specs.declared.LineRead.{LineRead}
 use Rattle.instructions.specs.Reading.{lineAt, NextLine, noiseForm}
 use Rattle.instructions.specs.Ahead.{instructionsAt, NoiseRead}
 use Rattle.instructions.specs.Laws.Places.{whole-line}
@@ -81,7 +81,7 @@ module _ {p : Pass} {here : Reached} (b : Between p here) where
   few-lines = omega (arith, b .ahead .number, b .ahead .within, ended-parts (p .job) (b .ahead .ended))
 
   -- a line that is no noise is copied
-  module _ {line : Next} {values : List ℕ} (n : NextLine (p .job) (here .place .byte) line values) (quiet : noiseForm (line .form) ≡ false) where
+  module _ {line : LineRead} {values : List ℕ} (n : NextLine (p .job) (here .place .byte) line values) (quiet : noiseForm (line .form) ≡ false) where
     pub plain-put : {out after : List ℕ} {byte : ℕ} → Puts (here .text) (take (line .end + 1 - here .place .byte) (drop (here .place .byte) (p .job))) out after byte
         → InstructionPut p out here after (moved.To (record { place = record { byte = line .end + 1; line = here .place .line + 1; position = here .place .position }; text = byte }))
     unfolding MovedTo settle settleThen stepOf leftAfter leftThen
@@ -112,7 +112,7 @@ module _ {p : Pass} {here : Reached} (b : Between p here) where
         }
 
   -- noise is made ready for its draws
-  module _ {line : Next} {values : List ℕ} (n : NextLine (p .job) (here .place .byte) line values) (noisy : noiseForm (line .form) ≡ true) where
+  module _ {line : LineRead} {values : List ℕ} (n : NextLine (p .job) (here .place .byte) line values) (noisy : noiseForm (line .form) ≡ true) where
     pub noise-is : NoiseRead (p .job) (b .header) (b .recorded) (here .place .line) (here .place .byte) line values
     noise-is = noise-read (b .ahead) n noisy
 
@@ -137,7 +137,7 @@ module _ {p : Pass} {here : Reached} (b : Between p here) where
     module _ {elements : List ℕ} {sums : List Float} {mask : List ℕ} {r : Prepared} (ready : PreparedAs noise-here elements sums mask r) (room : AllInside elements)
         (masked : length mask ≡ 64)
       where
-        abbrev pub ready-here : ReadyOf (r .fault .probability) (r .fault .distribution) (take (r .lines) sums) mask elements (p .shape .shots) (r .fault .correlation) (p .second) (p .base)
+        abbrev pub ready-here : ReadyOf (r .fault .probability) (r .fault .distribution) (take (r .following) sums) mask elements (p .shape .shots) (r .fault .correlation) (p .second) (p .base)
         ready-here =
             let D = noiseIn noise-here .distribution in
             let sound = noise-is .sound .distribution in
@@ -192,7 +192,7 @@ module _ {p : Pass} {here : Reached} (b : Between p here) where
                 record { put = record { settles = then-settled ∙ s .0; within = s .1; leaves = s .2 ∙ sym then-left } }
 
             pub noise-done : (i j : ℕ) → o ≡ drawn.Done i j
-                → InstructionPut p out here after (moved.To (record { place = record { byte = r .next; line = here .place .line + 1 + r .lines; position = i }; text = j }))
+                → InstructionPut p out here after (moved.To (record { place = record { byte = r .behind; line = here .place .line + 1 + r .following; position = i }; text = j }))
             unfolding MovedTo
             noise-done i j e =
                 let t = done-step (here .place .line) later (Instruction.noise (noiseIn noise-here)) (drop (here .place .position) (p .main)) onward put i j e in

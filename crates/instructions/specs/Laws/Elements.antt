@@ -25,8 +25,9 @@ use Rattle.job.specs.Laws.Gather.{WeightsSound, PartSound, gathered-sound}
 use Rattle.job.specs.Laws.Instructions.{accepted-between, due-says}
 use Rattle.reader.specs.declared.Form.{Form}
 use Rattle.reader.specs.Parsed.{placeOf, Said}
-use Rattle.instructions.specs.declared.Next.{Next}
+use Rattle.instructions.specs.declared.LineRead.{LineRead}
 use Rattle.instructions.specs.Reading.{lineAt, NextLine, elementForm, hasTotal}
+use Rattle.instructions.specs.Lines.{KnownAt}
 use Rattle.instructions.specs.Ahead.{instructionsAt, Ahead, Among, elementBy, ElementRead}
 use Rattle.instructions.specs.Laws.Meaning.{some-same, Meaning, meaning, read-says}
 
@@ -88,6 +89,16 @@ module _ {job : List ℕ} {h : Header} {r : ℕ} {weighted : Bool} {elements : L
           let ends = ap (λ (l : List ℕ). isLast (lines l) && ltb 0 (m .context .due)) (sym nothing) ∙ m .accepted .ends in
           absurd (omega (arith, due, ltb-false 0 (m .context .due) ends))
 
+  -- and the next is one of an accepted job
+  pub among-known : i < length elements → KnownAt job at
+  among-known more =
+      record {
+        ended = m .ended;
+        inside = among-inside more;
+        number = k + i;
+        passes = record { context = m .context; passes = m .accepted .passes };
+      }
+
   -- behind the last element line stands an instruction, or the job ends
   pub among-done : length elements ≤ i → Ahead job h r (k + i) at × (instructionsAt job (k + i) at ≡ is)
   unfolding instructionsAt
@@ -104,7 +115,7 @@ module _ {job : List ℕ} {h : Header} {r : ℕ} {weighted : Bool} {elements : L
         ap (λ (g : Gathered). g .instructions) (m .left),
       )
 
-  module _ {next : Next} {fields : List ℕ} (more : i < length elements) (n : NextLine job at next fields) where
+  module _ {next : LineRead} {fields : List ℕ} (more : i < length elements) (n : NextLine job at next fields) where
     abbrev text : List ℕ
     text = lineAt job at (next .end)
 

@@ -1,12 +1,12 @@
 -- The lines of an accepted job, one after the other. Laws. Assumes nothing.
-use Prim.Native.Nat.{ℕ, zero, suc, _+_}
+use Prim.Native.Nat.{ℕ, zero, suc, _+_, _<_}
 use native.Mathlib.Numerals.{add-one}
 use native.Mathlib.Omega.{arith}
 use mathlib.Core.Path.{_≡_, refl, subst}
 use mathlib.Core.Bool.{true}
 use mathlib.Core.List.{List, _∷_}
 use mathlib.Core.Option.{none, some}
-use lib.ListN.{drop}
+use lib.ListN.{length, drop}
 use Rattle.text.specs.Bytes.{lines}
 use Rattle.job.specs.Grammar.{Written, readLine}
 use Rattle.job.specs.Checks.{Context, noContext, inEdition, ownTests}
@@ -17,9 +17,9 @@ use Rattle.job.specs.Laws.Forms.{line-fits}
 use Rattle.job.specs.Laws.Lines.{line-sound}
 use Rattle.job.specs.Laws.Accepted.{passes-first, passing, good-says}
 use Rattle.job.specs.Laws.Begun.{ended-parts, job-passes}
-use Rattle.instructions.specs.declared.Next.{Next}
+use Rattle.instructions.specs.declared.LineRead.{LineRead}
 use Rattle.instructions.specs.Reading.{lineAt, NextLine}
-use Rattle.instructions.specs.Lines.{Passes, Left, WrittenSound, SoundRead, SomeRead, numbered}
+use Rattle.instructions.specs.Lines.{Passes, Left, WrittenSound, KnownAt, SoundRead, SomeRead, numbered}
 use Rattle.instructions.specs.Laws.Meaning.{read-says}
 
 -- ---- numbers of lines
@@ -76,7 +76,10 @@ left-all job e =
       passes = record { context = noContext; passes = p .1 };
     }
 
-module _ {job : List ℕ} {k at : ℕ} (a : Left job k at) {next : Next} {fields : List ℕ} (n : NextLine job at next fields) where
+pub left-known : {job : List ℕ} {k at : ℕ} → Left job k at → at < length job → KnownAt job at
+left-known {k = k} a inside = record { ended = a .ended; inside = inside; number = k; passes = a .passes }
+
+module _ {job : List ℕ} {k at : ℕ} (a : Left job k at) {next : LineRead} {fields : List ℕ} (n : NextLine job at next fields) where
   pub here : Passed k (lineAt job at (next .end)) (lines (drop (next .end + 1) job))
   here = passes-line (subst (Passes k) (n .place .cut) (a .passes))
 

@@ -11,6 +11,7 @@ use lib.Seq.{getD-drop, length-take-le, take-suc}
 use Rattle.text.specs.Bytes.{LF, until, extend, pieces, lines}
 use Rattle.text.specs.Laws.Values.{both}
 use Rattle.text.specs.Laws.Pieces.{step, piece-more}
+use Rattle.numbers.specs.Laws.Pieces.{until-at}
 use Rattle.job.specs.Job.{maxBytes, wellEnded, isLast}
 use Rattle.instructions.specs.Reading.{lineAt, LineAt}
 
@@ -34,17 +35,6 @@ line-ends job at w h =
     let last : getD (drop at job) (length job - 1 - at) 0 ≡ 10 = getD-drop at job (length job - 1 - at) 0 ∙ rw there ended in
     let most = until-most 10 (drop at job) (length job - 1 - at) (rw length-drop (omega arith)) last in
     omega arith
-
--- there stands a separator
-until-at : (sep : ℕ) (l : List ℕ) → until sep l < length l → getD l (until sep l) 0 ≡ sep
-unfolding until
-until-at sep [] h = absurd (omega arith)
-until-at sep (b ∷ l) h = go (eqb b sep) refl h (until-at sep l)
-  where
-    go : (t : Bool) → eqb b sep ≡ t → cond t 0 (suc (until sep l)) < suc (length l) → (until sep l < length l → getD l (until sep l) 0 ≡ sep)
-        → getD (b ∷ l) (cond t 0 (suc (until sep l))) 0 ≡ sep
-    go true e k ih = eqb-true b sep e
-    go false e k ih = ih (omega arith)
 
 -- the last line is the one whose LF is the job's last byte
 some-line : (b : ℕ) (l : List ℕ) → isLast (lines (b ∷ l)) ≡ false

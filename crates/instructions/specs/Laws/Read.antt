@@ -6,7 +6,7 @@ use mathlib.Core.Path.{_≡_, refl, sym, ap₂, _∙_, subst}
 use mathlib.Core.List.{List, [], _∷_}
 use mathlib.Core.Option.{some}
 use lib.ListN.{length, getD}
-use Rattle.pauli.specs.Gate.{Gate, gateOf}
+use Rattle.pauli.specs.Gate.{Gate, I, X, Y, Z, Hadamard, SqrtZ, SqrtZInv, SqrtX, SqrtXInv, SqrtY, SqrtYInv, ControlledX, ControlledZ, Swap, PrepareBell, ControlledY, gateOf, operandsOf}
 use Rattle.pauli.specs.Laws.Code.{gate-none}
 use Rattle.text.specs.Bytes.{bytes}
 use Rattle.text.specs.Template.{Value, numbersIn, listsIn, numberAt, listAt}
@@ -190,6 +190,26 @@ gate-small code {g} e = go (decLt code 16)
     go : Dec (code < 16) → code ≤ 15
     go (yes h) = omega arith
     go (no h) = let k = gate-none code (omega arith) in let z : _≡_ {A = ℕ} 0 1 = cc in absurd (omega arith)
+
+-- how many operands a gate takes
+pub few-operands : (g : Gate) → operandsOf g ≤ 2
+unfolding operandsOf
+few-operands I = omega arith
+few-operands X = omega arith
+few-operands Y = omega arith
+few-operands Z = omega arith
+few-operands Hadamard = omega arith
+few-operands SqrtZ = omega arith
+few-operands SqrtZInv = omega arith
+few-operands SqrtX = omega arith
+few-operands SqrtXInv = omega arith
+few-operands SqrtY = omega arith
+few-operands SqrtYInv = omega arith
+few-operands ControlledX = omega arith
+few-operands ControlledZ = omega arith
+few-operands Swap = omega arith
+few-operands PrepareBell = omega arith
+few-operands ControlledY = omega arith
 
 -- a form that is not one of these, whose line a run and a walk pass over unless it is noise
 pub record Idle (f : Form) : Type 0 where

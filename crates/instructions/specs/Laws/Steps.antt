@@ -1,5 +1,5 @@
 -- A job from instruction to instruction. Laws. Assumes nothing.
-use Prim.Native.Nat.{ℕ, suc, _+_, _≤_}
+use Prim.Native.Nat.{ℕ, suc, _+_, _≤_, _<_}
 use native.Mathlib.Nat.{add-zero}
 use native.Mathlib.Numerals.{add-one}
 use native.Mathlib.Omega.{arith}
@@ -23,9 +23,10 @@ use Rattle.job.specs.Laws.Gather.{gathered-sound}
 use Rattle.job.specs.Laws.Recorded.{instruction-within}
 use Rattle.job.specs.Laws.Instructions.{LineStep, FirstInstruction, first-instruction}
 use Rattle.reader.specs.declared.Form.the-variants as form
-use Rattle.instructions.specs.declared.Next.{Next}
+use Rattle.instructions.specs.declared.LineRead.{LineRead}
 use Rattle.instructions.specs.Reading.{lineAt, LineAt, NextLine, noiseForm}
 use Rattle.instructions.specs.Ahead.{instructionsAt, Ahead, Started, PlainRead, NoiseRead}
+use Rattle.instructions.specs.Lines.{KnownAt}
 use Rattle.instructions.specs.Laws.Meaning.{some-same, meaning, read-says, line-no-noise, noise-is-noise}
 
 -- nothing is left at the end
@@ -59,6 +60,11 @@ started job e passes at =
 
 -- ---- an instruction
 
+-- its first line is one of an accepted job
+pub ahead-known : {job : List ℕ} {h : Header} {r k at : ℕ} → Ahead job h r k at → at < length job → KnownAt job at
+ahead-known {job} {h} {r} {k} a inside =
+    record { ended = a .ended; inside = inside; number = k; passes = record { context = between h r; passes = a .accepted .passes } }
+
 -- at most 64 elements stand on lines of their own
 few-elements : (n : ℕ) (kind : Kind) (es : List WeightedPauli) → length es ≡ elementLines kind → DistributionSound n (distributionOf kind es) → length es ≤ 64
 unfolding elementLines distributionOf DistributionSound
@@ -67,7 +73,7 @@ few-elements n (Kind.depolarizing qs) es count s = omega arith
 few-elements n (Kind.uniform m) es count s = omega (arith, s .few, length-map es (λ (e : WeightedPauli). e .pauli))
 few-elements n (Kind.weighted m) es count s = s .few
 
-module _ {job : List ℕ} {h : Header} {r k at : ℕ} {next : Next} {fields : List ℕ} (a : Ahead job h r k at) (n : NextLine job at next fields) where
+module _ {job : List ℕ} {h : Header} {r k at : ℕ} {next : LineRead} {fields : List ℕ} (a : Ahead job h r k at) (n : NextLine job at next fields) where
   abbrev text : List ℕ
   text = lineAt job at (next .end)
 

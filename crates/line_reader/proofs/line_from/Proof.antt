@@ -6,8 +6,8 @@ use borrow.Author.Needs.{needs}
 use Rattle.line_reader.proofs.line_from.Statement.{statement}
 use Rattle.line_reader.proofs.line_from.Tie as tie
 
-find-requires : tie.Need-find-requires
-find-requires c κs = search needs
+find-far-requires : tie.Need-find-far-requires
+find-far-requires c κs = search needs
 
 sub-result : tie.Need-sub-result
 sub-result c = search needs
@@ -30,7 +30,7 @@ part-result-end-2 c = search needs
 returns : tie.Need-returns
 returns c =
     let a = c .before .before .before .before .args in
-    line-found (a .job .now) (a .at) _ (c .before .find .ensures .0)
+    line-found (a .job .now) (a .at) _ (c .before .find-far .ensures .0)
 
 returns-2 : tie.Need-returns-2
 returns-2 c =
@@ -41,7 +41,7 @@ pub line-from-spec : {M : Type 1} → statement M
 line-from-spec =
     tie.close
     (tie.spec
-    find-requires
+    find-far-requires
     sub-result
     part-result-start
     part-result-end

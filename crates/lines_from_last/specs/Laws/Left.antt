@@ -16,15 +16,8 @@ use Rattle.job.specs.Job.{maxBytes, wellEnded, checkJob, gather, gathered, Job,
 use Rattle.job.specs.Theorems.{checked-sound}
 use Rattle.job.specs.Laws.Begun.{job-begun}
 use Rattle.instructions.specs.Reading.{lineAt}
-use Rattle.lines_from_last.specs.Line.{LineStart, LineBefore, Known, OfJob}
+use Rattle.lines_from_last.specs.Line.{LineStart, LineBefore, LinesLeft, Known, OfJob}
 use Rattle.lines_from_last.specs.Laws.Known.{job-known}
-
--- The k lines before place e are left; those from there on are `done`.
-pub record LinesLeft (job : List ℕ) (k e : ℕ) (done : List (List ℕ)) : Type 0 where
-  pub within : e ≤ length job
-  pub starts : LineStart job e
-  pub number : k ≡ length (lines (take e job))
-  pub whole : lines job ≡ lines (take e job) ++ done
 
 -- the last byte of a job is LF
 job-ends : (job : List ℕ) → wellEnded job ≡ true → getD job (length job - 1) 0 ≡ LF

@@ -11,7 +11,7 @@ use native.Mathlib.Omega.{arith}
 use lib.Seq.{length-take-le}
 use borrow.Author.Tests.{eq-eqb, ne-eqb}
 use Rattle.job.specs.Job.{checkJob, accepted}
-use Rattle.instructions.specs.declared.Next.{Next}
+use Rattle.instructions.specs.declared.LineRead.{LineRead}
 use Rattle.instructions.specs.Reading.{lineAt, NextLine}
 use Rattle.instructions.specs.Lines.{Left}
 use Rattle.instructions.specs.Laws.Lines.{left-all, here, line-read, left-more}
@@ -34,7 +34,7 @@ pub record Counting (job : List ℕ) (at count : ℕ) : Type 0 where
 pub count-none : (job : List ℕ) → checkJob job .number ≡ 0 → Counting job 0 0
 count-none job e = record { number = 1; left = left-all job e; same = omega arith; bound = omega arith }
 
-pub count-more : {job : List ℕ} {at count : ℕ} {line : Next} {fields : List ℕ} {n : ℕ} {words : List ℕ} → Counting job at count
+pub count-more : {job : List ℕ} {at count : ℕ} {line : LineRead} {fields : List ℕ} {n : ℕ} {words : List ℕ} → Counting job at count
     → NextLine job at line fields → LocatedQubits (line .form) fields n words → n ≤ length words → Counting job (line .end + 1) (count + 2 * n)
 count-more {job} {at} {count} {line} {fields} {n} {words} c l q h =
     let r = here (c .left) l in

@@ -4,7 +4,7 @@ use native.Mathlib.Omega.{arith}
 use mathlib.Core.Path.{_≡_, refl, sym, ap, _∙_, subst}
 use mathlib.Core.Bool.{Bool, true, false, not, _&&_, true≢false}
 use mathlib.Core.List.{List, [], _∷_}
-use mathlib.Core.Option.{none, some}
+use mathlib.Core.Option.{Option, none, some}
 use borrow.Author.Tests.{leb-true, not-true, not-false}
 use lib.Dec.{eqb, leb}
 use lib.ListN.{length, getD}
@@ -16,7 +16,7 @@ use Rattle.template.specs.Values.{heldNumber, heldCount}
 use Rattle.template.specs.Fields.{numberLetters, listLetters, Room, started, ReadOn, ReadNext, HasForm, ReadAs}
 use Rattle.template.specs.Laws.Reading.{whole-read}
 use Rattle.template.specs.declared.Progress.{Progress}
-use Rattle.text.specs.Laws.Values.{both}
+use Rattle.text.specs.Laws.Values.{both, none-some}
 use Rattle.job.specs.Clifford.{tableWords, tableOf}
 use Rattle.job.specs.Grammar.{Written, Form as TableForm, unitaryLine, cliffordLine, forms, said, orLater, readBy, readLine}
 use Rattle.job.specs.Line.{Line}
@@ -126,16 +126,31 @@ pub none-left : {line fields : List ℕ} → Tried [] line form.Unread fields
 unfolding readBy
 none-left = record { parsed = not-parsed }
 
+-- what a line says, where its bytes 0 and 3 leave these forms
+bytes-leave : (l : List ℕ) (a c : ℕ) (fs : List TableForm) → opening 3 c (opening 0 a forms) ≡ fs → getD l 0 0 ≡ a → getD l 3 0 ≡ c → readLine l ≡ readBy fs l
+bytes-leave l a c fs left e g =
+    read-by-bytes l
+    ∙ ap (λ (b : ℕ). readBy (opening 3 (getD l 3 0) (opening 0 b forms)) l) e
+    ∙ ap (λ (b : ℕ). readBy (opening 3 b (opening 0 a forms)) l) g
+    ∙ ap (λ (gs : List TableForm). readBy gs l) left
+
 -- the forms were tried that a line's bytes 0 and 3 leave
 pub by-bytes : {line fields : List ℕ} {r : Form} (a c : ℕ) → getD line 0 0 ≡ a → getD line 3 0 ≡ c → (fs : List TableForm)
     → opening 3 c (opening 0 a forms) ≡ fs → Tried fs line r fields → Parsed line r fields
-by-bytes {line} a c e g fs left t =
-    t .parsed (
-    read-by-bytes line
-    ∙ ap (λ (b : ℕ). readBy (opening 3 (getD line 3 0) (opening 0 b forms)) line) e
-    ∙ ap (λ (b : ℕ). readBy (opening 3 b (opening 0 a forms)) line) g
-    ∙ ap (λ (gs : List TableForm). readBy gs line) left
-    )
+by-bytes {line} a c e g fs left t = t .parsed (bytes-leave line a c fs left e g)
+
+-- a line whose bytes 0 and 3 leave one form
+pub one-form : (l : List ℕ) (a c : ℕ) (f : Form) → opening 3 c (opening 0 a forms) ≡ formOf f ∷ [] → getD l 0 0 ≡ a → getD l 3 0 ≡ c → readLine l ≡ readAs (formOf f) l
+one-form l a c f left e g = bytes-leave l a c (formOf f ∷ []) left e g ∙ read-alone (formOf f) l
+
+-- what a line says by a form, it says by its values
+pub by-values : (f : TableForm) (l : List ℕ) (v : Written) → readAs f l ≡ some v → (vs : List Value) × (valuesOf (f .template) l ≡ some vs) × (f .says vs ≡ some v)
+unfolding said
+by-values f l v e = go (valuesOf (f .template) l) refl e
+  where
+    go : (o : Option (List Value)) → valuesOf (f .template) l ≡ o → said (f .says) o ≡ some v → (vs : List Value) × (valuesOf (f .template) l ≡ some vs) × (f .says vs ≡ some v)
+    go none p q = absurd (none-some q)
+    go (some vs) p q = (vs, p, q)
 
 -- ---- a gate's code
 

@@ -93,11 +93,11 @@ loop-again c =
 loop2-holds : tie.Need-loop2-holds Inv-loop μ-loop Inv-loop2 μ-loop2
 loop2-holds c = (refl, refl)
 
-mul-q : tie.Need-mul-q Inv-loop μ-loop Inv-loop2 μ-loop2
-mul-q c = omega arith
+mul-row : tie.Need-mul-row Inv-loop μ-loop Inv-loop2 μ-loop2
+mul-row c = omega arith
 
-shared-slice-read-q : tie.Need-shared-slice-read-q Inv-loop μ-loop Inv-loop2 μ-loop2
-shared-slice-read-q c = omega arith
+shared-slice-read-row : tie.Need-shared-slice-read-row Inv-loop μ-loop Inv-loop2 μ-loop2
+shared-slice-read-row c = omega arith
 
 mul-xor-words : tie.Need-mul-xor-words Inv-loop μ-loop Inv-loop2 μ-loop2
 mul-xor-words c = omega (arith, c .before .before .before .before .before .before .before .before .before .pre .1 .fits (c .before .before .before .loop2 .i) (omega arith))
@@ -151,8 +151,8 @@ add-listed-spec =
     loop-less
     loop-again
     loop2-holds
-    mul-q
-    shared-slice-read-q
+    mul-row
+    shared-slice-read-row
     mul-xor-words
     xor-words-requires
     add-i-2

@@ -31,20 +31,20 @@ loop-holds c = (refl, refl, omega arith)
 sub-loop : tie.Need-sub-loop Inv-loop μ-loop Inv-loop2 μ-loop2
 sub-loop c = omega arith
 
-mul-p : tie.Need-mul-p Inv-loop μ-loop Inv-loop2 μ-loop2
-mul-p c = omega arith
+mul-a : tie.Need-mul-a Inv-loop μ-loop Inv-loop2 μ-loop2
+mul-a c = omega arith
 
-shared-slice-read-p : tie.Need-shared-slice-read-p Inv-loop μ-loop Inv-loop2 μ-loop2
-shared-slice-read-p c = omega arith
+shared-slice-read-a : tie.Need-shared-slice-read-a Inv-loop μ-loop Inv-loop2 μ-loop2
+shared-slice-read-a c = omega arith
 
-add-q : tie.Need-add-q Inv-loop μ-loop Inv-loop2 μ-loop2
-add-q c = omega arith
+add-b : tie.Need-add-b Inv-loop μ-loop Inv-loop2 μ-loop2
+add-b c = omega arith
 
-mul-q : tie.Need-mul-q Inv-loop μ-loop Inv-loop2 μ-loop2
-mul-q c = omega arith
+mul-b : tie.Need-mul-b Inv-loop μ-loop Inv-loop2 μ-loop2
+mul-b c = omega arith
 
-shared-slice-read-q : tie.Need-shared-slice-read-q Inv-loop μ-loop Inv-loop2 μ-loop2
-shared-slice-read-q c = omega arith
+shared-slice-read-b : tie.Need-shared-slice-read-b Inv-loop μ-loop Inv-loop2 μ-loop2
+shared-slice-read-b c = omega arith
 
 mul-xor-twice : tie.Need-mul-xor-twice Inv-loop μ-loop Inv-loop2 μ-loop2
 mul-xor-twice c = omega (arith, c .before .before .before .before .before .before .before .before .pre .1 .fits (c .before .before .before .before .loop .i) (omega arith))
@@ -70,11 +70,11 @@ loop-again c =
 loop2-holds : tie.Need-loop2-holds Inv-loop μ-loop Inv-loop2 μ-loop2
 loop2-holds c = (refl, refl)
 
-mul-q-2 : tie.Need-mul-q-2 Inv-loop μ-loop Inv-loop2 μ-loop2
-mul-q-2 c = omega arith
+mul-row : tie.Need-mul-row Inv-loop μ-loop Inv-loop2 μ-loop2
+mul-row c = omega arith
 
-shared-slice-read-q-2 : tie.Need-shared-slice-read-q-2 Inv-loop μ-loop Inv-loop2 μ-loop2
-shared-slice-read-q-2 c = omega arith
+shared-slice-read-row : tie.Need-shared-slice-read-row Inv-loop μ-loop Inv-loop2 μ-loop2
+shared-slice-read-row c = omega arith
 
 mul-xor-words : tie.Need-mul-xor-words Inv-loop μ-loop Inv-loop2 μ-loop2
 mul-xor-words c = omega (arith, c .before .before .before .before .before .before .before .before .before .pre .1 .fits (c .before .before .before .loop2 .i) (omega arith))
@@ -108,11 +108,11 @@ add-mask-listed-spec =
     mul-from
     loop-holds
     sub-loop
-    mul-p
-    shared-slice-read-p
-    add-q
-    mul-q
-    shared-slice-read-q
+    mul-a
+    shared-slice-read-a
+    add-b
+    mul-b
+    shared-slice-read-b
     mul-xor-twice
     mul-xor-twice-2
     xor-twice-requires
@@ -120,8 +120,8 @@ add-mask-listed-spec =
     loop-less
     loop-again
     loop2-holds
-    mul-q-2
-    shared-slice-read-q-2
+    mul-row
+    shared-slice-read-row
     mul-xor-words
     xor-words-requires
     add-i-2

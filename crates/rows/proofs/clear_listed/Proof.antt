@@ -18,11 +18,11 @@ abbrev μ-loop : tie.MeasureT-loop
 loop-holds : tie.Need-loop-holds Inv-loop μ-loop
 loop-holds c = (refl, refl)
 
-mul-q : tie.Need-mul-q Inv-loop μ-loop
-mul-q c = omega arith
+mul-row : tie.Need-mul-row Inv-loop μ-loop
+mul-row c = omega arith
 
-shared-slice-read-q : tie.Need-shared-slice-read-q Inv-loop μ-loop
-shared-slice-read-q c = omega arith
+shared-slice-read-row : tie.Need-shared-slice-read-row Inv-loop μ-loop
+shared-slice-read-row c = omega arith
 
 mul-clear : tie.Need-mul-clear Inv-loop μ-loop
 mul-clear c = omega (arith, c .before .before .before .before .before .before .pre .fits (c .before .before .before .loop .i) (c .before .before .loop-test .taken))
@@ -52,8 +52,8 @@ clear-listed-spec =
     Inv-loop
     μ-loop
     loop-holds
-    mul-q
-    shared-slice-read-q
+    mul-row
+    shared-slice-read-row
     mul-clear
     clear-requires
     add-i

@@ -18,11 +18,11 @@ abbrev μ-loop : tie.MeasureT-loop
 loop-holds : tie.Need-loop-holds Inv-loop μ-loop
 loop-holds c = (refl, refl)
 
-mul-q : tie.Need-mul-q Inv-loop μ-loop
-mul-q c = omega arith
+mul-row : tie.Need-mul-row Inv-loop μ-loop
+mul-row c = omega arith
 
-shared-slice-read-q : tie.Need-shared-slice-read-q Inv-loop μ-loop
-shared-slice-read-q c = omega arith
+shared-slice-read-row : tie.Need-shared-slice-read-row Inv-loop μ-loop
+shared-slice-read-row c = omega arith
 
 flip-bit-requires : tie.Need-flip-bit-requires Inv-loop μ-loop
 flip-bit-requires c κs = omega (arith, c .before .before .before .before .before .before .pre .1 .fits (c .before .before .before .loop .i) (c .before .before .loop-test .taken))
@@ -49,8 +49,8 @@ flip-listed-spec =
     Inv-loop
     μ-loop
     loop-holds
-    mul-q
-    shared-slice-read-q
+    mul-row
+    shared-slice-read-row
     flip-bit-requires
     add-i
     loop-less

@@ -17,11 +17,11 @@ abbrev μ-loop : tie.MeasureT-loop
 loop-holds : tie.Need-loop-holds Inv-loop μ-loop
 loop-holds c = (collected-starts _ _ _ _ _, refl)
 
-mul-q : tie.Need-mul-q Inv-loop μ-loop
-mul-q c = omega arith
+mul-row : tie.Need-mul-row Inv-loop μ-loop
+mul-row c = omega arith
 
-shared-slice-read-q : tie.Need-shared-slice-read-q Inv-loop μ-loop
-shared-slice-read-q c = omega arith
+shared-slice-read-row : tie.Need-shared-slice-read-row Inv-loop μ-loop
+shared-slice-read-row c = omega arith
 
 add-copy : tie.Need-add-copy Inv-loop μ-loop
 add-copy c = omega arith
@@ -57,8 +57,8 @@ save-listed-spec =
     Inv-loop
     μ-loop
     loop-holds
-    mul-q
-    shared-slice-read-q
+    mul-row
+    shared-slice-read-row
     add-copy
     mul-copy
     mul-copy-2

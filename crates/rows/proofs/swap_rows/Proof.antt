@@ -9,16 +9,16 @@ use Rattle.rows.proofs.swap_rows.Statement.{statement}
 use Rattle.rows.proofs.swap_rows.Tie as tie
 
 abbrev Inv-loop : tie.InvT-loop
-Inv-loop rows₀ w a b p q j₀ rows j = (rows ≡ swapped p q j rows₀) × (length rows ≡ length rows₀) × (j ≤ w)
+Inv-loop rows₀ w a b first second j₀ rows j = (rows ≡ swapped first second j rows₀) × (length rows ≡ length rows₀) × (j ≤ w)
 
 abbrev μ-loop : tie.MeasureT-loop
-μ-loop rows₀ w a b p q j₀ rows j = w - j
+μ-loop rows₀ w a b first second j₀ rows j = w - j
 
-mul-p : tie.Need-mul-p Inv-loop μ-loop
-mul-p c = omega arith
+mul-first : tie.Need-mul-first Inv-loop μ-loop
+mul-first c = omega arith
 
-mul-q : tie.Need-mul-q Inv-loop μ-loop
-mul-q c = omega arith
+mul-second : tie.Need-mul-second Inv-loop μ-loop
+mul-second c = omega arith
 
 loop-holds : tie.Need-loop-holds Inv-loop μ-loop
 loop-holds c = (swapped-none _ _ _, refl, omega arith)
@@ -83,8 +83,8 @@ swap-rows-spec =
     (tie.spec
     Inv-loop
     μ-loop
-    mul-p
-    mul-q
+    mul-first
+    mul-second
     loop-holds
     add-word
     mul-word

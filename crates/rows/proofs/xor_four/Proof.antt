@@ -9,10 +9,10 @@ use Rattle.rows.proofs.xor_four.Statement.{statement}
 use Rattle.rows.proofs.xor_four.Tie as tie
 
 abbrev Inv-loop : tie.InvT-loop
-Inv-loop dst₀ at src a b c d n j₀ dst j = (dst ≡ xored at d j src (xored at c j src (xored at b j src (xored at a j src dst₀)))) × (length dst ≡ length dst₀) × (j ≤ n)
+Inv-loop dst₀ at src first second third fourth n j₀ dst j = (dst ≡ xored at fourth j src (xored at third j src (xored at second j src (xored at first j src dst₀)))) × (length dst ≡ length dst₀) × (j ≤ n)
 
 abbrev μ-loop : tie.MeasureT-loop
-μ-loop dst₀ at src a b c d n j₀ dst j = n - j
+μ-loop dst₀ at src first second third fourth n j₀ dst j = n - j
 
 loop-holds : tie.Need-loop-holds Inv-loop μ-loop
 loop-holds c = (xored-none _ _ _ _ ∙ xored-none _ _ _ _ ∙ xored-none _ _ _ _ ∙ xored-none _ _ _ _, refl, omega arith)

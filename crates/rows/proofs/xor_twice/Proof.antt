@@ -9,10 +9,10 @@ use Rattle.rows.proofs.xor_twice.Statement.{statement}
 use Rattle.rows.proofs.xor_twice.Tie as tie
 
 abbrev Inv-loop : tie.InvT-loop
-Inv-loop dst₀ p q src from n j₀ dst j = (dst ≡ xored q from j src (xored p from j src dst₀)) × (length dst ≡ length dst₀) × (j ≤ n)
+Inv-loop dst₀ first second src from n j₀ dst j = (dst ≡ xored second from j src (xored first from j src dst₀)) × (length dst ≡ length dst₀) × (j ≤ n)
 
 abbrev μ-loop : tie.MeasureT-loop
-μ-loop dst₀ p q src from n j₀ dst j = n - j
+μ-loop dst₀ first second src from n j₀ dst j = n - j
 
 loop-holds : tie.Need-loop-holds Inv-loop μ-loop
 loop-holds c = (xored-none _ _ _ _ ∙ xored-none _ _ _ _, refl, omega arith)

@@ -13,14 +13,14 @@ not-put-requires c κs = search needs
 returns : tie.Need-returns
 returns c = full-list _ _ _ _ _ _ (c .not-put .ensures) (c .before .if1 .taken)
 
-mul-a : tie.Need-mul-a
-mul-a c = search needs
+mul-from : tie.Need-mul-from
+mul-from c = search needs
 
-add-a : tie.Need-add-a
-add-a c = search needs
+add-from : tie.Need-add-from
+add-from c = search needs
 
-add-b : tie.Need-add-b
-add-b c = search needs
+add-to : tie.Need-add-to
+add-to c = search needs
 
 mul-list : tie.Need-mul-list
 mul-list c = search needs
@@ -79,9 +79,9 @@ put-list-spec =
     (tie.spec
     not-put-requires
     returns
-    mul-a
-    add-a
-    add-b
+    mul-from
+    add-from
+    add-to
     mul-list
     sub-list
     part-list-start

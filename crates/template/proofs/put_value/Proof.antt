@@ -69,7 +69,7 @@ unfolding valueOf listBy
 returns-4 c =
     let a = c .before .before .before .before .before .before .before .args in
     let key = c .before .before .before .before .match .keys4 in
-    list-value (a .t) (a .s .now) (simp key) (simp key) (simp key) (c .before .before .put-list .ensures)
+    list-value (a .letter) (a .bytes .now) (simp key) (simp key) (simp key) (c .before .before .put-list .ensures)
 
 same-length-5 : tie.Need-same-length-5
 same-length-5 c = search needs
@@ -79,7 +79,7 @@ unfolding valueOf listBy
 returns-5 c =
     let a = c .before .before .before .before .before .before .before .args in
     let key = c .before .before .before .before .match .keys5 in
-    list-value (a .t) (a .s .now) (simp key) (simp key) (simp key) (c .before .before .put-list2 .ensures)
+    list-value (a .letter) (a .bytes .now) (simp key) (simp key) (simp key) (c .before .before .put-list2 .ensures)
 
 same-length-6 : tie.Need-same-length-6
 same-length-6 c = search needs
@@ -89,7 +89,7 @@ unfolding valueOf listBy
 returns-6 c =
     let a = c .before .before .before .before .before .before .before .args in
     let key = c .before .before .before .before .match .keys6 in
-    list-value (a .t) (a .s .now) (simp key) (simp key) (simp key) (c .before .before .put-list3 .ensures)
+    list-value (a .letter) (a .bytes .now) (simp key) (simp key) (simp key) (c .before .before .put-list3 .ensures)
 
 same-length-7 : tie.Need-same-length-7
 same-length-7 c = search needs
@@ -99,7 +99,7 @@ unfolding valueOf listBy
 returns-7 c =
     let a = c .before .before .before .before .before .before .before .args in
     let key = c .before .before .before .before .match .keys7 in
-    list-value (a .t) (a .s .now) (simp key) (simp key) (simp key) (c .before .before .put-list4 .ensures)
+    list-value (a .letter) (a .bytes .now) (simp key) (simp key) (simp key) (c .before .before .put-list4 .ensures)
 
 returns-8 : tie.Need-returns-8
 unfolding valueOf

@@ -30,7 +30,7 @@ returns-2 : tie.Need-returns-2
 returns-2 c =
     let p = c .before .before .before .before .before .before .before .before .before .before .args .p in
     let found = c .before .before .before .before .before .find in
-    (next-goes (not-false _ (c .before .before .before .before .before .before .if1 .left)) (value-read (c .before .before .before .before .before .before .before .before .before .before .args .t) (p .at) (p .numbers) (p .lists) (found .result) (c .before .before .before .before .before .before .before .before .before .before .pre .0) (c .before .before .before .before .before .before .before .before .before .before .pre .1) (found .ensures .0) (found .ensures .1 .1) (c .before .before .put-value .ensures)), found .ensures .1 .1)
+    (next-goes (not-false _ (c .before .before .before .before .before .before .if1 .left)) (value-read (c .before .before .before .before .before .before .before .before .before .before .args .letter) (p .at) (p .numbers) (p .lists) (found .result) (c .before .before .before .before .before .before .before .before .before .before .pre .0) (c .before .before .before .before .before .before .before .before .before .before .pre .1) (found .ensures .0) (found .ensures .1 .1) (c .before .before .put-value .ensures)), found .ensures .1 .1)
 
 pub value-spec : {M : Type 1} → statement M
 value-spec = tie.close (tie.spec returns find-requires sub-put-value part-put-value-start part-put-value-end put-value-requires same-length returns-2)

@@ -1,19 +1,22 @@
 -- Lent words that hold the values of a line, with one value more. Laws. Assumes nothing.
-use Prim.Native.Nat.{ℕ, _+_, _*_, _≤_, _<_}
+use Prim.Native.Nat.{ℕ, zero, suc, max, _+_, _-_, _*_, _≤_, _<_}
 use native.Mathlib.Omega.{arith}
 use mathlib.Core.Bool.{Bool, true, false}
 use mathlib.Core.Logic.{_≢_}
-use mathlib.Core.Path.{_≡_, refl, ap, _∙_}
+use mathlib.Core.Path.{_≡_, refl, ap, ap₂, _∙_}
 use mathlib.Core.List.{List, [], _∷_, _++_, append-nil}
+use mathlib.Core.Option.{some}
 use borrow.Author.Tests.{eqb-true, eqb-false}
 use lib.Dec.{eqb}
 use lib.ListN.{length, getD, take, drop, set, length-append, length-take, length-drop, length-set, List·getD-append}
 use lib.Seq.{length-take-le, getD-set-same, getD-set-other, getD-take, getD-drop, getD-append-add, getD-at, ext-getD}
 use Rattle.text.specs.Template.{Value, number, list, numbersIn, listsIn, listAt}
-use Rattle.numbers.specs.Read.{largestOf, stored}
+use Rattle.numbers.specs.declared.known.KnownList.{KnownList}
+use Rattle.numbers.specs.Read.{largestOf, listedAs, stored}
+use Rattle.numbers.specs.Known.{KnownRead}
 use Rattle.template.specs.Values.{Whole, AllKept, membersOn, heldList}
-use Rattle.template.specs.Fields.{Held}
-use Rattle.numbers.specs.Laws.Lists.{stored-length, stored-at}
+use Rattle.template.specs.Fields.{Held, FewAre, ListPut, KnownPut}
+use Rattle.numbers.specs.Laws.Lists.{listed-count, listed-largest, stored-length, stored-at}
 
 -- ---- the numbers and the lists of values one after the other
 
@@ -85,13 +88,6 @@ module _ {fields : List ℕ} {n l : ℕ} {vs : List Value} (h : Held fields n l 
         largest = λ i g. rw lists-now (getD-set-other fields n (8 + i) x 0 (omega arith) ∙ h .largest i (omega arith));
         member = λ i j g k m. rw lists-now (getD-set-other fields n (12 + i * 31 + j) x 0 (omega arith) ∙ h .member i j (omega arith) k (rw lists-now at m));
       }
-
--- the l-th list was put into the words: its count, its largest member and its members; nothing else before its members is changed
-pub record ListPut (before after : List ℕ) (l : ℕ) (members : List ℕ) : Type 0 where
-  pub count : getD after (4 + l) 0 ≡ length members
-  pub largest : getD after (8 + l) 0 ≡ largestOf members
-  pub member : (j : ℕ) → j < 31 → j < length members → getD after (12 + l * 31 + j) 0 ≡ getD members j 0
-  pub others : (k : ℕ) → k ≢ 4 + l → k ≢ 8 + l → k < 12 + l * 31 → getD after k 0 ≡ getD before k 0
 
 -- a list more
 module _ {before after : List ℕ} {n l : ℕ} {vs : List Value} (h : Held before n l vs) {members : List ℕ} (room : l < 4)
@@ -183,6 +179,79 @@ module _ (f : List ℕ) (l k : ℕ) (members : List ℕ) (p : List ℕ) (room : 
             ∙ part-at f p (12 + l * 31) k within j (omega (arith, part-length))
             ∙ rw put (stored-at (take k (drop (12 + l * 31) f)) members j m (omega (arith, length-take k (drop (12 + l * 31) f), length-drop (12 + l * 31) f)));
         others = λ i u v b. others-stay count largest i u v ∙ part-before f p (12 + l * 31) k within i b;
+      }
+
+-- a list that is known to stand at a place
+module _ (f : List ℕ) (l : ℕ) (room : l < 4) (inside : 136 ≤ length f) where
+  abbrev wide : ℕ
+  wide = 12 + l * 31 + 31 - (12 + l * 31)
+
+  pub known-put : {line part : List ℕ} {from : ℕ} (known : KnownList) → KnownRead line from known (take wide (drop (12 + l * 31) f)) part
+      → KnownPut line from l (known .behind) f
+      (set (set (take (12 + l * 31) f ++ (part ++ drop wide (drop (12 + l * 31) f))) (4 + l) (known .list .count)) (8 + l) (known .list .largest))
+  known-put {line} {part} known read =
+      record {
+        put = λ members is.
+            let same : known .list ≡ listedAs (some members) = read .list .result ∙ ap listedAs is in
+            let stays = read .list .members members is in
+            list-put f l wide members part room (omega arith) inside stays (known .list .count) (known .list .largest) (listed-count members same)
+            (listed-largest members same);
+        behind = read .behind;
+      }
+
+-- ---- a list of at most two members
+
+few-largest : (members : List ℕ) → length members ≤ 2 → max (getD members 0 0) (getD members 1 0) ≡ largestOf members
+unfolding largestOf
+few-largest [] h = refl
+few-largest (a ∷ []) h = refl
+few-largest (a ∷ b ∷ []) h = let e : max a b ≡ max a (max b 0) = omega arith in e
+few-largest (a ∷ b ∷ c ∷ l) h = absurd (omega arith)
+
+module _ (f : List ℕ) (i many most first second : ℕ) (room : i < 4) (inside : 136 ≤ length f) where
+  abbrev counted : List ℕ
+  counted = set f (4 + i) many
+
+  abbrev bounded : List ℕ
+  bounded = set counted (8 + i) most
+
+  abbrev begun : List ℕ
+  begun = set bounded (12 + i * 31) first
+
+  lengths : (length counted ≡ length f) × (length bounded ≡ length f) × (length begun ≡ length f)
+  lengths =
+      let a = length-set f (4 + i) many in
+      let b = length-set counted (8 + i) most in
+      let c = length-set bounded (12 + i * 31) first in
+      (a, b ∙ a, c ∙ b ∙ a)
+
+  -- a word in front of the members
+  in-front : (k : ℕ) → k < 12 + i * 31 → getD (set begun (12 + i * 31 + 1) second) k 0 ≡ getD bounded k 0
+  in-front k h = getD-set-other begun (12 + i * 31 + 1) k second 0 (omega arith) ∙ getD-set-other bounded (12 + i * 31) k first 0 (omega arith)
+
+  member-of : (members : List ℕ) → FewAre members many first second → (j : ℕ) → j < length members
+      → getD (set begun (12 + i * 31 + 1) second) (12 + i * 31 + j) 0 ≡ getD members j 0
+  member-of members are zero h =
+      let here : 12 + i * 31 + 0 ≡ 12 + i * 31 = omega arith in
+      ap (λ (k : ℕ). getD (set begun (12 + i * 31 + 1) second) k 0) here
+      ∙ getD-set-other begun (12 + i * 31 + 1) (12 + i * 31) second 0 (omega arith)
+      ∙ getD-set-same bounded (12 + i * 31) first 0 (omega (arith, lengths .1))
+      ∙ are .is-first
+  member-of members are (suc zero) h = getD-set-same begun (12 + i * 31 + 1) second 0 (omega (arith, lengths .2)) ∙ are .is-second
+  member-of members are (suc (suc j)) h = absurd (omega (arith, are .few))
+
+  pub few-put : most ≡ max first second → (members : List ℕ) → FewAre members many first second
+      → ListPut f (set (set (set (set f (4 + i) many) (8 + i) most) (12 + i * 31) first) (12 + i * 31 + 1) second) i members
+  few-put is members are =
+      record {
+        count = in-front (4 + i) (omega arith) ∙ getD-set-other counted (8 + i) (4 + i) most 0 (omega arith) ∙ getD-set-same f (4 + i) many 0 (omega arith) ∙ are .size;
+        largest = in-front (8 + i) (omega arith)
+            ∙ getD-set-same counted (8 + i) most 0 (omega (arith, lengths .0))
+            ∙ is
+            ∙ ap₂ max (are .is-first) (are .is-second)
+            ∙ few-largest members (are .few);
+        member = λ j b m. member-of members are j m;
+        others = λ k u v b. in-front k b ∙ getD-set-other counted (8 + i) k most 0 v ∙ getD-set-other f (4 + i) k many 0 u;
       }
 
 -- ---- for readers of the words

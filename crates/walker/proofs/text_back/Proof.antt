@@ -5,29 +5,20 @@ use borrow.Author.Needs.{needs}
 use Rattle.walker.proofs.text_back.Statement.{statement}
 use Rattle.walker.proofs.text_back.Tie as tie
 
-is-gate-requires : tie.Need-is-gate-requires
-is-gate-requires c κs = search needs
-
-gate-back-requires : tie.Need-gate-back-requires
-gate-back-requires c κs = (c .before .before .before .before .before .pre .0, c .before .is-gate .ensures (c .if1 .taken))
-
-returns : tie.Need-returns
-returns c = c .gate-back .ensures _ _ _ (c .before .before .before .before .before .before .pre .2)
-
 passed-over-requires : tie.Need-passed-over-requires
 passed-over-requires c κs = search needs
 
 same-length : tie.Need-same-length
 same-length c = search needs
 
-returns-2 : tie.Need-returns-2
-returns-2 c = passed-back (c .before .before .before .passed-over .ensures (c .if2 .taken)) (c .before .before .before .before .before .before .before .before .before .before .pre .2)
+returns : tie.Need-returns
+returns c = passed-back (c .before .before .before .passed-over .ensures (c .if1 .taken)) (c .before .before .before .before .before .before .before .before .pre .2)
 
 read-line-requires : tie.Need-read-line-requires
 read-line-requires c κs = search needs
 
 line-back-requires : tie.Need-line-back-requires
-line-back-requires c κs = (readable (c .before .before .before .before .before .before .before .before .before .before .before .before .before .before .before .before .pre .0) (c .before .before .before .before .read-line .ensures) (omega (arith, c .before .before .before .before .before .before .before .before .before .before .before .before .before .before .before .before .pre .1, c .before .before .before .before .before .before .before .before .before .passed-over .kept, c .before .before .before .before .read-line .kept)), c .before .before .before .before .before .before .before .before .before .before .before .before .before .before .before .before .pre .2, c .before .before .before .before .before .before .before .before .before .before .before .before .before .before .before .before .pre .3)
+line-back-requires c κs = (readable (c .before .before .before .before .before .before .before .before .before .before .before .before .before .before .pre .0) (c .before .before .before .before .read-line .ensures) (omega (arith, c .before .before .before .before .before .before .before .before .before .before .before .before .before .before .pre .1, c .before .before .before .before .before .before .before .before .before .passed-over .kept, c .before .before .before .before .read-line .kept)), c .before .before .before .before .before .before .before .before .before .before .before .before .before .before .pre .2, c .before .before .before .before .before .before .before .before .before .before .before .before .before .before .pre .3)
 
 same-length-2 : tie.Need-same-length-2
 same-length-2 c = search needs
@@ -35,21 +26,18 @@ same-length-2 c = search needs
 same-length-3 : tie.Need-same-length-3
 same-length-3 c = search needs
 
-returns-3 : tie.Need-returns-3
-returns-3 c = read-back (c .before .before .before .before .before .before .before .read-line .ensures) (omega (arith, c .before .before .before .before .before .before .before .before .before .before .before .before .before .before .before .before .before .before .before .pre .1, c .before .before .before .before .before .before .before .before .before .before .before .before .passed-over .kept, c .before .before .before .before .before .before .before .read-line .kept)) (c .before .before .line-back .ensures)
+returns-2 : tie.Need-returns-2
+returns-2 c = read-back (c .before .before .before .before .before .before .before .read-line .ensures) (omega (arith, c .before .before .before .before .before .before .before .before .before .before .before .before .before .before .before .before .before .pre .1, c .before .before .before .before .before .before .before .before .before .before .before .before .passed-over .kept, c .before .before .before .before .before .before .before .read-line .kept)) (c .before .before .line-back .ensures)
 
 pub text-back-spec : {M : Type 1} → statement M
 text-back-spec =
     tie.close
     (tie.spec
-    is-gate-requires
-    gate-back-requires
-    returns
     passed-over-requires
     same-length
-    returns-2
+    returns
     read-line-requires
     line-back-requires
     same-length-2
     same-length-3
-    returns-3)
+    returns-2)

@@ -1,5 +1,5 @@
 -- The walk line after line, from the last to the first. Laws. Assumes nothing.
-use Prim.Native.Nat.{ℕ, zero, suc, _+_, _-_, _≤_, _<_}
+use Prim.Native.Nat.{ℕ, zero, suc, _-_, _≤_, _<_}
 use native.Mathlib.Omega.{arith}
 use mathlib.Core.Path.{_≡_, refl, sym, ap, _∙_}
 use mathlib.Core.Bool.{Bool, true, false}
@@ -7,8 +7,8 @@ use mathlib.Core.List.{List, [], _∷_}
 use mathlib.Core.Option.{some}
 use lib.ListN.{length}
 use Rattle.pauli.specs.Bits.{Bits}
-use Rattle.pauli.specs.Pauli.{identity}
 use Rattle.pauli.specs.Fixed.{inSet}
+use Rattle.pauli.specs.declared.Pauli.{Pauli as PauliWords}
 use Rattle.text.specs.Bytes.{lines}
 use Rattle.template.specs.Values.{Whole}
 use Rattle.job.specs.declared.Header.{Header}
@@ -26,10 +26,10 @@ use Rattle.backward.specs.Walking.{noiseFirst, firstNoise, lineFirst, plainLine
 use Rattle.carry.specs.Full.{full}
 use Rattle.carry.specs.Laws.Same.{same-backward}
 use Rattle.lines_from_last.specs.Line.{LineBefore, OfJob}
-use Rattle.lines_from_last.specs.Laws.Left.{LinesLeft, all-left, line-left, one-done, left-known, line-known, gathered-more, none-left}
+use Rattle.lines_from_last.specs.Laws.Left.{all-left, line-left, one-done, left-known, line-known, gathered-more, none-left}
 use Rattle.lines_back.specs.declared.Walk.{Walk as WalkWords}
 use Rattle.lines_back.specs.Back.{Readable, walkOf, writtenBack, noiseBack, LineBack}
-use Rattle.walker.specs.Steps.{Started, lineOrNone, WalkedBack, PassedOver, TextBack}
+use Rattle.walker.specs.Steps.{Started, lineOrNone, WalkedBack, PassedOver, TextBack, startWith, Going, Left, GatesGone}
 
 -- ---- one line
 
@@ -98,20 +98,7 @@ written-counts c (Written.line l) w = one-more (counts c l (w .carried)) (w .cou
 written-counts c (Written.noise n) w = omega arith
 written-counts c (Written.element v P) w = omega arith
 
--- ---- the loop
-
--- the walk before any line
-unfoldable pub startWith : Bits → Walk
-startWith S = record { carried = record { observable = identity; set = S }; count = 0 }
-
--- The lines from place e on were walked back over, those of `done`; the k lines before are left.
-pub record Going (job : List ℕ) (shot : ℕ) (S : Bits) (w : WalkWords) (set : List ℕ) (k e : ℕ) : Type 0 where
-  pub done : List (List ℕ)
-  pub left : LinesLeft job k e done
-  pub long : length set ≡ 16
-  pub counted : w .count + e ≤ length job
-  pub walked : walkOf w set ≡ walkBack (settingOf (jobOf job .header) shot) (plainLines (gathered (suc k) done .instructions)) (startWith S)
-  pub noise : lineOrNone (w .noise) ≡ firstNoise (gathered (suc k) done .instructions)
+-- ---- the loops
 
 module _ (job : List ℕ) (passes : checkJob job .number ≡ 0) where
   pub going-first : {shot : ℕ} {w : WalkWords} {set : List ℕ} {k : ℕ} → Started w → length set ≡ 16 → k ≡ length (lines job) → Going job shot (inSet set) w set k (length job)
@@ -166,3 +153,28 @@ module _ (job : List ℕ) (passes : checkJob job .number ≡ 0) where
         count = ap (λ (x : Walk). x .count) (g .walked) ∙ ap (λ (is : List Placed). walkBack (settingOf (jobOf job .header) shot) (plainLines is) (startWith S) .count) instructions;
         noise = g .noise ∙ ap firstNoise instructions;
       }
+
+  -- ---- gate lines, with the observable alone
+
+  pub gates-none : {b : PauliWords} {k e : ℕ} → Left job k e → GatesGone job b k e b k e
+  gates-none l = record { within = omega arith; left = l; going = λ shot S c n set g. g }
+
+  -- a gate line more
+  pub gates-on : {b₀ b b′ : PauliWords} {k₀ e₀ k e at : ℕ} → GatesGone job b₀ k₀ e₀ b k e → 0 < e → LineBefore job (e - 1) at
+      → ((c n shot : ℕ) (set : List ℕ) → length set ≡ 16
+      → TextBack (lineAt job at (e - 1)) shot k (record { observable = b; count = c; noise = n }) (record { observable = b′; count = c; noise = n })
+      set set)
+      → GatesGone job b₀ k₀ e₀ b′ (k - 1) at
+  gates-on {b′ = b′} g positive before goes =
+      record {
+        within = omega (arith, g .within, before .within);
+        left = record { done = _; left = one-done job passes (g .left .left) positive before };
+        going = λ shot S c n set h.
+            let on = g .going shot S c n set h in
+            going-on on positive before (record { observable = b′; count = c; noise = n }) set (goes c n shot set (on .long));
+      }
+
+  -- the walk with the observable that gate lines leave
+  pub after-gates : {shot : ℕ} {S : Bits} {w w′ : WalkWords} {b : PauliWords} {set : List ℕ} {k₀ e₀ k e : ℕ}
+      → GatesGone job (w .observable) k₀ e₀ b k e → w′ ≡ record { observable = b; count = w .count; noise = w .noise } → Going job shot S w set k₀ e₀ → Going job shot S w′ set k e
+  after-gates {shot} {S} {w} {set = set} g is h = rw is (g .going shot S (w .count) (w .noise) set h)

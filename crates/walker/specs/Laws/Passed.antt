@@ -3,14 +3,14 @@ use Prim.Native.Nat.{ℕ, _<_}
 use native.Mathlib.Omega.{arith}
 use mathlib.Core.Path.{_≡_, refl, sym, ap, subst, _∙_}
 use mathlib.Core.Bool.{Bool, _&&_}
-use mathlib.Core.List.{List, [], _∷_, _++_}
+use mathlib.Core.List.{List, [], _++_}
 use mathlib.Core.Option.{Option, none, some}
 use borrow.Author.Tests.{ne-eqb}
 use lib.ListN.{length, getD, List·getD-append}
 use Rattle.template.specs.Values.{heldNumber}
 use Rattle.template.specs.declared.Progress.{Progress}
 use Rattle.text.specs.Bytes.{bytes}
-use Rattle.text.specs.Template.{Value, valuesOf, numbersIn, numberAt}
+use Rattle.text.specs.Template.{Value, numbersIn, numberAt}
 use Rattle.numbers.specs.Read.{inFront}
 use Rattle.template.specs.Fields.{Held, Begins}
 use Rattle.text.specs.Laws.Values.{none-some}
@@ -18,36 +18,15 @@ use Rattle.text.specs.Laws.Places.{literals}
 use Rattle.template.specs.Laws.Fields.{numbers-append, nothing-held}
 use Rattle.pauli.specs.Pauli.{anticommutes}
 use Rattle.job.specs.Line.{SparsePauli, pauliOf, Line}
-use Rattle.job.specs.Grammar.{Written, Form as TableForm, forms, said, readBy, readLine}
-use Rattle.job.specs.Marks.{readAs}
-use Rattle.reader.specs.declared.Form.{Form}
+use Rattle.job.specs.Grammar.{Written, forms, readLine}
 use Rattle.reader.specs.declared.Form.the-variants as form
 use Rattle.reader.specs.Parsed.{placeOf, formOf}
-use Rattle.reader.specs.Laws.Sift.{sift, opens, opening, read-alone, read-by-bytes}
+use Rattle.reader.specs.Laws.Sift.{sift, opens}
+use Rattle.reader.specs.Laws.Tried.{one-form, by-values}
 use Rattle.instructions.specs.Laws.Meaning.{some-same}
 use Rattle.backward.specs.Walk.{carry, counts, oneMore, backward}
 use Rattle.lines_back.specs.Back.{writtenBack, noiseBack}
 use Rattle.walker.specs.Steps.{PassedOver}
-
--- ---- one form
-
--- a line whose bytes 0 and 3 leave one form
-pub one-form : (l : List ℕ) (a c : ℕ) (f : Form) → opening 3 c (opening 0 a forms) ≡ formOf f ∷ [] → getD l 0 0 ≡ a → getD l 3 0 ≡ c → readLine l ≡ readAs (formOf f) l
-one-form l a c f left e g =
-    read-by-bytes l
-    ∙ ap (λ (b : ℕ). readBy (opening 3 (getD l 3 0) (opening 0 b forms)) l) e
-    ∙ ap (λ (b : ℕ). readBy (opening 3 b (opening 0 a forms)) l) g
-    ∙ ap (λ (gs : List TableForm). readBy gs l) left
-    ∙ read-alone (formOf f) l
-
--- what a line says by a form, it says by its values
-pub by-values : (f : TableForm) (l : List ℕ) (v : Written) → readAs f l ≡ some v → (vs : List Value) × (valuesOf (f .template) l ≡ some vs) × (f .says vs ≡ some v)
-unfolding said
-by-values f l v e = go (valuesOf (f .template) l) refl e
-  where
-    go : (o : Option (List Value)) → valuesOf (f .template) l ≡ o → said (f .says) o ≡ some v → (vs : List Value) × (valuesOf (f .template) l ≡ some vs) × (f .says vs ≡ some v)
-    go none p q = absurd (none-some q)
-    go (some vs) p q = (vs, p, q)
 
 -- ---- lines that do nothing in any shot
 

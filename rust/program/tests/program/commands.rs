@@ -53,6 +53,11 @@ fn each_command_does_its_work() {
     let annotated = measured.replace("op=o", &format!("{noise}\nop=o"));
     assert_eq!(call("annotate - --p 0.5", measured), Done::printed(annotated.clone()));
     assert_eq!(call("annotate - --p-bits 3fe0000000000000", measured), Done::printed(annotated.clone()));
+    let below = Done {
+        stderr: "note: p is below zero: no fault will fall\n".into(),
+        ..Done::printed(annotated.replace("3fe", "bfe"))
+    };
+    assert_eq!(call("annotate - --p -0.5", measured), below);
     let out = argument(folder.join("annotated"));
     assert_eq!(call(&format!("annotate - --p 0.5 --output {out}"), measured), Done::printed(""));
     assert_eq!(fs::read_to_string(out).ok(), Some(annotated));
@@ -247,8 +252,15 @@ fn refusals_are_said_in_words() {
     assert_eq!(refused("walk - --shot 1 --set -", header, &walk), "the job's shots are 0 to 0");
     assert_eq!(refused("faults - --group 0", header, &walk), "the job records no outcome");
     let recorded = format!("{header}op=r id=0 angle=0\n");
-    let hint = refused("dem - --detector 0 --observable 1", &recorded, &walk);
-    assert_eq!(hint, "a group names recorded outcomes, 0 to 0, and rises strictly");
+    for (arguments, what) in [
+        ("walk - --shot 0 --set 1", "--set"),
+        ("faults - --group 0 --group 0,0", "the group 0,0"),
+        ("dem - --detector 0 --detector 3,2", "the detector 3,2"),
+        ("dem - --detector 0 --observable 1", "the observable 1"),
+    ] {
+        let hint = format!("{what}: it names recorded outcomes, 0 to 0, and rises strictly");
+        assert_eq!(refused(arguments, &recorded, &walk), hint);
+    }
     let many = format!("faults -{}", " --group 0".repeat(17));
     let hint = refused(&many, &recorded, &format!("refused: {}", kundatrezo::Number::GROUPS));
     assert_eq!(hint, "each --group is a group, and a table has 1 to 16 of them");
@@ -311,7 +323,8 @@ fn arguments_at_fault() {
         ("run - --seed 1 --seed 2", "the option --seed is given twice"),
         ("run - --seed x", "the value of --seed is to be a number below 2^64, not 'x'"),
         ("run - --seed 18446744073709551616", "the value of --seed is to be a number below 2^64"),
-        ("make --qubits 1 --shots 1 --lines 1 --seed 1", "--qubits, --outcomes, --shots, --lines, --seed are wanted"),
+        ("make --qubits 1 --shots 1 --lines 1 --seed 1", "--outcomes is wanted\n"),
+        ("make", "--qubits, --outcomes, --shots, --lines and --seed are wanted\n"),
         ("make 5", "no argument is wanted"),
         ("fill --seed 1", "--words is wanted for words that are made"),
         ("fill --words 5", "--seed or --state is wanted"),
@@ -327,7 +340,9 @@ fn arguments_at_fault() {
         ("completions", "SHELL is to be one of bash, zsh, fish"),
         ("completions sh", "SHELL is to be one of bash, zsh, fish"),
         ("man man", "no argument is wanted"),
-        ("walk - --shot 0", "--shot and --set are wanted"),
+        ("walk - --shot 0", "--set is wanted\n"),
+        ("walk -", "--shot and --set are wanted\n"),
+        ("run - --shots 1000", "--shots of 'run' names a file (./5 one that is called 5); the number of shots is the "),
         ("walk - --shot 0 --set 1,,2", "the value of --set is to be numbers with commas between"),
         ("share --seed 1 --words 5", "--shares is wanted"),
         ("share --seed 1 --shares 5", "--words is wanted for words that are made"),

@@ -84,7 +84,9 @@ fn refusals() {
 fn read_me() {
     for page in ["rust/README.md", "README.md", "docs/SAMPLING.md"] {
         let folder = session_folder(&page.replace('/', "_"));
-        let steps = steps(&document(page));
+        // the first page also has lines that build and install, which the tests do on their own
+        let is_run = |step: &Step| page != "README.md" || step.command.starts_with("kundatrezo ");
+        let steps: Vec<Step> = steps(&document(page)).into_iter().filter(is_run).collect();
         assert!(!steps.is_empty(), "{page}");
         for step in &steps {
             run(step, &folder);

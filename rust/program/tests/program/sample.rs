@@ -186,6 +186,14 @@ fn refusals_and_wrong_arguments() {
     fails(&sample("--set 3,1"), "", 1, "refused: 17 ");
     fails(&sample("--set 3,7"), "", 1, "hint: the set 3,7: it names recorded outcomes, 0 to 6, and rises strictly");
     fails(&sample("--set a"), "", 2, "a set is to be numbers");
+    let sets = folder("sample_sets").join("sets").into_os_string().into_string().expect("a plain path");
+    for (text, status, said) in [
+        ("0\n\n", 2, ", line 2: a set is to be numbers with commas between, or -, not ''\n"),
+        ("-\n0\n3,7\n", 1, ", line 3: the set 3,7: it names recorded outcomes, 0 to 6, and rises strictly\n"),
+    ] {
+        fs::write(&sets, text).expect("it can be written");
+        fails(&sample(&format!("--sets {sets}")), "", status, &format!("{sets}{said}"));
+    }
     for part in ["0/2", "3/2", "1", "1/0", "-1/2"] {
         fails(&sample(&format!("--part {part}")), "", 2, "I/K, with I from 1 to K");
     }
@@ -193,7 +201,7 @@ fn refusals_and_wrong_arguments() {
     fails(&sample("--threads 0"), "", 2, "a number from 1");
     fails(&sample("--named here"), "", 2, "'whole' or 'block'");
     fails(&sample("--seed 2"), "", 2, "the option --seed is given twice");
-    fails(&format!("sample {SYNDROME} --shots 10"), "", 2, "--shots and --seed are wanted");
+    fails(&format!("sample {SYNDROME} --shots 10"), "", 2, "kundatrezo: --seed is wanted\n");
     fails(&format!("sample {SYNDROME} --shots 0 --seed 1"), "", 2, "at least 1");
     let far = wide().replace("corr=8300", "corr=18446744073709551000");
     let hint = "op=n p=3fb999999999999a corr=18446744073709551000 cond=- parity=0 d=1 x=1 z=- size=1\nhint: place corr";

@@ -70,8 +70,8 @@ fn what_is_not_split_or_added() {
     assert!(refused.stderr.ends_with(", and split the settled job\n"), "{refused:?}");
     assert!(!folder.join("part0.job").exists());
     let cases = [
-        ("split - --parts 2", "--parts and --prefix are wanted"),
-        ("split - --prefix /part", "--parts and --prefix are wanted"),
+        ("split - --parts 2", "--prefix is wanted"),
+        ("split - --prefix /part", "--parts is wanted"),
         ("split - --parts 0 --prefix /part", "the value of --parts is to be from 1 to the job's shots, 70"),
         ("split - --parts 71 --prefix /part", "the value of --parts is to be from 1 to the job's shots, 70"),
         ("add", "FILE is missing"),

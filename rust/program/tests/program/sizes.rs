@@ -1,4 +1,4 @@
-//! Jobs that were written before noise lines had a size.
+//! Jobs whose noise lines lack a size.
 
 use crate::common::{Done, folder, kundatrezo};
 use crate::documents::document;

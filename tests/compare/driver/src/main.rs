@@ -49,7 +49,7 @@ usage: compare CALL N [SEED]      N random inputs of a call: check, run, settle,
                                   changed inputs through every call for so long, led by what they reach; FOLDER keeps those that reach something new
        compare replay [more]      the list of the program replay_calls, or of replay_more, on standard output
        compare bench [PART]       times beside the published Rust's and document 01's by hand; PART is checks, runs, tables,
-                                  around, faults, shares, seeds, turns, or a file with a job
+                                  around, faults, shares, seeds, turns, long, or a file with a job
 A difference is seen again by `compare CALL 1 SEED` with the seed that it prints.";
 
 /// The calls under test, and which of them are the library's; the others are document 01's plainest form.

@@ -5,7 +5,7 @@ use borrow.Author.Tests.{not-true, not-false}
 use lib.ListN.{length}
 use lib.Seq.{length-take-le}
 use Rattle.writer.specs.Laws.Placing.{rest-length}
-use Rattle.instructions.specs.Laws.Lines.{some-read}
+use Rattle.instructions.specs.Laws.Lines.{left-known, some-read}
 use Rattle.annotation.specs.Laws.Annotating.{start-put, Annotating, put-none, put-stops, fits-few, put-room, put-more, put-all}
 use native.Mathlib.Omega.{arith}
 use Rattle.annotation.proofs.around.put_annotated.Statement.{statement}
@@ -26,23 +26,23 @@ put-start-requires c κs = tt
 loop-holds : tie.Need-loop-holds Inv-loop μ-loop
 loop-holds c = (put-none (c .before .before .before .before .before .pre), refl, refl)
 
-slice-aggregate-next-line : tie.Need-slice-aggregate-next-line Inv-loop μ-loop
-slice-aggregate-next-line c = omega arith
+slice-aggregate-next-known : tie.Need-slice-aggregate-next-known Inv-loop μ-loop
+slice-aggregate-next-known c = omega arith
 
-next-line-requires : tie.Need-next-line-requires Inv-loop μ-loop
-next-line-requires c κs = (c .before .before .loop .inv .0 .left .ended, c .before .loop-test .taken, omega (arith, c .before .before .loop .inv .1))
+next-known-requires : tie.Need-next-known-requires Inv-loop μ-loop
+next-known-requires c κs = (left-known (c .before .before .loop .inv .0 .left) (c .before .loop-test .taken), omega (arith, c .before .before .loop .inv .1))
 
 add-end : tie.Need-add-end Inv-loop μ-loop
-add-end c = omega (arith, c .before .before .next-line .ensures .place .inside, c .before .before .before .before .before .loop .inv .0 .left .size)
+add-end c = omega (arith, c .before .before .next-known .ensures .place .inside, c .before .before .before .before .before .loop .inv .0 .left .size)
 
 slice-aggregate-noise-qubits : tie.Need-slice-aggregate-noise-qubits Inv-loop μ-loop
-slice-aggregate-noise-qubits c = omega (arith, c .before .before .before .before .before .before .loop .inv .1, c .before .before .before .next-line .kept)
+slice-aggregate-noise-qubits c = omega (arith, c .before .before .before .before .before .before .loop .inv .1, c .before .before .before .next-known .kept)
 
 slice-aggregate-noise-qubits-2 : tie.Need-slice-aggregate-noise-qubits-2 Inv-loop μ-loop
 slice-aggregate-noise-qubits-2 c = omega (arith, c .before .before .before .before .before .before .before .loop .inv .2)
 
 noise-qubits-requires : tie.Need-noise-qubits-requires Inv-loop μ-loop
-noise-qubits-requires c κs = (some-read (c .before .before .before .before .before .before .before .loop .inv .0 .left) (c .before .before .before .before .next-line .ensures), omega (arith, c .before .before .before .before .before .before .before .loop .inv .1, c .before .before .before .before .next-line .kept), omega (arith, c .before .before .before .before .before .before .before .loop .inv .2))
+noise-qubits-requires c κs = (some-read (c .before .before .before .before .before .before .before .loop .inv .0 .left) (c .before .before .before .before .next-known .ensures), omega (arith, c .before .before .before .before .before .before .before .loop .inv .1, c .before .before .before .before .next-known .kept), omega (arith, c .before .before .before .before .before .before .before .loop .inv .2))
 
 array-share-prefix-qubits : tie.Need-array-share-prefix-qubits Inv-loop μ-loop
 array-share-prefix-qubits c = omega (arith, c .before .noise-qubits .ensures .few, c .before .noise-qubits .kept, c .before .before .before .before .before .before .before .before .before .loop .inv .2)
@@ -57,19 +57,19 @@ same-length : tie.Need-same-length Inv-loop μ-loop
 same-length c = rest-length (c .before .before .before .before .before .before .before .before .before .before .before .before .loop .inv .0 .rest)
 
 returns : tie.Need-returns Inv-loop μ-loop
-returns c = put-stops (c .before .before .before .before .before .before .before .before .before .before .before .before .loop .inv .0) (c .before .before .before .before .before .before .before .before .before .next-line .ensures) (c .before .before .before .before .noise-qubits .ensures) (sym (not-true _ (c .if1 .taken)) ∙ c .before .fit .ensures)
+returns c = put-stops (c .before .before .before .before .before .before .before .before .before .before .before .before .loop .inv .0) (c .before .before .before .before .before .before .before .before .before .next-known .ensures) (c .before .before .before .before .noise-qubits .ensures) (sym (not-true _ (c .if1 .taken)) ∙ c .before .fit .ensures)
 
 noise-before-requires : tie.Need-noise-before-requires Inv-loop μ-loop
 noise-before-requires c κs = tt
 
 sub-put-around : tie.Need-sub-put-around Inv-loop μ-loop
-sub-put-around c = omega (arith, c .before .before .before .before .before .before .before .before .before .before .before .next-line .ensures .place .begins)
+sub-put-around c = omega (arith, c .before .before .before .before .before .before .before .before .before .before .before .next-known .ensures .place .begins)
 
 part-put-around-start : tie.Need-part-put-around-start Inv-loop μ-loop
-part-put-around-start c = omega (arith, c .before .before .before .before .before .before .before .before .before .before .before .next-line .ensures .place .begins)
+part-put-around-start c = omega (arith, c .before .before .before .before .before .before .before .before .before .before .before .next-known .ensures .place .begins)
 
 part-put-around-end : tie.Need-part-put-around-end Inv-loop μ-loop
-part-put-around-end c = omega (arith, c .before .before .before .before .before .before .before .before .before .before .before .next-line .ensures .place .inside)
+part-put-around-end c = omega (arith, c .before .before .before .before .before .before .before .before .before .before .before .next-known .ensures .place .inside)
 
 slice-aggregate-put-around : tie.Need-slice-aggregate-put-around Inv-loop μ-loop
 slice-aggregate-put-around c = omega (arith, c .before .before .before .before .before .before .before .before .before .before .before .before .before .before .before .before .before .before .put-start .kept)
@@ -77,16 +77,16 @@ slice-aggregate-put-around c = omega (arith, c .before .before .before .before .
 put-around-requires : tie.Need-put-around-requires Inv-loop μ-loop
 put-around-requires c κs =
     let fits = sym (not-false _ (c .before .before .before .before .if1 .left)) ∙ c .before .before .before .before .before .fit .ensures in
-    (record { probability = _; text = start-put (c .before .before .before .before .before .before .before .before .before .before .before .before .before .before .before .before .before .before .before .before .before .before .args .p) (c .before .before .before .before .before .before .before .before .before .before .before .before .before .before .before .before .before .before .put-start .ensures) (c .before .before .before .before .before .before .before .before .before .before .before .before .before .before .before .before .before .before .put-start .kept .0) }, fits-few (c .before .before .before .before .before .before .before .before .before .before .before .before .before .before .before .before .loop .inv .0) (c .before .before .before .before .before .before .before .before .before .before .before .before .before .next-line .ensures) (c .before .before .before .before .before .before .before .before .noise-qubits .ensures) fits, put-room (c .before .before .before .before .before .before .before .before .before .before .before .before .before .before .before .before .loop .inv .0) (c .before .before .before .before .before .before .before .before .before .before .before .before .before .next-line .ensures) (c .before .before .before .before .before .before .before .before .noise-qubits .ensures) fits)
+    (record { probability = _; text = start-put (c .before .before .before .before .before .before .before .before .before .before .before .before .before .before .before .before .before .before .before .before .before .before .args .p) (c .before .before .before .before .before .before .before .before .before .before .before .before .before .before .before .before .before .before .put-start .ensures) (c .before .before .before .before .before .before .before .before .before .before .before .before .before .before .before .before .before .before .put-start .kept .0) }, fits-few (c .before .before .before .before .before .before .before .before .before .before .before .before .before .before .before .before .loop .inv .0) (c .before .before .before .before .before .before .before .before .before .before .before .before .before .next-known .ensures) (c .before .before .before .before .before .before .before .before .noise-qubits .ensures) fits, put-room (c .before .before .before .before .before .before .before .before .before .before .before .before .before .before .before .before .loop .inv .0) (c .before .before .before .before .before .before .before .before .before .before .before .before .before .next-known .ensures) (c .before .before .before .before .before .before .before .before .noise-qubits .ensures) fits)
 
 add-k : tie.Need-add-k Inv-loop μ-loop
 add-k c = omega (arith, c .before .before .before .before .before .before .before .before .before .before .before .before .before .before .before .before .before .before .before .loop .inv .0 .left .number, c .before .before .before .before .before .before .before .before .before .before .before .before .before .before .before .before .before .before .before .loop .inv .0 .left .within, c .before .before .before .before .before .before .before .before .before .before .before .before .before .before .before .before .before .before .before .loop .inv .0 .left .size)
 
 loop-less : tie.Need-loop-less Inv-loop μ-loop
-loop-less c = omega (arith, c .before .before .before .before .before .before .before .before .before .before .before .before .before .before .before .before .next-line .ensures .place .begins, c .before .before .before .before .before .before .before .before .before .before .before .before .before .before .before .before .next-line .ensures .place .inside)
+loop-less c = omega (arith, c .before .before .before .before .before .before .before .before .before .before .before .before .before .before .before .before .next-known .ensures .place .begins, c .before .before .before .before .before .before .before .before .before .before .before .before .before .before .before .before .next-known .ensures .place .inside)
 
 loop-again : tie.Need-loop-again Inv-loop μ-loop
-loop-again c = (put-more (c .before .before .before .before .before .before .before .before .before .before .before .before .before .before .before .before .before .before .before .loop .inv .0) (c .before .before .before .before .before .before .before .before .before .before .before .before .before .before .before .before .next-line .ensures) (c .before .before .before .before .before .before .before .before .before .before .before .noise-qubits .ensures) _ (sym (not-false _ (c .before .before .before .before .before .before .before .if1 .left)) ∙ c .before .before .before .before .before .before .before .before .fit .ensures) (c .before .before .before .before .before .before .noise-before .ensures) (c .before .before .put-around .ensures _ (start-put (c .before .before .before .before .before .before .before .before .before .before .before .before .before .before .before .before .before .before .before .before .before .before .before .before .before .args .p) (c .before .before .before .before .before .before .before .before .before .before .before .before .before .before .before .before .before .before .before .before .before .put-start .ensures) (c .before .before .before .before .before .before .before .before .before .before .before .before .before .before .before .before .before .before .before .before .before .put-start .kept .0))), omega (arith, c .before .before .before .before .before .before .before .before .before .before .before .before .before .before .before .before .before .before .before .loop .inv .1, c .before .before .before .before .before .before .before .before .before .before .before .before .before .before .before .before .next-line .kept), omega (arith, c .before .before .before .before .before .before .before .before .before .before .before .before .before .before .before .before .before .before .before .loop .inv .2, c .before .before .before .before .before .before .before .before .before .before .before .noise-qubits .kept))
+loop-again c = (put-more (c .before .before .before .before .before .before .before .before .before .before .before .before .before .before .before .before .before .before .before .loop .inv .0) (c .before .before .before .before .before .before .before .before .before .before .before .before .before .before .before .before .next-known .ensures) (c .before .before .before .before .before .before .before .before .before .before .before .noise-qubits .ensures) _ (sym (not-false _ (c .before .before .before .before .before .before .before .if1 .left)) ∙ c .before .before .before .before .before .before .before .before .fit .ensures) (c .before .before .before .before .before .before .noise-before .ensures) (c .before .before .put-around .ensures _ (start-put (c .before .before .before .before .before .before .before .before .before .before .before .before .before .before .before .before .before .before .before .before .before .before .before .before .before .args .p) (c .before .before .before .before .before .before .before .before .before .before .before .before .before .before .before .before .before .before .before .before .before .put-start .ensures) (c .before .before .before .before .before .before .before .before .before .before .before .before .before .before .before .before .before .before .before .before .before .put-start .kept .0))), omega (arith, c .before .before .before .before .before .before .before .before .before .before .before .before .before .before .before .before .before .before .before .loop .inv .1, c .before .before .before .before .before .before .before .before .before .before .before .before .before .before .before .before .next-known .kept), omega (arith, c .before .before .before .before .before .before .before .before .before .before .before .before .before .before .before .before .before .before .before .loop .inv .2, c .before .before .before .before .before .before .before .before .before .before .before .noise-qubits .kept))
 
 same-length-2 : tie.Need-same-length-2 Inv-loop μ-loop
 same-length-2 c = rest-length (c .before .loop .inv .0 .rest)
@@ -103,8 +103,8 @@ put-annotated-spec =
     slice-aggregate-put-start
     put-start-requires
     loop-holds
-    slice-aggregate-next-line
-    next-line-requires
+    slice-aggregate-next-known
+    next-known-requires
     add-end
     slice-aggregate-noise-qubits
     slice-aggregate-noise-qubits-2

@@ -32,8 +32,8 @@ number-requires c κs = search needs
 weight-requires : tie.Need-weight-requires
 weight-requires c κs = search needs
 
-enum-known-w : tie.Need-enum-known-w
-enum-known-w c = search needs
+enum-known-element-weight : tie.Need-enum-known-element-weight
+enum-known-element-weight c = search needs
 
 enum-told-2 : tie.Need-enum-told-2
 enum-told-2 c = search needs
@@ -43,7 +43,7 @@ returns-2 c =
     λ last vs w h p t q.
     let s = rw (c .before .before .before .before .before .before .enum-told .given .1) at h in
     let bits = c .before .before .before .before .before .number .ensures ∙ weight-held (c .before .before .before .before .before .before .before .before .before .args .c) s in
-    let right = rw bits at (only-accepted _ _ (sym (c .before .before .w .given .1) ∙ c .before .before .before .before .weight .ensures) .1) in
+    let right = rw bits at (only-accepted _ _ (sym (c .before .before .element-weight .given .1) ∙ c .before .before .before .before .weight .ensures) .1) in
     ap (add binary64 (c .before .before .before .before .before .before .before .before .before .args .c .total)) (sym right) ∙ total-next (c .before .before .before .before .before .before .before .before .before .args .c) s (passed-expected (contextOf (c .before .before .before .before .before .before .before .before .before .args .c)) last w p) t q
 
 returns-3 : tie.Need-returns-3
@@ -62,7 +62,7 @@ total-after-spec =
     returns
     number-requires
     weight-requires
-    enum-known-w
+    enum-known-element-weight
     enum-told-2
     returns-2
     returns-3)

@@ -27,8 +27,8 @@ number-requires c κs = search needs
 weight-requires : tie.Need-weight-requires
 weight-requires c κs = search needs
 
-enum-known-w : tie.Need-enum-known-w
-enum-known-w c = search needs
+enum-known-element-weight : tie.Need-enum-known-element-weight
+enum-known-element-weight c = search needs
 
 enum-told : tie.Need-enum-told
 enum-told c = search needs
@@ -48,7 +48,7 @@ returns-3 c =
     λ vs w h x.
     let t = tests-weighted-element (c .before .before .before .before .before .before .before .before .before .before .args .c) h x in
     let bits = c .before .before .before .before .before .before .number .ensures ∙ t .held .number 0 (omega arith) in
-    let right = only-accepted _ _ (sym (c .before .before .before .w .given .1) ∙ c .before .before .before .before .before .weight .ensures) .0 in
+    let right = only-accepted _ _ (sym (c .before .before .before .element-weight .given .1) ∙ c .before .before .before .before .before .weight .ensures) .0 in
     none-bad
     ∙ passes 12 _ _ (both-true (rw bits at right) (rw (ne-eqb (c .before .before .before .before .before .before .before .before .before .before .args .c .due) 1 (c .if2 .taken))))
     ∙ two-pass _ _ _ (c .before .before .before .before .before .before .before .before .pauli-number .ensures _ _ vs (t .held) (omega arith)) (omega arith) (omega arith) (c .before .before .before .before .before .before .before .if1 .left)
@@ -62,7 +62,7 @@ returns-4 c =
     λ vs w h x.
     let t = tests-weighted-element (c .before .before .before .before .before .before .before .before .before .before .before .before .before .args .c) h x in
     let bits = c .before .before .before .before .before .before .before .before .before .number .ensures ∙ t .held .number 0 (omega arith) in
-    let right = rw bits at (only-accepted _ _ (sym (c .before .before .before .before .before .before .w .given .1) ∙ c .before .before .before .before .before .before .before .before .weight .ensures) .1) in
+    let right = rw bits at (only-accepted _ _ (sym (c .before .before .before .before .before .before .element-weight .given .1) ∙ c .before .before .before .before .before .before .before .before .weight .ensures) .1) in
     let sum = ap (λ (y : Float). isTotal (add binary64 (c .before .before .before .before .before .before .before .before .before .before .before .before .before .args .c .total) y)) right ∙ sym (c .before .is-total .ensures) in
     fails 12 _ _ (right-false (isWeight (float (numberAt 0 vs))) _ (last-total _ (c .before .before .before .if2 .left) (sum ∙ not-true _ (c .if3 .taken))))
     ∙ two-pass _ _ _ (c .before .before .before .before .before .before .before .before .before .before .before .pauli-number .ensures _ _ vs (t .held) (omega arith)) (omega arith) (omega arith) (c .before .before .before .before .before .before .before .before .before .before .if1 .left)
@@ -73,7 +73,7 @@ returns-5 c =
     λ vs w h x.
     let t = tests-weighted-element (c .before .before .before .before .before .before .before .before .before .before .before .before .before .args .c) h x in
     let bits = c .before .before .before .before .before .before .before .before .before .number .ensures ∙ t .held .number 0 (omega arith) in
-    let passed = only-accepted _ _ (sym (c .before .before .before .before .before .before .w .given .1) ∙ c .before .before .before .before .before .before .before .before .weight .ensures) in
+    let passed = only-accepted _ _ (sym (c .before .before .before .before .before .before .element-weight .given .1) ∙ c .before .before .before .before .before .before .before .before .weight .ensures) in
     let right = rw bits at (passed .1) in
     let sum = ap (λ (y : Float). isTotal (add binary64 (c .before .before .before .before .before .before .before .before .before .before .before .before .before .args .c .total) y)) right ∙ sym (c .before .is-total .ensures) in
     none-bad
@@ -89,7 +89,7 @@ weighted-element-number-spec =
     returns
     number-requires
     weight-requires
-    enum-known-w
+    enum-known-element-weight
     enum-told
     returns-2
     returns-3

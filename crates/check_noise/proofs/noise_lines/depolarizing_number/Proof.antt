@@ -45,8 +45,8 @@ count-requires c κs = search needs
 depolarizing-size-requires : tie.Need-depolarizing-size-requires
 depolarizing-size-requires c κs = omega (arith, c .count .ensures, c .before .before .before .before .short .ensures .1 (not-false _ (c .before .before .before .if2 .left)) 2 (omega arith) (omega arith))
 
-alone-number-requires : tie.Need-alone-number-requires
-alone-number-requires c κs = search needs
+unlisted-number-requires : tie.Need-unlisted-number-requires
+unlisted-number-requires c κs = search needs
 
 returns-4 : tie.Need-returns-4
 returns-4 c =
@@ -54,7 +54,7 @@ returns-4 c =
     let t = tests-depolarizing (c .before .before .before .before .before .before .before .before .before .before .args .c) h in
     let once = c .before .before .before .before .slot-distinct .ensures _ _ vs (t .held) (omega arith) in
     let size = c .before .depolarizing-size .ensures ∙ ap (λ k. 4 ^ k - 1) (c .before .before .count .ensures ∙ t .held .count 2 (omega arith)) in
-    rw size at (c .alone-number .ensures _ vs (t .held) (omega arith))
+    rw size at (c .unlisted-number .ensures _ vs (t .held) (omega arith))
     ∙ passes 5 _ _ (both-true (sym once ∙ not-false _ (c .before .before .before .if3 .left)) (sym (c .before .before .before .before .before .before .short .ensures .0 _ _ vs (t .held) (omega arith)) ∙ not-false _ (c .before .before .before .before .before .if2 .left))) ∙ passes 4 _ _ (sym (c .before .before .before .before .before .before .before .before .below .ensures _ _ vs (t .held) (omega arith)) ∙ not-false _ (c .before .before .before .before .before .before .before .if1 .left)) ∙ t .own
 
 pub depolarizing-number-spec : {M : Type 1} → statement M
@@ -69,5 +69,5 @@ depolarizing-number-spec =
     returns-3
     count-requires
     depolarizing-size-requires
-    alone-number-requires
+    unlisted-number-requires
     returns-4)

@@ -26,17 +26,17 @@ returns-2 c =
     let t = tests-single (c .before .before .before .before .before .args .c) h in
     fails 5 _ _ (sym (c .before .short .ensures .0 _ _ vs (t .held) (omega arith)) ∙ not-true _ (c .if2 .taken)) ∙ passes 4 _ _ (sym (c .before .before .before .below .ensures _ _ vs (t .held) (omega arith)) ∙ not-false _ (c .before .before .if1 .left)) ∙ t .own
 
-alone-number-requires : tie.Need-alone-number-requires
-alone-number-requires c κs = search needs
+unlisted-number-requires : tie.Need-unlisted-number-requires
+unlisted-number-requires c κs = search needs
 
 returns-3 : tie.Need-returns-3
 returns-3 c =
     λ vs w h.
     let t = tests-single (c .before .before .before .before .before .before .args .c) h in
-    c .alone-number .ensures _ vs (t .held) (omega arith)
+    c .unlisted-number .ensures _ vs (t .held) (omega arith)
     ∙ passes 5 _ _ (sym (c .before .before .short .ensures .0 _ _ vs (t .held) (omega arith)) ∙ not-false _ (c .before .if2 .left)) ∙ passes 4 _ _ (sym (c .before .before .before .before .below .ensures _ _ vs (t .held) (omega arith)) ∙ not-false _ (c .before .before .before .if1 .left)) ∙ t .own
 
 pub single-number-spec : {M : Type 1} → statement M
 single-number-spec =
     tie.close
-    (tie.spec below-requires returns short-requires returns-2 alone-number-requires returns-3)
+    (tie.spec below-requires returns short-requires returns-2 unlisted-number-requires returns-3)

@@ -4,8 +4,8 @@ use borrow.Author.Needs.{needs}
 use Rattle.faults.proofs.elements.element_x.Statement.{statement}
 use Rattle.faults.proofs.elements.element_x.Tie as tie
 
-mul-a : tie.Need-mul-a
-mul-a c = search needs
+mul-start : tie.Need-mul-start
+mul-start c = search needs
 
 add-from : tie.Need-add-from
 add-from c = search needs
@@ -38,7 +38,7 @@ pub element-x-spec : {M : Type 1} → statement M
 element-x-spec =
     tie.close
     (tie.spec
-    mul-a
+    mul-start
     add-from
     mul-to
     shared-slice-read-to

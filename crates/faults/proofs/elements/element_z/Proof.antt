@@ -4,8 +4,8 @@ use borrow.Author.Needs.{needs}
 use Rattle.faults.proofs.elements.element_z.Statement.{statement}
 use Rattle.faults.proofs.elements.element_z.Tie as tie
 
-mul-a : tie.Need-mul-a
-mul-a c = search needs
+mul-start : tie.Need-mul-start
+mul-start c = search needs
 
 add-from : tie.Need-add-from
 add-from c = search needs
@@ -41,7 +41,7 @@ pub element-z-spec : {M : Type 1} → statement M
 element-z-spec =
     tie.close
     (tie.spec
-    mul-a
+    mul-start
     add-from
     add-to
     mul-to

@@ -1,6 +1,5 @@
 -- `faults::elements::gather` meets its contract. The invariant: the first e elements were read and kept.
-use Rattle.faults.specs.Laws.Gather.{gathered-none, gathered-inside, weight-sound, gathered-more}
-use Rattle.faults.specs.Laws.Elements.{kept-length}
+use Rattle.faults.specs.Laws.Gather.{gathered-none, gathered-known, weight-sound, gathered-more}
 use Rattle.faults.specs.Prepared.{ElementLines, Gathered}
 use lib.ListN.{length, length-set}
 use mathlib.Core.Path.{_≡_, refl, sym, subst, _∙_}
@@ -21,34 +20,37 @@ Inv-loop job from n weighted elements₀ weights₀ values₀ at₀ e₀ element
 abbrev μ-loop : tie.MeasureT-loop
 μ-loop job from n weighted elements₀ weights₀ values₀ at₀ e₀ elements weights values at e = n - e
 
+returns : tie.Need-returns Inv-loop μ-loop
+returns c = (λ z. refl, λ q. subst (Gathered q _ _ _) (sym (c .if1 .taken)) (gathered-none q _ _))
+
 loop-holds : tie.Need-loop-holds Inv-loop μ-loop
-loop-holds c = (omega arith, refl, c .before .before .before .pre .2, λ z. refl, λ q. gathered-none q _ _, refl)
+loop-holds c = (omega arith, refl, c .before .before .before .before .pre .2, λ z. refl, λ q. gathered-none q _ _, refl)
 
-slice-aggregate-next-line : tie.Need-slice-aggregate-next-line Inv-loop μ-loop
-slice-aggregate-next-line c = omega (arith, c .before .before .loop .inv .5)
+slice-aggregate-next-known : tie.Need-slice-aggregate-next-known Inv-loop μ-loop
+slice-aggregate-next-known c = omega (arith, c .before .before .loop .inv .5)
 
-next-line-requires : tie.Need-next-line-requires Inv-loop μ-loop
-next-line-requires c κs =
-    let q = c .before .before .before .before .before .before .pre .0 in
+next-known-requires : tie.Need-next-known-requires Inv-loop μ-loop
+next-known-requires c κs =
+    let q = c .before .before .before .before .before .before .before .pre .0 in
     let g = c .before .before .loop .inv .4 q in
-    (g .among .ended, gathered-inside q g (c .before .loop-test .taken), omega (arith, c .before .before .loop .inv .5))
+    (gathered-known q g (c .before .loop-test .taken), omega (arith, c .before .before .loop .inv .5))
 
 slice-aggregate-keep-element : tie.Need-slice-aggregate-keep-element Inv-loop μ-loop
-slice-aggregate-keep-element c = omega (arith, c .before .before .before .before .before .before .loop .inv .5, c .before .before .before .next-line .kept)
+slice-aggregate-keep-element c = omega (arith, c .before .before .before .before .before .before .loop .inv .5, c .before .before .before .next-known .kept)
 
 keep-element-requires : tie.Need-keep-element-requires Inv-loop μ-loop
-keep-element-requires c κs = (omega (arith, c .before .before .before .before .before .before .before .before .before .before .pre .1), omega (arith, c .before .before .before .before .before .before .loop .inv .5, c .before .before .before .next-line .kept), omega arith)
+keep-element-requires c κs = (omega (arith, c .before .before .before .before .before .before .before .before .before .before .before .pre .1), omega (arith, c .before .before .before .before .before .before .loop .inv .5, c .before .before .before .next-known .kept), omega arith)
 
 slice-aggregate-number : tie.Need-slice-aggregate-number Inv-loop μ-loop
-slice-aggregate-number c = omega (arith, c .before .before .before .before .before .before .before .before .before .before .loop .inv .5, c .before .before .before .before .before .before .before .next-line .kept)
+slice-aggregate-number c = omega (arith, c .before .before .before .before .before .before .before .before .before .before .loop .inv .5, c .before .before .before .before .before .before .before .next-known .kept)
 
 number-requires : tie.Need-number-requires Inv-loop μ-loop
-number-requires c κs = (omega arith, omega (arith, c .before .before .before .before .before .before .before .before .before .before .loop .inv .5, c .before .before .before .before .before .before .before .next-line .kept))
+number-requires c κs = (omega arith, omega (arith, c .before .before .before .before .before .before .before .before .before .before .loop .inv .5, c .before .before .before .before .before .before .before .next-known .kept))
 
 weight-of-requires : tie.Need-weight-of-requires Inv-loop μ-loop
 weight-of-requires c κs =
-    let q = c .before .before .before .before .before .before .before .before .before .before .before .before .before .before .before .pre .0 in
-    weight-sound q (c .before .before .before .before .before .before .before .before .before .before .before .loop .inv .4 q) (c .before .before .before .before .before .before .before .before .before .before .loop-test .taken) (c .before .before .before .before .before .before .before .before .next-line .ensures) (c .number .ensures)
+    let q = c .before .before .before .before .before .before .before .before .before .before .before .before .before .before .before .before .pre .0 in
+    weight-sound q (c .before .before .before .before .before .before .before .before .before .before .before .loop .inv .4 q) (c .before .before .before .before .before .before .before .before .before .before .loop-test .taken) (c .before .before .before .before .before .before .before .before .next-known .ensures) (c .number .ensures)
 
 mul-weights : tie.Need-mul-weights Inv-loop μ-loop
 mul-weights c = omega arith
@@ -57,7 +59,7 @@ slice-write-weights : tie.Need-slice-write-weights Inv-loop μ-loop
 slice-write-weights c = omega arith
 
 add-at : tie.Need-add-at Inv-loop μ-loop
-add-at c = omega (arith, c .before .before .before .before .before .before .before .before .before .before .next-line .ensures .place .inside)
+add-at c = omega (arith, c .before .before .before .before .before .before .before .before .before .before .next-known .ensures .place .inside)
 
 add-e : tie.Need-add-e Inv-loop μ-loop
 add-e c = omega arith
@@ -69,25 +71,24 @@ loop-again : tie.Need-loop-again Inv-loop μ-loop
 loop-again c =
     let inv = c .before .before .before .before .before .before .before .before .before .before .before .before .before .loop .inv in (
       omega arith,
-      kept-length _ _ _ _ _ (c .before .before .before .before .before .before .keep-element .ensures) ∙ inv .1,
+      c .before .before .before .before .before .before .keep-element .ensures .long ∙ inv .1,
       simp length-set (inv .2),
-      λ (z : c .before .before .before .before .before .before .before .before .before .before .before .before .before .before .before .before .before .args .n ≡ 0). absurd (omega arith),
+      λ (z : c .before .before .before .before .before .before .before .before .before .before .before .before .before .before .before .before .before .before .args .n ≡ 0). absurd (omega arith),
       λ q.
-          rw (c .before .before .before .before .before .before .keep-element .ensures)
-          (gathered-more q (inv .4 q) (c .before .before .before .before .before .before .before .before .before .before .before .before .loop-test .taken) (c .before .before .before .before .before .before .before .before .before .before .next-line .ensures) (omega (arith, c .before .before .before .before .before .before .before .before .before .before .before .before .before .before .before .before .before .pre .1)) (inv .2) (c .before .before .number .ensures) _ (c .before .weight-of .ensures)),
-      omega (arith, inv .5, c .before .before .before .before .before .before .before .before .before .before .next-line .kept),
+          gathered-more q (inv .4 q) (c .before .before .before .before .before .before .before .before .before .before .before .before .loop-test .taken) (c .before .before .before .before .before .before .before .before .before .before .next-known .ensures) (omega (arith, c .before .before .before .before .before .before .before .before .before .before .before .before .before .before .before .before .before .before .pre .1)) (inv .2) (c .before .before .before .before .before .before .keep-element .ensures) (c .before .before .number .ensures) _ (c .before .weight-of .ensures),
+      omega (arith, inv .5, c .before .before .before .before .before .before .before .before .before .before .next-known .kept),
     )
 
 same-length : tie.Need-same-length Inv-loop μ-loop
 same-length c = c .before .loop .inv .1
 
 same-length-2 : tie.Need-same-length-2 Inv-loop μ-loop
-same-length-2 c = c .before .loop .inv .2 ∙ sym (c .before .before .before .before .before .pre .2)
+same-length-2 c = c .before .loop .inv .2 ∙ sym (c .before .before .before .before .before .before .pre .2)
 
-returns : tie.Need-returns Inv-loop μ-loop
-returns c =
+returns-2 : tie.Need-returns-2 Inv-loop μ-loop
+returns-2 c =
     let inv = c .before .loop .inv in
-    let done : c .before .loop .e ≡ c .before .before .before .before .before .args .n = omega arith in
+    let done : c .before .loop .e ≡ c .before .before .before .before .before .before .args .n = omega arith in
     (inv .3, λ q. subst (Gathered q _ _ _) done (inv .4 q))
 
 pub gather-spec : {M : Type 1} → statement M
@@ -96,9 +97,10 @@ gather-spec =
     (tie.spec
     Inv-loop
     μ-loop
+    returns
     loop-holds
-    slice-aggregate-next-line
-    next-line-requires
+    slice-aggregate-next-known
+    next-known-requires
     slice-aggregate-keep-element
     keep-element-requires
     slice-aggregate-number
@@ -112,4 +114,4 @@ gather-spec =
     loop-again
     same-length
     same-length-2
-    returns)
+    returns-2)

@@ -1,5 +1,5 @@
 -- `faults::elements::keep_element` meets its contract.
-use Rattle.faults.specs.Laws.Elements.{kept-size, kept-by, kept-length, copy-length}
+use Rattle.faults.specs.Laws.Elements.{kept-size, kept-by, copy-length}
 use lib.ListN.{length-set}
 use Prim.Native.Nat.{_+_}
 use native.Mathlib.Omega.{arith}
@@ -7,8 +7,8 @@ use borrow.Author.Needs.{needs}
 use Rattle.faults.proofs.elements.keep_element.Statement.{statement}
 use Rattle.faults.proofs.elements.keep_element.Tie as tie
 
-mul-a : tie.Need-mul-a
-mul-a c = search needs
+mul-start : tie.Need-mul-start
+mul-start c = search needs
 
 add-second : tie.Need-add-second
 add-second c = search needs
@@ -40,8 +40,11 @@ add-copy c = search needs
 kept-requires : tie.Need-kept-requires
 kept-requires c κs = search needs
 
+kept-count-requires : tie.Need-kept-count-requires
+kept-count-requires c κs = search needs
+
 copy-requires : tie.Need-copy-requires
-copy-requires c κs = (simp length-set (omega arith), omega (arith, kept-size (c .before .before .before .before .before .before .args .values .now) (c .before .before .before .before .before .before .args .first) (c .kept .ensures) (c .before .before .before .before .before .before .pre .1) (omega arith)))
+copy-requires c κs = (simp length-set (omega (arith, c .kept-count .ensures)), omega (arith, c .kept-count .ensures, kept-size (c .before .before .before .before .before .before .before .args .values .now) (c .before .before .before .before .before .before .before .args .first) (c .before .kept .ensures) (c .before .before .before .before .before .before .before .pre .1) (omega arith)))
 
 add-copy-2 : tie.Need-add-copy-2
 add-copy-2 c = search needs
@@ -49,22 +52,27 @@ add-copy-2 c = search needs
 kept-requires-2 : tie.Need-kept-requires-2
 kept-requires-2 c κs = search needs
 
+kept-count-requires-2 : tie.Need-kept-count-requires-2
+kept-count-requires-2 c κs = search needs
+
 copy-requires-2 : tie.Need-copy-requires-2
 copy-requires-2 c κs =
-    let long = simp length-set at (copy-length _ _ _ _ _ _ (c .before .before .before .before .copy .ensures)) in
-    (omega (arith, long), omega (arith, kept-size (c .before .before .before .before .before .before .before .before .before .before .before .args .values .now) (c .before .before .before .before .before .before .before .before .before .before .before .args .first + 1) (c .kept2 .ensures) (c .before .before .before .before .before .before .before .before .before .before .before .pre .1) (omega arith)))
+    let start = c .before .before .before .before .before .before .before .before .before .before .before .before .before in
+    let long = simp length-set at (copy-length _ _ _ _ _ _ (c .before .before .before .before .before .copy .ensures)) in
+    (omega (arith, long, c .kept-count2 .ensures), omega (arith, c .kept-count2 .ensures, kept-size (start .args .values .now) (start .args .first + 1) (c .before .kept2 .ensures) (start .pre .1) (omega arith)))
 
 returns : tie.Need-returns
-returns c = kept-by _ _ _ _ (c .before .before .before .before .before .before .before .before .before .before .before .count .ensures) (c .before .before .before .before .before .before .before .before .before .before .count2 .ensures) (c .before .before .before .before .before .before .before .before .kept .ensures) (c .before .before .before .kept2 .ensures) (c .before .before .before .before .before .before .before .copy .ensures) (c .before .before .copy2 .ensures)
+returns c =
+    kept-by _ _ _ _ (c .before .before .before .before .before .before .before .before .before .before .before .before .before .before .before .before .pre .0) (c .before .before .before .before .before .before .before .before .before .before .before .before .before .count .ensures) (c .before .before .before .before .before .before .before .before .before .before .before .before .count2 .ensures) (c .before .before .before .before .before .before .before .before .before .before .kept .ensures) (c .before .before .before .before .kept2 .ensures) (c .before .before .before .before .before .before .before .before .before .kept-count .ensures) (c .before .before .before .kept-count2 .ensures) (c .before .before .before .before .before .before .before .before .copy .ensures) (c .before .before .copy2 .ensures)
 
 same-length : tie.Need-same-length
-same-length c = kept-length _ _ _ _ _ (returns c)
+same-length c = returns c .long
 
 pub keep-element-spec : {M : Type 1} → statement M
 keep-element-spec =
     tie.close
     (tie.spec
-    mul-a
+    mul-start
     add-second
     count-requires
     mul-elements
@@ -75,9 +83,11 @@ keep-element-spec =
     slice-write-elements-2
     add-copy
     kept-requires
+    kept-count-requires
     copy-requires
     add-copy-2
     kept-requires-2
+    kept-count-requires-2
     copy-requires-2
     same-length
     returns)

@@ -8,7 +8,7 @@ wrapping-sub-u64-requires : tie.Need-wrapping-sub-u64-requires
 wrapping-sub-u64-requires c κs = search needs
 
 returns : tie.Need-returns
-returns c = λ p e. top-falls _ _ (c .before .fits .w .fits) p e _ (c .wrapping-sub-u64 .ok) (c .wrapping-sub-u64 .ensures)
+returns c = λ p e. top-falls _ _ (c .before .fits .word .fits) p e _ (c .wrapping-sub-u64 .ok) (c .wrapping-sub-u64 .ensures)
 
 pub difference-spec : {M : Type 1} → statement M
 difference-spec = tie.close (tie.spec wrapping-sub-u64-requires returns)

@@ -4,7 +4,7 @@ use Rattle.noise.proofs.scan.falls_below.Statement.{statement}
 use Rattle.noise.proofs.scan.falls_below.Tie as tie
 
 returns : tie.Need-returns
-returns c = below-falls _ _ (c .fits .w .fits)
+returns c = below-falls _ _ (c .fits .word .fits)
 
 pub falls-below-spec : {M : Type 1} → statement M
 falls-below-spec = tie.close (tie.spec returns)

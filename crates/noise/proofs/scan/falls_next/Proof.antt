@@ -11,8 +11,8 @@ use Rattle.noise.proofs.scan.falls_next.Tie as tie
 next-word-requires : tie.Need-next-word-requires
 next-word-requires c κs = search needs
 
-enum-known-w : tie.Need-enum-known-w
-enum-known-w c = search needs
+enum-known-word : tie.Need-enum-known-word
+enum-known-word c = search needs
 
 falls-below-requires : tie.Need-falls-below-requires
 falls-below-requires c κs = search needs
@@ -22,10 +22,10 @@ enum-told c = search needs
 
 returns : tie.Need-returns
 returns c =
-    λ yes p e. subst (λ (x : ℕ). falls x p ≡ true) (word-read (c .before .before .before .before .next-word .ensures) (c .before .before .w .given .1) .1) (sym (c .falls-below .ensures p e) ∙ yes)
+    λ yes p e. subst (λ (x : ℕ). falls x p ≡ true) (word-read (c .before .before .before .before .next-word .ensures) (c .before .before .word .given .1) .1) (sym (c .falls-below .ensures p e) ∙ yes)
 
 returns-2 : tie.Need-returns-2
 returns-2 c = λ no. absurd (true≢false (sym no))
 
 pub falls-next-spec : {M : Type 1} → statement M
-falls-next-spec = tie.close (tie.spec next-word-requires enum-known-w falls-below-requires enum-told returns returns-2)
+falls-next-spec = tie.close (tie.spec next-word-requires enum-known-word falls-below-requires enum-told returns returns-2)

@@ -10,10 +10,10 @@ use Rattle.noise.proofs.scan.has_fault.Statement.{statement}
 use Rattle.noise.proofs.scan.has_fault.Tie as tie
 
 abbrev Inv-loop : tie.InvT-loop
-Inv-loop words at t seen₀ i₀ seen i = (i ≤ 8) × Seen t words at i seen
+Inv-loop words at threshold seen₀ i₀ seen i = (i ≤ 8) × Seen threshold words at i seen
 
 abbrev μ-loop : tie.MeasureT-loop
-μ-loop words at t seen₀ i₀ seen i = 8 - i
+μ-loop words at threshold seen₀ i₀ seen i = 8 - i
 
 loop-holds : tie.Need-loop-holds Inv-loop μ-loop
 loop-holds c = (omega arith, seen-none)

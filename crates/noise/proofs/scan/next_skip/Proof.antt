@@ -10,10 +10,10 @@ use Rattle.noise.proofs.scan.next_skip.Statement.{statement}
 use Rattle.noise.proofs.scan.next_skip.Tie as tie
 
 abbrev Inv-loop : tie.InvT-loop
-Inv-loop words more at shots t n i₀ i = Passed t (words ++ more) at n i
+Inv-loop words more at shots threshold n i₀ i = Passed threshold (words ++ more) at n i
 
 abbrev μ-loop : tie.MeasureT-loop
-μ-loop words more at shots t n i₀ i = n - i
+μ-loop words more at shots threshold n i₀ i = n - i
 
 -- the words of both parts are not too many
 room : (s : tie.Start Inv-loop μ-loop) → length (s .args .words .now ++ s .args .more .now) < 2 ^ 64

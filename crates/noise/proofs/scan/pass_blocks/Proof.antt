@@ -7,10 +7,10 @@ use Rattle.noise.proofs.scan.pass_blocks.Statement.{statement}
 use Rattle.noise.proofs.scan.pass_blocks.Tie as tie
 
 abbrev Inv-loop : tie.InvT-loop
-Inv-loop words at n t i₀ i = Passed t words at n i
+Inv-loop words at n threshold i₀ i = Passed threshold words at n i
 
 abbrev μ-loop : tie.MeasureT-loop
-μ-loop words at n t i₀ i = n - i
+μ-loop words at n threshold i₀ i = n - i
 
 loop-holds : tie.Need-loop-holds Inv-loop μ-loop
 loop-holds c = passed-none

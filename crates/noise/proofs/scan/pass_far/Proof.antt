@@ -27,7 +27,7 @@ pass-blocks-requires-2 c κs = let a = c .before .before .before .args in omega 
 returns-2 : tie.Need-returns-2
 returns-2 c =
     let a = c .before .before .before .before .args in
-    passed-second (a .t) (a .words .now) (a .more .now) (a .at) (c .before .if1 .left) (c .pass-blocks2 .ensures)
+    passed-second (a .threshold) (a .words .now) (a .more .now) (a .at) (c .before .if1 .left) (c .pass-blocks2 .ensures)
 
 pub pass-far-spec : {M : Type 1} → statement M
 pass-far-spec =

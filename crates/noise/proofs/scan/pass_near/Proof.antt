@@ -13,10 +13,10 @@ use Rattle.noise.proofs.scan.pass_near.Statement.{statement}
 use Rattle.noise.proofs.scan.pass_near.Tie as tie
 
 abbrev Inv-loop : tie.InvT-loop
-Inv-loop words more at n t i₀ i = Passed t (words ++ more) at n i
+Inv-loop words more at n threshold i₀ i = Passed threshold (words ++ more) at n i
 
 abbrev μ-loop : tie.MeasureT-loop
-μ-loop words more at n t i₀ i = n - i
+μ-loop words more at n threshold i₀ i = n - i
 
 loop-holds : tie.Need-loop-holds Inv-loop μ-loop
 loop-holds c = passed-none

@@ -10,7 +10,7 @@ use Rattle.noise.proofs.words.unit.Tie as tie
 
 int-to-float-result : tie.Need-int-to-float-result
 unfolding inFloat
-int-to-float-result c = le→leb (c .before .args .w / 2048) (2 ^ 53) (omega arith)
+int-to-float-result c = le→leb (c .before .args .word / 2048) (2 ^ 53) (omega arith)
 
 returns : tie.Need-returns
 unfolding unitOf ofBits ofInt

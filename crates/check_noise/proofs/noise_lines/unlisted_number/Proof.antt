@@ -1,10 +1,10 @@
--- `check_noise::noise_lines::alone_number` meets its contract. Assumes nothing.
+-- `check_noise::noise_lines::unlisted_number` meets its contract. Assumes nothing.
 use native.Mathlib.Omega.{arith}
 use mathlib.Core.Path.{_∙_}
 use Rattle.check_values.specs.Laws.Lowest.{two-fail, two-pass}
 use borrow.Author.Needs.{needs}
-use Rattle.check_noise.proofs.noise_lines.alone_number.Statement.{statement}
-use Rattle.check_noise.proofs.noise_lines.alone_number.Tie as tie
+use Rattle.check_noise.proofs.noise_lines.unlisted_number.Statement.{statement}
+use Rattle.check_noise.proofs.noise_lines.unlisted_number.Tie as tie
 
 noise-number-requires : tie.Need-noise-number-requires
 noise-number-requires c κs = search needs
@@ -20,5 +20,5 @@ returns-2 c = λ lists vs h m.
     c .size-number .ensures _ _ vs h (omega arith)
     ∙ two-pass _ _ _ (c .before .before .noise-number .ensures _ _ vs h (omega arith) m) (omega arith) (omega arith) (c .before .if1 .left)
 
-pub alone-number-spec : {M : Type 1} → statement M
-alone-number-spec = tie.close (tie.spec noise-number-requires returns size-number-requires returns-2)
+pub unlisted-number-spec : {M : Type 1} → statement M
+unlisted-number-spec = tie.close (tie.spec noise-number-requires returns size-number-requires returns-2)

@@ -1,10 +1,10 @@
--- `walker::is_gate` meets its contract. Assumes nothing.
+-- `gate_text::is_gate` meets its contract. Assumes nothing.
 use mathlib.Core.Path.{sym}
 use mathlib.Core.Bool.{true≢false}
 use borrow.Author.Tests.{eqb-true}
 use borrow.Author.Needs.{needs}
-use Rattle.walker.proofs.is_gate.Statement.{statement}
-use Rattle.walker.proofs.is_gate.Tie as tie
+use Rattle.gate_text.proofs.is_gate.Statement.{statement}
+use Rattle.gate_text.proofs.is_gate.Tie as tie
 
 returns : tie.Need-returns
 returns c = λ e. absurd (true≢false (sym e))

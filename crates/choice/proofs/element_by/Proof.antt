@@ -1,12 +1,12 @@
--- `choice::place` meets its contract. The invariant: the sums passed, all below u, and those below u from here on are all that are.
+-- `choice::element_by` meets its contract. The invariant: the sums passed, all below u, and those below u from here on are all that are.
 use mathlib.Core.Path.{_≡_}
 use Prim.Native.Nat.{_+_, _-_, _≤_}
 use native.Mathlib.Omega.{arith}
 use lib.ListN.{length, drop}
 use Rattle.draws.specs.Known.{belowUnit}
 use Rattle.choice.specs.Laws.Sums.{below-more, below-stops}
-use Rattle.choice.proofs.place.Statement.{statement}
-use Rattle.choice.proofs.place.Tie as tie
+use Rattle.choice.proofs.element_by.Statement.{statement}
+use Rattle.choice.proofs.element_by.Tie as tie
 
 abbrev Inv-loop : tie.InvT-loop
 Inv-loop sums u i₀ i = (i ≤ length sums - 1) × (i + belowUnit u (drop i sums) ≡ belowUnit u sums)
@@ -45,8 +45,8 @@ returns c =
 returns-2 : tie.Need-returns-2 Inv-loop μ-loop
 returns-2 c = omega arith
 
-pub place-spec : {M : Type 1} → statement M
-place-spec =
+pub element-by-spec : {M : Type 1} → statement M
+element-by-spec =
     tie.close
     (tie.spec
     Inv-loop

@@ -1,10 +1,10 @@
--- `check_values::floats::number` meets its contract. Assumes nothing.
+-- `check_values::floats::float_of` meets its contract. Assumes nothing.
 use lib.Ieee.Bits.{nanBits-above}
 use borrow.Author.Tests.{lt-ltb, le-ltb}
 use Rattle.check_values.specs.Laws.Floats.{nan-test}
 use Rattle.check_values.specs.Floats.{onlyIf}
-use Rattle.check_values.proofs.floats.number.Statement.{statement}
-use Rattle.check_values.proofs.floats.number.Tie as tie
+use Rattle.check_values.proofs.floats.float_of.Statement.{statement}
+use Rattle.check_values.proofs.floats.float_of.Tie as tie
 
 returns : tie.Need-returns
 unfolding onlyIf
@@ -17,5 +17,5 @@ returns-2 : tie.Need-returns-2
 unfolding onlyIf
 returns-2 c = simp (nan-test, le-ltb _ _ (c .if1 .left))
 
-pub number-spec : {M : Type 1} → statement M
-number-spec = tie.close (tie.spec returns float-from-bits-t4 returns-2)
+pub float-of-spec : {M : Type 1} → statement M
+float-of-spec = tie.close (tie.spec returns float-from-bits-t4 returns-2)

@@ -1,0 +1,171 @@
+-- An element line of an accepted job, read from its places. Laws. Assumes nothing.
+use Prim.Native.Nat.{ℕ, _+_, _≤_}
+use native.Mathlib.Omega.{arith}
+use mathlib.Core.Path.{_≡_, refl, sym, ap, subst, _∙_}
+use mathlib.Core.Bool.{true}
+use mathlib.Core.List.{List, [], _∷_}
+use mathlib.Core.Option.{some}
+use lib.ListN.{length, getD, take, drop, set, length-drop}
+use lib.Seq.{length-take-le}
+use Rattle.text.specs.Bytes.{bytes, space, until}
+use Rattle.text.specs.Number.{allHex, hexFrom}
+use Rattle.text.specs.List.{listL}
+use Rattle.text.specs.Template.{Value, number, list, valueOf, valuesOf}
+use Rattle.text.specs.Laws.Pieces.{until-le}
+use Rattle.text.specs.Laws.Places.{literals}
+use Rattle.numbers.specs.Known.{field, ListThere}
+use Rattle.numbers.specs.Laws.Known.{hex-bytes}
+use Rattle.template.specs.Values.{Whole}
+use Rattle.template.specs.Fields.{Held, HasForm, KnownPut}
+use Rattle.template.specs.Laws.Fields.{nothing-held, held-number, held-list}
+use Rattle.gate_text.specs.Laws.Gate.{allPlain, plain-on, letter-on, number-value, list-value, end-values}
+use Rattle.job.specs.Grammar.{forms}
+use Rattle.reader.specs.declared.Form.the-variants as form
+use Rattle.reader.specs.Parsed.{placeOf, formOf, Parsed}
+use Rattle.reader.specs.Tried.{only, pauliPart}
+use Rattle.reader.specs.Laws.Sift.{sift, opens}
+use Rattle.reader.specs.Laws.Tried.{says, by-bytes, one-form, by-values}
+use Rattle.instructions.specs.Lines.{KnownLine}
+use Rattle.instructions.specs.Known.{xPlace, zPlace, ListsThere, ListsPut}
+
+-- ---- its two lists
+
+-- what stands where in `x=L z=L`, which begins at a place and goes to the line's end
+pub record Lists (line : List ℕ) (from : ℕ) (vs : List Value) : Type 0 where
+  pub xs : List ℕ
+  pub zs : List ℕ
+  pub x-within : xPlace from ≤ length line
+  pub z-within : zPlace line from ≤ length line
+  pub x : listL (field line (xPlace from)) ≡ some xs
+  pub z : listL (field line (zPlace line from)) ≡ some zs
+  pub all : vs ≡ list xs ∷ list zs ∷ []
+
+two-lists : {vs us ws : List Value} {v w : Value} {xs zs : List ℕ} → vs ≡ v ∷ us → v ≡ list xs → us ≡ w ∷ ws → w ≡ list zs → ws ≡ []
+    → vs ≡ list xs ∷ list zs ∷ []
+two-lists a b c d e = rw (a, b, c, d, e)
+
+pub lists : (line : List ℕ) (from : ℕ) (vs : List Value) → from ≤ length line → valuesOf pauliPart (drop from line) ≡ some vs → Lists line from vs
+unfolding pauliPart bytes valueOf valuesOf allPlain
+lists line from vs here reads =
+    let (x-within, from-x) = plain-on (bytes "x=") (bytes "L z=L") line from vs refl here reads in
+    let f = letter-on 76 (bytes " z=L") line (from + 2) vs refl from-x in
+    let (xs, x, v) = list-value _ _ (f .is) in
+    let e : ℕ = from + 2 + until space (drop (from + 2) line) in
+    let within : e ≤ length line = omega (arith, until-le space (drop (from + 2) line), length-drop (from + 2) line) in
+    let (z-within, from-z) = plain-on (bytes " z=") (bytes "L") line e (f .rest) refl within (f .rest-is) in
+    let g = letter-on 76 [] line (e + 3) (f .rest) refl from-z in
+    let (zs, z, w) = list-value _ _ (g .is) in
+    record {
+      xs = xs;
+      zs = zs;
+      x-within = x-within;
+      z-within = z-within;
+      x = x;
+      z = z;
+      all = two-lists (f .all) v (g .all) w (end-values _ (g .rest) (g .rest-is));
+    }
+
+pub lists-there : {line : List ℕ} {from : ℕ} {vs : List Value} → Lists line from vs → ListsThere line from
+lists-there l =
+    record {
+      x = record { within = l .x-within; members = l .xs; is = l .x };
+      z = record { within = l .z-within; members = l .zs; is = l .z };
+    }
+
+-- the second stands where the first one's end says, and both were put
+module _ {line : List ℕ} {from e : ℕ} {before between : List ℕ} (x : KnownPut line (xPlace from) 0 e before between) where
+  pub second-there : ListsThere line from → ListThere line (e + 3)
+  second-there t = subst (λ (k : ℕ). ListThere line (k + 3)) (sym (x .behind)) (t .z)
+
+  pub lists-put : {r : ℕ} {after : List ℕ} → KnownPut line (e + 3) 1 r between after → ListsPut line from before after
+  lists-put {r} {after} z =
+      let second : KnownPut line (zPlace line from) 1 r between after = subst (λ (k : ℕ). KnownPut line (k + 3) 1 r between after) (x .behind) z in
+      record { between = between; x = x .put; z = second .put }
+
+-- ---- the line without a weight
+
+module _ {text : List ℕ} (k : KnownLine text) (first : getD text 0 0 ≡ 120) where
+  pub element-values : (vs : List Value) × (valuesOf (formOf form.Element .template) text ≡ some vs)
+      × (formOf form.Element .says vs ≡ some (k .written))
+  unfolding forms placeOf bytes sift opens literals
+  element-values = by-values (formOf form.Element) text (k .written) (sym (one-form text 120 _ form.Element refl first refl) ∙ k .reads)
+
+  pub element-lists : Lists text 0 (element-values .0)
+  unfolding forms placeOf bytes pauliPart
+  element-lists = lists text 0 (element-values .0) (omega arith) (element-values .1)
+
+  pub element-parsed : (before : List ℕ) {after : List ℕ} → ListsPut text 0 before after → Parsed text form.Element after
+  unfolding forms placeOf bytes sift opens literals
+  element-parsed before {after} put =
+      let l = element-lists in
+      let one = held-list (nothing-held before) (omega arith) (put .x (l .xs) (l .x)) in
+      let both : Held after 0 2 (list (l .xs) ∷ list (l .zs) ∷ []) = held-list one (omega arith) (put .z (l .zs) (l .z)) in
+      let formed : HasForm text (formOf form.Element .template) after =
+      record { values = element-values .0; reads = element-values .1; held = subst (Held after 0 2) (sym (l .all)) both } in
+      by-bytes 120 _ first refl (only form.Element) refl (says form.Element refl formed (k .written) (element-values .2))
+
+-- ---- the line with a weight
+
+-- what stands where in `w=H x=L z=L`
+pub record Weighted (line : List ℕ) (vs : List Value) : Type 0 where
+  pub weight : ℕ
+  pub rest : List Value
+  pub within : 19 ≤ length line
+  pub digits : allHex (take 16 (drop 2 line)) ≡ true
+  pub is : hexFrom 0 (take 16 (drop 2 line)) ≡ weight
+  pub lists-of : Lists line 19 rest
+  pub all : vs ≡ number weight ∷ rest
+
+pub weight-long : {line : List ℕ} {vs : List Value} → Weighted line vs → length (take 16 (drop 2 line)) ≡ 16
+weight-long {line} w = length-take-le 16 (drop 2 line) (omega (arith, w .within, length-drop 2 line))
+
+pub weighted : (line : List ℕ) (vs : List Value) → valuesOf (bytes "w=H x=L z=L") line ≡ some vs → Weighted line vs
+unfolding pauliPart bytes valueOf valuesOf allPlain
+weighted line vs reads =
+    let (long, from-w) = plain-on (bytes "w=") (bytes "H x=L z=L") line 0 vs refl (omega arith) reads in
+    let f = letter-on 72 (bytes " x=L z=L") line 2 vs refl from-w in
+    let (n, is, v) = number-value _ _ (f .is) in
+    let (size, digits, value) = hex-bytes _ n is in
+    let wide : until space (drop 2 line) ≡ 16 =
+    sym (length-take-le (until space (drop 2 line)) (drop 2 line) (until-le space (drop 2 line))) ∙ size in
+    let behind : valuesOf (bytes " x=L z=L") (drop 18 line) ≡ some (f .rest) =
+    subst (λ (i : ℕ). valuesOf (bytes " x=L z=L") (drop (2 + i) line) ≡ some (f .rest)) wide (f .rest-is) in
+    let here : 18 ≤ length line = omega (arith, until-le space (drop 2 line), length-drop 2 line) in
+    let (within, from-lists) = plain-on (bytes " ") (bytes "x=L z=L") line 18 (f .rest) refl here behind in
+    record {
+      weight = n;
+      rest = f .rest;
+      within = within;
+      digits = subst (λ (i : ℕ). allHex (take i (drop 2 line)) ≡ true) wide digits;
+      is = subst (λ (i : ℕ). hexFrom 0 (take i (drop 2 line)) ≡ n) wide value;
+      lists-of = lists line 19 (f .rest) within from-lists;
+      all = f .all ∙ ap (λ (w : Value). w ∷ f .rest) v;
+    }
+
+module _ {text : List ℕ} (k : KnownLine text) (first : getD text 0 0 ≡ 119) where
+  pub weighted-values : (vs : List Value) × (valuesOf (formOf form.WeightedElement .template) text ≡ some vs)
+      × (formOf form.WeightedElement .says vs ≡ some (k .written))
+  unfolding forms placeOf bytes sift opens literals
+  weighted-values =
+      by-values (formOf form.WeightedElement) text (k .written) (sym (one-form text 119 _ form.WeightedElement refl first refl) ∙ k .reads)
+
+  pub weighted-parts : Weighted text (weighted-values .0)
+  unfolding forms placeOf bytes
+  weighted-parts = weighted text (weighted-values .0) (weighted-values .1)
+
+  pub weighted-parsed : (before : List ℕ) {marked after : List ℕ} → Whole before → marked ≡ set before 0 (hexFrom 0 (take 16 (drop 2 text)))
+      → ListsPut text 19 marked after → Parsed text form.WeightedElement after
+  unfolding forms placeOf bytes sift opens literals
+  weighted-parsed before {marked} {after} wide is-marked put =
+      let p = weighted-parts in
+      let l = p .lists-of in
+      let weight : Held marked 1 0 (number (p .weight) ∷ []) =
+      subst (λ (ws : List ℕ). Held ws 1 0 (number (p .weight) ∷ [])) (sym (is-marked ∙ ap (set before 0) (p .is)))
+      (held-number (nothing-held before) (p .weight) (omega arith) (omega arith)) in
+      let one = held-list weight (omega arith) (put .x (l .xs) (l .x)) in
+      let both : Held after 1 2 (number (p .weight) ∷ list (l .xs) ∷ list (l .zs) ∷ []) = held-list one (omega arith) (put .z (l .zs) (l .z)) in
+      let are : number (p .weight) ∷ list (l .xs) ∷ list (l .zs) ∷ [] ≡ weighted-values .0 =
+      sym (p .all ∙ ap (λ (ws : List Value). number (p .weight) ∷ ws) (l .all)) in
+      let formed : HasForm text (formOf form.WeightedElement .template) after =
+      record { values = weighted-values .0; reads = weighted-values .1; held = subst (Held after 1 2) are both } in
+      by-bytes 119 _ first refl (only form.WeightedElement) refl (says form.WeightedElement refl formed (k .written) (weighted-values .2))
