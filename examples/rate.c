@@ -50,6 +50,12 @@ int main(void)
         for (size_t word = 0; word < row; word++)
             odd += ones(deltas[4 * row + word] ^ deltas[5 * row + word] ^ deltas[6 * row + word]);
     }
+    free(x);
+    free(z);
+    free(deltas);
+    free(noiseless);
+    free(main_words);
+    free(second_words);
     if (answer.number != 0) {
         fprintf(stderr, "refused at line %llu: %s\n", (unsigned long long)answer.line, kundatrezo_refusal_text(answer.number));
         return 1;
