@@ -41,7 +41,8 @@ pub struct Answered {
     pub taken: usize,
 }
 
-// A noise line at a place, which was read: it is made ready with its element lines, and its faults are injected. The main list lies in two parts.
+// A noise line at a place, which was read: it is made ready with its element lines, and its faults are injected. The main list lies in two parts,
+// `main`, and behind it `more`.
 fn apply_noise<'a>(
     job: &[u8],
     place: Place,
@@ -79,6 +80,7 @@ fn apply_noise<'a>(
         line: place.line + 1 + following as u64,
         position: place.position,
     };
+    // With p at or below zero no word is read.
     if fault.probability <= 0.0 {
         return Moved::To(next);
     }
@@ -108,7 +110,7 @@ fn apply_noise<'a>(
     })
 }
 
-// The instruction at a place. After it, as before, the totals are the ones of the deltas' rows; faults that are injected change neither.
+// The instruction at a place. After it, as before, each total is how many bits of its row of deltas are 1; faults that are injected change neither.
 fn step<'a>(
     job: &[u8],
     place: Place,

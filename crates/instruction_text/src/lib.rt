@@ -32,7 +32,7 @@ pub enum Moved {
     To(Reached),
 }
 
-// The injections that stand for the noise line that was read, with its element lines. The main list lies in two parts.
+// The injections that stand for the noise line that was read, with its element lines. The main list lies in two parts, `main`, and behind it `more`.
 fn put_noise_line<'a>(
     out: &mut [u8],
     from: Reached,

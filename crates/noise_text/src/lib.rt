@@ -133,7 +133,8 @@ fn put_faults(
     }
 }
 
-// The injections that stand for a noise line. Words of the main list, which lies in two parts, are read from a position on, which is moved.
+// The injections that stand for a noise line. Words of the main list, which lies in two parts, `main`, and behind it `more`, are read from a position
+// on, which is moved.
 pub fn put_noise<'a>(
     out: &mut [u8],
     place: usize,
