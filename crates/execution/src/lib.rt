@@ -1,5 +1,5 @@
 // Execution of an accepted job: its instructions one after the other on rows of words.
-use faults::elements::ALL_WORDS;
+use faults::elements::ELEMENTS_WORDS;
 use faults::prepare;
 use injection::Drawn;
 use injection::inject_faults;
@@ -18,7 +18,7 @@ use noise::words::part;
 use noise::words::position_after;
 use rows::Shape;
 use template::values::KEPT;
-use template::values::WORDS;
+use template::values::VALUE_WORDS;
 ghost use mathlib.Core.List.{_++_};
 ghost use Prim.Native.Nat.{ℕ, _*_, _≤_};
 ghost use lib.ListN.{length};
@@ -180,8 +180,8 @@ pub fn execute<'a>(
     requires { ⌜ ((recorded : ℕ) × Ahead (now job) (headerOf (now job) shape) recorded 2 from) × RowsFor shape (now x) (now z) (now deltas) (now noiseless) × TotalsHeld (shape .width) (shape .outcomes) (now deltas) (now totals) ⌝ }
     ensures { λ r. ⌜ Executes (now (job .entry)) shape (now (noiseless .entry)) (now (main .entry) ++ now (more .entry)) (now (second .entry)) base from (now (x .entry)) (now (z .entry)) (now (deltas .entry)) (now (x .exit)) (now (z .exit)) (now (deltas .exit)) r × TotalsHeld (shape .width) (shape .outcomes) (now (deltas .exit)) (now (totals .exit)) ⌝ }
 {
-    let mut values = [0u64; WORDS];
-    let mut elements = [0u64; ALL_WORDS];
+    let mut values = [0u64; VALUE_WORDS];
+    let mut elements = [0u64; ELEMENTS_WORDS];
     let mut scratch = [0u64; SCRATCH_WORDS];
     let mut place = Place {
         byte: from,

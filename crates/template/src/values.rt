@@ -24,7 +24,7 @@ pub const LARGEST: usize = COUNTS + MAX_SLOTS;
 pub const MEMBERS: usize = LARGEST + MAX_SLOTS;
 
 // All the words.
-pub const WORDS: usize = MEMBERS + MAX_SLOTS * KEPT;
+pub const VALUE_WORDS: usize = MEMBERS + MAX_SLOTS * KEPT;
 
 // The i-th number.
 pub fn number(v: &[u64], i: usize) -> u64
