@@ -74,10 +74,10 @@ fn apply_noise<'a>(
         &mut mask,
     );
     let fault = ready.fault;
-    let following = ready.following;
+    let element_lines = ready.element_lines;
     let next = Place {
         byte: ready.behind,
-        line: place.line + 1 + following as u64,
+        line: place.line + 1 + element_lines as u64,
         position: place.position,
     };
     // With p at or below zero no word is read.
@@ -92,13 +92,14 @@ fn apply_noise<'a>(
         more_words,
         &mask,
         fault,
-        &sums[..following],
+        &sums[..element_lines],
         elements,
         x,
         z,
         shape,
     );
-    let Drawn::Done { next_word: read } = drawn else {
+    // Draws that are spent have taken every word that was left to the line.
+    let Drawn::Done { position: read } = drawn else {
         return Moved::Spent {
             position: position_after(correlation, place.position, count(words, more_words)),
         };
