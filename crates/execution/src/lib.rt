@@ -1,5 +1,5 @@
 // Execution of an accepted job: its instructions one after the other on rows of words.
-use faults::elements::ALL_WORDS;
+use faults::elements::ELEMENTS_WORDS;
 use faults::prepare;
 use injection::Drawn;
 use injection::inject_faults;
@@ -18,7 +18,7 @@ use noise::words::part;
 use noise::words::position_after;
 use rows::Shape;
 use template::values::KEPT;
-use template::values::WORDS;
+use template::values::VALUE_WORDS;
 ghost use mathlib.Core.List.{_++_};
 ghost use Prim.Native.Nat.{ℕ, _*_, _≤_};
 ghost use lib.ListN.{length};
@@ -41,7 +41,8 @@ pub struct Answered {
     pub taken: usize,
 }
 
-// A noise line at a place, which was read: it is made ready with its element lines, and its faults are injected. The main list lies in two parts.
+// A noise line at a place, which was read: it is made ready with its element lines, and its faults are injected. The main list lies in two parts,
+// `main`, and behind it `more`.
 fn apply_noise<'a>(
     job: &[u8],
     place: Place,
@@ -73,12 +74,13 @@ fn apply_noise<'a>(
         &mut mask,
     );
     let fault = ready.fault;
-    let following = ready.following;
+    let element_lines = ready.element_lines;
     let next = Place {
         byte: ready.behind,
-        line: place.line + 1 + following as u64,
+        line: place.line + 1 + element_lines as u64,
         position: place.position,
     };
+    // With p at or below zero no word is read.
     if fault.probability <= 0.0 {
         return Moved::To(next);
     }
@@ -90,13 +92,14 @@ fn apply_noise<'a>(
         more_words,
         &mask,
         fault,
-        &sums[..following],
+        &sums[..element_lines],
         elements,
         x,
         z,
         shape,
     );
-    let Drawn::Done { next_word: read } = drawn else {
+    // Draws that are spent have taken every word that was left to the line.
+    let Drawn::Done { position: read } = drawn else {
         return Moved::Spent {
             position: position_after(correlation, place.position, count(words, more_words)),
         };
@@ -108,7 +111,7 @@ fn apply_noise<'a>(
     })
 }
 
-// The instruction at a place. After it, as before, the totals are the ones of the deltas' rows; faults that are injected change neither.
+// The instruction at a place. After it, as before, each total is how many bits of its row of deltas are 1; faults that are injected change neither.
 fn step<'a>(
     job: &[u8],
     place: Place,
@@ -178,8 +181,8 @@ pub fn execute<'a>(
     requires { ⌜ ((recorded : ℕ) × Ahead (now job) (headerOf (now job) shape) recorded 2 from) × RowsFor shape (now x) (now z) (now deltas) (now noiseless) × TotalsHeld (shape .width) (shape .outcomes) (now deltas) (now totals) ⌝ }
     ensures { λ r. ⌜ Executes (now (job .entry)) shape (now (noiseless .entry)) (now (main .entry) ++ now (more .entry)) (now (second .entry)) base from (now (x .entry)) (now (z .entry)) (now (deltas .entry)) (now (x .exit)) (now (z .exit)) (now (deltas .exit)) r × TotalsHeld (shape .width) (shape .outcomes) (now (deltas .exit)) (now (totals .exit)) ⌝ }
 {
-    let mut values = [0u64; WORDS];
-    let mut elements = [0u64; ALL_WORDS];
+    let mut values = [0u64; VALUE_WORDS];
+    let mut elements = [0u64; ELEMENTS_WORDS];
     let mut scratch = [0u64; SCRATCH_WORDS];
     let mut place = Place {
         byte: from,

@@ -32,7 +32,7 @@ pub enum Moved {
     To(Reached),
 }
 
-// The injections that stand for the noise line that was read, with its element lines. The main list lies in two parts.
+// The injections that stand for the noise line that was read, with its element lines. The main list lies in two parts, `main`, and behind it `more`.
 fn put_noise_line<'a>(
     out: &mut [u8],
     from: Reached,
@@ -64,12 +64,12 @@ fn put_noise_line<'a>(
         &mut mask,
     );
     let fault = ready.fault;
-    let following = ready.following;
+    let element_lines = ready.element_lines;
     match put_noise(
         out,
         from.text,
         fault,
-        &sums[..following],
+        &sums[..element_lines],
         &mask,
         elements,
         shape.shots,
@@ -79,14 +79,14 @@ fn put_noise_line<'a>(
         base,
         place.position,
     ) {
-        Drawn::Spent { end_word: position } => Moved::Spent { position },
+        Drawn::Spent { position } => Moved::Spent { position },
         Drawn::Done {
-            next_word: position,
+            position,
             next_byte: text,
         } => Moved::To(Reached {
             place: Place {
                 byte: ready.behind,
-                line: place.line + 1 + following as u64,
+                line: place.line + 1 + element_lines as u64,
                 position,
             },
             text,

@@ -33,7 +33,7 @@ pub fn threshold(p: f64) -> u64
 {
     if p > 0.0 {
         if p < 1.0 {
-            // the product is exact, and its whole part is below it where that, as a word, brings a fault
+            // The product is exact; its whole part is below it if the first word of that step brings a fault.
             let whole = std::num::truncating_f64_to_u64(p * STEPS_FLOAT);
             if is_fault(whole * STEP_WORDS, p) {
                 return whole + 1;

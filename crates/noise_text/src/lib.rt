@@ -80,10 +80,10 @@ fn put_element(
 
 // ---- A noise line
 
-// A word was needed past the end, `end_word`; or the position of the next word and the place of the next byte.
+// A word was needed past the end, with its position; or the position of the next word and the place of the next byte.
 pub enum Drawn {
-    Spent { end_word: usize },
-    Done { next_word: usize, next_byte: usize },
+    Spent { position: usize },
+    Done { position: usize, next_byte: usize },
 }
 
 // The injections of the faults that the words bring.
@@ -111,29 +111,30 @@ fn put_faults(
         match next_fault(words, more, at, mask, Shot(shot), shots, rule, sums) {
             NextFault::Spent => {
                 return Drawn::Spent {
-                    end_word: count(words, more),
+                    position: count(words, more),
                 };
             }
-            NextFault::Done { next_word } => {
+            NextFault::Done { position } => {
                 return Drawn::Done {
-                    next_word,
+                    position,
                     next_byte: place,
                 };
             }
             NextFault::At {
                 shot: s,
                 element: e,
-                next_word,
+                position,
             } => {
                 place = put_element(&mut *out, place, s, d, elements, e);
-                at = next_word;
+                at = position;
                 shot = s.0 + 1;
             }
         }
     }
 }
 
-// The injections that stand for a noise line. Words of the main list, which lies in two parts, are read from a position on, which is moved.
+// The injections that stand for a noise line. Words of the main list, which lies in two parts, `main`, and behind it `more`, are read from a position
+// on, which is moved.
 pub fn put_noise<'a>(
     out: &mut [u8],
     place: usize,
@@ -153,7 +154,7 @@ pub fn put_noise<'a>(
 {
     if fault.probability <= 0.0 {
         return Drawn::Done {
-            next_word: position,
+            position,
             next_byte: place,
         };
     }
@@ -161,14 +162,14 @@ pub fn put_noise<'a>(
     let words = part(main, second, correlation, base, position);
     let rest = more_part(more, correlation, position, main.len());
     match put_faults(out, place, words, rest, mask, shots, fault, sums, elements) {
-        Drawn::Spent { end_word: read } => Drawn::Spent {
-            end_word: position_after(correlation, position, read),
+        Drawn::Spent { position: read } => Drawn::Spent {
+            position: position_after(correlation, position, read),
         },
         Drawn::Done {
-            next_word: read,
+            position: read,
             next_byte,
         } => Drawn::Done {
-            next_word: position_after(correlation, position, read),
+            position: position_after(correlation, position, read),
             next_byte,
         },
     }

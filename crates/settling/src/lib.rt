@@ -10,7 +10,7 @@ ghost use Rattle.writer.specs.Reply.{textReply};
 ghost use Rattle.backward.specs.Settling.{settleReply};
 ghost use Rattle.instruction_text.specs.Pass.{passOf};
 ghost use Rattle.settling.specs.Whole.{Fits, SettledPut, SettledTo};
-use faults::elements::ALL_WORDS;
+use faults::elements::ELEMENTS_WORDS;
 use instruction_text::Moved;
 use instruction_text::Reached;
 use instruction_text::put_instruction;
@@ -21,7 +21,7 @@ use job_shape::Tested;
 use job_shape::behind_header;
 use noise::Place;
 use rows::Shape;
-use template::values::WORDS;
+use template::values::VALUE_WORDS;
 use writer::TextAnswer;
 use writer::put_bytes;
 use writer::refused;
@@ -52,8 +52,8 @@ fn put_settled<'a>(
     requires { ⌜ Fits (passOf (now job) shape (now noiseless) (now main ++ now more) (now second) base) ⌝ }
     ensures { λ r. ⌜ SettledPut (passOf (now (job .entry)) shape (now (noiseless .entry)) (now (main .entry) ++ now (more .entry)) (now (second .entry)) base) (now (out .entry)) (now (out .exit)) r ⌝ }
 {
-    let mut values = [0u64; WORDS];
-    let mut elements = [0u64; ALL_WORDS];
+    let mut values = [0u64; VALUE_WORDS];
+    let mut elements = [0u64; ELEMENTS_WORDS];
     let from = behind_header(job);
     let text = put_bytes(&mut *out, 0, &job[..from]);
     let mut here = Reached {

@@ -56,7 +56,7 @@ returns c =
     let lines = c .before .before .before .before .before .before .before .before .before .before .before .before .before .before .before .element-lines .ensures _ _ (q .said) in
     let read = c .before .before .before .before .before .before .before .before .before .before .before .read-fault .ensures _ _ q in
     let sized = length-take-le (c .before .before .before .before .before .before .before .before .before .before .before .before .before .before .before .element-lines .result) (c .before .before .before .before .before .before .before .before .before .before .before .before .before .before .before .before .before .before .before .before .before .before .args .sums .now) (omega (arith, few-lines q _ lines, c .before .before .before .before .before .before .before .before .before .before .before .before .before .before .before .before .before .before .before .before .before .before .pre .1 .of-sums)) in
-    let long : length (c .before .before .before .before .before .before .before .before .before .before .before .read-fault .last .1 .1 .1 .1 .1 .0) ≡ c .before .before .before .before .before .before .before .before .before .before .before .read-fault .result .following = omega (arith, sized, c .before .before .before .before .before .before .before .before .before .before .before .read-fault .kept, read .lines, q .count, lines) in
+    let long : length (c .before .before .before .before .before .before .before .before .before .before .before .read-fault .last .1 .1 .1 .1 .1 .0) ≡ c .before .before .before .before .before .before .before .before .before .before .before .read-fault .result .«element_lines» = omega (arith, sized, c .before .before .before .before .before .before .before .before .before .before .before .read-fault .kept, read .lines, q .count, lines) in
     prepared q read (take-at _ _ _ long) _ (c .before .before .satisfied-shots .ensures)
 
 pub prepare-spec : {M : Type 1} → statement M
