@@ -198,7 +198,10 @@ impl Job<'_> {
         qubits.sort_unstable();
         qubits.dedup();
         let named: Vec<String> = qubits.iter().map(u64::to_string).collect();
-        Some(format!("control and target act by different letters on an odd number of qubits, namely {}", named.join(",")))
+        Some(format!(
+            "control and target act by different letters on an odd number of qubits, namely {}",
+            named.join(",")
+        ))
     }
 
     fn clifford(&self) -> String {
@@ -549,8 +552,14 @@ mod tests {
             ("op=t shot=0 id=0", "no outcome is recorded before this line"),
             ("op=r id=0 angle=0\nop=t shot=0 id=4", "before this line outcomes 0 to 0 are recorded"),
             ("op=i shot=3 x=0 z=-", "the header has shots=3"),
-            ("op=k x=0 z=- u=- v=0", "control and target act by different letters on an odd number of qubits, namely 0"),
-            ("op=k x=0,1 z=1 u=0 v=1", "control and target act by different letters on an odd number of qubits, namely 1"),
+            (
+                "op=k x=0 z=- u=- v=0",
+                "control and target act by different letters on an odd number of qubits, namely 0",
+            ),
+            (
+                "op=k x=0,1 z=1 u=0 v=1",
+                "control and target act by different letters on an odd number of qubits, namely 1",
+            ),
             ("op=n p=3ff8000000000000 corr=- cond=- parity=0 d=2 q=0 size=3", "p= is 1.5 in decimal"),
             (&format!("{noise} parity=0 d=3 n=65 size=65\nx=0 z=-"), "n=65: a distribution has 1 to 64 elements"),
             (&format!("{noise} parity=0 d=4 n=1 size=1\nw=bff0000000000000 x=0 z=-"), "this weight is -1.0 in decimal"),
