@@ -22,6 +22,7 @@ use writer::TextAnswer;
 use writer::line::put_numbers;
 use writer::put_byte;
 use writer::refused;
+use writer::text_fits;
 
 // The header's line; the first edition has no field for it.
 fn put_header(out: &mut [u8], h: Header) -> usize
@@ -111,10 +112,7 @@ pub fn make(
         shots,
     };
     let length = put_job(&mut out[..0], h, lines, state);
-    if MAX_BYTES < length {
-        return no(refusals::ROOM);
-    }
-    if out.len() < length {
+    if !text_fits(length, out.len()) {
         return no(refusals::ROOM);
     }
     put_job(&mut *out, h, lines, state);
