@@ -11,8 +11,9 @@ use blocks::exchange;
 use blocks::gather;
 use blocks::scatter;
 use job::Answer;
-use job::limits::MAX_OUTCOMES;
-use job::limits::MAX_SHOTS;
+use job::FIRST_EDITION;
+use job::Header;
+use job::limits::in_range;
 use job::refusals;
 use pauli::LAST_BIT;
 use pauli::WORD_BITS;
@@ -105,13 +106,12 @@ fn rearrange(rows: usize, columns: usize, source: &[u64], target: &mut [u64]) ->
 fn may_hold(outcomes: u64, shots: u64) -> bool
     ensures { λ r. ⌜ r ≡ mayHold outcomes shots ⌝ }
 {
-    if MAX_OUTCOMES < outcomes {
-        return false;
-    }
-    if shots == 0 {
-        return false;
-    }
-    shots <= MAX_SHOTS
+    in_range(Header {
+        edition: FIRST_EDITION,
+        qubits: 1,
+        outcomes,
+        shots,
+    })
 }
 
 // 3: counts that a header may not hold.

@@ -29,7 +29,6 @@ use groups_back::line_on_groups;
 use instructions::is_noise;
 use instructions::next_known;
 use job::Answer;
-use job::limits::MAX_BYTES;
 use job::refusals;
 use lines_from_last::line_start;
 use noise_rows::is_wide;
@@ -40,6 +39,7 @@ use reader::read_line;
 use template::values::VALUE_WORDS;
 use writer::TextAnswer;
 use writer::refused;
+use writer::text_fits;
 
 const MAX_GROUPS: usize = 16;
 
@@ -141,10 +141,7 @@ fn table_accepted(job: &[u8], lines: u64, list: &[u64], groups: usize, out: &mut
         return refusal(refusals::GROUPS, m.wide);
     }
     let bytes = m.bytes;
-    if out.len() < bytes {
-        return refusal(refusals::ROOM, 0);
-    }
-    if MAX_BYTES < bytes {
+    if !text_fits(bytes, out.len()) {
         return refusal(refusals::ROOM, 0);
     }
     let mut words = [0u64; MAX_GROUPS * GROUP_WORDS];

@@ -10,11 +10,10 @@ ghost use Rattle.writer.specs.Reply.{textReply};
 ghost use Rattle.made.specs.Made.{headerText, makeReply};
 ghost use Rattle.job_maker.specs.Whole.{JobPut};
 use job::Answer;
+use job::FIRST_EDITION;
 use job::Header;
 use job::limits::MAX_BYTES;
-use job::limits::MAX_OUTCOMES;
-use job::limits::MAX_QUBITS;
-use job::limits::MAX_SHOTS;
+use job::limits::in_range;
 use job::refusals;
 use made_fields::Making;
 use made_lines::put_instruction;
@@ -23,6 +22,7 @@ use writer::TextAnswer;
 use writer::line::put_numbers;
 use writer::put_byte;
 use writer::refused;
+use writer::text_fits;
 
 // The header's line; the first edition has no field for it.
 fn put_header(out: &mut [u8], h: Header) -> usize
@@ -72,19 +72,12 @@ fn put_job(out: &mut [u8], h: Header, lines: u64, state: u64) -> usize
 fn may_hold(qubits: u64, outcomes: u64, shots: u64) -> bool
     ensures { λ r. ⌜ r ≡ inRange (headerWith 1 qubits outcomes shots) ⌝ }
 {
-    if qubits == 0 {
-        return false;
-    }
-    if MAX_QUBITS < qubits {
-        return false;
-    }
-    if MAX_OUTCOMES < outcomes {
-        return false;
-    }
-    if shots == 0 {
-        return false;
-    }
-    shots <= MAX_SHOTS
+    in_range(Header {
+        edition: FIRST_EDITION,
+        qubits,
+        outcomes,
+        shots,
+    })
 }
 
 // A refusal of the call.
@@ -119,10 +112,7 @@ pub fn make(
         shots,
     };
     let length = put_job(&mut out[..0], h, lines, state);
-    if MAX_BYTES < length {
-        return no(refusals::ROOM);
-    }
-    if out.len() < length {
+    if !text_fits(length, out.len()) {
         return no(refusals::ROOM);
     }
     put_job(&mut *out, h, lines, state);

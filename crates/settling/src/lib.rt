@@ -1,9 +1,8 @@
 // Settling of a job: its text with each noise instruction replaced by the injections that fall.
 ghost use mathlib.Core.Path.{_≡_};
-ghost use mathlib.Core.Bool.{_&&_};
 ghost use mathlib.Core.List.{_++_};
 ghost use lib.Dec.{leb};
-ghost use Rattle.job.specs.Job.{maxBytes, jobOf};
+ghost use Rattle.job.specs.Job.{jobOf};
 ghost use Rattle.job_shape.specs.Tested.{Tests};
 ghost use Rattle.run.specs.Run.{outcomeWords};
 ghost use Rattle.writer.specs.Reply.{textReply};
@@ -15,7 +14,6 @@ use instruction_text::Moved;
 use instruction_text::Reached;
 use instruction_text::put_instruction;
 use job::Answer;
-use job::limits::MAX_BYTES;
 use job::refusals;
 use job_shape::Tested;
 use job_shape::behind_header;
@@ -25,6 +23,7 @@ use template::values::VALUE_WORDS;
 use writer::TextAnswer;
 use writer::put_bytes;
 use writer::refused;
+use writer::text_fits;
 
 // The text is so long; or the line of the noise whose draws were spent. Each with the words of the main list that were taken.
 pub enum TextLength {
@@ -93,16 +92,6 @@ fn put_settled<'a>(
         bytes: here.text,
         taken: here.place.position,
     }
-}
-
-// Whether a text of so many bytes fits the lent ones and the limit.
-fn text_fits(need: usize, lent: usize) -> bool
-    ensures { λ r. ⌜ r ≡ (leb need lent && leb need maxBytes) ⌝ }
-{
-    if lent < need {
-        return false;
-    }
-    need <= MAX_BYTES
 }
 
 // An answer without a line, with the bytes that the text needs.

@@ -28,8 +28,8 @@ const GATES: [&[&str]; 16] = [
     &["ControlledY", "CY"],
 ];
 
-/// The forms of lines, in the second edition, each field with the kind of its value: a number, a gate code, 16 hexadecimal digits, a table of words of so many, a bit, a rising
-/// list, a list of operands, a correlation.
+/// The forms of lines, in the second edition, each field with the kind of its value: a number, a gate code, 16 hexadecimal digits, a table of words
+/// of so many, a bit, a rising list, a list of operands, a correlation.
 const FORMS: [(&str, &str); 15] = [
     ("job", "edition=N qubits=N outcomes=N shots=N"),
     ("u", "g=G q=Q"),
