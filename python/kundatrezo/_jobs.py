@@ -3,7 +3,6 @@
 from __future__ import annotations
 
 import os
-import struct
 from dataclasses import dataclass
 from pathlib import Path
 from typing import NamedTuple, Optional, Sequence, Union
@@ -11,7 +10,7 @@ from typing import NamedTuple, Optional, Sequence, Union
 import numpy as np
 import numpy.typing as npt
 
-from ._library import Answer, Lendable, Words, call, read_words, written_words
+from ._library import Answer, Lendable, Words, binary64, call, read_words, written_words
 from ._words import Stream
 
 MAX_BYTES = 1_048_576
@@ -293,7 +292,7 @@ class Job:
     def annotate(self, p: float) -> Job:
         """The job with depolarizing noise of probability p before each measurement and after each gate."""
         out = np.zeros(MAX_BYTES, dtype=np.uint8)
-        said = call("annotate", self.text, struct.unpack("<Q", struct.pack("<d", p))[0], out)
+        said = call("annotate", self.text, binary64(p), out)
         test(said.answer, self.text)
         return Job(out[: said.figure].tobytes())
 
