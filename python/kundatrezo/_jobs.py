@@ -283,11 +283,11 @@ class Job:
         return said.figure
 
     def _wanted(self, what: str, *lists: Sequence[int]) -> str:
-        """What is wrong with the first of these that is no list of recorded outcomes, rising strictly."""
+        """What is wrong with the first of these that is no list of recorded outcomes, rising strictly; nothing where all are."""
         rises = lambda list_: all(one < other for one, other in zip(list_, [*list_[1:], self.recorded]))
-        wrong = next((",".join(map(str, list_)) for list_ in lists if not rises(list_)), "")
+        wrong = next((f"the {what} {','.join(map(str, list_))}" for list_ in lists if not rises(list_)), "")
         recorded = f"it names recorded outcomes, 0 to {self.recorded - 1}, and rises strictly"
-        return f"the {what} {wrong}: {recorded}" if self.recorded else "the job records no outcome"
+        return wrong and (f"{wrong}: {recorded}" if self.recorded else "the job records no outcome")
 
     def annotate(self, p: float) -> Job:
         """The job with depolarizing noise of probability p before each measurement and after each gate."""

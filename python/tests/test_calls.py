@@ -141,7 +141,10 @@ def test_outcomes_that_are_refused_are_named():
         (lambda: settled.walk(0, [3, 7]), f"the set 3,7: {wanted}"),
         (lambda: settled.walk(64, [3, 7]), "the job's shots are 0 to 63"),
         (lambda: kundatrezo.sample(SYNDROME, 10, 1, [[0], [3, 3]]), f"the set 3,3: {wanted}"),
-        (lambda: error_model(SYNDROME, [[0], [3, 2]]), f"the group 3,2: {wanted}"),
+        (lambda: SYNDROME.fault_table([[0], [3, 2]]), f"the group 3,2: {wanted}"),
+        (lambda: error_model(SYNDROME, [[0], [0, 9]], [[3, 2]]), f"the detector 0,9: {wanted}"),
+        (lambda: error_model(SYNDROME, [[0]] * 20, [[6], [3, 2]]), f"the observable 3,2: {wanted}"),
+        (lambda: error_model(Circuit().job(), [], [[0]]), "the job records no outcome"),
         (lambda: Circuit().job().fault_table([[0]]), "the job records no outcome"),
     ):
         with pytest.raises(Refused) as refusal:
