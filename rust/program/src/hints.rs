@@ -430,7 +430,9 @@ fn value(key: &str, kind: &str, value: &str) -> Option<String> {
         "Q" if value == "-" => Some(format!("{key}= is never empty")),
         "L" if value == "-" => None,
         "L" if value.is_empty() => Some(format!("{key}= without members is written -")),
-        _ if !numbers(value) => Some(format!("{key}= holds numbers without leading zeros, with commas between")),
+        _ if !numbers(value) => {
+            Some(format!("{key}= holds numbers below 2^64, without sign or leading zeros, with commas between"))
+        }
         "L" => (!rising(value)).then(|| format!("the numbers of {key}= rise strictly")),
         _ => None,
     }
@@ -474,7 +476,9 @@ mod tests {
             ("op=cx q=0,1", "there is no op=cx: the gate ControlledX is op=u g=11"),
             ("op=w q=0", "there is no op=w: there are job, u,"),
             ("op=u q=0 g=4", "the fields of op=u are g= q=, in this order"),
-            ("op=u g=4 q=00", "q= holds numbers without leading zeros"),
+            ("op=u g=4 q=00", "q= holds numbers below 2^64, without sign or leading zeros"),
+            ("op=u g=11 q=0,-1", "q= holds numbers below 2^64, without sign or leading zeros"),
+            ("op=p x=18446744073709551616 z=-", "x= holds numbers below 2^64, without sign or leading zeros"),
             ("op=z q=0,1", "op=z with several qubits is of the second edition"),
             ("op=b q=0", "op=b, a barrier, is of the second edition"),
             ("op=b q=-", "q= is never empty"),
