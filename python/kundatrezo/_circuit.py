@@ -114,11 +114,15 @@ class Circuit:
     def __repr__(self) -> str:
         return f"<Circuit of {len(self._lines)} lines>"
 
-    def job(self, shots: int = 1) -> Job:
-        """The job of the lines so far, checked."""
+    def text(self, shots: int = 1) -> str:
+        """The text of the lines so far behind their header, not checked: what `kundatrezo check` reads where `job` is refused."""
         edition = "" if self._edition == 1 else f"edition={self._edition} "
         header = f"op=job {edition}qubits={self._qubits} outcomes={self._outcomes} shots={shots}"
-        return Job("".join(f"{line}\n" for line in (header, *self._lines)))
+        return "".join(f"{line}\n" for line in (header, *self._lines))
+
+    def job(self, shots: int = 1) -> Job:
+        """The job of the lines so far, checked."""
+        return Job(self.text(shots))
 
     def _add(self, *lines: str, qubits: Iterable[int] = (), edition: int = 1) -> Circuit:
         self._lines += lines

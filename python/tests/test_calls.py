@@ -304,6 +304,15 @@ def test_builders_write_jobs(circuit):
     assert program("check", "-", job=job).decode() == printed
 
 
+def test_a_refused_circuit_shows_its_text():
+    circuit = Circuit().gate("ControlledX", 0, 0)
+    assert circuit.text(3) == "op=job qubits=1 outcomes=0 shots=3\nop=u g=11 q=0,0\n"
+    with pytest.raises(Refused):
+        circuit.job(3)
+    accepted = Circuit().gate("ControlledY", 0, 1)
+    assert accepted.text().encode() == accepted.job().text
+
+
 def test_wrong_names():
     wrong_paulis = [lambda pauli=pauli: Circuit().measure(pauli) for pauli in ("Q0", "X0 Z0", {0: "x"}, {0: "XY"}, {0: ""})]
     wrong_weights = lambda: Circuit().choose(0.5, ["X0", "Z0"], [1.0, 1.0, 1.0])
