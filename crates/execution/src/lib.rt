@@ -49,6 +49,9 @@ fn apply_noise<'a>(
     line: LineRead,
     values: &[u64],
     elements: &mut [u64],
+    sums: &mut [f64],
+    weights: &mut [f64],
+    mask: &mut [u64],
     x: &mut [u64],
     z: &mut [u64],
     shape: Shape,
@@ -58,11 +61,9 @@ fn apply_noise<'a>(
     second: &'a [u64],
     base: u64,
 ) -> Moved
-    requires { ⌜ NoiseReady (now job) place line (now values) (now noiseless) shape × NoiseRoom shape (now values) (now elements) (now x) (now z) × (place .position ≤ length (now main ++ now more)) ⌝ }
+    requires { ⌜ NoiseReady (now job) place line (now values) (now noiseless) shape × NoiseRoom shape (now values) (now elements) (now sums) (now weights) (now mask) (now x) (now z) × (place .position ≤ length (now main ++ now more)) ⌝ }
     ensures { λ r. ⌜ NoiseDone (now (job .entry)) place line (now (values .entry)) shape (now (noiseless .entry)) (now (main .entry) ++ now (more .entry)) (now (second .entry)) base (now (x .entry)) (now (z .entry)) (now (x .exit)) (now (z .exit)) r ⌝ }
 {
-    let mut sums = [0.0; MAX_ELEMENTS as usize];
-    let mut mask = [0u64; MAX_WIDTH];
     let ready = prepare(
         job,
         line,
@@ -70,8 +71,9 @@ fn apply_noise<'a>(
         noiseless,
         shape.width,
         &mut *elements,
-        &mut sums,
-        &mut mask,
+        &mut *sums,
+        weights,
+        &mut *mask,
     );
     let fault = ready.fault;
     let element_lines = ready.element_lines;
@@ -90,7 +92,7 @@ fn apply_noise<'a>(
     let drawn = inject_faults(
         words,
         more_words,
-        &mask,
+        mask,
         fault,
         &sums[..element_lines],
         elements,
@@ -117,6 +119,8 @@ fn step<'a>(
     place: Place,
     values: &mut [u64],
     elements: &mut [u64],
+    sums: &mut [f64],
+    weights: &mut [f64],
     scratch: &mut [u64],
     x: &mut [u64],
     z: &mut [u64],
@@ -129,18 +133,22 @@ fn step<'a>(
     second: &'a [u64],
     base: u64,
 ) -> Moved
-    requires { ⌜ StepReady (now job) shape place (now values) (now elements) (now main ++ now more) × RowsFor shape (now x) (now z) (now deltas) (now noiseless) × (31 * shape .width ≤ length (now scratch)) × TotalsHeld (shape .width) (shape .outcomes) (now deltas) (now totals) ⌝ }
+    requires { ⌜ StepReady (now job) shape place (now values) (now elements) (now sums) (now weights) (now main ++ now more) × RowsFor shape (now x) (now z) (now deltas) (now noiseless) × (31 * shape .width ≤ length (now scratch)) × TotalsHeld (shape .width) (shape .outcomes) (now deltas) (now totals) ⌝ }
     ensures { λ r. ⌜ Stepped (now (job .entry)) shape (now (noiseless .entry)) (now (main .entry) ++ now (more .entry)) (now (second .entry)) base place (now (x .entry)) (now (z .entry)) (now (deltas .entry)) (now (x .exit)) (now (z .exit)) (now (deltas .exit)) r × TotalsHeld (shape .width) (shape .outcomes) (now (deltas .exit)) (now (totals .exit)) ⌝ }
 {
     let line = next_known(job, place.byte, &mut *values);
     let form = line.form;
     if is_noise(form) {
+        // Noise needs no scratch but for its mask.
         return apply_noise(
             job,
             place,
             line,
             values,
             elements,
+            sums,
+            weights,
+            scratch,
             x,
             z,
             shape,
@@ -163,7 +171,7 @@ fn step<'a>(
 const FIRST_INSTRUCTION_LINE: u64 = 2;
 
 // The instructions behind the header, which ends before byte `from` of the job.
-// The room for elements and the scratch are made once, since they are large.
+// The room for elements, sums and weights and the scratch are made once, since they are large.
 pub fn execute<'a>(
     job: &[u8],
     from: usize,
@@ -183,6 +191,8 @@ pub fn execute<'a>(
 {
     let mut values = [0u64; VALUE_WORDS];
     let mut elements = [0u64; ELEMENTS_WORDS];
+    let mut sums = [0.0; MAX_ELEMENTS as usize];
+    let mut weights = [0.0; MAX_ELEMENTS as usize];
     let mut scratch = [0u64; SCRATCH_WORDS];
     let mut place = Place {
         byte: from,
@@ -195,6 +205,8 @@ pub fn execute<'a>(
             place,
             &mut values,
             &mut elements,
+            &mut sums,
+            &mut weights,
             &mut scratch,
             &mut *x,
             &mut *z,

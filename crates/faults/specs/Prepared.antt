@@ -78,10 +78,11 @@ pub record FaultRoom (n : ℕ) (words elements : List ℕ) (sums weights : List 
   pub of-weights : length weights ≡ n
 
 -- and for any noise line and its mask
-pub record Room (words elements : List ℕ) (sums : List Float) (mask : List ℕ) (w : ℕ) : Type 0 where
+pub record Room (words elements : List ℕ) (sums weights : List Float) (mask : List ℕ) (w : ℕ) : Type 0 where
   pub of-values : Whole words
   pub of-elements : AllInside elements
   pub of-sums : 64 ≤ length sums
+  pub of-weights : 64 ≤ length weights
   pub of-mask : w ≤ length mask
 
 module _ {job : List ℕ} {at : ℕ} {form : Form} {words noiseless : List ℕ} {w : ℕ} (q : NoiseLines job at form words noiseless w) where

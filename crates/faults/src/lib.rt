@@ -18,7 +18,6 @@ use choice::total;
 use instructions::LineRead;
 use instructions::element_lines;
 use instructions::has_weights;
-use job::limits::MAX_ELEMENTS;
 use noise::OutcomeCondition;
 use noise::PauliFault;
 use noise::condition::condition_mask;
@@ -80,14 +79,14 @@ pub fn prepare(
     width: usize,
     elements: &mut [u64],
     sums: &mut [f64],
+    weights: &mut [f64],
     mask: &mut [u64],
 ) -> Prepared
-    requires { ⌜ NoiseLines (now job) (line .end + 1) (line .form) (now values) (now noiseless) width × Room (now values) (now elements) (now sums) (now mask) width ⌝ }
+    requires { ⌜ NoiseLines (now job) (line .end + 1) (line .form) (now values) (now noiseless) width × Room (now values) (now elements) (now sums) (now weights) (now mask) width ⌝ }
     ensures { λ r. ⌜ ((q : NoiseLines (now (job .entry)) (line .end + 1) (line .form) (now (values .entry)) (now (noiseless .entry)) width) → PreparedAs q (now (elements .exit)) (now (sums .exit)) (now (mask .exit)) r) ⌝ }
 {
     let form = line.form;
     let element_lines = element_lines(form, values);
-    let mut weights = [0.0; MAX_ELEMENTS as usize];
     let ready = read_fault(
         job,
         line,

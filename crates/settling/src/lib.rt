@@ -14,6 +14,8 @@ use instruction_text::Moved;
 use instruction_text::Reached;
 use instruction_text::put_instruction;
 use job::Answer;
+use job::limits::MAX_ELEMENTS;
+use job::limits::MAX_WIDTH;
 use job::refusals;
 use job_shape::Tested;
 use job_shape::behind_header;
@@ -53,6 +55,9 @@ fn put_settled<'a>(
 {
     let mut values = [0u64; VALUE_WORDS];
     let mut elements = [0u64; ELEMENTS_WORDS];
+    let mut sums = [0.0; MAX_ELEMENTS as usize];
+    let mut weights = [0.0; MAX_ELEMENTS as usize];
+    let mut mask = [0u64; MAX_WIDTH];
     let from = behind_header(job);
     let text = put_bytes(&mut *out, 0, &job[..from]);
     let mut here = Reached {
@@ -70,6 +75,9 @@ fn put_settled<'a>(
             job,
             &mut values,
             &mut elements,
+            &mut sums,
+            &mut weights,
+            &mut mask,
             shape,
             noiseless,
             main,

@@ -146,17 +146,17 @@ module _ {job : List ℕ} (next : LineRead) {values noiseless : List ℕ} (shape
           let within = ahead .within in
           omega (arith, ready .number)
 
-      pub faults-ready : {e x z : List ℕ} → NoiseRoom shape values e x z → AllInside elements → 64 ≤ length mask
+      pub faults-ready : {e : List ℕ} {s weights : List Float} {m x z : List ℕ} → NoiseRoom shape values e s weights m x z → AllInside elements
+          → shape .width ≤ length mask
           → FaultsReady (shape .qubits) (shape .shots) (shape .width) (r .fault .probability) (r .fault .distribution) (take (r .«element_lines») sums) elements mask x z
       faults-ready room long wide =
-          let narrow = room .narrow in
           record {
             noise = noiseIn (ready .lines);
             lent = lentBy shape noiseless [] 0;
             line = line-ready [] 0 (ready .lines) (ready .header);
             room = long;
             in-words = room .in-words;
-            in-mask = omega arith;
+            in-mask = wide;
             of-x = room .of-x;
             of-z = room .of-z;
           }

@@ -135,7 +135,7 @@ module _ {p : Pass} {here : Reached} (b : Between p here) where
         }
 
     module _ {elements : List ℕ} {sums : List Float} {mask : List ℕ} {r : Prepared} (ready : PreparedAs noise-here elements sums mask r) (room : AllInside elements)
-        (masked : length mask ≡ 64)
+        (masked : 64 ≤ length mask)
       where
         abbrev pub ready-here : ReadyOf (r .fault .probability) (r .fault .distribution) (take (r .«element_lines») sums) mask elements (p .shape .shots) (r .fault .correlation) (p .second) (p .base)
         ready-here =
