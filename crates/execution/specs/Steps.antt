@@ -103,7 +103,7 @@ pub record NoiseDone (job : List ℕ) (place : Place) (line : LineRead) (values 
       (endingOf (headerOf job shape) (lentBy shape noiseless second base) (placedAt (place .line) text (Instruction.noise (noiseIn q)) ∷ q .rest) (drop (place .position) main) states)
       (suc (length (q .rest))) (place .line) x′ z′ deltas r
 
--- an instruction begins at the place
+-- an instruction begins at the place, and there is room for a line's values and elements
 pub record StepReady (job : List ℕ) (shape : Shape) (place : Place) (values elements : List ℕ) (sums weights : List Float) (main : List ℕ) : Type 0 where
   pub recorded : ℕ
   pub ahead : Ahead job (headerOf job shape) recorded (place .line) (place .byte)

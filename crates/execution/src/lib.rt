@@ -171,7 +171,7 @@ fn step<'a>(
 const FIRST_INSTRUCTION_LINE: u64 = 2;
 
 // The instructions behind the header, which ends before byte `from` of the job.
-// The room for elements, sums and weights and the scratch are made once, since they are large.
+// The room for elements, sums and weights and the scratch are made once, so that they are not cleared for each line.
 pub fn execute<'a>(
     job: &[u8],
     from: usize,

@@ -110,7 +110,7 @@ fn least(a: usize, b: usize) -> usize
     b
 }
 
-// The same where the words lie in two parts, the second behind the first, up to the end of the part that has the position.
+// As `pass_blocks`, where the words lie in two parts, the second behind the first, up to the end of the part that has the position.
 fn pass_far(words: &[u64], more: &[u64], at: usize, n: usize, threshold: u64) -> usize
     requires { ⌜ n ≤ length (now words ++ now more) - at ⌝ }
     ensures { λ r. ⌜ Passed threshold (now (words .entry) ++ now (more .entry)) at n r ⌝ }

@@ -80,7 +80,8 @@ fn put_element(
 
 // ---- A noise line
 
-// A word was needed past the end, with its position; or the position of the next word and the place of the next byte.
+// A word was needed past the end, or all shots have drawn. Each with the position behind the words that were read: in the line's part of a list for
+// `put_faults`, in the main list for `put_noise`. `next_byte` is the place of the next byte.
 pub enum Drawn {
     Spent { position: usize },
     Done { position: usize, next_byte: usize },
@@ -133,8 +134,8 @@ fn put_faults(
     }
 }
 
-// The injections that stand for a noise line. Words of the main list, which lies in two parts, `main`, and behind it `more`, are read from a position
-// on, which is moved.
+// The injections that stand for a noise line. A line without correlation reads the main list, which lies in two parts, `main`, and behind it `more`,
+// from a position on; a correlated one reads the second, and the position stays.
 pub fn put_noise<'a>(
     out: &mut [u8],
     place: usize,
