@@ -2,6 +2,7 @@
 
 from __future__ import annotations
 
+import operator
 import re
 from typing import Iterable, Mapping, Optional, Sequence, Union
 
@@ -37,6 +38,15 @@ Pauli = Union[str, Mapping[int, str]]
 """A Pauli without its sign: a text such as "X0 Y1 Z2", or the letter of each qubit. The empty one is the identity."""
 
 
+def _is_whole(number: object) -> bool:
+    """Whether Python takes it for a whole number, as it does those of numpy and of other libraries."""
+    try:
+        operator.index(number)
+    except TypeError:
+        return False
+    return True
+
+
 def _numbers(numbers: Iterable[int], name: str, each: str = "") -> list[int]:
     """Numbers that a caller gives. Nothing is rounded, or read from a text."""
     try:
@@ -44,7 +54,7 @@ def _numbers(numbers: Iterable[int], name: str, each: str = "") -> list[int]:
     except TypeError:
         raise TypeError(f"{name} are to be a list of whole numbers, not {numbers!r}") from None
     for number in given:
-        if isinstance(number, bool) or not isinstance(number, (int, np.integer)):
+        if isinstance(number, (bool, np.bool_)) or not _is_whole(number):
             raise TypeError(f"{name} are to be whole numbers{each}, not {number!r}")
     return [whole(number, f"each of the {name}") for number in given]
 
@@ -88,8 +98,8 @@ def _bits(number: float) -> str:
 
 
 class Circuit:
-    """A circuit, line by line. The numbers of the header, and the edition, come from the lines. What is no number, no Pauli or no gate is an error
-    at once, which leaves the circuit as it was; nothing else is judged here: `job` has the engine check it.
+    """A circuit, line by line. The numbers of the header, and the edition, come from the lines. What is no number, no Pauli or no gate, and
+    lists that do not belong together, are an error at once, which leaves the circuit as it was; the rest is the engine's to check, by `job`.
 
     >>> circuit = Circuit()
     >>> circuit.gate("Hadamard", 0).gate("ControlledX", 0, 1).depolarize(0.5, 0, 1)
@@ -117,7 +127,7 @@ class Circuit:
     def text(self, shots: int = 1) -> str:
         """The text of the lines so far behind their header, not checked: what `kundatrezo check` reads where `job` is refused."""
         edition = "" if self._edition == 1 else f"edition={self._edition} "
-        header = f"op=job {edition}qubits={self._qubits} outcomes={self._outcomes} shots={shots}"
+        header = f"op=job {edition}qubits={self._qubits} outcomes={self._outcomes} shots={whole(shots, 'shots')}"
         return "".join(f"{line}\n" for line in (header, *self._lines))
 
     def job(self, shots: int = 1) -> Job:
@@ -142,6 +152,7 @@ class Circuit:
         """Any Clifford of up to eight qubits, by the images of X and of Z on each of them, in their order. Qubits of an image are named by their numbers."""
         numbers = _numbers(qubits, "qubits")
         k = len(numbers)
+        x_images, z_images = list(x_images), list(z_images)
         if not len(x_images) == len(z_images) == k:
             raise ValueError(f"a Clifford on {k} qubits has {k} images of X and {k} of Z, not {len(x_images)} and {len(z_images)}")
         table = 0

@@ -385,6 +385,17 @@ def test_numbers_of_numpy():
     assert str(circuit.job()).splitlines() == ["op=job qubits=3 outcomes=1 shots=1", *lines]
 
 
+def test_numbers_of_other_libraries():
+    class Integer:
+        def __index__(self):
+            return 3
+
+    circuit = Circuit().gate("H", Integer()).gate("H", np.array(2)).clifford([Integer()], iter(["Z3"]), iter(["X3"]))
+    assert circuit.text().splitlines()[1:] == ["op=u g=4 q=3", "op=u g=4 q=2", "op=c q=3 t=0000000000000006"]
+    with pytest.raises(TypeError):
+        circuit.text(shots="3")
+
+
 def test_annotation_wants_a_number():
     with pytest.raises(TypeError, match="a probability or weight is a number, not '0.1'"):
         BELL.annotate("0.1")

@@ -39,8 +39,8 @@ pub struct Answered {
     pub taken: usize,
 }
 
-// The settled text of an accepted job, written as far as the lent bytes go. The room for elements, sums, weights and the mask is made once, so that it
-// is not cleared for each line.
+// The settled text of an accepted job, written as far as the lent bytes go. The room for elements, sums, weights and the mask is made once, so that
+// it is not cleared for each line.
 fn put_settled<'a>(
     out: &mut [u8],
     job: &[u8],
