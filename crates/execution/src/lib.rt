@@ -11,6 +11,7 @@ use job::limits::MAX_ELEMENTS;
 use job::limits::MAX_WIDTH;
 use job::refusals;
 use lines::apply_line;
+use noise::FIRST_INSTRUCTION_LINE;
 use noise::Place;
 use noise::words::count;
 use noise::words::more_part;
@@ -166,9 +167,6 @@ fn step<'a>(
         position: place.position,
     })
 }
-
-// The header is line 1.
-const FIRST_INSTRUCTION_LINE: u64 = 2;
 
 // The instructions behind the header, which ends before byte `from` of the job.
 // The room for elements, sums and weights and the scratch are made once, so that they are not cleared for each line.

@@ -69,11 +69,11 @@ pub fn read_gate(line: &[u8]) -> Gate
     ensures { λ r. ⌜ GateRead (now (line .entry)) r ⌝ }
 {
     let code = read_digits(line, CODE);
-    let qubits = read_operands(line, code.behind + Q_KEY);
+    let operands = read_operands(line, code.behind + Q_KEY);
     Gate {
         code: code.value,
-        first: qubits.first,
-        second: qubits.second,
-        count: qubits.count,
+        first: operands.first,
+        second: operands.second,
+        count: operands.count,
     }
 }

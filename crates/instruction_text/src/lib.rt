@@ -80,10 +80,7 @@ fn put_noise_line<'a>(
         place.position,
     ) {
         Drawn::Spent { position } => Moved::Spent { position },
-        Drawn::Done {
-            position,
-            next_byte: text,
-        } => Moved::To(Reached {
+        Drawn::Done { position, text } => Moved::To(Reached {
             place: Place {
                 byte: ready.behind,
                 line: place.line + 1 + element_lines as u64,

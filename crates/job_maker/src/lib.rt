@@ -12,6 +12,7 @@ ghost use Rattle.job_maker.specs.Whole.{JobPut};
 use job::Answer;
 use job::FIRST_EDITION;
 use job::Header;
+use job::SECOND_EDITION;
 use job::limits::MAX_BYTES;
 use job::limits::in_range;
 use job::refusals;
@@ -29,7 +30,7 @@ fn put_header(out: &mut [u8], h: Header) -> usize
     ensures { λ r. ⌜ Puts 0 (headerText h ++ LF ∷ []) (now (out .entry)) (now (out .exit)) r ⌝ }
 {
     let numbers = [h.edition, h.qubits, h.outcomes, h.shots];
-    if h.edition == 2 {
+    if h.edition == SECOND_EDITION {
         let at = put_numbers(
             &mut *out,
             0,
@@ -106,7 +107,7 @@ pub fn make(
     }
     let state = step(seed);
     let h = Header {
-        edition: 1 + state % 2,
+        edition: FIRST_EDITION + state % 2,
         qubits,
         outcomes,
         shots,

@@ -42,6 +42,9 @@ pub struct PauliFault {
     pub condition: OutcomeCondition,
 }
 
+// The header is line 1.
+pub const FIRST_INSTRUCTION_LINE: u64 = 2;
+
 // Where a pass over a job's instructions stands: the next byte of the job, the number of its line, from 1,
 // and the position of the next word of the main list.
 pub struct Place {

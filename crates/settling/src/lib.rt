@@ -19,6 +19,7 @@ use job::limits::MAX_WIDTH;
 use job::refusals;
 use job_shape::Tested;
 use job_shape::behind_header;
+use noise::FIRST_INSTRUCTION_LINE;
 use noise::Place;
 use rows::Shape;
 use template::values::VALUE_WORDS;
@@ -64,7 +65,7 @@ fn put_settled<'a>(
     let mut here = Reached {
         place: Place {
             byte: from,
-            line: 2,
+            line: FIRST_INSTRUCTION_LINE,
             position: 0,
         },
         text,

@@ -80,6 +80,9 @@ pub fn put_bytes(out: &mut [u8], at: usize, s: &[u8]) -> usize
     at + s.len()
 }
 
+// 2^64 - 1 has so many digits.
+const MAX_DIGITS: usize = 20;
+
 // In decimal. Past the end of the lent bytes the digits are counted and not made.
 pub fn put_number(out: &mut [u8], at: usize, n: u64) -> usize
     requires { ⌜ at + length (decimal n) < 2 ^ 64 ⌝ }
@@ -88,8 +91,8 @@ pub fn put_number(out: &mut [u8], at: usize, n: u64) -> usize
     if out.len() <= at {
         return at + digits(n);
     }
-    let mut text = [0u8; 20];
-    let mut i = 20;
+    let mut text = [0u8; MAX_DIGITS];
+    let mut i = MAX_DIGITS;
     let mut rest = n;
     while 9 < rest {
         i -= 1;

@@ -12,15 +12,15 @@ use Rattle.noise_text.proofs.put_faults.Statement.{statement}
 use Rattle.noise_text.proofs.put_faults.Tie as tie
 
 abbrev Inv-loop : tie.InvT-loop
-Inv-loop out₀ from words more mask shots sums elements p d rule place₀ at₀ shot₀ out place at shot =
+Inv-loop out₀ text words more mask shots sums elements p distribution rule next₀ at₀ shot₀ out next at shot =
     (at ≤ length (words ++ more))
     × (shot ≤ shots)
-    × (place ≤ from + 1342 * shot)
+    × (next ≤ text + 1342 * shot)
     × (length out ≡ length out₀)
-    × ((q : Ready p d sums mask elements shots) → Putting q (words ++ more) from out₀ at shot place out)
+    × ((q : Ready p distribution sums mask elements shots) → Putting q (words ++ more) text out₀ at shot next out)
 
 abbrev μ-loop : tie.MeasureT-loop
-μ-loop out₀ from words more mask shots sums elements p d rule place₀ at₀ shot₀ out place at shot = shots - shot
+μ-loop out₀ text words more mask shots sums elements p distribution rule next₀ at₀ shot₀ out next at shot = shots - shot
 
 rule-of-requires : tie.Need-rule-of-requires Inv-loop μ-loop
 rule-of-requires c κs = c .before .before .before .before .before .before .pre .1 .small
