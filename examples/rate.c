@@ -1,6 +1,6 @@
 /* How often an odd number of the outcomes 4, 5 and 6 of a job is flipped, in 1,000 runs of its shots. In the repository's folder:
  *
- *     cc -Iinclude examples/rate.c target/staticlib/libkundatrezo.a -o rate && ./rate <examples/syndrome.job
+ *     cc -Iinclude examples/rate.c target/staticlib/libkundatrezo.a -o target/rate && target/rate <examples/syndrome.job
  */
 #include <stdio.h>
 #include <stdlib.h>
@@ -57,7 +57,8 @@ int main(void)
     free(main_words);
     free(second_words);
     if (answer.number != 0) {
-        fprintf(stderr, "refused at line %llu: %s\n", (unsigned long long)answer.line, kundatrezo_refusal_text(answer.number));
+        fprintf(stderr, "refused: %llu (%s) at line %llu\n", (unsigned long long)answer.number, kundatrezo_refusal_text(answer.number),
+                (unsigned long long)answer.line);
         return 1;
     }
     printf("%llu of %llu shots\n", (unsigned long long)odd, (unsigned long long)(RUNS * found.shots));

@@ -216,9 +216,9 @@ struct kundatrezo_answer kundatrezo_run_totals(const uint8_t *job, size_t job_le
                                                const uint64_t *main_words, size_t main_len, const uint64_t *second, size_t second_len,
                                                uint64_t base);
 
-/* Settling: the job with each noise instruction replaced by the injections that a run with the same words draws. Bytes of out beyond the text stay, and
- * a refusal writes nothing; the figure of KUNDATREZO_ROOM is exactly the bytes that the text takes, which may be more than KUNDATREZO_MAX_BYTES;
- * with as many lent, and the same draws, a second call succeeds where it is not. */
+/* Settling: the job with each noise line, with its element lines, replaced by the injections that a run with the same words draws. Bytes of out
+ * beyond the text stay, and a refusal writes nothing; the figure of KUNDATREZO_ROOM is exactly the bytes that the text takes, which may be more than
+ * KUNDATREZO_MAX_BYTES; with as many lent, and the same draws, a second call succeeds where it is not. */
 struct kundatrezo_text_answer kundatrezo_settle(const uint8_t *job, size_t job_len, const uint64_t *noiseless, size_t noiseless_len,
                                                 const uint64_t *main_words, size_t main_len, const uint64_t *second, size_t second_len,
                                                 uint64_t base, uint8_t *out, size_t out_len);

@@ -1,6 +1,6 @@
 """Logical error rates of two codes, sampled, with their intervals, beside exact ones for distance 3.
 
-    python3 rates.py [PLOT [SHOTS]]
+    /usr/bin/python3 rates.py [PLOT [SHOTS]]
 
 A script in cells, as notebooks have them: editors that know `# %%` run it cell by cell.
 """

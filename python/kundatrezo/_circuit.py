@@ -2,11 +2,14 @@
 
 from __future__ import annotations
 
+import operator
 import re
-import struct
 from typing import Iterable, Mapping, Optional, Sequence, Union
 
+import numpy as np
+
 from ._jobs import Job
+from ._library import binary64, whole
 
 GATES = {
     "I": 0,
@@ -35,6 +38,31 @@ Pauli = Union[str, Mapping[int, str]]
 """A Pauli without its sign: a text such as "X0 Y1 Z2", or the letter of each qubit. The empty one is the identity."""
 
 
+def _is_whole(number: object) -> bool:
+    """Whether Python takes it for a whole number, as it does those of numpy and of other libraries."""
+    try:
+        operator.index(number)
+    except TypeError:
+        return False
+    return True
+
+
+def _numbers(numbers: Iterable[int], name: str, each: str = "") -> list[int]:
+    """Numbers that a caller gives. Nothing is rounded, or read from a text."""
+    try:
+        given = list(numbers)
+    except TypeError:
+        raise TypeError(f"{name} are to be a list of whole numbers, not {numbers!r}") from None
+    for number in given:
+        if isinstance(number, (bool, np.bool_)) or not _is_whole(number):
+            raise TypeError(f"{name} are to be whole numbers{each}, not {number!r}")
+    return [whole(number, f"each of the {name}") for number in given]
+
+
+def _qubits(arguments: tuple[int, ...]) -> list[int]:
+    return _numbers(arguments, "qubits", ", each an argument of its own")
+
+
 def _letters(pauli: Pauli) -> dict[int, str]:
     if isinstance(pauli, str):
         found = [re.fullmatch(r"([XYZ])(\d+)", part) for part in pauli.split()]
@@ -44,13 +72,19 @@ def _letters(pauli: Pauli) -> dict[int, str]:
         if len({qubit for qubit, _ in letters}) < len(letters):
             raise ValueError(f"'{pauli}' has a qubit twice")
         return dict(letters)
+    if not isinstance(pauli, Mapping):
+        raise TypeError(f"{pauli!r} is no Pauli: it is written as in 'X0 Y1 Z2'")
     if not all(letter in ("I", "X", "Y", "Z") for letter in pauli.values()):
         raise ValueError(f"{dict(pauli)} is no Pauli: its letters are I, X, Y and Z")
-    return {qubit: letter for qubit, letter in pauli.items() if letter != "I"}
+    return {qubit: letter for qubit, letter in zip(_numbers(pauli, "qubits"), pauli.values()) if letter != "I"}
 
 
 def _list(numbers: Iterable[int]) -> str:
     return ",".join(map(str, numbers)) or "-"
+
+
+def _outcomes(outcomes: Iterable[int]) -> str:
+    return _list(sorted(_numbers(outcomes, "outcomes")))
 
 
 def _parts(pauli: Pauli, x: str = "x", z: str = "z") -> str:
@@ -60,11 +94,12 @@ def _parts(pauli: Pauli, x: str = "x", z: str = "z") -> str:
 
 
 def _bits(number: float) -> str:
-    return struct.pack(">d", number).hex()
+    return f"{binary64(number):016x}"
 
 
 class Circuit:
-    """A circuit, line by line. The numbers of the header, and the edition, come from the lines; nothing else is judged here: `job` has the engine check it.
+    """A circuit, line by line. The numbers of the header, and the edition, come from the lines. What is no number, no Pauli or no gate, and
+    lists that do not belong together, are an error at once, which leaves the circuit as it was; the rest is the engine's to check, by `job`.
 
     >>> circuit = Circuit()
     >>> circuit.gate("Hadamard", 0).gate("ControlledX", 0, 1).depolarize(0.5, 0, 1)
@@ -89,52 +124,63 @@ class Circuit:
     def __repr__(self) -> str:
         return f"<Circuit of {len(self._lines)} lines>"
 
+    def text(self, shots: int = 1) -> str:
+        """The text of the lines so far behind their header, not checked: what `kundatrezo check` reads where `job` is refused."""
+        edition = "" if self._edition == 1 else f"edition={self._edition} "
+        header = f"op=job {edition}qubits={self._qubits} outcomes={self._outcomes} shots={whole(shots, 'shots')}"
+        return "".join(f"{line}\n" for line in (header, *self._lines))
+
     def job(self, shots: int = 1) -> Job:
         """The job of the lines so far, checked."""
-        edition = "" if self._edition == 1 else f"edition={self._edition} "
-        header = f"op=job {edition}qubits={self._qubits} outcomes={self._outcomes} shots={shots}"
-        return Job("".join(f"{line}\n" for line in (header, *self._lines)))
+        return Job(self.text(shots))
 
-    def _add(self, line: str, qubits: Iterable[int] = ()) -> Circuit:
-        self._lines.append(line)
+    def _add(self, *lines: str, qubits: Iterable[int] = (), edition: int = 1) -> Circuit:
+        self._lines += lines
         self._qubits = max(self._qubits, *(qubit + 1 for qubit in qubits), 1)
+        self._edition = max(self._edition, edition)
         return self
 
     def gate(self, name: str, *qubits: int) -> Circuit:
         """A gate by its name, such as Hadamard, SqrtZ or ControlledX (or H, S, CX), on its qubits; a control stands first."""
         name = _ALIASES.get(name, name)
         if name not in GATES:
-            raise ValueError(f"there is no gate '{name}'; those that there are: {', '.join(GATES)}")
-        if name == "ControlledY":
-            self._edition = 2
-        return self._add(f"op=u g={GATES[name]} q={_list(qubits)}", qubits)
+            raise ValueError(f"there is no gate '{name}'; those that there are: {', '.join(GATES)}; and for short {', '.join(_ALIASES)}")
+        numbers = _qubits(qubits)
+        return self._add(f"op=u g={GATES[name]} q={_list(numbers)}", qubits=numbers, edition=2 if name == "ControlledY" else 1)
 
     def clifford(self, qubits: Sequence[int], x_images: Sequence[Pauli], z_images: Sequence[Pauli]) -> Circuit:
         """Any Clifford of up to eight qubits, by the images of X and of Z on each of them, in their order. Qubits of an image are named by their numbers."""
-        k = len(qubits)
+        numbers = _numbers(qubits, "qubits")
+        k = len(numbers)
+        x_images, z_images = list(x_images), list(z_images)
+        if not len(x_images) == len(z_images) == k:
+            raise ValueError(f"a Clifford on {k} qubits has {k} images of X and {k} of Z, not {len(x_images)} and {len(z_images)}")
         table = 0
         for row, image in enumerate([*x_images, *z_images]):
             for qubit, letter in _letters(image).items():
-                column = list(qubits).index(qubit)
+                if qubit not in numbers:
+                    raise ValueError(f"the image {image!r} has qubit {qubit}, and the Clifford is on {_list(numbers)}")
+                column = numbers.index(qubit)
                 table |= (letter in "XY") << 2 * k * row + column | (letter in "ZY") << 2 * k * row + k + column
         words = [f"{table >> 64 * place & 2**64 - 1:016x}" for place in range(max(1, -(-4 * k * k // 64)))]
-        return self._add(f"op=c q={_list(qubits)} t={','.join(words)}", qubits)
+        return self._add(f"op=c q={_list(numbers)} t={','.join(words)}", qubits=numbers)
 
     def pauli(self, pauli: Pauli) -> Circuit:
         """A Pauli gate, which changes no frame."""
-        return self._add(f"op=p {_parts(pauli)}", _letters(pauli))
+        return self._add(f"op=p {_parts(pauli)}", qubits=_letters(pauli))
 
     def exponential(self, pauli: Pauli) -> Circuit:
         """The exponential of a Pauli, by a quarter of pi."""
-        return self._add(f"op=e {_parts(pauli)}", _letters(pauli))
+        return self._add(f"op=e {_parts(pauli)}", qubits=_letters(pauli))
 
     def controlled(self, control: Pauli, target: Pauli) -> Circuit:
         """A controlled Pauli."""
-        return self._add(f"op=k {_parts(control)} {_parts(target, 'u', 'v')}", [*_letters(control), *_letters(target)])
+        return self._add(f"op=k {_parts(control)} {_parts(target, 'u', 'v')}", qubits=[*_letters(control), *_letters(target)])
 
     def permute(self, places: Sequence[int], qubits: Sequence[int]) -> Circuit:
         """What was at place i of the qubits goes to place `places[i]`."""
-        return self._add(f"op=m s={_list(places)} q={_list(qubits)}", qubits)
+        numbers = _numbers(qubits, "qubits")
+        return self._add(f"op=m s={_list(_numbers(places, 'places'))} q={_list(numbers)}", qubits=numbers)
 
     def measure(self, pauli: Pauli) -> int:
         """Measure a Pauli, and give the outcome's id."""
@@ -145,41 +191,40 @@ class Circuit:
         return self._record(f"op=r id={self._outcomes} angle={int(angle)}")
 
     def _record(self, line: str, qubits: Iterable[int] = ()) -> int:
-        self._add(line, qubits)
+        self._add(line, qubits=qubits)
         self._outcomes += 1
         return self._outcomes - 1
 
     def conditional(self, pauli: Pauli, outcomes: Iterable[int], parity: int = 1) -> Circuit:
         """A Pauli that is applied by the parity of outcomes."""
-        return self._add(f"op=f {_parts(pauli)} id={_list(sorted(outcomes))} parity={parity}", _letters(pauli))
+        return self._add(f"op=f {_parts(pauli)} id={_outcomes(outcomes)} parity={whole(parity, 'parity')}", qubits=_letters(pauli))
 
     def reset(self, *qubits: int) -> Circuit:
         """Reset qubits."""
-        for qubit in qubits:
-            self._add(f"op=z q={qubit}", [qubit])
-        return self
+        numbers = _qubits(qubits)
+        return self._add(*(f"op=z q={qubit}" for qubit in numbers), qubits=numbers)
 
     def barrier(self, *qubits: int) -> Circuit:
         """A barrier, which does nothing."""
-        self._edition = 2
-        return self._add(f"op=b q={_list(qubits)}", qubits)
+        numbers = _qubits(qubits)
+        return self._add(f"op=b q={_list(numbers)}", qubits=numbers, edition=2)
 
     def inject(self, shot: int, pauli: Pauli) -> Circuit:
         """A fault in one shot."""
-        return self._add(f"op=i shot={shot} {_parts(pauli)}", _letters(pauli))
+        return self._add(f"op=i shot={whole(shot, 'shot')} {_parts(pauli)}", qubits=_letters(pauli))
 
     def flip(self, shot: int, outcome: int) -> Circuit:
         """Another outcome in one shot."""
-        return self._add(f"op=t shot={shot} id={outcome}")
+        return self._add(f"op=t shot={whole(shot, 'shot')} id={whole(outcome, 'outcome')}")
 
     def depolarize(self, p: float, *qubits: int, corr: Optional[int] = None, cond: Iterable[int] = (), parity: int = 0) -> Circuit:
         """With probability p one of all Paulis on the qubits but the identity, each as likely."""
-        size = 4 ** len(qubits) - 1
-        return self._add(f"{_noise(p, corr, cond, parity)} d=2 q={_list(qubits)} size={size}", qubits)
+        numbers = _qubits(qubits)
+        return self._add(f"{_noise(p, corr, cond, parity)} d=2 q={_list(numbers)} size={4 ** len(numbers) - 1}", qubits=numbers)
 
     def fault(self, p: float, pauli: Pauli, *, corr: Optional[int] = None, cond: Iterable[int] = (), parity: int = 0) -> Circuit:
         """With probability p a Pauli."""
-        return self._add(f"{_noise(p, corr, cond, parity)} d=1 {_parts(pauli)} size=1", _letters(pauli))
+        return self._add(f"{_noise(p, corr, cond, parity)} d=1 {_parts(pauli)} size=1", qubits=_letters(pauli))
 
     def choose(
         self,
@@ -195,12 +240,12 @@ class Circuit:
         n = len(paulis)
         if weights is not None and len(weights) != n:
             raise ValueError(f"{n} Paulis have {len(weights)} weights")
-        self._add(f"{_noise(p, corr, cond, parity)} d={3 if weights is None else 4} n={n} size={n}")
-        for place, pauli in enumerate(paulis):
-            weight = "" if weights is None else f"w={_bits(weights[place])} "
-            self._add(f"{weight}{_parts(pauli)}", _letters(pauli))
-        return self
+        line = f"{_noise(p, corr, cond, parity)} d={3 if weights is None else 4} n={n} size={n}"
+        before = ["" if weights is None else f"w={_bits(weights[place])} " for place in range(n)]
+        elements = [f"{weight}{_parts(pauli)}" for weight, pauli in zip(before, paulis)]
+        return self._add(line, *elements, qubits=[qubit for pauli in paulis for qubit in _letters(pauli)])
 
 
 def _noise(p: float, corr: Optional[int], cond: Iterable[int], parity: int) -> str:
-    return f"op=n p={_bits(p)} corr={'-' if corr is None else corr} cond={_list(sorted(cond))} parity={parity}"
+    number = "-" if corr is None else whole(corr, "corr")
+    return f"op=n p={_bits(p)} corr={number} cond={_outcomes(cond)} parity={whole(parity, 'parity')}"

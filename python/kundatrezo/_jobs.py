@@ -3,7 +3,6 @@
 from __future__ import annotations
 
 import os
-import struct
 from dataclasses import dataclass
 from pathlib import Path
 from typing import NamedTuple, Optional, Sequence, Union
@@ -11,7 +10,7 @@ from typing import NamedTuple, Optional, Sequence, Union
 import numpy as np
 import numpy.typing as npt
 
-from ._library import Answer, Lendable, Words, call, read_words, written_words
+from ._library import Answer, Lendable, Words, binary64, call, read_words, written_words
 from ._words import Stream
 
 MAX_BYTES = 1_048_576
@@ -284,16 +283,16 @@ class Job:
         return said.figure
 
     def _wanted(self, what: str, *lists: Sequence[int]) -> str:
-        """What is wrong with the first of these that is no list of recorded outcomes, rising strictly."""
+        """What is wrong with the first of these that is no list of recorded outcomes, rising strictly; nothing where all are."""
         rises = lambda list_: all(one < other for one, other in zip(list_, [*list_[1:], self.recorded]))
-        wrong = next((",".join(map(str, list_)) for list_ in lists if not rises(list_)), "")
+        wrong = next((f"the {what} {','.join(map(str, list_))}" for list_ in lists if not rises(list_)), "")
         recorded = f"it names recorded outcomes, 0 to {self.recorded - 1}, and rises strictly"
-        return f"the {what} {wrong}: {recorded}" if self.recorded else "the job records no outcome"
+        return wrong and (f"{wrong}: {recorded}" if self.recorded else "the job records no outcome")
 
     def annotate(self, p: float) -> Job:
         """The job with depolarizing noise of probability p before each measurement and after each gate."""
         out = np.zeros(MAX_BYTES, dtype=np.uint8)
-        said = call("annotate", self.text, struct.unpack("<Q", struct.pack("<d", p))[0], out)
+        said = call("annotate", self.text, binary64(p), out)
         test(said.answer, self.text)
         return Job(out[: said.figure].tobytes())
 

@@ -9,6 +9,7 @@ from __future__ import annotations
 import ctypes
 import operator
 import os
+import struct
 from ctypes import c_size_t, c_uint32, c_uint64, c_void_p
 from pathlib import Path
 from typing import Any, Callable, Sequence, Union
@@ -125,6 +126,14 @@ def whole(number: int, name: str = "an argument", least: int = 0) -> int:
     if not least <= given < 2**64:
         raise ValueError(f"{name} is to be from {least} to below 2^64, not {given}")
     return given
+
+
+def binary64(number: float) -> int:
+    """The bits of a probability or weight that a caller gives."""
+    try:
+        return struct.unpack("<Q", struct.pack("<d", number))[0]
+    except struct.error:
+        raise TypeError(f"a probability or weight is a number, not {number!r}") from None
 
 
 def read_words(words: Lendable) -> Words:

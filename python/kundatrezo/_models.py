@@ -10,7 +10,7 @@ from typing import Iterator, Sequence
 import numpy as np
 import numpy.typing as npt
 
-from ._jobs import Job, test_job, test_lists
+from ._jobs import Job, Refused, test_job, test_lists
 
 
 @dataclass
@@ -32,7 +32,12 @@ def mechanisms(job: Job, detectors: Sequence[Sequence[int]], observables: Sequen
     test_job(job)
     test_lists(detectors, "detectors")
     test_lists(observables, "observables")
-    table = job.fault_table([*detectors, *observables])
+    try:
+        table = job.fault_table([*detectors, *observables])
+    except Refused as refusal:
+        if refusal.number != 17:
+            raise
+        raise Refused(17, hint=job._wanted("detector", *detectors) or job._wanted("observable", *observables)) from None
     faults = iter(zip(table.element, table.flips))
     found: list[Mechanism] = []
     together: dict[object, int] = {}

@@ -16,8 +16,8 @@ _GOLDEN = 0x9E3779B97F4A7C15
 def fill(seed: int, words: Union[Words, int]) -> Words:
     """Fill a lent array, or a new one of so many words, from a seed: Marsaglia's 64-bit xorshift, whose first state the seed is. `Refused` by 22 for 0.
 
-    This is the program's --state. Seeds of `run` and `sample` are stretched first: `run(seed=1)` reads the words of `fill(state_of_seed(1), ..)`. The streams
-    of small seeds begin alike, and are not for a series of runs.
+    This is the program's --state. Seeds of `run` and `sample` are mixed first: `run(seed=1)` reads the words of `fill(state_of_seed(1), ..)`. The
+    streams of small seeds begin alike, and are not for a series of runs.
 
     >>> fill(1, 2).tolist()
     [1082269761, 1152992998833853505]

@@ -141,7 +141,10 @@ def test_outcomes_that_are_refused_are_named():
         (lambda: settled.walk(0, [3, 7]), f"the set 3,7: {wanted}"),
         (lambda: settled.walk(64, [3, 7]), "the job's shots are 0 to 63"),
         (lambda: kundatrezo.sample(SYNDROME, 10, 1, [[0], [3, 3]]), f"the set 3,3: {wanted}"),
-        (lambda: error_model(SYNDROME, [[0], [3, 2]]), f"the group 3,2: {wanted}"),
+        (lambda: SYNDROME.fault_table([[0], [3, 2]]), f"the group 3,2: {wanted}"),
+        (lambda: error_model(SYNDROME, [[0], [0, 9]], [[3, 2]]), f"the detector 0,9: {wanted}"),
+        (lambda: error_model(SYNDROME, [[0]] * 20, [[6], [3, 2]]), f"the observable 3,2: {wanted}"),
+        (lambda: error_model(Circuit().job(), [], [[0]]), "the job records no outcome"),
         (lambda: Circuit().job().fault_table([[0]]), "the job records no outcome"),
     ):
         with pytest.raises(Refused) as refusal:
@@ -301,6 +304,15 @@ def test_builders_write_jobs(circuit):
     assert program("check", "-", job=job).decode() == printed
 
 
+def test_a_refused_circuit_shows_its_text():
+    circuit = Circuit().gate("ControlledX", 0, 0)
+    assert circuit.text(3) == "op=job qubits=1 outcomes=0 shots=3\nop=u g=11 q=0,0\n"
+    with pytest.raises(Refused):
+        circuit.job(3)
+    accepted = Circuit().gate("ControlledY", 0, 1)
+    assert accepted.text().encode() == accepted.job().text
+
+
 def test_wrong_names():
     wrong_paulis = [lambda pauli=pauli: Circuit().measure(pauli) for pauli in ("Q0", "X0 Z0", {0: "x"}, {0: "XY"}, {0: ""})]
     wrong_weights = lambda: Circuit().choose(0.5, ["X0", "Z0"], [1.0, 1.0, 1.0])
@@ -310,3 +322,80 @@ def test_wrong_names():
     with pytest.raises(Refused) as refusal:
         Circuit().gate("ControlledX", 0, 0).job()
     assert refusal.value.number == 5
+
+
+WRONG_CALLS = [
+    # qubits, which are whole numbers and arguments of their own
+    (lambda circuit: circuit.gate("CX", [0, 1]), TypeError, "qubits are to be whole numbers, each an argument of its own, not [0, 1]"),
+    (lambda circuit: circuit.gate("H", np.arange(2)), TypeError, "qubits are to be whole numbers, each an argument of its own, not array([0, 1])"),
+    (lambda circuit: circuit.gate("ControlledY", 0, "9"), TypeError, "qubits are to be whole numbers, each an argument of its own, not '9'"),
+    (lambda circuit: circuit.gate("H", True), TypeError, "qubits are to be whole numbers, each an argument of its own, not True"),
+    (lambda circuit: circuit.gate("H", -1), ValueError, "each of the qubits is to be from 0 to below 2^64, not -1"),
+    (lambda circuit: circuit.depolarize(0.1, [0, 1]), TypeError, "qubits are to be whole numbers, each an argument of its own, not [0, 1]"),
+    (lambda circuit: circuit.barrier(9, 0.5), TypeError, "qubits are to be whole numbers, each an argument of its own, not 0.5"),
+    (lambda circuit: circuit.reset(9, None), TypeError, "qubits are to be whole numbers, each an argument of its own, not None"),
+    (lambda circuit: circuit.permute([1, 0], 9), TypeError, "qubits are to be a list of whole numbers, not 9"),
+    (lambda circuit: circuit.permute(["1", "0"], [8, 9]), TypeError, "places are to be whole numbers, not '1'"),
+    # Paulis
+    (lambda circuit: circuit.measure(0), TypeError, "0 is no Pauli: it is written as in 'X0 Y1 Z2'"),
+    (lambda circuit: circuit.measure(["Z9"]), TypeError, "['Z9'] is no Pauli: it is written as in 'X0 Y1 Z2'"),
+    (lambda circuit: circuit.measure({"9": "Z"}), TypeError, "qubits are to be whole numbers, not '9'"),
+    (lambda circuit: circuit.controlled("Z9", 9), TypeError, "9 is no Pauli: it is written as in 'X0 Y1 Z2'"),
+    (lambda circuit: circuit.inject(0, {9: "X", -1: "X"}), ValueError, "each of the qubits is to be from 0 to below 2^64, not -1"),
+    (lambda circuit: circuit.choose(0.5, ["X9", "Q9"]), ValueError, "'Q9' is no Pauli: it is written as in 'X0 Y1 Z2'"),
+    # probabilities and weights
+    (lambda circuit: circuit.fault("X9", 0.1), TypeError, "a probability or weight is a number, not 'X9'"),
+    (lambda circuit: circuit.choose(0.5, ["X9", "Z9"], [1, None]), TypeError, "a probability or weight is a number, not None"),
+    # outcomes, shots and the rest
+    (lambda circuit: circuit.conditional("X9", 0), TypeError, "outcomes are to be a list of whole numbers, not 0"),
+    (lambda circuit: circuit.fault(0.1, "X9", cond="0"), TypeError, "outcomes are to be whole numbers, not '0'"),
+    (lambda circuit: circuit.fault(0.1, "X9", corr=-1), ValueError, "corr is to be from 0 to below 2^64, not -1"),
+    (lambda circuit: circuit.flip(0, [0]), TypeError, "outcome is to be a whole number, not [0]"),
+    (lambda circuit: circuit.inject(0.5, "X9"), TypeError, "shot is to be a whole number, not 0.5"),
+    # images of a Clifford
+    (lambda circuit: circuit.clifford([9], ["Z9"], []), ValueError, "a Clifford on 1 qubits has 1 images of X and 1 of Z, not 1 and 0"),
+    (lambda circuit: circuit.clifford([8, 9], ["Z8"], ["X8"]), ValueError, "a Clifford on 2 qubits has 2 images of X and 2 of Z, not 1 and 1"),
+    (lambda circuit: circuit.clifford([9], 2 * ["Z9"], 2 * ["X9"]), ValueError, "a Clifford on 1 qubits has 1 images of X and 1 of Z, not 2 and 2"),
+    (lambda circuit: circuit.clifford([9], ["Z0"], ["X9"]), ValueError, "the image 'Z0' has qubit 0, and the Clifford is on 9"),
+]
+
+
+@pytest.mark.parametrize("call, error, text", WRONG_CALLS)
+def test_wrong_calls_leave_nothing(call, error, text):
+    """After a call that failed, the circuit is what it was: the corrected call makes the job that it would have made."""
+    circuit = Circuit().gate("H", 0)
+    with pytest.raises(error) as raised:
+        call(circuit)
+    assert str(raised.value) == text
+    assert circuit.measure("Z0") == 0
+    assert str(circuit.job()) == "op=job qubits=1 outcomes=1 shots=1\nop=u g=4 q=0\nop=o x=- z=0 id=0\n"
+
+
+def test_gates_that_there_are():
+    with pytest.raises(ValueError, match="there is no gate 'cx'; those that there are: I, X, .*ControlledX, .*; and for short H, S, .*CX, CNOT, "):
+        Circuit().gate("cx", 0, 1)
+
+
+def test_numbers_of_numpy():
+    qubits, circuit = np.arange(1, 3), Circuit()
+    circuit.gate("CX", *qubits).depolarize(np.float32(0.5), qubits[0]).reset(*qubits).clifford(qubits[:1], [{qubits[0]: "Z"}], ["X1"])
+    circuit.conditional({qubits[1]: "X"}, [circuit.measure({qubits[1]: "Z"})])
+    lines = ["op=u g=11 q=1,2", "op=n p=3fe0000000000000 corr=- cond=- parity=0 d=2 q=1 size=3", "op=z q=1", "op=z q=2"]
+    lines += ["op=c q=1 t=0000000000000006", "op=o x=- z=2 id=0", "op=f x=2 z=- id=0 parity=1"]
+    assert str(circuit.job()).splitlines() == ["op=job qubits=3 outcomes=1 shots=1", *lines]
+
+
+def test_numbers_of_other_libraries():
+    class Integer:
+        def __index__(self):
+            return 3
+
+    circuit = Circuit().gate("H", Integer()).gate("H", np.array(2)).clifford([Integer()], iter(["Z3"]), iter(["X3"]))
+    assert circuit.text().splitlines()[1:] == ["op=u g=4 q=3", "op=u g=4 q=2", "op=c q=3 t=0000000000000006"]
+    with pytest.raises(TypeError):
+        circuit.text(shots="3")
+
+
+def test_annotation_wants_a_number():
+    with pytest.raises(TypeError, match="a probability or weight is a number, not '0.1'"):
+        BELL.annotate("0.1")

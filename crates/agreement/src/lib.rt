@@ -10,7 +10,9 @@ ghost use Rattle.run.specs.Run.{Source, Memory};
 ghost use Rattle.agreement.specs.Agree.{deltaSum, refusedBy, AgreeReply, agreeReply};
 use checker::examine;
 use job::Answer;
+use pauli::LAST_BIT;
 use pauli::Shot;
+use pauli::WORD_BITS;
 use runner::run;
 use settling::settle;
 use walker::walk;
@@ -53,7 +55,7 @@ fn row_words(job: &[u8]) -> usize
 {
     let found = examine(job);
     let header = found.header;
-    (header.shots as usize + 63) / 64
+    (header.shots as usize + LAST_BIT) / WORD_BITS
 }
 
 // The sum modulo 2 of the listed outcomes' deltas in a shot, where a row has w words. Whole words are added, and the shot's bit is taken at the end.
@@ -62,7 +64,7 @@ fn delta_sum(deltas: &[u64], w: usize, shot: Shot, set: &[u64]) -> u64
     ensures { λ r. ⌜ r ≡ deltaSum w (now (deltas .entry)) (shot .0) (now (set .entry)) ⌝ }
 {
     let s = shot.0;
-    let place = s / 64;
+    let place = s / WORD_BITS;
     let mut word = 0u64;
     let mut i = 0;
     while i < set.len() {
@@ -70,7 +72,7 @@ fn delta_sum(deltas: &[u64], w: usize, shot: Shot, set: &[u64]) -> u64
         word ^= deltas[id * w + place];
         i += 1;
     }
-    (word >> (s % 64)) % 2
+    (word >> (s % WORD_BITS)) % 2
 }
 
 // Runs a job, settles it with the same draws and noiseless bits, walks back on the settled text for a set of outcomes and a shot, and compares. The

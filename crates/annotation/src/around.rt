@@ -19,7 +19,7 @@ use line_qubits::noise_qubits;
 use reader::Form;
 use template::values::KEPT;
 use template::values::MAX_SLOTS;
-use template::values::WORDS;
+use template::values::VALUE_WORDS;
 use writer::noise_lines::put_depolarizing;
 use writer::noise_lines::put_start;
 use writer::put_bytes;
@@ -76,7 +76,7 @@ pub fn put_annotated(out: &mut [u8], job: &[u8], p: u64) -> Progress
     requires { ⌜ checkJob (now job) .number ≡ 0 ⌝ }
     ensures { λ r. ⌜ Annotates (now (job .entry)) p r (now (out .entry)) (now (out .exit)) ⌝ }
 {
-    let mut fields = [0u64; WORDS];
+    let mut fields = [0u64; VALUE_WORDS];
     let mut qubits = [0u64; MAX_SLOTS * KEPT];
     let mut start = [0u8; 50];
     put_start(&mut start, p);

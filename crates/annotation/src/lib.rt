@@ -13,10 +13,10 @@ use check_values::floats::Checked;
 use check_values::floats::probability;
 use checker::check;
 use job::Answer;
-use job::limits::MAX_BYTES;
 use job::refusals;
 use writer::TextAnswer;
 use writer::refused;
+use writer::text_fits;
 
 // Annotates an accepted job. The text is measured first, over no bytes, since nothing is written with a refusal.
 fn annotate_accepted(job: &[u8], p: u64, out: &mut [u8]) -> TextAnswer
@@ -30,13 +30,7 @@ fn annotate_accepted(job: &[u8], p: u64, out: &mut [u8]) -> TextAnswer
             line: r.unfit,
         });
     }
-    if out.len() < r.bytes {
-        return refused(Answer {
-            number: refusals::ROOM,
-            line: 0,
-        });
-    }
-    if MAX_BYTES < r.bytes {
+    if !text_fits(r.bytes, out.len()) {
         return refused(Answer {
             number: refusals::ROOM,
             line: 0,

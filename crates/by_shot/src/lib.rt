@@ -11,9 +11,12 @@ use blocks::exchange;
 use blocks::gather;
 use blocks::scatter;
 use job::Answer;
-use job::limits::MAX_OUTCOMES;
-use job::limits::MAX_SHOTS;
+use job::FIRST_EDITION;
+use job::Header;
+use job::limits::in_range;
 use job::refusals;
+use pauli::LAST_BIT;
+use pauli::WORD_BITS;
 
 // ---- The blocks
 
@@ -41,8 +44,8 @@ fn transpose_block(
     requires { ⌜ Room rows columns (now source) (now target) × (a < wordsPerRow rows) × (b < wordsPerRow columns) × DoneTo rows columns (now source) b a (now target) ⌝ }
     ensures { λ _. ⌜ DoneTo rows columns (now (source .entry)) b (a + 1) (now (target .exit)) ⌝ }
 {
-    let w = (columns + 63) / 64;
-    let v = (rows + 63) / 64;
+    let w = (columns + LAST_BIT) / WORD_BITS;
+    let v = (rows + LAST_BIT) / WORD_BITS;
     let mut block = [0u64; 64];
     gather(&mut block, source, 64 * a * w + b, w, rows_of(rows, a));
     exchange(&mut block);
@@ -54,7 +57,7 @@ fn transpose_group(source: &[u64], target: &mut [u64], rows: usize, columns: usi
     requires { ⌜ Room rows columns (now source) (now target) × (b < wordsPerRow columns) × DoneTo rows columns (now source) b 0 (now target) ⌝ }
     ensures { λ _. ⌜ DoneTo rows columns (now (source .entry)) (b + 1) 0 (now (target .exit)) ⌝ }
 {
-    let v = (rows + 63) / 64;
+    let v = (rows + LAST_BIT) / WORD_BITS;
     let mut a = 0;
     while a < v {
         transpose_block(source, target, rows, columns, a, b);
@@ -67,7 +70,7 @@ fn transpose(source: &[u64], target: &mut [u64], rows: usize, columns: usize)
     requires { ⌜ Room rows columns (now source) (now target) × (length (now target) ≡ columns * wordsPerRow rows) ⌝ }
     ensures { λ _. ⌜ now (target .exit) ≡ transposed rows columns (now (source .entry)) ⌝ }
 {
-    let w = (columns + 63) / 64;
+    let w = (columns + LAST_BIT) / WORD_BITS;
     let mut b = 0;
     while b < w {
         transpose_group(source, target, rows, columns, b);
@@ -82,8 +85,8 @@ fn rearrange(rows: usize, columns: usize, source: &[u64], target: &mut [u64]) ->
     requires { ⌜ (rows ≤ 4096) × (columns ≤ 4096) ⌝ }
     ensures { λ r. ⌜ rearranged rows columns (now (source .entry)) (now (target .entry)) ≡ record { answered = r; words = now (target .exit) } ⌝ }
 {
-    let needed = columns * ((rows + 63) / 64);
-    if source.len() < rows * ((columns + 63) / 64) {
+    let needed = columns * ((rows + LAST_BIT) / WORD_BITS);
+    if source.len() < rows * ((columns + LAST_BIT) / WORD_BITS) {
         return Answer {
             number: refusals::WORDS,
             line: 0,
@@ -103,13 +106,12 @@ fn rearrange(rows: usize, columns: usize, source: &[u64], target: &mut [u64]) ->
 fn may_hold(outcomes: u64, shots: u64) -> bool
     ensures { λ r. ⌜ r ≡ mayHold outcomes shots ⌝ }
 {
-    if MAX_OUTCOMES < outcomes {
-        return false;
-    }
-    if shots == 0 {
-        return false;
-    }
-    shots <= MAX_SHOTS
+    in_range(Header {
+        edition: FIRST_EDITION,
+        qubits: 1,
+        outcomes,
+        shots,
+    })
 }
 
 // 3: counts that a header may not hold.

@@ -13,9 +13,7 @@ use check_values::context::Context;
 use job::FIRST_EDITION;
 use job::Header;
 use job::limits::MAX_EDITION;
-use job::limits::MAX_OUTCOMES;
-use job::limits::MAX_QUBITS;
-use job::limits::MAX_SHOTS;
+use job::limits::in_range;
 use job::refusals;
 use reader::Form;
 use reader::slots::EDITION;
@@ -49,24 +47,6 @@ fn edition_in(f: &[u64]) -> Header
         outcomes: number(f, EDITION_OUTCOMES),
         shots: number(f, EDITION_SHOTS),
     }
-}
-
-fn in_range(h: Header) -> bool
-    ensures { λ r. ⌜ r ≡ inRange h ⌝ }
-{
-    if h.qubits == 0 {
-        return false;
-    }
-    if MAX_QUBITS < h.qubits {
-        return false;
-    }
-    if MAX_OUTCOMES < h.outcomes {
-        return false;
-    }
-    if h.shots == 0 {
-        return false;
-    }
-    h.shots <= MAX_SHOTS
 }
 
 // Whether a header stands first, and is in range.

@@ -1,4 +1,5 @@
-// Tests of the header, and of each other kind of line but noise the number that refuses it after 2 and 3, 0 where none does.
+// Tests of the header, and of each other kind of line, but noise and lines that are a Pauli alone, the number that refuses it after 2 and 3, 0 where
+// none does.
 ghost use mathlib.Core.Path.{_≡_};
 ghost use mathlib.Core.Bool.{_&&_};
 ghost use mathlib.Core.List.{List, [], _∷_};
@@ -76,6 +77,7 @@ pub fn unitary_number(c: Context, f: &[u64]) -> u64
     if !below(f, OPERANDS, OPERANDS_END, c.header.qubits) {
         return refusals::QUBIT;
     }
+    // A count that fits is at most 2, so no list is too long here.
     if count(f, OPERANDS) != pauli::operand_count(number(f, GATE)) as u64 {
         return refusals::OPERANDS;
     }
@@ -93,6 +95,7 @@ pub fn clifford_number(c: Context, f: &[u64]) -> u64
         return refusals::QUBIT;
     }
     let k = count(f, OPERANDS);
+    // A count that passes is at most 8, so no list is too long here.
     if MAX_CLIFFORD_QUBITS < k {
         return refusals::OPERANDS;
     }

@@ -6,6 +6,7 @@ ghost use Rattle.pauli.specs.Pauli.{anticommutes};
 ghost use Rattle.job.specs.Clifford.{tableOf, every, generatorsAnticommute, isClifford};
 ghost use Rattle.tables.specs.Rows.{TableFor, RowsOf, inWord};
 ghost use Rattle.check_values.specs.Pairs.{pairFits};
+use tables::MAX_TABLE_ROWS;
 use tables::no_more_bits;
 use tables::rows;
 
@@ -78,7 +79,7 @@ pub fn is_clifford(words: &[u64], k: usize) -> bool
     if !no_more_bits(words, k) {
         return false;
     }
-    let mut images = [0u64; 16];
+    let mut images = [0u64; MAX_TABLE_ROWS];
     rows(words, k, &mut images);
     rows_fit(&images, k)
 }

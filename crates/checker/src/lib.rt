@@ -14,7 +14,7 @@ use job::FIRST_EDITION;
 use job::Header;
 use job::limits::MAX_BYTES;
 use job::refusals;
-use template::values::WORDS;
+use template::values::VALUE_WORDS;
 
 // Not empty, not too long, LF at the end.
 fn well_ended(job: &[u8]) -> bool
@@ -62,7 +62,7 @@ pub fn examine(job: &[u8]) -> Examined
     if !well_ended(job) {
         return refused(refusals::LENGTH, 0);
     }
-    let mut fields = [0u64; WORDS];
+    let mut fields = [0u64; VALUE_WORDS];
     let mut context = no_context();
     let mut at = 0;
     let mut lines: u64 = 0;

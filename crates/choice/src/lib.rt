@@ -17,7 +17,7 @@ ghost use Rattle.choice.specs.Choice.{Chose, Weighed, Sized, ElementChos
 
 // An element, with the position of the next word; or a word was needed past the end.
 pub enum Choice {
-    Chosen { element: u64, next_word: usize },
+    Chosen { element: u64, position: usize },
     Spent,
 }
 
@@ -57,7 +57,7 @@ fn limit(bound: u64) -> u64
 }
 
 // The first word that is not rejected, mod the bound. The limit is handed in, since it takes a division.
-pub fn choose(words: &[u64], more: &[u64], at: usize, bound: u64, limit: u64) -> Choice
+pub fn choose_uniform(words: &[u64], more: &[u64], at: usize, bound: u64, limit: u64) -> Choice
     requires { ⌜ limit ≡ limitOf bound ⌝ }
     ensures { λ r. ⌜ Chose (now (words .entry) ++ now (more .entry)) (bounded bound (drop at (now (words .entry) ++ now (more .entry)))) r ⌝ }
 {
@@ -69,7 +69,7 @@ pub fn choose(words: &[u64], more: &[u64], at: usize, bound: u64, limit: u64) ->
                 if word < limit {
                     return Choice::Chosen {
                         element: word % bound,
-                        next_word: i,
+                        position: i,
                     };
                 }
             }
@@ -179,13 +179,13 @@ fn element_by(sums: &[f64], u: f64) -> usize
 }
 
 // One word chooses an element by its running sum.
-pub fn weigh(words: &[u64], more: &[u64], at: usize, sums: &[f64]) -> Choice
+pub fn choose_weighted(words: &[u64], more: &[u64], at: usize, sums: &[f64]) -> Choice
     ensures { λ r. ⌜ Weighed (now (words .entry) ++ now (more .entry)) at (now (sums .entry)) r ⌝ }
 {
     match next_word(words, more, at) {
         NextWord::Word(word) => Choice::Chosen {
             element: element_by(sums, unit(word)) as u64,
-            next_word: at + 1,
+            position: at + 1,
         },
         NextWord::Spent => Choice::Spent,
     }
@@ -207,7 +207,13 @@ pub fn chooser_of(distribution: PauliDistribution) -> Chooser
 }
 
 // The element that the words from a position on choose.
-pub fn element(words: &[u64], more: &[u64], at: usize, chooser: Chooser, sums: &[f64]) -> Choice
+pub fn choose_element(
+    words: &[u64],
+    more: &[u64],
+    at: usize,
+    chooser: Chooser,
+    sums: &[f64],
+) -> Choice
     requires { ⌜ (at ≤ length (now words ++ now more)) × Sized chooser ⌝ }
     ensures { λ r. ⌜ ElementChosen (now (words .entry) ++ now (more .entry)) at (chooser .distribution) (now (sums .entry)) r ⌝ }
 {
@@ -215,22 +221,22 @@ pub fn element(words: &[u64], more: &[u64], at: usize, chooser: Chooser, sums: &
     match distribution {
         PauliDistribution::Single => Choice::Chosen {
             element: 0,
-            next_word: at,
+            position: at,
         },
-        PauliDistribution::Depolarizing { qubit_count: _ } => choose(
+        PauliDistribution::Depolarizing { qubit_count: _ } => choose_uniform(
             words,
             more,
             at,
             chooser.bound,
             chooser.limit,
         ),
-        PauliDistribution::Uniform { element_count: _ } => choose(
+        PauliDistribution::Uniform { element_count: _ } => choose_uniform(
             words,
             more,
             at,
             chooser.bound,
             chooser.limit,
         ),
-        PauliDistribution::Weighted { total: _ } => weigh(words, more, at, sums),
+        PauliDistribution::Weighted { total: _ } => choose_weighted(words, more, at, sums),
     }
 }

@@ -28,7 +28,7 @@ use reader::Form;
 use reader::slots::CORRELATION;
 use reader::slots::LISTED_SIZE;
 use reader::slots::SIZE;
-use template::values::WORDS;
+use template::values::VALUE_WORDS;
 use template::values::count;
 use template::values::member;
 use template::values::number;
@@ -179,7 +179,7 @@ fn collect(
     requires { ⌜ Left (now job) number from × (from < length (now job)) × (0 < length (now seen)) × Table 0 (now seen) (now sizes) (now links) ⌝ }
     ensures { λ r. ⌜ Collects (now (job .entry)) number from r (now (seen .exit)) (now (sizes .exit)) (now (links .exit)) ⌝ }
 {
-    let mut fields = [0u64; WORDS];
+    let mut fields = [0u64; VALUE_WORDS];
     let mut at = from;
     let mut k = number;
     let mut n = 0;
@@ -220,7 +220,7 @@ fn compare(job: &[u8], from: usize, number: u64, seen: &[u64], sizes: &[u64], li
     requires { ⌜ Left (now job) number from × (length (now seen) ≡ length (now sizes)) × Linked (now seen) (now links) ⌝ }
     ensures { λ r. ⌜ numbered r ≡ unlike (tableOf (now (seen .entry)) (now (sizes .entry))) (instructionsAt (now (job .entry)) number from) ⌝ }
 {
-    let mut fields = [0u64; WORDS];
+    let mut fields = [0u64; VALUE_WORDS];
     let mut at = from;
     let mut k = number;
     while at < job.len() {

@@ -3,6 +3,7 @@ use mathlib.Core.Path.{_≡_}
 use mathlib.Core.List.{List, _∷_}
 use Prim.Native.Nat.{ℕ, suc, _+_, _*_, _<_, _≤_}
 use lib.ListN.{length, drop}
+use lib.Ieee.{Float}
 use Rattle.job.specs.declared.Header.{Header}
 use Rattle.job.specs.declared.Answer.{Answer}
 use Rattle.job.specs.Line.{Instruction, Placed}
@@ -83,11 +84,13 @@ pub record NoiseReady (job : List ℕ) (place : Place) (line : LineRead) (values
   pub header : lines .header ≡ headerOf job shape
   pub number : lines .line ≡ place .line + 1
 
--- with room for its elements, and rows for the frames
-pub record NoiseRoom (shape : Shape) (values elements x z : List ℕ) : Type 0 where
+-- with room for its elements, their weights and its mask, and rows for the frames
+pub record NoiseRoom (shape : Shape) (values elements : List ℕ) (sums weights : List Float) (mask x z : List ℕ) : Type 0 where
   pub of-values : Whole values
   pub of-elements : AllInside elements
-  pub narrow : shape .width ≤ 64
+  pub of-sums : 64 ≤ length sums
+  pub of-weights : 64 ≤ length weights
+  pub of-mask : shape .width ≤ length mask
   pub in-words : shape .shots ≤ 64 * shape .width
   pub of-x : length x ≡ shape .qubits * shape .width
   pub of-z : length z ≡ shape .qubits * shape .width
@@ -100,13 +103,15 @@ pub record NoiseDone (job : List ℕ) (place : Place) (line : LineRead) (values 
       (endingOf (headerOf job shape) (lentBy shape noiseless second base) (placedAt (place .line) text (Instruction.noise (noiseIn q)) ∷ q .rest) (drop (place .position) main) states)
       (suc (length (q .rest))) (place .line) x′ z′ deltas r
 
--- an instruction begins at the place
-pub record StepReady (job : List ℕ) (shape : Shape) (place : Place) (values elements main : List ℕ) : Type 0 where
+-- an instruction begins at the place, and there is room for a line's values and elements
+pub record StepReady (job : List ℕ) (shape : Shape) (place : Place) (values elements : List ℕ) (sums weights : List Float) (main : List ℕ) : Type 0 where
   pub recorded : ℕ
   pub ahead : Ahead job (headerOf job shape) recorded (place .line) (place .byte)
   pub inside : place .byte < length job
   pub of-values : Whole values
   pub of-elements : AllInside elements
+  pub of-sums : 64 ≤ length sums
+  pub of-weights : 64 ≤ length weights
   pub within : place .position ≤ length main
 
 pub record Stepped (job : List ℕ) (shape : Shape) (noiseless main second : List ℕ) (base : ℕ) (place : Place) (x z d x′ z′ d′ : List ℕ) (r : Moved) : Type 0

@@ -1,5 +1,5 @@
 // Execution of an accepted job: its instructions one after the other on rows of words.
-use faults::elements::ALL_WORDS;
+use faults::elements::ELEMENTS_WORDS;
 use faults::prepare;
 use injection::Drawn;
 use injection::inject_faults;
@@ -11,6 +11,7 @@ use job::limits::MAX_ELEMENTS;
 use job::limits::MAX_WIDTH;
 use job::refusals;
 use lines::apply_line;
+use noise::FIRST_INSTRUCTION_LINE;
 use noise::Place;
 use noise::words::count;
 use noise::words::more_part;
@@ -18,7 +19,7 @@ use noise::words::part;
 use noise::words::position_after;
 use rows::Shape;
 use template::values::KEPT;
-use template::values::WORDS;
+use template::values::VALUE_WORDS;
 ghost use mathlib.Core.List.{_++_};
 ghost use Prim.Native.Nat.{ℕ, _*_, _≤_};
 ghost use lib.ListN.{length};
@@ -41,13 +42,17 @@ pub struct Answered {
     pub taken: usize,
 }
 
-// A noise line at a place, which was read: it is made ready with its element lines, and its faults are injected. The main list lies in two parts.
+// A noise line at a place, which was read: it is made ready with its element lines, and its faults are injected. The main list lies in two parts,
+// `main`, and behind it `more`.
 fn apply_noise<'a>(
     job: &[u8],
     place: Place,
     line: LineRead,
     values: &[u64],
     elements: &mut [u64],
+    sums: &mut [f64],
+    weights: &mut [f64],
+    mask: &mut [u64],
     x: &mut [u64],
     z: &mut [u64],
     shape: Shape,
@@ -57,11 +62,9 @@ fn apply_noise<'a>(
     second: &'a [u64],
     base: u64,
 ) -> Moved
-    requires { ⌜ NoiseReady (now job) place line (now values) (now noiseless) shape × NoiseRoom shape (now values) (now elements) (now x) (now z) × (place .position ≤ length (now main ++ now more)) ⌝ }
+    requires { ⌜ NoiseReady (now job) place line (now values) (now noiseless) shape × NoiseRoom shape (now values) (now elements) (now sums) (now weights) (now mask) (now x) (now z) × (place .position ≤ length (now main ++ now more)) ⌝ }
     ensures { λ r. ⌜ NoiseDone (now (job .entry)) place line (now (values .entry)) shape (now (noiseless .entry)) (now (main .entry) ++ now (more .entry)) (now (second .entry)) base (now (x .entry)) (now (z .entry)) (now (x .exit)) (now (z .exit)) r ⌝ }
 {
-    let mut sums = [0.0; MAX_ELEMENTS as usize];
-    let mut mask = [0u64; MAX_WIDTH];
     let ready = prepare(
         job,
         line,
@@ -69,16 +72,18 @@ fn apply_noise<'a>(
         noiseless,
         shape.width,
         &mut *elements,
-        &mut sums,
-        &mut mask,
+        &mut *sums,
+        weights,
+        &mut *mask,
     );
     let fault = ready.fault;
-    let following = ready.following;
+    let element_lines = ready.element_lines;
     let next = Place {
         byte: ready.behind,
-        line: place.line + 1 + following as u64,
+        line: place.line + 1 + element_lines as u64,
         position: place.position,
     };
+    // With p at or below zero no word is read.
     if fault.probability <= 0.0 {
         return Moved::To(next);
     }
@@ -88,15 +93,16 @@ fn apply_noise<'a>(
     let drawn = inject_faults(
         words,
         more_words,
-        &mask,
+        mask,
         fault,
-        &sums[..following],
+        &sums[..element_lines],
         elements,
         x,
         z,
         shape,
     );
-    let Drawn::Done { next_word: read } = drawn else {
+    // Draws that are spent have taken every word that was left to the line.
+    let Drawn::Done { position: read } = drawn else {
         return Moved::Spent {
             position: position_after(correlation, place.position, count(words, more_words)),
         };
@@ -108,12 +114,14 @@ fn apply_noise<'a>(
     })
 }
 
-// The instruction at a place. After it, as before, the totals are the ones of the deltas' rows; faults that are injected change neither.
+// The instruction at a place. After it, as before, each total is how many bits of its row of deltas are 1; faults that are injected change neither.
 fn step<'a>(
     job: &[u8],
     place: Place,
     values: &mut [u64],
     elements: &mut [u64],
+    sums: &mut [f64],
+    weights: &mut [f64],
     scratch: &mut [u64],
     x: &mut [u64],
     z: &mut [u64],
@@ -126,18 +134,22 @@ fn step<'a>(
     second: &'a [u64],
     base: u64,
 ) -> Moved
-    requires { ⌜ StepReady (now job) shape place (now values) (now elements) (now main ++ now more) × RowsFor shape (now x) (now z) (now deltas) (now noiseless) × (31 * shape .width ≤ length (now scratch)) × TotalsHeld (shape .width) (shape .outcomes) (now deltas) (now totals) ⌝ }
+    requires { ⌜ StepReady (now job) shape place (now values) (now elements) (now sums) (now weights) (now main ++ now more) × RowsFor shape (now x) (now z) (now deltas) (now noiseless) × (31 * shape .width ≤ length (now scratch)) × TotalsHeld (shape .width) (shape .outcomes) (now deltas) (now totals) ⌝ }
     ensures { λ r. ⌜ Stepped (now (job .entry)) shape (now (noiseless .entry)) (now (main .entry) ++ now (more .entry)) (now (second .entry)) base place (now (x .entry)) (now (z .entry)) (now (deltas .entry)) (now (x .exit)) (now (z .exit)) (now (deltas .exit)) r × TotalsHeld (shape .width) (shape .outcomes) (now (deltas .exit)) (now (totals .exit)) ⌝ }
 {
     let line = next_known(job, place.byte, &mut *values);
     let form = line.form;
     if is_noise(form) {
+        // Noise needs no scratch but for its mask.
         return apply_noise(
             job,
             place,
             line,
             values,
             elements,
+            sums,
+            weights,
+            scratch,
             x,
             z,
             shape,
@@ -156,11 +168,8 @@ fn step<'a>(
     })
 }
 
-// The header is line 1.
-const FIRST_INSTRUCTION_LINE: u64 = 2;
-
 // The instructions behind the header, which ends before byte `from` of the job.
-// The room for elements and the scratch are made once, since they are large.
+// The room for elements, sums and weights and the scratch are made once, so that they are not cleared for each line.
 pub fn execute<'a>(
     job: &[u8],
     from: usize,
@@ -178,8 +187,10 @@ pub fn execute<'a>(
     requires { ⌜ ((recorded : ℕ) × Ahead (now job) (headerOf (now job) shape) recorded 2 from) × RowsFor shape (now x) (now z) (now deltas) (now noiseless) × TotalsHeld (shape .width) (shape .outcomes) (now deltas) (now totals) ⌝ }
     ensures { λ r. ⌜ Executes (now (job .entry)) shape (now (noiseless .entry)) (now (main .entry) ++ now (more .entry)) (now (second .entry)) base from (now (x .entry)) (now (z .entry)) (now (deltas .entry)) (now (x .exit)) (now (z .exit)) (now (deltas .exit)) r × TotalsHeld (shape .width) (shape .outcomes) (now (deltas .exit)) (now (totals .exit)) ⌝ }
 {
-    let mut values = [0u64; WORDS];
-    let mut elements = [0u64; ALL_WORDS];
+    let mut values = [0u64; VALUE_WORDS];
+    let mut elements = [0u64; ELEMENTS_WORDS];
+    let mut sums = [0.0; MAX_ELEMENTS as usize];
+    let mut weights = [0.0; MAX_ELEMENTS as usize];
     let mut scratch = [0u64; SCRATCH_WORDS];
     let mut place = Place {
         byte: from,
@@ -192,6 +203,8 @@ pub fn execute<'a>(
             place,
             &mut values,
             &mut elements,
+            &mut sums,
+            &mut weights,
             &mut scratch,
             &mut *x,
             &mut *z,

@@ -29,7 +29,6 @@ use groups_back::line_on_groups;
 use instructions::is_noise;
 use instructions::next_known;
 use job::Answer;
-use job::limits::MAX_BYTES;
 use job::refusals;
 use lines_from_last::line_start;
 use noise_rows::is_wide;
@@ -37,9 +36,10 @@ use noise_rows::keep_marks;
 use noise_rows::put_rows;
 use reader::Form;
 use reader::read_line;
-use template::values::WORDS;
+use template::values::VALUE_WORDS;
 use writer::TextAnswer;
 use writer::refused;
+use writer::text_fits;
 
 const MAX_GROUPS: usize = 16;
 
@@ -66,7 +66,7 @@ fn measure(job: &[u8], groups: usize) -> Measured
     requires { ⌜ (checkJob (now job) .number ≡ 0) × (groups ≤ 16) ⌝ }
     ensures { λ r. ⌜ Measures (now (job .entry)) groups r ⌝ }
 {
-    let mut fields = [0u64; WORDS];
+    let mut fields = [0u64; VALUE_WORDS];
     let mut at = 0;
     let mut k: u64 = 1;
     let mut bytes = 0;
@@ -104,7 +104,7 @@ fn put_table(out: &mut [u8], job: &[u8], lines: u64, state: &mut [u64], groups: 
     requires { ⌜ TableReady (now job) lines (now state) groups (now out) ⌝ }
     ensures { λ _. ⌜ ((q : TableReady (now (job .entry)) lines (now (state .entry)) groups (now (out .entry))) → now (out .exit) ≡ unlines (carriedRows (jobOf (now (job .entry)) .header) (q .are) (jobOf (now (job .entry)) .instructions))) ⌝ }
 {
-    let mut values = [0u64; WORDS];
+    let mut values = [0u64; VALUE_WORDS];
     let mut kept = [0u8; KEPT_ELEMENTS * KEPT_BYTES];
     let mut n = 0;
     let mut place = out.len();
@@ -141,10 +141,7 @@ fn table_accepted(job: &[u8], lines: u64, list: &[u64], groups: usize, out: &mut
         return refusal(refusals::GROUPS, m.wide);
     }
     let bytes = m.bytes;
-    if out.len() < bytes {
-        return refusal(refusals::ROOM, 0);
-    }
-    if MAX_BYTES < bytes {
+    if !text_fits(bytes, out.len()) {
         return refusal(refusals::ROOM, 0);
     }
     let mut words = [0u64; MAX_GROUPS * GROUP_WORDS];

@@ -78,10 +78,11 @@ pub record FaultRoom (n : ℕ) (words elements : List ℕ) (sums weights : List 
   pub of-weights : length weights ≡ n
 
 -- and for any noise line and its mask
-pub record Room (words elements : List ℕ) (sums : List Float) (mask : List ℕ) (w : ℕ) : Type 0 where
+pub record Room (words elements : List ℕ) (sums weights : List Float) (mask : List ℕ) (w : ℕ) : Type 0 where
   pub of-values : Whole words
   pub of-elements : AllInside elements
   pub of-sums : 64 ≤ length sums
+  pub of-weights : 64 ≤ length weights
   pub of-mask : w ≤ length mask
 
 module _ {job : List ℕ} {at : ℕ} {form : Form} {words noiseless : List ℕ} {w : ℕ} (q : NoiseLines job at form words noiseless w) where
@@ -91,9 +92,9 @@ module _ {job : List ℕ} {at : ℕ} {form : Form} {words noiseless : List ℕ} 
 
   -- Its values and its elements were read, and the job can be read on behind them.
   pub record FaultRead (elements : List ℕ) (sums : List Float) (r : Prepared) : Type 0 where
-    pub lines : r .following ≡ length (q .elements)
-    pub ahead : Ahead job (q .header) (q .recorded) (q .line + r .following) (r .behind)
-    pub instructions : instructionsAt job (q .line + r .following) (r .behind) ≡ q .rest
+    pub lines : r .«element_lines» ≡ length (q .elements)
+    pub ahead : Ahead job (q .header) (q .recorded) (q .line + r .«element_lines») (r .behind)
+    pub instructions : instructionsAt job (q .line + r .«element_lines») (r .behind) ≡ q .rest
     pub total : Float
     pub fault : FaultOf (q .noise) total (r .fault)
     pub stands : Represents noiseIn (r .fault .probability) (r .fault .distribution) sums
@@ -101,10 +102,10 @@ module _ {job : List ℕ} {at : ℕ} {form : Form} {words noiseless : List ℕ} 
 
   -- It is ready for its draws, and the job can be read on behind it.
   pub record PreparedAs (elements : List ℕ) (sums : List Float) (mask : List ℕ) (r : Prepared) : Type 0 where
-    pub lines : r .following ≡ length (q .elements)
-    pub ahead : Ahead job (q .header) (q .recorded) (q .line + r .following) (r .behind)
-    pub instructions : instructionsAt job (q .line + r .following) (r .behind) ≡ q .rest
-    pub stands : Represents noiseIn (r .fault .probability) (r .fault .distribution) (take (r .following) sums)
+    pub lines : r .«element_lines» ≡ length (q .elements)
+    pub ahead : Ahead job (q .header) (q .recorded) (q .line + r .«element_lines») (r .behind)
+    pub instructions : instructionsAt job (q .line + r .«element_lines») (r .behind) ≡ q .rest
+    pub stands : Represents noiseIn (r .fault .probability) (r .fault .distribution) (take (r .«element_lines») sums)
     pub small : Small (r .fault .distribution)
     pub correlation : correlationOf (r .fault .correlation) ≡ noiseIn .correlation
     pub held : DistributionHeld (noiseIn .distribution) elements

@@ -13,7 +13,7 @@ use job::limits::MAX_ELEMENTS;
 use reader::slots::WEIGHT;
 use reader::slots::X;
 use template::values::KEPT;
-use template::values::WORDS;
+use template::values::VALUE_WORDS;
 use template::values::count;
 use template::values::number;
 
@@ -31,7 +31,7 @@ const Z_MEMBERS: usize = X_MEMBERS + KEPT;
 // The words of one element, and of all.
 pub const ELEMENT_WORDS: usize = Z_MEMBERS + KEPT;
 
-pub const ALL_WORDS: usize = MAX_ELEMENTS as usize * ELEMENT_WORDS;
+pub const ELEMENTS_WORDS: usize = MAX_ELEMENTS as usize * ELEMENT_WORDS;
 
 // The first list of element e.
 pub fn element_x<'a>(elements: &'a [u64], e: usize) -> &'a [u64]
@@ -141,7 +141,7 @@ pub fn gather(
     if n == 0 {
         return from;
     }
-    let mut values = [0u64; WORDS];
+    let mut values = [0u64; VALUE_WORDS];
     let mut at = from;
     let mut e = 0;
     while e < n {

@@ -18,7 +18,6 @@ use choice::total;
 use instructions::LineRead;
 use instructions::element_lines;
 use instructions::has_weights;
-use job::limits::MAX_ELEMENTS;
 use noise::OutcomeCondition;
 use noise::PauliFault;
 use noise::condition::condition_mask;
@@ -27,7 +26,7 @@ use reader::slots::OWN_LISTS;
 // A noise line by value, how many element lines follow it, and the place in the job behind them.
 pub struct Prepared {
     pub fault: PauliFault,
-    pub following: usize,
+    pub element_lines: usize,
     pub behind: usize,
 }
 
@@ -35,13 +34,13 @@ pub struct Prepared {
 fn read_fault(
     job: &[u8],
     line: LineRead,
-    following: usize,
+    element_lines: usize,
     values: &[u64],
     elements: &mut [u64],
     sums: &mut [f64],
     weights: &mut [f64],
 ) -> Prepared
-    requires { ⌜ SomeNoise (now job) line (now values) following × FaultRoom following (now values) (now elements) (now sums) (now weights) ⌝ }
+    requires { ⌜ SomeNoise (now job) line (now values) «element_lines» × FaultRoom «element_lines» (now values) (now elements) (now sums) (now weights) ⌝ }
     ensures { λ r. ⌜ ((noiseless : List ℕ) (w : ℕ) (q : NoiseLines (now (job .entry)) (line .end + 1) (line .form) (now (values .entry)) noiseless w) → FaultRead q (now (elements .exit)) (now (sums .exit)) r) ⌝ }
 {
     let form = line.form;
@@ -50,13 +49,13 @@ fn read_fault(
     // Element 0 is the Pauli of d=1, or has the qubits of d=2 as its first list; its second is then an earlier line's, and not looked at. d=3 and d=4
     // have neither: `gather` writes over what is kept here.
     keep_element(&mut *elements, 0, values, OWN_LISTS);
-    let behind = gather(job, from, following, weighted, elements, &mut *weights);
+    let behind = gather(job, from, element_lines, weighted, elements, &mut *weights);
     let fault = fault_of(form, values, total(weights));
     let distribution = fault.distribution;
     fill_sums(distribution, sums, weights);
     Prepared {
         fault,
-        following,
+        element_lines,
         behind,
     }
 }
@@ -80,22 +79,22 @@ pub fn prepare(
     width: usize,
     elements: &mut [u64],
     sums: &mut [f64],
+    weights: &mut [f64],
     mask: &mut [u64],
 ) -> Prepared
-    requires { ⌜ NoiseLines (now job) (line .end + 1) (line .form) (now values) (now noiseless) width × Room (now values) (now elements) (now sums) (now mask) width ⌝ }
+    requires { ⌜ NoiseLines (now job) (line .end + 1) (line .form) (now values) (now noiseless) width × Room (now values) (now elements) (now sums) (now weights) (now mask) width ⌝ }
     ensures { λ r. ⌜ ((q : NoiseLines (now (job .entry)) (line .end + 1) (line .form) (now (values .entry)) (now (noiseless .entry)) width) → PreparedAs q (now (elements .exit)) (now (sums .exit)) (now (mask .exit)) r) ⌝ }
 {
     let form = line.form;
-    let following = element_lines(form, values);
-    let mut weights = [0.0; MAX_ELEMENTS as usize];
+    let element_lines = element_lines(form, values);
     let ready = read_fault(
         job,
         line,
-        following,
+        element_lines,
         values,
         elements,
-        &mut sums[..following],
-        &mut weights[..following],
+        &mut sums[..element_lines],
+        &mut weights[..element_lines],
     );
     let fault = ready.fault;
     let condition = fault.condition;

@@ -59,21 +59,21 @@ pub struct Gate {
     pub count: u64,
 }
 
-// The code begins behind `op=u g=`, and the operands behind ` q=`, so many bytes behind the code.
+// The place of the code, behind `op=u g=`, and the bytes of ` q=`, behind which the operands begin.
 const CODE: usize = 7;
 
-const OPERANDS_BEHIND: usize = 3;
+const Q_KEY: usize = 3;
 
 pub fn read_gate(line: &[u8]) -> Gate
     requires { ⌜ GateLine (now line) ⌝ }
     ensures { λ r. ⌜ GateRead (now (line .entry)) r ⌝ }
 {
     let code = read_digits(line, CODE);
-    let qubits = read_operands(line, code.behind + OPERANDS_BEHIND);
+    let operands = read_operands(line, code.behind + Q_KEY);
     Gate {
         code: code.value,
-        first: qubits.first,
-        second: qubits.second,
-        count: qubits.count,
+        first: operands.first,
+        second: operands.second,
+        count: operands.count,
     }
 }

@@ -109,7 +109,7 @@ pub fn inject_element(
 
 // The faults of all shots were injected, with the position of the next word; or a word was needed past the end.
 pub enum Drawn {
-    Done { next_word: usize },
+    Done { position: usize },
     Spent,
 }
 
@@ -140,16 +140,16 @@ pub fn inject_faults(
             NextFault::Spent => {
                 return Drawn::Spent;
             }
-            NextFault::Done { next_word } => {
-                return Drawn::Done { next_word };
+            NextFault::Done { position } => {
+                return Drawn::Done { position };
             }
             NextFault::At {
                 shot,
                 element: e,
-                next_word,
+                position,
             } => {
                 inject_element(x, z, shape, shot, distribution, elements, e);
-                at = next_word;
+                at = position;
                 next_shot = shot.0 + 1;
             }
         }

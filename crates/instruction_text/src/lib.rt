@@ -12,8 +12,6 @@ use faults::prepare;
 use instructions::LineRead;
 use instructions::is_noise;
 use instructions::next_known;
-use job::limits::MAX_ELEMENTS;
-use job::limits::MAX_WIDTH;
 use noise::Place;
 use noise_text::Drawn;
 use noise_text::put_noise;
@@ -32,7 +30,7 @@ pub enum Moved {
     To(Reached),
 }
 
-// The injections that stand for the noise line that was read, with its element lines. The main list lies in two parts.
+// The injections that stand for the noise line that was read, with its element lines. The main list lies in two parts, `main`, and behind it `more`.
 fn put_noise_line<'a>(
     out: &mut [u8],
     from: Reached,
@@ -40,6 +38,9 @@ fn put_noise_line<'a>(
     job: &[u8],
     values: &[u64],
     elements: &mut [u64],
+    sums: &mut [f64],
+    weights: &mut [f64],
+    mask: &mut [u64],
     shape: Shape,
     noiseless: &[u64],
     main: &'a [u64],
@@ -47,12 +48,10 @@ fn put_noise_line<'a>(
     second: &'a [u64],
     base: u64,
 ) -> Moved
-    requires { ⌜ Between (passOf (now job) shape (now noiseless) (now main ++ now more) (now second) base) from × (from .text + 5496832 < 2 ^ 64) × NextLine (now job) (from .place .byte) line (now values) × (noiseForm (line .form) ≡ true) × Whole (now values) × AllInside (now elements) ⌝ }
+    requires { ⌜ Between (passOf (now job) shape (now noiseless) (now main ++ now more) (now second) base) from × (from .text + 5496832 < 2 ^ 64) × NextLine (now job) (from .place .byte) line (now values) × (noiseForm (line .form) ≡ true) × Whole (now values) × AllInside (now elements) × (64 ≤ length (now sums)) × (64 ≤ length (now weights)) × (64 ≤ length (now mask)) ⌝ }
     ensures { λ r. ⌜ InstructionPut (passOf (now (job .entry)) shape (now (noiseless .entry)) (now (main .entry) ++ now (more .entry)) (now (second .entry)) base) (now (out .entry)) from (now (out .exit)) r ⌝ }
 {
     let place = from.place;
-    let mut sums = [0.0; MAX_ELEMENTS as usize];
-    let mut mask = [0u64; MAX_WIDTH];
     let ready = prepare(
         job,
         line,
@@ -60,17 +59,18 @@ fn put_noise_line<'a>(
         noiseless,
         shape.width,
         &mut *elements,
-        &mut sums,
-        &mut mask,
+        &mut *sums,
+        weights,
+        &mut *mask,
     );
     let fault = ready.fault;
-    let following = ready.following;
+    let element_lines = ready.element_lines;
     match put_noise(
         out,
         from.text,
         fault,
-        &sums[..following],
-        &mask,
+        &sums[..element_lines],
+        mask,
         elements,
         shape.shots,
         main,
@@ -79,14 +79,11 @@ fn put_noise_line<'a>(
         base,
         place.position,
     ) {
-        Drawn::Spent { end_word: position } => Moved::Spent { position },
-        Drawn::Done {
-            next_word: position,
-            next_byte: text,
-        } => Moved::To(Reached {
+        Drawn::Spent { position } => Moved::Spent { position },
+        Drawn::Done { position, text } => Moved::To(Reached {
             place: Place {
                 byte: ready.behind,
-                line: place.line + 1 + following as u64,
+                line: place.line + 1 + element_lines as u64,
                 position,
             },
             text,
@@ -101,6 +98,9 @@ pub fn put_instruction<'a>(
     job: &[u8],
     values: &mut [u64],
     elements: &mut [u64],
+    sums: &mut [f64],
+    weights: &mut [f64],
+    mask: &mut [u64],
     shape: Shape,
     noiseless: &[u64],
     main: &'a [u64],
@@ -108,7 +108,7 @@ pub fn put_instruction<'a>(
     second: &'a [u64],
     base: u64,
 ) -> Moved
-    requires { ⌜ Between (passOf (now job) shape (now noiseless) (now main ++ now more) (now second) base) from × (from .place .byte < length (now job)) × (from .text ≤ 8388608 * from .place .line) × Whole (now values) × AllInside (now elements) ⌝ }
+    requires { ⌜ Between (passOf (now job) shape (now noiseless) (now main ++ now more) (now second) base) from × (from .place .byte < length (now job)) × (from .text ≤ 8388608 * from .place .line) × Whole (now values) × AllInside (now elements) × (64 ≤ length (now sums)) × (64 ≤ length (now weights)) × (64 ≤ length (now mask)) ⌝ }
     ensures { λ r. ⌜ InstructionPut (passOf (now (job .entry)) shape (now (noiseless .entry)) (now (main .entry) ++ now (more .entry)) (now (second .entry)) base) (now (out .entry)) from (now (out .exit)) r ⌝ }
 {
     let place = from.place;
@@ -123,6 +123,9 @@ pub fn put_instruction<'a>(
             job,
             values,
             elements,
+            sums,
+            weights,
+            mask,
             shape,
             noiseless,
             main,

@@ -60,25 +60,25 @@ fn begins(line: &[u8], b: u8) -> bool
     line[0] == b
 }
 
-// The first list of an element line begins behind `x=`, and the second behind ` z=`, so many bytes behind the first. A weight stands in front of
-// them, with `w=` before it and a space behind it.
-const LIST_BEHIND: usize = 2;
+// The bytes of `x=`, behind which the first list of an element line begins, and of ` z=`, behind which the second does.
+const X_KEY: usize = 2;
 
-const NEXT_BEHIND: usize = 3;
+const Z_KEY: usize = 3;
 
+// Where a weight stands in front of them, behind `w=`, and where `x=` begins then, behind a space.
 const WEIGHT_START: usize = 2;
 
 const WEIGHT_END: usize = WEIGHT_START + 16;
 
-const WEIGHED: usize = WEIGHT_END + 1;
+const PAULI_START: usize = WEIGHT_END + 1;
 
 // The two lists of an element line, `x=L z=L` from a place on.
 fn read_lists(line: &[u8], from: usize, fields: &mut [u64])
     requires { ⌜ ListsThere (now line) from × Whole (now fields) ⌝ }
     ensures { λ _. ⌜ ListsPut (now (line .entry)) from (now (fields .entry)) (now (fields .exit)) ⌝ }
 {
-    let behind = set_known(&mut *fields, X, line, from + LIST_BEHIND);
-    set_known(fields, Z, line, behind + NEXT_BEHIND);
+    let behind = set_known(&mut *fields, X, line, from + X_KEY);
+    set_known(fields, Z, line, behind + Z_KEY);
 }
 
 // What a line of an accepted job says that is no gate line. Of an element line the form isn't tested again either; its weight stands first, where it
@@ -96,7 +96,7 @@ fn read_other(line: &[u8], fields: &mut [u64]) -> Form
     }
     let weight = known_hex(&line[WEIGHT_START..WEIGHT_END]);
     set_number(&mut *fields, WEIGHT, weight);
-    read_lists(line, WEIGHED, fields);
+    read_lists(line, PAULI_START, fields);
     Form::WeightedElement
 }
 

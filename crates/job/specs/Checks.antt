@@ -1,5 +1,5 @@
--- Definitions. Tests 2 to 12, 20, 21 and 23, line by line: each is a Bool on what the whole line says and on what the lines before it said. The first that fails,
--- in document 01's order, is the number that refuses the line. Assumes nothing.
+-- Definitions. Tests 2 to 12, 20, 21 and 23, line by line: each is a Bool on what the whole line says and on what the lines before it said. The first
+-- that fails, in document 01's order, is the number that refuses the line. Assumes nothing.
 use Prim.Native.Nat.{ℕ, suc, _-_, _^_}
 use mathlib.Core.Bool.{Bool, true, false, cond, not, _&&_, _||_}
 use mathlib.Core.List.{List, [], _∷_, _++_}

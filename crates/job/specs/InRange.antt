@@ -7,8 +7,8 @@ use Prim.Native.Nat.{ℕ, _<_}
 use Rattle.job.specs.Line.{Line}
 use Rattle.job.specs.Checks.{allBelow}
 
--- For n qubits and m outcomes. Of the parts of a Pauli, of the ids of a condition and of the qubits of a reset or a barrier nothing is asked: Paulis are compared on
--- the n qubits alone, and deltas are summed over the m outcomes alone.
+-- For n qubits and m outcomes. Of the parts of a Pauli, of the ids of a condition and of the qubits of a reset or a barrier nothing is asked: Paulis
+-- are compared on the n qubits alone, and deltas are summed over the m outcomes alone.
 abbrev pub InRange : ℕ → ℕ → Line → Type 0
 InRange n m (Line.unitary g qs) = allBelow n qs ≡ true
 InRange n m (Line.clifford qs t) = allBelow n qs ≡ true

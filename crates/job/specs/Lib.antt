@@ -1,5 +1,5 @@
--- Definitions, to be believed, in document 01's order: lines and instructions, rising lists, binary64, the Clifford table, the forms of lines, the tests of a line, and
--- the whole job with test 1; and what calls reply.
+-- Definitions, to be believed, in document 01's order: lines and instructions, rising lists, binary64, the Clifford table, the forms of lines, the
+-- tests of a line, and the whole job with test 1; and what calls reply.
 pub mod Line
 pub mod Rising
 pub mod Float

@@ -42,9 +42,10 @@ unfolding between
 behind-header b = gathered-sound 2 (between (b .header) 0) (b .rest) (b .passes) .instructions
 
 -- What the tests let pass meets the hypotheses of the theorems. A job that the tests of a job accept ends in LF and holds at most 1,048,576 bytes; its first
--- line is a header in range; and every instruction, in order, has what document 01 asks of it, where the outcomes recorded are those of the lines
--- before it: operands as many as the gate takes, distinct and below qubits; Cliffords; permutations; Paulis of rising lists below qubits; the next id,
--- below outcomes; ids that are recorded; shots below shots; and noise whose probability, elements, weights, total and size are as they must be.
+-- line is a header in range; and every instruction, in order, has what documents 01 and 02 ask of it, where the outcomes recorded are those of the
+-- lines before it: operands as many as the gate takes, distinct and below qubits; Cliffords; permutations; Paulis of rising lists below qubits;
+-- controls that commute with their targets; the next id, below outcomes; ids that are recorded; shots below shots; and noise whose probability,
+-- elements, weights, total and size are as they must be.
 pub checked-sound : (job : List ℕ) → checkJob job .number ≡ 0 → JobSound job (jobOf job)
 checked-sound job e =
     let b = job-begun job e in

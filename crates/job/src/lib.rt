@@ -1,5 +1,6 @@
-// The definitions of a job, of its lines, its instructions and the tests of a job (specs/), the types that answers have, and the size of a
-// depolarizing distribution. The code of the tests is in the crates reader, instructions, check_values, check_lines, check_noise and checker.
+// The definitions of a job, of its lines, its instructions and the tests of a job (specs/), the types that answers have, the limits with the test of
+// a header's numbers, and the size of a depolarizing distribution. The code of the other tests is in the crates reader, instructions, check_values,
+// check_lines, check_noise and checker.
 ghost use mathlib.Core.Path.{_≡_};
 ghost use Prim.Native.Nat.{_-_, _^_, _<_};
 

@@ -10,11 +10,11 @@ ghost use Rattle.writer.specs.Reply.{textReply};
 ghost use Rattle.made.specs.Made.{headerText, makeReply};
 ghost use Rattle.job_maker.specs.Whole.{JobPut};
 use job::Answer;
+use job::FIRST_EDITION;
 use job::Header;
+use job::SECOND_EDITION;
 use job::limits::MAX_BYTES;
-use job::limits::MAX_OUTCOMES;
-use job::limits::MAX_QUBITS;
-use job::limits::MAX_SHOTS;
+use job::limits::in_range;
 use job::refusals;
 use made_fields::Making;
 use made_lines::put_instruction;
@@ -23,13 +23,14 @@ use writer::TextAnswer;
 use writer::line::put_numbers;
 use writer::put_byte;
 use writer::refused;
+use writer::text_fits;
 
 // The header's line; the first edition has no field for it.
 fn put_header(out: &mut [u8], h: Header) -> usize
     ensures { λ r. ⌜ Puts 0 (headerText h ++ LF ∷ []) (now (out .entry)) (now (out .exit)) r ⌝ }
 {
     let numbers = [h.edition, h.qubits, h.outcomes, h.shots];
-    if h.edition == 2 {
+    if h.edition == SECOND_EDITION {
         let at = put_numbers(
             &mut *out,
             0,
@@ -72,19 +73,12 @@ fn put_job(out: &mut [u8], h: Header, lines: u64, state: u64) -> usize
 fn may_hold(qubits: u64, outcomes: u64, shots: u64) -> bool
     ensures { λ r. ⌜ r ≡ inRange (headerWith 1 qubits outcomes shots) ⌝ }
 {
-    if qubits == 0 {
-        return false;
-    }
-    if MAX_QUBITS < qubits {
-        return false;
-    }
-    if MAX_OUTCOMES < outcomes {
-        return false;
-    }
-    if shots == 0 {
-        return false;
-    }
-    shots <= MAX_SHOTS
+    in_range(Header {
+        edition: FIRST_EDITION,
+        qubits,
+        outcomes,
+        shots,
+    })
 }
 
 // A refusal of the call.
@@ -113,16 +107,13 @@ pub fn make(
     }
     let state = step(seed);
     let h = Header {
-        edition: 1 + state % 2,
+        edition: FIRST_EDITION + state % 2,
         qubits,
         outcomes,
         shots,
     };
     let length = put_job(&mut out[..0], h, lines, state);
-    if MAX_BYTES < length {
-        return no(refusals::ROOM);
-    }
-    if out.len() < length {
+    if !text_fits(length, out.len()) {
         return no(refusals::ROOM);
     }
     put_job(&mut *out, h, lines, state);

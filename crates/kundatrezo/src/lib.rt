@@ -22,6 +22,7 @@ ghost use Rattle.stream.specs.Stream.{fillReply};
 use examination::Examination;
 use job::Answer;
 use job::CountReply;
+use job::limits::MAX_OUTCOMES;
 use line_reader::LinePart;
 use writer::TextAnswer;
 
@@ -73,7 +74,7 @@ pub extern "C" fn kundatrezo_run<'a>(
 ) -> Answer
     ensures { λ r. ⌜ ((totals : List ℕ) × (runReply (now (job .entry)) (record { x = now (x .entry); z = now (z .entry); deltas = now (deltas .entry); totals = replicate 1024 0; source = record { noiseless = now (noiseless .entry); main = now (main .entry); second = now (second .entry); base = base } }) ≡ record { answered = r; x = now (x .exit); z = now (z .exit); deltas = now (deltas .exit); totals = totals })) ⌝ }
 {
-    let mut totals = [0u64; 1024];
+    let mut totals = [0u64; MAX_OUTCOMES as usize];
     runner::run(
         job,
         x,

@@ -1,10 +1,7 @@
 // A reader over a job's bytes, which hands out one line after another: a struct that holds the job and a place in it, with thin functions over a core
-// that takes a slice and a number. `line_of` and `line_part` have plain parameters: a line of a job by its number, as an answer names it.
+// that takes a slice and a number. `line_at` and `line_part` have plain parameters: the line at a place, and where a line lies that an answer names.
 ghost use mathlib.Core.Path.{_≡_};
-ghost use mathlib.Core.List.{[]};
-ghost use lib.ListN.{getD};
-ghost use Rattle.text.specs.Bytes.{lines};
-ghost use Rattle.line_reader.specs.Reading.{lineFrom, behind, behindLines, lineNumbered, partNumbered};
+ghost use Rattle.line_reader.specs.Reading.{lineFrom, behind, behindLines, partNumbered};
 use numbers::pieces::find_far;
 
 pub struct Reader<'a> {
@@ -62,13 +59,6 @@ pub fn new<'a>(job: &'a [u8]) -> Reader<'a>
     Reader { job, at: 0 }
 }
 
-// Where the next line begins.
-pub fn position<'a>(r: Reader<'a>) -> usize
-    ensures { λ n. ⌜ n ≡ r .entry .at ⌝ }
-{
-    r.at
-}
-
 // Hands out the next line, and goes on behind it.
 pub fn next_line<'s, 'a>(r: &'s mut Reader<'a>) -> &'a [u8]
     ensures { λ line. ⌜ (now line ≡ lineFrom (now (now (r .entry) .job)) (now (r .entry) .at)) × (now (r .exit) .job ≡ now (r .entry) .job) × (now (r .exit) .at ≡ behind (now (now (r .entry) .job)) (now (r .entry) .at)) ⌝ }
@@ -78,58 +68,6 @@ pub fn next_line<'s, 'a>(r: &'s mut Reader<'a>) -> &'a [u8]
     let line = line_from(job, at);
     r.at = place_behind(job, at, line);
     line
-}
-
-// The reader behind so many lines.
-pub fn skip_lines<'a>(r: Reader<'a>, count: u64) -> Reader<'a>
-    ensures { λ q. ⌜ (q .job ≡ r .entry .job) × (q .at ≡ behindLines count (now (r .entry .job)) (r .entry .at)) ⌝ }
-{
-    let at = place_after(r.job, r.at, count);
-    Reader { job: r.job, at }
-}
-
-// The line behind so many lines of a job: empty where the job has no more.
-pub fn line_behind<'a>(job: &'a [u8], count: u64) -> &'a [u8]
-    ensures { λ line. ⌜ now line ≡ getD (lines (now (job .entry))) count [] ⌝ }
-{
-    let mut r = skip_lines(new(job), count);
-    next_line(&mut r)
-}
-
-// The line of a job that has a number, without its LF. The first is line 1. Empty where there is no such line.
-pub fn line_of<'a>(job: &'a [u8], number: u64) -> &'a [u8]
-    ensures { λ line. ⌜ now line ≡ lineNumbered (lines (now (job .entry))) number ⌝ }
-{
-    if number == 0 {
-        &job[job.len()..]
-    } else {
-        line_behind(job, number - 1)
-    }
-}
-
-// Where a line lies in a job: its first byte, and how many bytes it has.
-#[repr(C)]
-pub struct LinePart {
-    pub start: usize,
-    pub len: usize,
-}
-
-// Where that line lies, for a caller who holds the job's bytes and is handed no slice. It starts at the job's end where there is no such line.
-pub fn line_part(job: &[u8], number: u64) -> LinePart
-    ensures { λ r. ⌜ r ≡ partNumbered (now (job .entry)) number ⌝ }
-{
-    if number == 0 {
-        return LinePart {
-            start: job.len(),
-            len: 0,
-        };
-    }
-    let start = place_after(job, 0, number - 1);
-    let line = line_from(job, start);
-    LinePart {
-        start,
-        len: line.len(),
-    }
 }
 
 // The reader at another place.
@@ -145,4 +83,30 @@ pub fn line_at<'a>(job: &'a [u8], at: usize) -> &'a [u8]
 {
     let mut r = moved(new(job), at);
     next_line(&mut r)
+}
+
+// Where a line lies in a job: its first byte, and how many bytes it has.
+#[repr(C)]
+pub struct LinePart {
+    pub start: usize,
+    pub len: usize,
+}
+
+// Where the line lies that has a number, of which the first is 1, for a caller who holds the job's bytes and is handed no slice. It starts at the
+// job's end where there is no such line.
+pub fn line_part(job: &[u8], number: u64) -> LinePart
+    ensures { λ r. ⌜ r ≡ partNumbered (now (job .entry)) number ⌝ }
+{
+    if number == 0 {
+        return LinePart {
+            start: job.len(),
+            len: 0,
+        };
+    }
+    let start = place_after(job, 0, number - 1);
+    let line = line_from(job, start);
+    LinePart {
+        start,
+        len: line.len(),
+    }
 }

@@ -1,5 +1,5 @@
 // Lines that are no noise, on the frames and deltas of many shots:
-// each kind of line, by its values in lent words (crate template), goes to the propagator.
+// each kind of line, by its values in lent words (crate template), goes to the crates propagator and unitaries.
 use pauli::OutcomeId;
 use pauli::Shot;
 use reader::Form;
@@ -164,8 +164,8 @@ fn flip(values: &[u64], deltas: &mut [u64], totals: &mut [u64], shape: Shape)
 
 // ---- Any of them
 
-// A line of a form. Those that are not named do nothing. The totals are the ones of the deltas' rows before and after every line. A line takes at
-// most 31 rows of scratch: a permutation's.
+// A line of a form. Those that are not named do nothing. Before and after every line each total is how many bits of its row of deltas are 1. A line
+// takes at most 31 rows of scratch: a permutation's.
 pub fn apply_line(
     form: Form,
     values: &[u64],

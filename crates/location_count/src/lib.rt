@@ -11,14 +11,14 @@ use job::CountReply;
 use line_qubits::located;
 use template::values::KEPT;
 use template::values::MAX_SLOTS;
-use template::values::WORDS;
+use template::values::VALUE_WORDS;
 
 // The locations of an accepted job.
 fn count(job: &[u8]) -> u64
     requires { ⌜ checkJob (now job) .number ≡ 0 ⌝ }
     ensures { λ r. ⌜ r ≡ Annotate·locations (Bytes·lines (now (job .entry))) ⌝ }
 {
-    let mut fields = [0u64; WORDS];
+    let mut fields = [0u64; VALUE_WORDS];
     let mut qubits = [0u64; MAX_SLOTS * KEPT];
     let mut at = 0;
     let mut total: u64 = 0;

@@ -23,7 +23,7 @@ fn clear_all(x: &mut [u64], z: &mut [u64], deltas: &mut [u64], totals: &mut [u64
     rows::clear(totals, 0, total_words);
 }
 
-// The main list lies in two parts. The words and the totals are cleared first, and again where the draws were spent.
+// The main list lies in two parts, `main`, and behind it `more`. The words and the totals are cleared first, and again where the draws were spent.
 pub fn run_needed<'a>(
     job: &[u8],
     from: usize,

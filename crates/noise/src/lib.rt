@@ -15,7 +15,7 @@ pub enum PauliDistribution {
     Weighted { total: f64 },
 }
 
-// Words come from the main list, or from the second at the position that a correlation names.
+// Words come from the main list, or from the second, from position base + correlation on.
 pub enum Correlation {
     Uncorrelated,
     Shared { correlation: u64 },
@@ -27,7 +27,7 @@ pub enum NextWord {
     Spent,
 }
 
-// The noiseless bits of the first `count` of `outcomes` sum to `parity`. A count of 0 is no condition.
+// The noiseless bits of the first `count` of `outcomes` sum to `parity`, 0 or 1. A count of 0 is no condition.
 pub struct OutcomeCondition {
     pub outcomes: [u64; MAX_MEMBERS as usize],
     pub count: usize,
@@ -41,6 +41,9 @@ pub struct PauliFault {
     pub correlation: Correlation,
     pub condition: OutcomeCondition,
 }
+
+// The header is line 1.
+pub const FIRST_INSTRUCTION_LINE: u64 = 2;
 
 // Where a pass over a job's instructions stands: the next byte of the job, the number of its line, from 1,
 // and the position of the next word of the main list.

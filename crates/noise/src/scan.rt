@@ -33,7 +33,7 @@ pub fn threshold(p: f64) -> u64
 {
     if p > 0.0 {
         if p < 1.0 {
-            // the product is exact, and its whole part is below it where that, as a word, brings a fault
+            // The product is exact; its whole part is below it if the first word of that step brings a fault.
             let whole = std::num::truncating_f64_to_u64(p * STEPS_FLOAT);
             if is_fault(whole * STEP_WORDS, p) {
                 return whole + 1;
@@ -101,7 +101,7 @@ fn pass_blocks(words: &[u64], at: usize, n: usize, threshold: u64) -> usize
 }
 
 // The lesser of two numbers.
-fn least(a: usize, b: usize) -> usize
+fn lesser(a: usize, b: usize) -> usize
     ensures { λ r. ⌜ r ≡ min a b ⌝ }
 {
     if a < b {
@@ -110,13 +110,13 @@ fn least(a: usize, b: usize) -> usize
     b
 }
 
-// The same where the words lie in two parts, the second behind the first, up to the end of the part that has the position.
+// As `pass_blocks`, where the words lie in two parts, the second behind the first, up to the end of the part that has the position.
 fn pass_far(words: &[u64], more: &[u64], at: usize, n: usize, threshold: u64) -> usize
     requires { ⌜ n ≤ length (now words ++ now more) - at ⌝ }
     ensures { λ r. ⌜ Passed threshold (now (words .entry) ++ now (more .entry)) at n r ⌝ }
 {
     if at < words.len() {
-        return pass_blocks(words, at, least(n, words.len() - at), threshold);
+        return pass_blocks(words, at, lesser(n, words.len() - at), threshold);
     }
     pass_blocks(more, at - words.len(), n, threshold)
 }
@@ -142,10 +142,10 @@ pub fn next_skip(words: &[u64], more: &[u64], at: usize, shots: usize, threshold
     requires { ⌜ at ≤ length (now words ++ now more) ⌝ }
     ensures { λ r. ⌜ Skipped threshold (now (words .entry) ++ now (more .entry)) at shots r ⌝ }
 {
-    let n = least(shots, count(words, more) - at);
+    let n = lesser(shots, count(words, more) - at);
     let mut i = 0;
     loop {
-        let near = pass_near(words, more, at + i, least(n - i, BLOCK), threshold);
+        let near = pass_near(words, more, at + i, lesser(n - i, BLOCK), threshold);
         i += near;
         if near < BLOCK {
             return i;

@@ -35,13 +35,16 @@ use template::values::KEPT;
 use template::values::count;
 use template::values::list;
 
-// 24: d=2 over more than 4 qubits.
+// The most qubits of d=2 that a table takes.
+const MAX_DEPOLARIZED: u64 = 4;
+
+// 24: d=2 over more qubits.
 pub fn is_wide(form: Form, f: &[u64]) -> bool
     requires { ⌜ Whole (now f) ⌝ }
     ensures { λ r. ⌜ ((vs : List Value) (w : Written) → Said form (now (f .entry)) vs w → r ≡ wideSaid w) ⌝ }
 {
     match form {
-        Form::Depolarizing => 4 < count(f, DEPOLARIZED),
+        Form::Depolarizing => MAX_DEPOLARIZED < count(f, DEPOLARIZED),
         _ => false,
     }
 }

@@ -33,26 +33,26 @@ use writer::noise_lines::put_inject;
 // ---- An element
 
 // The injection of an element of a depolarizing distribution.
-fn put_depolarizing(out: &mut [u8], place: usize, shot: Shot, qubits: &[u64], e: u64) -> usize
-    requires { ⌜ (place + 1342 < 2 ^ 64) × (length (now qubits) ≤ 31) × (e + 1 < 2 ^ 64) ⌝ }
-    ensures { λ r. ⌜ Puts place (injectText (shot .0) (depolarizingElement (now (qubits .entry)) e) ++ LF ∷ []) (now (out .entry)) (now (out .exit)) r ⌝ }
+fn put_depolarizing(out: &mut [u8], text: usize, shot: Shot, qubits: &[u64], e: u64) -> usize
+    requires { ⌜ (text + 1342 < 2 ^ 64) × (length (now qubits) ≤ 31) × (e + 1 < 2 ^ 64) ⌝ }
+    ensures { λ r. ⌜ Puts text (injectText (shot .0) (depolarizingElement (now (qubits .entry)) e) ++ LF ∷ []) (now (out .entry)) (now (out .exit)) r ⌝ }
 {
-    let v = e + 1;
+    let bits = e + 1;
     let mut members = [0u64; 2 * KEPT];
-    let x = select(&mut members[..KEPT], qubits, v);
-    let z = select(&mut members[KEPT..], qubits, v / 2);
+    let x = select(&mut members[..KEPT], qubits, bits);
+    let z = select(&mut members[KEPT..], qubits, bits / 2);
     let counts = [x as u64, z as u64];
-    put_inject(out, place, shot, &counts, &members)
+    put_inject(out, text, shot, &counts, &members)
 }
 
 // The injection of an element that is kept whole.
-fn put_kept(out: &mut [u8], place: usize, shot: Shot, elements: &[u64], e: usize) -> usize
-    requires { ⌜ (place + 1342 < 2 ^ 64) × Kept (now elements) e ⌝ }
-    ensures { λ r. ⌜ Puts place (injectText (shot .0) (keptElement (now (elements .entry)) e) ++ LF ∷ []) (now (out .entry)) (now (out .exit)) r ⌝ }
+fn put_kept(out: &mut [u8], text: usize, shot: Shot, elements: &[u64], e: usize) -> usize
+    requires { ⌜ (text + 1342 < 2 ^ 64) × Kept (now elements) e ⌝ }
+    ensures { λ r. ⌜ Puts text (injectText (shot .0) (keptElement (now (elements .entry)) e) ++ LF ∷ []) (now (out .entry)) (now (out .exit)) r ⌝ }
 {
     put_inject(
         out,
-        place,
+        text,
         shot,
         element_counts(elements, e),
         element_members(elements, e),
@@ -61,35 +61,36 @@ fn put_kept(out: &mut [u8], place: usize, shot: Shot, elements: &[u64], e: usize
 
 fn put_element(
     out: &mut [u8],
-    place: usize,
+    text: usize,
     shot: Shot,
-    d: PauliDistribution,
+    distribution: PauliDistribution,
     elements: &[u64],
     e: u64,
 ) -> usize
-    requires { ⌜ (place + 1342 < 2 ^ 64) × ElementIn d (now elements) e ⌝ }
-    ensures { λ r. ⌜ Puts place (injectText (shot .0) (elementIn d (now (elements .entry)) e) ++ LF ∷ []) (now (out .entry)) (now (out .exit)) r ⌝ }
+    requires { ⌜ (text + 1342 < 2 ^ 64) × ElementIn distribution (now elements) e ⌝ }
+    ensures { λ r. ⌜ Puts text (injectText (shot .0) (elementIn distribution (now (elements .entry)) e) ++ LF ∷ []) (now (out .entry)) (now (out .exit)) r ⌝ }
 {
-    match d {
+    match distribution {
         PauliDistribution::Depolarizing { qubit_count: _ } => {
-            put_depolarizing(out, place, shot, element_x(elements, 0), e)
+            put_depolarizing(out, text, shot, element_x(elements, 0), e)
         }
-        _ => put_kept(out, place, shot, elements, e as usize),
+        _ => put_kept(out, text, shot, elements, e as usize),
     }
 }
 
 // ---- A noise line
 
-// A word was needed past the end, `end_word`; or the position of the next word and the place of the next byte.
+// A word was needed past the end, or all shots have drawn. Each with the position behind the words that were read: in the line's part of a list for
+// `put_faults`, in the main list for `put_noise`. `text` is the place of the text's next byte.
 pub enum Drawn {
-    Spent { end_word: usize },
-    Done { next_word: usize, next_byte: usize },
+    Spent { position: usize },
+    Done { position: usize, text: usize },
 }
 
 // The injections of the faults that the words bring.
 fn put_faults(
     out: &mut [u8],
-    from: usize,
+    text: usize,
     words: &[u64],
     more: &[u64],
     mask: &[u64],
@@ -98,45 +99,46 @@ fn put_faults(
     sums: &[f64],
     elements: &[u64],
 ) -> Drawn
-    requires { ⌜ (from + 1342 * shots < 2 ^ 64) × Ready (fault .probability) (fault .distribution) (now sums) (now mask) (now elements) shots ⌝ }
-    ensures { λ r. ⌜ ((q : Ready (fault .probability) (fault .distribution) (now (sums .entry)) (now (mask .entry)) (now (elements .entry)) shots) → StepPut (now (words .entry) ++ now (more .entry)) from shots (now (out .entry)) [] (injected (q .noise .distribution) (drawShots (q .lent) (q .noise) shots 0 (now (words .entry) ++ now (more .entry)))) (now (out .exit)) r) ⌝ }
+    requires { ⌜ (text + 1342 * shots < 2 ^ 64) × Ready (fault .probability) (fault .distribution) (now sums) (now mask) (now elements) shots ⌝ }
+    ensures { λ r. ⌜ ((q : Ready (fault .probability) (fault .distribution) (now (sums .entry)) (now (mask .entry)) (now (elements .entry)) shots) → StepPut (now (words .entry) ++ now (more .entry)) text shots (now (out .entry)) [] (injected (q .noise .distribution) (drawShots (q .lent) (q .noise) shots 0 (now (words .entry) ++ now (more .entry)))) (now (out .exit)) r) ⌝ }
 {
     let p = fault.probability;
-    let d = fault.distribution;
-    let rule = rule_of(p, d);
-    let mut place = from;
+    let distribution = fault.distribution;
+    let rule = rule_of(p, distribution);
+    let mut next = text;
     let mut at = 0;
     let mut shot = 0;
     loop {
         match next_fault(words, more, at, mask, Shot(shot), shots, rule, sums) {
             NextFault::Spent => {
                 return Drawn::Spent {
-                    end_word: count(words, more),
+                    position: count(words, more),
                 };
             }
-            NextFault::Done { next_word } => {
+            NextFault::Done { position } => {
                 return Drawn::Done {
-                    next_word,
-                    next_byte: place,
+                    position,
+                    text: next,
                 };
             }
             NextFault::At {
                 shot: s,
                 element: e,
-                next_word,
+                position,
             } => {
-                place = put_element(&mut *out, place, s, d, elements, e);
-                at = next_word;
+                next = put_element(&mut *out, next, s, distribution, elements, e);
+                at = position;
                 shot = s.0 + 1;
             }
         }
     }
 }
 
-// The injections that stand for a noise line. Words of the main list, which lies in two parts, are read from a position on, which is moved.
+// The injections that stand for a noise line. A line without correlation reads the main list, which lies in two parts, `main`, and behind it `more`,
+// from a position on; a correlated one reads the second, and the position stays.
 pub fn put_noise<'a>(
     out: &mut [u8],
-    place: usize,
+    text: usize,
     fault: PauliFault,
     sums: &[f64],
     mask: &[u64],
@@ -148,28 +150,35 @@ pub fn put_noise<'a>(
     base: u64,
     position: usize,
 ) -> Drawn
-    requires { ⌜ (place + 1342 * shots < 2 ^ 64) × (position ≤ length (now main ++ now more)) × ReadyOf (fault .probability) (fault .distribution) (now sums) (now mask) (now elements) shots (fault .correlation) (now second) base ⌝ }
-    ensures { λ r. ⌜ ((q : ReadyOf (fault .probability) (fault .distribution) (now (sums .entry)) (now (mask .entry)) (now (elements .entry)) shots (fault .correlation) (now (second .entry)) base) (text : List ℕ) → StepPut (now (main .entry) ++ now (more .entry)) place shots (now (out .entry)) (leftSpent (Instruction.noise (q .ready .noise)) (drop position (now (main .entry) ++ now (more .entry)))) (stepOf (q .ready .lent) (drop position (now (main .entry) ++ now (more .entry))) text (Instruction.noise (q .ready .noise))) (now (out .exit)) r) ⌝ }
+    requires { ⌜ (text + 1342 * shots < 2 ^ 64) × (position ≤ length (now main ++ now more)) × ReadyOf (fault .probability) (fault .distribution) (now sums) (now mask) (now elements) shots (fault .correlation) (now second) base ⌝ }
+    ensures { λ r. ⌜ ((q : ReadyOf (fault .probability) (fault .distribution) (now (sums .entry)) (now (mask .entry)) (now (elements .entry)) shots (fault .correlation) (now (second .entry)) base) (source : List ℕ) → StepPut (now (main .entry) ++ now (more .entry)) text shots (now (out .entry)) (leftSpent (Instruction.noise (q .ready .noise)) (drop position (now (main .entry) ++ now (more .entry)))) (stepOf (q .ready .lent) (drop position (now (main .entry) ++ now (more .entry))) source (Instruction.noise (q .ready .noise))) (now (out .exit)) r) ⌝ }
 {
     if fault.probability <= 0.0 {
-        return Drawn::Done {
-            next_word: position,
-            next_byte: place,
-        };
+        return Drawn::Done { position, text };
     }
     let correlation = fault.correlation;
     let words = part(main, second, correlation, base, position);
-    let rest = more_part(more, correlation, position, main.len());
-    match put_faults(out, place, words, rest, mask, shots, fault, sums, elements) {
-        Drawn::Spent { end_word: read } => Drawn::Spent {
-            end_word: position_after(correlation, position, read),
+    let more_words = more_part(more, correlation, position, main.len());
+    match put_faults(
+        out,
+        text,
+        words,
+        more_words,
+        mask,
+        shots,
+        fault,
+        sums,
+        elements,
+    ) {
+        Drawn::Spent { position: read } => Drawn::Spent {
+            position: position_after(correlation, position, read),
         },
         Drawn::Done {
-            next_word: read,
-            next_byte,
+            position: read,
+            text: next,
         } => Drawn::Done {
-            next_word: position_after(correlation, position, read),
-            next_byte,
+            position: position_after(correlation, position, read),
+            text: next,
         },
     }
 }

@@ -23,8 +23,10 @@ pub struct OutcomeId(pub usize);
 
 pub struct Shot(pub usize);
 
-// The bits of a word.
+// The bits of a word, and the number of the last.
 pub const WORD_BITS: usize = 64;
+
+pub const LAST_BIT: usize = WORD_BITS - 1;
 
 // Codes of gates: those up to this take one qubit, the others two; the last is ControlledY's.
 pub const LAST_ONE_QUBIT_GATE: u64 = 10;

@@ -385,9 +385,9 @@ fn weighted_element(line: &[u8], fields: &mut [u64]) -> Form
 }
 
 // Where the letter of an operation stands, behind `op=`, and where it ends.
-const LETTER: usize = 3;
+pub const LETTER: usize = 3;
 
-const LETTER_END: usize = LETTER + 1;
+pub const LETTER_END: usize = LETTER + 1;
 
 // A line that begins with `op=`, by its letter. In the contract 111 is the byte of `o`.
 fn operation(line: &[u8], letter: u8, fields: &mut [u64]) -> Form

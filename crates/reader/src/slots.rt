@@ -1,5 +1,6 @@
 // The slots of a line's values (crate template): of a number among the numbers of its form, of a list among the lists, from 0 in the order of the
-// template. A value that stands elsewhere in another form has a name for each.
+// template. A value that stands elsewhere in another form has a name for each. The angle of an allocation and the parity of a conditional Pauli,
+// which nothing asks for, have no name.
 
 // ---- Numbers
 
@@ -83,7 +84,7 @@ pub const IDS: usize = 2;
 
 pub const IDS_END: usize = IDS + 1;
 
-// Every noise line: corr and cond.
+// Every noise line: corr, a list of one or none, and cond.
 pub const CORRELATION: usize = 0;
 
 pub const CONDITION: usize = 1;

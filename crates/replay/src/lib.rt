@@ -82,7 +82,7 @@ fn add(list: &[u8], g: Gathered, dst: &mut [u8]) -> Gathered
     requires { ⌜ (g .at ≤ length (now list)) × (g .held ≤ length (now dst)) ⌝ }
     ensures { λ r. ⌜ (g .at ≤ r .at) × (r .at ≤ length (now (list .entry))) × (r .held ≤ length (now (dst .entry))) ⌝ }
 {
-    let mut fields = [0u64; values::WORDS];
+    let mut fields = [0u64; values::VALUE_WORDS];
     let at = g.at;
     let e = find(list, at, b'\n');
     if !is_add(&list[at..e], &mut fields) {

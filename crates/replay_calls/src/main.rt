@@ -323,7 +323,7 @@ fn replay_run(at: usize, fields: &[u64], bytes: &[u8]) -> bool
 // ---- The cases.
 
 fn replay_writing(at: usize, line: &[u8], bytes: &[u8]) -> bool {
-    let mut fields = [0u64; values::WORDS];
+    let mut fields = [0u64; values::VALUE_WORDS];
     if is_annotate(line, &mut fields) {
         return replay_annotate(at, &fields, bytes);
     }
@@ -338,7 +338,7 @@ fn replay_writing(at: usize, line: &[u8], bytes: &[u8]) -> bool {
 
 // Whether the call that a record names answers and leaves what it must.
 fn replay_case(at: usize, line: &[u8], bytes: &[u8]) -> bool {
-    let mut fields = [0u64; values::WORDS];
+    let mut fields = [0u64; values::VALUE_WORDS];
     if is_check(line, &mut fields) {
         return replay_check(at, &fields, bytes);
     }

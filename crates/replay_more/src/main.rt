@@ -303,7 +303,7 @@ fn replay_make(at: usize, fields: &[u64], bytes: &[u8]) -> bool
 
 // Whether the call that a record names answers and leaves what it must.
 fn replay_case(at: usize, line: &[u8], bytes: &[u8]) -> bool {
-    let mut fields = [0u64; values::WORDS];
+    let mut fields = [0u64; values::VALUE_WORDS];
     if is_fault_table(line, &mut fields) {
         return replay_fault_table(at, &fields, bytes);
     }

@@ -7,10 +7,8 @@ ghost use lib.ListN.{length};
 ghost use Rattle.rows.specs.Overwrite.{cleared, copied, xored, swapped, flipped};
 ghost use Rattle.rows.specs.Listed.{RowsIn, overList, collected};
 ghost use Rattle.rows.specs.Shape.{shapeOf};
+use pauli::LAST_BIT;
 use pauli::WORD_BITS;
-
-// The last bit of a word.
-const LAST_BIT: usize = WORD_BITS - 1;
 
 // How a job's bits lie in words: a row for each of its qubits or outcomes, in each row a bit for each of its shots. The width is the words of a row.
 pub struct Shape {

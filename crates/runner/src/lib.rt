@@ -76,7 +76,7 @@ pub fn tested(job: &[u8], lent: Lengths) -> Tested
     r
 }
 
-// A run of a job that passed the tests, for which enough is lent. The main list lies in two parts.
+// A run of a job that passed the tests, for which enough is lent. The main list lies in two parts, `main`, and behind it `more`.
 pub fn run_tested<'a>(
     job: &[u8],
     shape: Shape,
@@ -141,6 +141,7 @@ pub fn run<'a>(
     if answer.number != 0 {
         return answer;
     }
+    // Without shares the second part is empty.
     let r = run_tested(
         job,
         tested.shape,

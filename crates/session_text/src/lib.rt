@@ -11,8 +11,10 @@ ghost use Rattle.writer.specs.Placed.{Puts};
 ghost use Rattle.session_text.specs.Lines.{headerText, deltaText};
 use job::Answer;
 use job::Header;
+use pauli::LAST_BIT;
 use pauli::OutcomeId;
 use pauli::Shot;
+use pauli::WORD_BITS;
 use writer::line::put_numbers;
 use writer::put_byte;
 
@@ -41,7 +43,7 @@ fn delta_byte(deltas: &[u64], w: usize, id: OutcomeId, shot: Shot) -> u8
 {
     let row = id.0;
     let s = shot.0;
-    if (deltas[row * w + s / 64] >> (s % 64)) % 2 == 1 {
+    if (deltas[row * w + s / WORD_BITS] >> (s % WORD_BITS)) % 2 == 1 {
         return b'1';
     }
     b'0'
@@ -52,7 +54,7 @@ fn put_bits(out: &mut [u8], at: usize, deltas: &[u64], id: OutcomeId, shots: usi
     requires { ⌜ (shots ≤ 64) × (at + shots < 2 ^ 64) × (id .0 * wordsPerRow shots + wordsPerRow shots ≤ length (now deltas)) ⌝ }
     ensures { λ r. ⌜ Puts at (bitText (bitIn (wordsPerRow shots) (now (deltas .entry)) (id .0)) shots 0) (now (out .entry)) (now (out .exit)) r ⌝ }
 {
-    let w = (shots + 63) / 64;
+    let w = (shots + LAST_BIT) / WORD_BITS;
     let mut next = at;
     let mut s = 0;
     while s < shots {

@@ -1,30 +1,32 @@
 // Settling of a job: its text with each noise instruction replaced by the injections that fall.
 ghost use mathlib.Core.Path.{_≡_};
-ghost use mathlib.Core.Bool.{_&&_};
 ghost use mathlib.Core.List.{_++_};
 ghost use lib.Dec.{leb};
-ghost use Rattle.job.specs.Job.{maxBytes, jobOf};
+ghost use Rattle.job.specs.Job.{jobOf};
 ghost use Rattle.job_shape.specs.Tested.{Tests};
 ghost use Rattle.run.specs.Run.{outcomeWords};
 ghost use Rattle.writer.specs.Reply.{textReply};
 ghost use Rattle.backward.specs.Settling.{settleReply};
 ghost use Rattle.instruction_text.specs.Pass.{passOf};
 ghost use Rattle.settling.specs.Whole.{Fits, SettledPut, SettledTo};
-use faults::elements::ALL_WORDS;
+use faults::elements::ELEMENTS_WORDS;
 use instruction_text::Moved;
 use instruction_text::Reached;
 use instruction_text::put_instruction;
 use job::Answer;
-use job::limits::MAX_BYTES;
+use job::limits::MAX_ELEMENTS;
+use job::limits::MAX_WIDTH;
 use job::refusals;
 use job_shape::Tested;
 use job_shape::behind_header;
+use noise::FIRST_INSTRUCTION_LINE;
 use noise::Place;
 use rows::Shape;
-use template::values::WORDS;
+use template::values::VALUE_WORDS;
 use writer::TextAnswer;
 use writer::put_bytes;
 use writer::refused;
+use writer::text_fits;
 
 // The text is so long; or the line of the noise whose draws were spent. Each with the words of the main list that were taken.
 pub enum TextLength {
@@ -38,7 +40,8 @@ pub struct Answered {
     pub taken: usize,
 }
 
-// The settled text of an accepted job, written as far as the lent bytes go.
+// The settled text of an accepted job, written as far as the lent bytes go. The room for elements, sums, weights and the mask is made once, so that
+// it is not cleared for each line.
 fn put_settled<'a>(
     out: &mut [u8],
     job: &[u8],
@@ -52,14 +55,17 @@ fn put_settled<'a>(
     requires { ⌜ Fits (passOf (now job) shape (now noiseless) (now main ++ now more) (now second) base) ⌝ }
     ensures { λ r. ⌜ SettledPut (passOf (now (job .entry)) shape (now (noiseless .entry)) (now (main .entry) ++ now (more .entry)) (now (second .entry)) base) (now (out .entry)) (now (out .exit)) r ⌝ }
 {
-    let mut values = [0u64; WORDS];
-    let mut elements = [0u64; ALL_WORDS];
+    let mut values = [0u64; VALUE_WORDS];
+    let mut elements = [0u64; ELEMENTS_WORDS];
+    let mut sums = [0.0; MAX_ELEMENTS as usize];
+    let mut weights = [0.0; MAX_ELEMENTS as usize];
+    let mut mask = [0u64; MAX_WIDTH];
     let from = behind_header(job);
     let text = put_bytes(&mut *out, 0, &job[..from]);
     let mut here = Reached {
         place: Place {
             byte: from,
-            line: 2,
+            line: FIRST_INSTRUCTION_LINE,
             position: 0,
         },
         text,
@@ -71,6 +77,9 @@ fn put_settled<'a>(
             job,
             &mut values,
             &mut elements,
+            &mut sums,
+            &mut weights,
+            &mut mask,
             shape,
             noiseless,
             main,
@@ -93,16 +102,6 @@ fn put_settled<'a>(
         bytes: here.text,
         taken: here.place.position,
     }
-}
-
-// Whether a text of so many bytes fits the lent ones and the limit.
-fn text_fits(need: usize, lent: usize) -> bool
-    ensures { λ r. ⌜ r ≡ (leb need lent && leb need maxBytes) ⌝ }
-{
-    if lent < need {
-        return false;
-    }
-    need <= MAX_BYTES
 }
 
 // An answer without a line, with the bytes that the text needs.

@@ -100,7 +100,7 @@ pub fn common<'a>(main: &'a [u64], shares: &[u64], marks: &[u64]) -> &'a [u64]
     &main[from..]
 }
 
-fn lower(a: usize, b: usize) -> usize
+fn lesser(a: usize, b: usize) -> usize
     ensures { λ r. ⌜ r ≡ min a b ⌝ }
 {
     if a < b {
@@ -115,7 +115,7 @@ pub fn mark_taken(marks: &mut [u64], callers: usize, caller: usize, own: usize, 
     requires { ⌜ (caller < callers) × (callers < length (now marks)) × (getD (now marks) caller 0 + own < 2 ^ 64) × (getD (now marks) callers 0 + (taken - own) < 2 ^ 64) ⌝ }
     ensures { λ _. ⌜ now (marks .exit) ≡ moved (moved (now (marks .entry)) caller (min taken own)) callers (taken - min taken own) ⌝ }
 {
-    let first = lower(taken, own);
+    let first = lesser(taken, own);
     marks[caller] += first as u64;
     marks[callers] += (taken - first) as u64;
 }

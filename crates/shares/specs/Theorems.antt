@@ -159,8 +159,8 @@ handed-words j s from =
     ap (λ (l : List ℕ). l ++ leftAfter (lentOf (j .header) from) (j .instructions) (available s (from .main))) (first-words j s from)
     ∙ taken-left (lentOf (j .header) from) (j .instructions) (available s (from .main))
 
--- Take any calls of a caller among those of others, and one more, which stays within the caller's own stretch. If each of the earlier ones takes its words where
--- no one else calls and among the calls of others, or in neither case, the last one's whole reply is the same.
+-- Take any calls of a caller among those of others, and one more, which stays within the caller's own stretch. If each of the earlier ones takes its
+-- words where no one else calls and among the calls of others, or in neither case, the last one's whole reply is the same.
 pub own-alone : (main shares marks : List ℕ) (caller : ℕ) → Within main shares marks → caller < length shares
     → (calls : List Call) → TakeAlike main shares caller calls marks marks
     → (last : Call) → callerOf last ≡ caller → StaysOwn main shares last (marksThrough main shares (callsOf caller calls) marks)

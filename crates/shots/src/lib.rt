@@ -1,8 +1,8 @@
 // What the shots of a noise line draw, one after the other.
 use choice::Choice;
 use choice::Chooser;
+use choice::choose_element;
 use choice::chooser_of;
-use choice::element;
 use noise::PauliDistribution;
 use noise::scan::falls_next;
 use noise::scan::next_skip;
@@ -41,8 +41,8 @@ pub fn rule_of(p: f64, distribution: PauliDistribution) -> DrawRule
 // What one shot draws: no fault, or an element, each with the position of the next word; or a word was needed past the end.
 pub enum ShotDraw {
     Spent,
-    Quiet { next_word: usize },
-    Fault { element: u64, next_word: usize },
+    Quiet { position: usize },
+    Fault { element: u64, position: usize },
 }
 
 // One shot's draw, where the word at its position, if there is one, brings a fault. The words lie in two parts, the second behind the first.
@@ -62,16 +62,10 @@ pub fn draw_shot(
         return ShotDraw::Spent;
     }
     if !satisfied {
-        return ShotDraw::Quiet { next_word: at + 1 };
+        return ShotDraw::Quiet { position: at + 1 };
     }
-    match element(words, more, at + 1, chooser, sums) {
-        Choice::Chosen {
-            element: e,
-            next_word,
-        } => ShotDraw::Fault {
-            element: e,
-            next_word,
-        },
+    match choose_element(words, more, at + 1, chooser, sums) {
+        Choice::Chosen { element, position } => ShotDraw::Fault { element, position },
         Choice::Spent => ShotDraw::Spent,
     }
 }
@@ -90,12 +84,12 @@ pub fn is_set(mask: &[u64], shot: Shot) -> bool
 pub enum NextFault {
     Spent,
     Done {
-        next_word: usize,
+        position: usize,
     },
     At {
         shot: Shot,
         element: u64,
-        next_word: usize,
+        position: usize,
     },
 }
 
@@ -115,40 +109,33 @@ fn fault_from(
 {
     let threshold = rule.threshold;
     let chooser = rule.chooser;
-    let mut position = at;
+    let mut next = at;
     let mut s = shot.0;
     while s < shots {
-        let skip = next_skip(words, more, position, shots - s, threshold);
-        position += skip;
+        let skip = next_skip(words, more, next, shots - s, threshold);
+        next += skip;
         s += skip;
         if s == shots {
-            return NextFault::Done {
-                next_word: position,
-            };
+            return NextFault::Done { position: next };
         }
-        match draw_shot(words, more, position, chooser, sums, is_set(mask, Shot(s))) {
+        match draw_shot(words, more, next, chooser, sums, is_set(mask, Shot(s))) {
             ShotDraw::Spent => {
                 return NextFault::Spent;
             }
-            ShotDraw::Quiet { next_word } => {
-                position = next_word;
+            ShotDraw::Quiet { position } => {
+                next = position;
             }
-            ShotDraw::Fault {
-                element: e,
-                next_word,
-            } => {
+            ShotDraw::Fault { element, position } => {
                 return NextFault::At {
                     shot: Shot(s),
-                    element: e,
-                    next_word,
+                    element,
+                    position,
                 };
             }
         }
         s += 1;
     }
-    NextFault::Done {
-        next_word: position,
-    }
+    NextFault::Done { position: next }
 }
 
 // The same with a look at the first shot by itself: with a p near 1 that has a fault, and what the loop prepares would cost more than the draw.
@@ -172,15 +159,12 @@ pub fn next_fault(
                 ShotDraw::Spent => {
                     return NextFault::Spent;
                 }
-                ShotDraw::Quiet { next_word: _ } => {}
-                ShotDraw::Fault {
-                    element: e,
-                    next_word,
-                } => {
+                ShotDraw::Quiet { position: _ } => {}
+                ShotDraw::Fault { element, position } => {
                     return NextFault::At {
                         shot,
-                        element: e,
-                        next_word,
+                        element,
+                        position,
                     };
                 }
             }

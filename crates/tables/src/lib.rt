@@ -7,8 +7,13 @@ ghost use lib.Dec.{eqb, ltb, leb};
 ghost use lib.ListN.{length};
 ghost use Rattle.job.specs.Clifford.{maxCliffordQubits, tableWords, tableOf};
 ghost use Rattle.tables.specs.Rows.{TableFor, rowWord, RowsOf};
+use pauli::LAST_BIT;
+use pauli::WORD_BITS;
 
 pub const MAX_CLIFFORD_QUBITS: u64 = 8;
+
+// The rows of the largest table: X rows, then Z rows.
+pub const MAX_TABLE_ROWS: usize = 2 * MAX_CLIFFORD_QUBITS as usize;
 
 // The bits of a table.
 fn table_bits(k: usize) -> usize
@@ -23,7 +28,7 @@ pub fn table_words(k: usize) -> usize
     requires { ⌜ k ≤ 8 ⌝ }
     ensures { λ n. ⌜ n ≡ tableWords k ⌝ }
 {
-    (table_bits(k) + 63) / 64
+    (table_bits(k) + LAST_BIT) / WORD_BITS
 }
 
 // Whether a line with so many operands may have so many words: above 8 operands it may have any.
@@ -42,14 +47,14 @@ pub fn row(words: &[u64], k: usize, r: usize) -> u64
     ensures { λ w. ⌜ w ≡ rowWord k (tableOf (now (words .entry))) r ⌝ }
 {
     let at = 2 * k * r;
-    let i = at / 64;
-    let from = at % 64;
+    let i = at / WORD_BITS;
+    let from = at % WORD_BITS;
     let mask = (1u64 << (2 * k)) - 1;
     let low = words[i] >> from;
-    if from + 2 * k <= 64 {
+    if from + 2 * k <= WORD_BITS {
         return low & mask;
     }
-    (low | (words[i + 1] << (64 - from))) & mask
+    (low | (words[i + 1] << (WORD_BITS - from))) & mask
 }
 
 // All rows.
@@ -69,7 +74,7 @@ pub fn no_more_bits(words: &[u64], k: usize) -> bool
     requires { ⌜ TableFor k (now words) ⌝ }
     ensures { λ r. ⌜ r ≡ ltb (tableOf (now (words .entry))) (2 ^ (4 * (k * k))) ⌝ }
 {
-    let used = table_bits(k) % 64;
+    let used = table_bits(k) % WORD_BITS;
     if used == 0 {
         return true;
     }

@@ -48,7 +48,7 @@ fn refused() -> Progress
     }
 }
 
-// How many numbers and lists a line had, with one value more; or that it is none.
+// How many numbers and lists a line had, with one value more. `ok` is false where the bytes are no such value, or no slot is left.
 struct Stored {
     ok: bool,
     numbers: usize,

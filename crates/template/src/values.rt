@@ -24,7 +24,7 @@ pub const LARGEST: usize = COUNTS + MAX_SLOTS;
 pub const MEMBERS: usize = LARGEST + MAX_SLOTS;
 
 // All the words.
-pub const WORDS: usize = MEMBERS + MAX_SLOTS * KEPT;
+pub const VALUE_WORDS: usize = MEMBERS + MAX_SLOTS * KEPT;
 
 // The i-th number.
 pub fn number(v: &[u64], i: usize) -> u64
@@ -88,7 +88,7 @@ pub fn set_number(v: &mut [u64], i: usize, n: u64)
     v[i] = n;
 }
 
-// Puts the i-th list, of at most two members, by how many they are; 0 is put in place of one that it hasn't.
+// Puts the i-th list, of at most two members, by how many they are; `first` and `second` are 0 where it has no such member.
 pub fn set_few(v: &mut [u64], i: usize, count: u64, first: u64, second: u64)
     requires { ⌜ (i < 4) × Whole (now v) ⌝ }
     ensures { λ _. ⌜ ((members : List ℕ) → FewAre members count first second → ListPut (now (v .entry)) (now (v .exit)) i members) ⌝ }

@@ -1,5 +1,6 @@
 // Totals: a number for each row of a matrix of bits, equal to the ones in the row. A row that changed is counted again; a single bit that changes is
 // one more or one less.
+use pauli::WORD_BITS;
 use rows::Shape;
 ghost use mathlib.Core.Path.{_≡_};
 ghost use mathlib.Core.Bool.{false};
@@ -49,7 +50,10 @@ fn count_few(rows: &[u64], from: usize, n: usize) -> u64
     count_words(rows, from, n)
 }
 
-// How many bits of row r are 1, by eight words at a time.
+// As many words make a block.
+const BLOCK: usize = 8;
+
+// How many bits of row r are 1, a block at a time.
 fn count_row(rows: &[u64], w: usize, r: usize) -> u64
     requires { ⌜ (r * w + w ≤ length (now rows)) × (64 * w < 2 ^ 64) ⌝ }
     ensures { λ n. ⌜ n ≡ onesTo (64 * w) (bitIn w (now (rows .entry)) r) ⌝ }
@@ -57,9 +61,9 @@ fn count_row(rows: &[u64], w: usize, r: usize) -> u64
     let at = r * w;
     let mut ones = 0u64;
     let mut j = 0;
-    while 8 <= w - j {
-        ones += count_few(rows, at + j, 8);
-        j += 8;
+    while BLOCK <= w - j {
+        ones += count_few(rows, at + j, BLOCK);
+        j += BLOCK;
     }
     ones + count_words(rows, at + j, w - j)
 }
@@ -77,7 +81,7 @@ pub fn flip_counted(rows: &mut [u64], totals: &mut [u64], shape: Shape, r: usize
     requires { ⌜ (r * shape .width + shape .width ≤ length (now rows)) × (r < shape .outcomes) × (s < 64 * shape .width) × TotalsHeld (shape .width) (shape .outcomes) (now rows) (now totals) ⌝ }
     ensures { λ _. ⌜ (now (rows .exit) ≡ flipped (shape .width) s r (now (rows .entry))) × TotalsHeld (shape .width) (shape .outcomes) (now (rows .exit)) (now (totals .exit)) ⌝ }
 {
-    let was = (rows[r * shape.width + s / 64] >> (s % 64)) % 2;
+    let was = (rows[r * shape.width + s / WORD_BITS] >> (s % WORD_BITS)) % 2;
     totals[r] = totals[r] + 1 - 2 * was;
     rows::flip_bit(rows, shape.width, r, s);
 }

@@ -28,10 +28,12 @@ use numbers::rising::is_rising;
 use pauli::Pauli;
 use pauli::QubitId;
 use pauli::Shot;
+use reader::LETTER;
+use reader::LETTER_END;
 use reader::read_line;
 use reader::slots::SHOT;
 use template::read_on;
-use template::values::WORDS;
+use template::values::VALUE_WORDS;
 use template::values::number;
 
 // ---- One line
@@ -54,13 +56,13 @@ fn passed_over(line: &[u8], shot: Shot, values: &mut [u64]) -> bool
     requires { ⌜ Whole (now values) ⌝ }
     ensures { λ r. ⌜ (r ≡ true → (v : Written) → readLine (now (line .entry)) ≡ some v → PassedOver (shot .0) v) ⌝ }
 {
-    if line.len() < 4 {
+    if line.len() < LETTER_END {
         return false;
     }
     if line[0] != b'o' {
         return false;
     }
-    match line[3] {
+    match line[LETTER] {
         b'i' => other_shot(line, shot, values),
         b'p' => true,
         b'r' => true,
@@ -143,7 +145,7 @@ fn walk_lines(job: &[u8], lines: u64, shot: Shot, set: &mut [u64]) -> Walk
     requires { ⌜ (checkJob (now job) .number ≡ 0) × (lines ≡ length (Bytes·lines (now job))) × (length (now set) ≡ 16) ⌝ }
     ensures { λ r. ⌜ WalkedBack (now (job .entry)) (shot .0) (inSet (now (set .entry))) r ⌝ }
 {
-    let mut values = [0u64; WORDS];
+    let mut values = [0u64; VALUE_WORDS];
     let mut w = start();
     let mut e = job.len();
     let mut k = lines;

@@ -5,3 +5,4 @@ pub mod Lists
 pub mod Lengths
 pub mod Line
 pub mod Lines
+pub mod Fits

@@ -1,14 +1,18 @@
 // Text written into lent bytes. A byte whose place is past the end of the lent bytes is not written, but counted: over no bytes at all a text is only
 // measured. Each function asks that the place after its text is a number.
 ghost use mathlib.Core.Path.{_≡_};
+ghost use mathlib.Core.Bool.{_&&_};
 ghost use mathlib.Core.List.{[], _∷_};
 ghost use Prim.Native.Nat.{_+_, _-_, _^_, _<_, min};
+ghost use lib.Dec.{leb};
 ghost use lib.ListN.{length};
 ghost use Rattle.text.specs.Number.{decimal, hexByte, hexadecimal};
 ghost use Rattle.text.specs.List.{commas, listText};
+ghost use Rattle.job.specs.Job.{maxBytes};
 ghost use Rattle.writer.specs.Placed.{Puts};
 use crate::lengths::digits;
 use job::Answer;
+use job::limits::MAX_BYTES;
 
 pub mod lengths;
 pub mod line;
@@ -26,6 +30,16 @@ pub fn refused(answer: Answer) -> TextAnswer
     ensures { λ r. ⌜ r ≡ record { answer = answer; figure = 0 } ⌝ }
 {
     TextAnswer { answer, figure: 0 }
+}
+
+// 15: whether a text of so many bytes fits the lent ones and the limit.
+pub fn text_fits(need: usize, lent: usize) -> bool
+    ensures { λ r. ⌜ r ≡ (leb need lent && leb need maxBytes) ⌝ }
+{
+    if lent < need {
+        return false;
+    }
+    need <= MAX_BYTES
 }
 
 pub fn put_byte(out: &mut [u8], at: usize, b: u8) -> usize
@@ -66,6 +80,9 @@ pub fn put_bytes(out: &mut [u8], at: usize, s: &[u8]) -> usize
     at + s.len()
 }
 
+// 2^64 - 1 has so many digits.
+const MAX_DIGITS: usize = 20;
+
 // In decimal. Past the end of the lent bytes the digits are counted and not made.
 pub fn put_number(out: &mut [u8], at: usize, n: u64) -> usize
     requires { ⌜ at + length (decimal n) < 2 ^ 64 ⌝ }
@@ -74,8 +91,8 @@ pub fn put_number(out: &mut [u8], at: usize, n: u64) -> usize
     if out.len() <= at {
         return at + digits(n);
     }
-    let mut text = [0u8; 20];
-    let mut i = 20;
+    let mut text = [0u8; MAX_DIGITS];
+    let mut i = MAX_DIGITS;
     let mut rest = n;
     while 9 < rest {
         i -= 1;

@@ -279,8 +279,8 @@ fn gcd(a: usize, b: usize) -> usize {
     if b == 0 { a } else { gcd(b, a % b) }
 }
 
-/// An accepted job with another number of shots, at least 1, in its header, and with the injections and flips of those shots alone in which they stand. The lines
-/// keep their numbers.
+/// An accepted job with another number of shots, at least 1, in its header, and with the injections and flips of those shots alone in which they
+/// stand. The lines keep their numbers.
 fn block_text(job: &[u8], shots: u64, stands: impl Fn(u64) -> bool) -> Vec<u8> {
     let header = job.iter().position(|byte| *byte == b'\n').unwrap_or(job.len());
     let digits = job[..header].iter().rposition(|byte| *byte == b'=').map_or(header, |place| place + 1);

@@ -73,8 +73,8 @@ impl Xorshift {
     #[must_use]
     pub fn of_block(seed: u64, block: u64, list: u64) -> Self {
         let place = block.wrapping_mul(2).wrapping_add(list);
-        let stretched = Self::new(seed).state.wrapping_add(GOLDEN.wrapping_mul(place));
-        Self::new(stretched)
+        let mixed = Self::new(seed).state.wrapping_add(GOLDEN.wrapping_mul(place));
+        Self::new(mixed)
     }
 
     /// The words from a state on; the state itself is not among the first of them.
@@ -152,7 +152,7 @@ mod tests {
 
     /// The published first words of SplitMix64 from 1234567, and a state for the seed whose first word is zero.
     #[test]
-    fn seeds_are_stretched_by_splitmix64() {
+    fn seeds_are_mixed_by_splitmix64() {
         let words: Vec<u64> =
             (1..=5).map(|step| mixed(1_234_567_u64.wrapping_add(GOLDEN.wrapping_mul(step)))).collect();
         let published = [

@@ -28,8 +28,8 @@ const GATES: [&[&str]; 16] = [
     &["ControlledY", "CY"],
 ];
 
-/// The forms of lines, in the second edition, each field with the kind of its value: a number, a gate code, 16 hexadecimal digits, a table of words of so many, a bit, a rising
-/// list, a list of operands, a correlation.
+/// The forms of lines, in the second edition, each field with the kind of its value: a number, a gate code, 16 hexadecimal digits, a table of words
+/// of so many, a bit, a rising list, a list of operands, a correlation.
 const FORMS: [(&str, &str); 15] = [
     ("job", "edition=N qubits=N outcomes=N shots=N"),
     ("u", "g=G q=Q"),
@@ -198,7 +198,10 @@ impl Job<'_> {
         qubits.sort_unstable();
         qubits.dedup();
         let named: Vec<String> = qubits.iter().map(u64::to_string).collect();
-        Some(format!("control and target act by different letters on an odd number of qubits: {}", named.join(",")))
+        Some(format!(
+            "control and target act by different letters on an odd number of qubits, namely {}",
+            named.join(",")
+        ))
     }
 
     fn clifford(&self) -> String {
@@ -427,7 +430,9 @@ fn value(key: &str, kind: &str, value: &str) -> Option<String> {
         "Q" if value == "-" => Some(format!("{key}= is never empty")),
         "L" if value == "-" => None,
         "L" if value.is_empty() => Some(format!("{key}= without members is written -")),
-        _ if !numbers(value) => Some(format!("{key}= holds numbers without leading zeros, with commas between")),
+        _ if !numbers(value) => {
+            Some(format!("{key}= holds numbers below 2^64, without sign or leading zeros, with commas between"))
+        }
         "L" => (!rising(value)).then(|| format!("the numbers of {key}= rise strictly")),
         _ => None,
     }
@@ -471,7 +476,9 @@ mod tests {
             ("op=cx q=0,1", "there is no op=cx: the gate ControlledX is op=u g=11"),
             ("op=w q=0", "there is no op=w: there are job, u,"),
             ("op=u q=0 g=4", "the fields of op=u are g= q=, in this order"),
-            ("op=u g=4 q=00", "q= holds numbers without leading zeros"),
+            ("op=u g=4 q=00", "q= holds numbers below 2^64, without sign or leading zeros"),
+            ("op=u g=11 q=0,-1", "q= holds numbers below 2^64, without sign or leading zeros"),
+            ("op=p x=18446744073709551616 z=-", "x= holds numbers below 2^64, without sign or leading zeros"),
             ("op=z q=0,1", "op=z with several qubits is of the second edition"),
             ("op=b q=0", "op=b, a barrier, is of the second edition"),
             ("op=b q=-", "q= is never empty"),
@@ -549,8 +556,14 @@ mod tests {
             ("op=t shot=0 id=0", "no outcome is recorded before this line"),
             ("op=r id=0 angle=0\nop=t shot=0 id=4", "before this line outcomes 0 to 0 are recorded"),
             ("op=i shot=3 x=0 z=-", "the header has shots=3"),
-            ("op=k x=0 z=- u=- v=0", "control and target act by different letters on an odd number of qubits: 0"),
-            ("op=k x=0,1 z=1 u=0 v=1", "control and target act by different letters on an odd number of qubits: 1"),
+            (
+                "op=k x=0 z=- u=- v=0",
+                "control and target act by different letters on an odd number of qubits, namely 0",
+            ),
+            (
+                "op=k x=0,1 z=1 u=0 v=1",
+                "control and target act by different letters on an odd number of qubits, namely 1",
+            ),
             ("op=n p=3ff8000000000000 corr=- cond=- parity=0 d=2 q=0 size=3", "p= is 1.5 in decimal"),
             (&format!("{noise} parity=0 d=3 n=65 size=65\nx=0 z=-"), "n=65: a distribution has 1 to 64 elements"),
             (&format!("{noise} parity=0 d=4 n=1 size=1\nw=bff0000000000000 x=0 z=-"), "this weight is -1.0 in decimal"),

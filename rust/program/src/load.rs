@@ -23,7 +23,7 @@ pub const OUTPUT_WORDS: Flag =
 pub const JOB: &str = "\
 Writes a job with this header and as many lines behind it, whose kinds and values a seed chooses, by the rule of
 docs/MAKING.md. The same numbers give the same job on every machine, and every made job passes its tests. All
-five are wanted. The seed is taken as it is, and not stretched as that of a run.";
+five are wanted. The seed is taken as it is, and not mixed as that of a run.";
 
 pub const WORDS: &str = "\
 Writes words from a seed, eight bytes each, the lowest first: those that a run makes by the same --seed or

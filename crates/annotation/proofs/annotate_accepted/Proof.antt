@@ -1,5 +1,7 @@
 -- `annotation::annotate_accepted` meets its contract. Assumes nothing.
-use Rattle.annotation.specs.Laws.Replies.{unfit-reply, short-reply, large-reply, whole-reply}
+use mathlib.Core.Path.{sym, _∙_}
+use borrow.Author.Tests.{not-true, not-false}
+use Rattle.annotation.specs.Laws.Replies.{unfit-reply, long-reply, whole-reply}
 use borrow.Author.Needs.{needs}
 use Rattle.annotation.proofs.annotate_accepted.Statement.{statement}
 use Rattle.annotation.proofs.annotate_accepted.Tie as tie
@@ -22,6 +24,9 @@ same-length c = search needs
 returns : tie.Need-returns
 returns c = rw (c .refused .ensures) (unfit-reply _ (c .before .before .before .before .before .put-annotated .ensures) (c .before .before .before .before .before .put-annotated .kept .0) (c .before .if1 .taken))
 
+text-fits-requires : tie.Need-text-fits-requires
+text-fits-requires c κs = search needs
+
 refused-requires-2 : tie.Need-refused-requires-2
 refused-requires-2 c κs = search needs
 
@@ -29,25 +34,16 @@ same-length-2 : tie.Need-same-length-2
 same-length-2 c = search needs
 
 returns-2 : tie.Need-returns-2
-returns-2 c = rw (c .refused2 .ensures) (short-reply _ (c .before .before .before .before .before .before .before .put-annotated .ensures) (c .before .before .before .before .before .before .before .put-annotated .kept .0) (c .before .before .before .if1 .left) (c .before .if2 .taken))
+returns-2 c = rw (c .refused2 .ensures) (long-reply _ (c .before .before .before .before .before .before .before .put-annotated .ensures) (c .before .before .before .before .before .before .before .put-annotated .kept .0) (c .before .before .before .if1 .left) (sym (c .before .before .text-fits .ensures) ∙ not-true _ (c .before .if2 .taken)))
 
-refused-requires-3 : tie.Need-refused-requires-3
-refused-requires-3 c κs = search needs
+put-annotated-requires-2 : tie.Need-put-annotated-requires-2
+put-annotated-requires-2 c κs = search needs
 
 same-length-3 : tie.Need-same-length-3
 same-length-3 c = search needs
 
 returns-3 : tie.Need-returns-3
-returns-3 c = rw (c .refused3 .ensures) (large-reply _ (c .before .before .before .before .before .before .before .before .before .put-annotated .ensures) (c .before .before .before .before .before .before .before .before .before .put-annotated .kept .0) (c .before .before .before .before .before .if1 .left) (c .before .if3 .taken))
-
-put-annotated-requires-2 : tie.Need-put-annotated-requires-2
-put-annotated-requires-2 c κs = search needs
-
-same-length-4 : tie.Need-same-length-4
-same-length-4 c = search needs
-
-returns-4 : tie.Need-returns-4
-returns-4 c = whole-reply _ (c .before .before .before .before .before .before .before .before .before .before .before .before .put-annotated .ensures) (c .before .before .before .before .before .before .before .before .before .before .before .before .put-annotated .kept .0) (c .before .before .before .before .before .before .before .before .if1 .left) (c .before .before .before .before .before .before .if2 .left) (c .before .before .before .before .if3 .left) (c .before .before .put-annotated2 .ensures)
+returns-3 c = whole-reply _ (c .before .before .before .before .before .before .before .before .before .before .put-annotated .ensures) (c .before .before .before .before .before .before .before .before .before .before .put-annotated .kept .0) (c .before .before .before .before .before .before .if1 .left) (sym (c .before .before .before .before .before .text-fits .ensures) ∙ not-false _ (c .before .before .before .before .if2 .left)) (c .before .before .put-annotated2 .ensures)
 
 pub annotate-accepted-spec : {M : Type 1} → statement M
 annotate-accepted-spec =
@@ -59,12 +55,10 @@ annotate-accepted-spec =
     refused-requires
     same-length
     returns
+    text-fits-requires
     refused-requires-2
     same-length-2
     returns-2
-    refused-requires-3
-    same-length-3
-    returns-3
     put-annotated-requires-2
-    same-length-4
-    returns-4)
+    same-length-3
+    returns-3)

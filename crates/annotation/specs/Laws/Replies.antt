@@ -1,21 +1,23 @@
 -- The replies of the calls. Laws. Assumes nothing.
-use Prim.Native.Nat.{ℕ, _≤_, _<_}
+use Prim.Native.Nat.{ℕ}
 use native.Mathlib.Omega.{arith}
 use mathlib.Core.Path.{_≡_, refl, sym, ap, _∙_}
-use mathlib.Core.Bool.{true, false, and-false}
+use mathlib.Core.Bool.{true, false, _&&_}
 use mathlib.Core.List.{List, [], _∷_, _++_}
 use mathlib.Core.Option.{none}
-use borrow.Author.Tests.{le-leb, lt-leb, eq-eqb, ne-eqb}
+use borrow.Author.Tests.{eq-eqb, ne-eqb}
+use lib.Dec.{leb}
 use lib.ListN.{length}
 use Rattle.text.specs.Bytes.{lines}
 use Rattle.job.specs.declared.Answer.{Answer}
 use Rattle.job.specs.Float.{float, isProbability}
-use Rattle.job.specs.Job.{answer, accepted, checkJob}
-use Rattle.job.specs.Reply.{TextReply, refusedText}
+use Rattle.job.specs.Job.{maxBytes, answer, accepted, checkJob}
+use Rattle.job.specs.Reply.{TextReply, refusedText, textFits}
 use Rattle.instructions.specs.Lines.{numbered}
 use Rattle.instructions.specs.Laws.Lines.{numbered-some, numbered-none}
 use Rattle.writer.specs.Placed.{placed}
 use Rattle.writer.specs.Laws.Placing.{placed-over}
+use Rattle.writer.specs.Laws.Fits.{room-for}
 use Rattle.circuit.specs.Annotate.{annotatedText, firstUnfit}
 use Rattle.circuit.specs.Replies.{annotateAnswer, annotateReply}
 use Rattle.annotation.specs.declared.around.Progress.{Progress}
@@ -41,28 +43,23 @@ module _ {job : List ℕ} {p : ℕ} (out : List ℕ) {front : List ℕ} {r : Pro
     size : r .bytes ≡ length (annotatedText p job)
     size = omega (arith, a .puts fit .place)
 
-    pub short-reply : length (front ++ out) < r .bytes → refusedText (answer 15 0) (front ++ out) ≡ annotateAnswer job p out (firstUnfit 1 (lines job))
-    unfolding annotateAnswer
-    short-reply h =
-        let long : length out < length (annotatedText p job) = omega (arith, size, ap length (nothing-before front out empty)) in
-        rw (none-unfit, nothing-before front out empty, lt-leb (length (annotatedText p job)) (length out) long)
+    fits-same : leb (r .bytes) (length (front ++ out)) && leb (r .bytes) maxBytes ≡ textFits (annotatedText p job) out
+    fits-same = rw (nothing-before front out empty, size)
 
-    pub large-reply : 1048576 < r .bytes → refusedText (answer 15 0) (front ++ out) ≡ annotateAnswer job p out (firstUnfit 1 (lines job))
+    pub long-reply : leb (r .bytes) (length (front ++ out)) && leb (r .bytes) maxBytes ≡ false
+        → refusedText (answer 15 0) (front ++ out) ≡ annotateAnswer job p out (firstUnfit 1 (lines job))
     unfolding annotateAnswer
-    large-reply h =
-        let long : 1048576 < length (annotatedText p job) = omega (arith, size) in
-        rw (none-unfit, nothing-before front out empty, lt-leb (length (annotatedText p job)) 1048576 long, and-false)
+    long-reply long = rw (none-unfit, nothing-before front out empty, sym fits-same ∙ long)
 
-    pub whole-reply : {s : Progress} {after : List ℕ} → r .bytes ≤ length (front ++ out) → r .bytes ≤ 1048576 → Annotates job p s (front ++ out) after
+    pub whole-reply : {s : Progress} {after : List ℕ} → leb (r .bytes) (length (front ++ out)) && leb (r .bytes) maxBytes ≡ true → Annotates job p s (front ++ out) after
         → record { answered = accepted; figure = r .bytes; out = after } ≡ annotateAnswer job p out (firstUnfit 1 (lines job))
     unfolding annotateAnswer
-    whole-reply {s} {after} h g b =
+    whole-reply {s} {after} measured b =
         let text = annotatedText p job in
-        let within : length text ≤ length out = omega (arith, size, ap length (nothing-before front out empty)) in
-        let small : length text ≤ 1048576 = omega (arith, size) in
+        let fits : textFits text out ≡ true = sym fits-same ∙ measured in
         let puts = b .puts (numbered-none (s .unfit) (sym (b .unfit) ∙ none-unfit)) in
-        let written = puts .bytes ∙ ap (placed 0 text) (nothing-before front out empty) ∙ placed-over text out within in
-        rw (none-unfit, le-leb (length text) (length out) within, le-leb (length text) 1048576 small, written, size)
+        let written = puts .bytes ∙ ap (placed 0 text) (nothing-before front out empty) ∙ placed-over text out (room-for (length text) (length out) fits) in
+        rw (none-unfit, fits, written, size)
 
 -- ---- the calls
 

@@ -18,18 +18,9 @@ use Rattle.by_shot.specs.Reply.{transposed, mayHold, enoughWords, untouc
 -- ---- 3
 
 module _ (outcomes shots : ℕ) where
-  pub many-outcomes : 1024 < outcomes → false ≡ mayHold outcomes shots
+  pub of-shots : outcomes ≤ 1024 → 1 ≤ shots → leb shots 4096 ≡ mayHold outcomes shots
   unfolding mayHold
-  many-outcomes h = rw (lt-leb outcomes 1024 h)
-
-  module _ (h : outcomes ≤ 1024) where
-    pub no-shots : shots ≡ 0 → false ≡ mayHold outcomes shots
-    unfolding mayHold
-    no-shots e = rw (le-leb outcomes 1024 h, e)
-
-    pub of-shots : 1 ≤ shots → leb shots 4096 ≡ mayHold outcomes shots
-    unfolding mayHold
-    of-shots some = rw (le-leb outcomes 1024 h, le-leb 1 shots some)
+  of-shots h some = rw (le-leb outcomes 1024 h, le-leb 1 shots some)
 
   pub held-counts : mayHold outcomes shots ≡ true → (outcomes ≤ 4096) × (shots ≤ 4096)
   unfolding mayHold

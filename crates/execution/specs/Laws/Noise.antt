@@ -91,10 +91,10 @@ module _ {job : List ℕ} (place : Place) (next : LineRead) {values noiseless : 
         → (x z : List ℕ) (position : ℕ) (t : States) → position ≤ length main → Holds (shape .width) x z deltas t
         → executeOne (headerOf job shape) lent (drop (place .position) main) (Instruction.noise (noiseIn q)) states ≡ Executed.done t (drop position main)
         → EndsAs job shape lent main comes (suc (length (q .rest))) (place .line) x z deltas
-        (To (record { byte = r .behind; line = place .line + 1 + r .following; position = position }))
+        (To (record { byte = r .behind; line = place .line + 1 + r .«element_lines»; position = position }))
     unfolding EndsBy
     noise-went {r = r} ready x z position t within holds e =
-        let rest : instructionsAt job (place .line + 1 + r .following) (r .behind) ≡ q .rest = rw line at (ready .instructions) in
+        let rest : instructionsAt job (place .line + 1 + r .«element_lines») (r .behind) ≡ q .rest = rw line at (ready .instructions) in
         record {
           by = record {
             recorded = q .recorded;
@@ -122,7 +122,7 @@ module _ {job : List ℕ} (next : LineRead) {values noiseless : List ℕ} (shape
   where
     line-ready : (second : List ℕ) (base : ℕ) (q : NoiseLines job (next .end + 1) (next .form) values noiseless (shape .width)) → q .header ≡ headerOf job shape
         → LineReady (noiseIn q) (lentBy shape noiseless second base) (shape .width) (shape .qubits) (r .fault .probability) (r .fault .distribution)
-        (take (r .following) sums) elements mask
+        (take (r .«element_lines») sums) elements mask
     unfolding noiseOf
     line-ready second base q same =
         let p = prepared q in
@@ -135,28 +135,28 @@ module _ {job : List ℕ} (next : LineRead) {values noiseless : List ℕ} (shape
         }
 
     module _ {place : Place} (ready : NoiseReady job place next values noiseless shape) where
-      pub few-lines : r .following ≤ 64
+      pub few-lines : r .«element_lines» ≤ 64
       few-lines = rw (prepared (ready .lines) .lines) (ready .lines .few)
 
       -- the number of the line behind it is small
-      pub line-small : place .line + 1 + r .following ≤ length job + 1
+      pub line-small : place .line + 1 + r .«element_lines» ≤ length job + 1
       line-small =
           let ahead = prepared (ready .lines) .ahead in
           let number = ahead .number in
           let within = ahead .within in
           omega (arith, ready .number)
 
-      pub faults-ready : {e x z : List ℕ} → NoiseRoom shape values e x z → AllInside elements → 64 ≤ length mask
-          → FaultsReady (shape .qubits) (shape .shots) (shape .width) (r .fault .probability) (r .fault .distribution) (take (r .following) sums) elements mask x z
+      pub faults-ready : {e : List ℕ} {s weights : List Float} {m x z : List ℕ} → NoiseRoom shape values e s weights m x z → AllInside elements
+          → shape .width ≤ length mask
+          → FaultsReady (shape .qubits) (shape .shots) (shape .width) (r .fault .probability) (r .fault .distribution) (take (r .«element_lines») sums) elements mask x z
       faults-ready room long wide =
-          let narrow = room .narrow in
           record {
             noise = noiseIn (ready .lines);
             lent = lentBy shape noiseless [] 0;
             line = line-ready [] 0 (ready .lines) (ready .header);
             room = long;
             in-words = room .in-words;
-            in-mask = omega arith;
+            in-mask = wide;
             of-x = room .of-x;
             of-z = room .of-z;
           }
@@ -175,7 +175,7 @@ module _ {job : List ℕ} (place : Place) (next : LineRead) {values noiseless : 
 
     -- the place behind it, with this position
     abbrev behind : ℕ → Place
-    behind position = record { byte = r .behind; line = place .line + 1 + r .following; position = position }
+    behind position = record { byte = r .behind; line = place .line + 1 + r .«element_lines»; position = position }
 
     pub noise-quiet : (x z : List ℕ) → le (r .fault .probability) zeroFloat ≡ true → Done x z x z (To (behind (place .position)))
     noise-quiet x z quiet =
@@ -188,7 +188,7 @@ module _ {job : List ℕ} (place : Place) (next : LineRead) {values noiseless : 
 
     module _ (words : List ℕ) (part : words ≡ partOf lent (correlationOf (r .fault .correlation)) (drop (place .position) main))
         (some-words : le (r .fault .probability) zeroFloat ≡ false) (x z x′ z′ : List ℕ) {d : Drawn}
-        (injected : FaultsInjected (shape .qubits) (shape .shots) (shape .width) (r .fault .probability) (r .fault .distribution) (take (r .following) sums) elements mask words x z x′ z′ d)
+        (injected : FaultsInjected (shape .qubits) (shape .shots) (shape .width) (r .fault .probability) (r .fault .distribution) (take (r .«element_lines») sums) elements mask words x z x′ z′ d)
       where
         left : (q : NoiseLines job (next .end + 1) (next .form) values noiseless (shape .width)) → q .header ≡ headerOf job shape → (deltas : List ℕ) (states : States)
             → Holds (shape .width) x z deltas states

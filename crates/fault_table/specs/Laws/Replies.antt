@@ -3,10 +3,11 @@ use Prim.Native.Nat.{ℕ, suc, _+_, _-_, _*_, _≤_, _<_}
 use native.Mathlib.Nat.{zero-add}
 use native.Mathlib.Omega.{arith}
 use mathlib.Core.Path.{_≡_, refl, sym, ap, _∙_}
-use mathlib.Core.Bool.{Bool, true, false, cond, and-false}
+use mathlib.Core.Bool.{Bool, true, false, cond, _&&_, and-false}
 use mathlib.Core.List.{List, [], _∷_, _++_, map}
 use mathlib.Core.Option.{none}
 use borrow.Author.Tests.{le-leb, lt-leb, eq-eqb, ne-eqb}
+use lib.Dec.{leb}
 use lib.ListN.{length, take, drop, replicate, length-append, length-replicate, replicate-append-replicate}
 use lib.Seq.{take-at, length-take-le}
 use Rattle.text.specs.Bytes.{unlines}
@@ -14,11 +15,12 @@ use Rattle.text.specs.Laws.Written.{unlines-append}
 use Rattle.job.specs.declared.Header.{Header}
 use Rattle.job.specs.declared.Answer.{Answer}
 use Rattle.job.specs.Line.{pauliOf, sizeOf, Instruction, Placed}
-use Rattle.job.specs.Job.{answer, accepted, checkJob, jobOf, recordedIn}
-use Rattle.job.specs.Reply.{TextReply, refusedText}
+use Rattle.job.specs.Job.{maxBytes, answer, accepted, checkJob, jobOf, recordedIn}
+use Rattle.job.specs.Reply.{TextReply, refusedText, textFits}
 use Rattle.job.specs.Sound.{Every, SizeSaid}
 use Rattle.job.specs.Theorems.{checked-sound}
 use Rattle.job.specs.Laws.Gather.{sizes-said}
+use Rattle.writer.specs.Laws.Fits.{room-for}
 use Rattle.instructions.specs.Lines.{numbered}
 use Rattle.instructions.specs.Laws.Lines.{numbered-some}
 use Rattle.checker.specs.declared.Examined.{Examined}
@@ -99,26 +101,17 @@ module _ {job : List ℕ} {count : ℕ} {list : List ℕ} {groups : ℕ} (q : Gr
       pub size : m .bytes ≡ tableBytes groups instructions
       size = x .bytes narrow
 
-      pub short-reply : length out < m .bytes → refusedText (answer 15 0) out ≡ tableAnswer text (firstWide instructions) out
-      unfolding tableAnswer
-      short-reply h =
-          let long : length out < length text = omega (arith, size, text-length) in
-          rw (none-wide, lt-leb (length text) (length out) long)
+      fits-same : leb (m .bytes) (length out) && leb (m .bytes) maxBytes ≡ textFits text out
+      fits-same = rw (size ∙ sym text-length)
 
-      pub large-reply : 1048576 < m .bytes → refusedText (answer 15 0) out ≡ tableAnswer text (firstWide instructions) out
+      pub long-reply : leb (m .bytes) (length out) && leb (m .bytes) maxBytes ≡ false → refusedText (answer 15 0) out ≡ tableAnswer text (firstWide instructions) out
       unfolding tableAnswer
-      large-reply h =
-          let long : 1048576 < length text = omega (arith, size, text-length) in
-          rw (none-wide, lt-leb (length text) 1048576 long, and-false)
+      long-reply long = rw (none-wide, sym fits-same ∙ long)
 
-      pub whole-reply : (part : List ℕ) → part ≡ unlines (carriedRows (jobOf job .header) (q .are) instructions) → m .bytes ≤ length out → m .bytes ≤ 1048576
+      pub whole-reply : (part : List ℕ) → part ≡ unlines (carriedRows (jobOf job .header) (q .are) instructions) → leb (m .bytes) (length out) && leb (m .bytes) maxBytes ≡ true
           → record { answered = accepted; figure = m .bytes; out = part ++ drop (m .bytes) out } ≡ tableAnswer text (firstWide instructions) out
       unfolding tableAnswer
-      whole-reply part is h g =
-          let long : m .bytes ≡ length text = size ∙ sym text-length in
-          let fits : length text ≤ length out = omega (arith, long) in
-          let small : length text ≤ 1048576 = omega (arith, long) in
-          rw (none-wide, le-leb (length text) (length out) fits, le-leb (length text) 1048576 small, long, is ∙ sym text-is)
+      whole-reply part is fits = rw (none-wide, sym fits-same ∙ fits, size ∙ sym text-length, is ∙ sym text-is)
 
   -- the words of the groups
   pub zeros-taken : (n : ℕ) → n ≤ 384 → take n (replicate {A = ℕ} 384 0) ≡ replicate n 0
@@ -158,7 +151,8 @@ module _ {job : List ℕ} {count : ℕ} {list : List ℕ} {groups : ℕ} (q : Gr
   -- ---- by what the functions say
 
   module _ {m : Measured} (x : Measures job groups m) (narrow : m .wide ≡ 0) (out zeros L rest : List ℕ) (none-yet : zeros ≡ replicate (groups * 24) 0)
-      (starts : (y : Startable list zeros) → allCarried (length (y .groups)) L ≡ map startOf (y .groups)) (long : length L ≡ length zeros) (fits : m .bytes ≤ length out) where
+      (starts : (y : Startable list zeros) → allCarried (length (y .groups)) L ≡ map startOf (y .groups)) (long : length L ≡ length zeros)
+      (fits : leb (m .bytes) (length out) && leb (m .bytes) maxBytes ≡ true) where
     wide : length L ≡ groups * 24
     wide = long ∙ ap length none-yet ∙ length-replicate (groups * 24) 0
 
@@ -168,15 +162,14 @@ module _ {job : List ℕ} {count : ℕ} {list : List ℕ} {groups : ℕ} (q : Gr
     pub started-ready : TableReady job count (take (groups * 24) (L ++ rest)) groups (take (m .bytes) out)
     unfolding startable
     started-ready =
-        ready x narrow (take (groups * 24) (L ++ rest)) (take (m .bytes) out) started-length (length-take-le (m .bytes) out fits)
+        ready x narrow (take (groups * 24) (L ++ rest)) (take (m .bytes) out) started-length (length-take-le (m .bytes) out (room-for (m .bytes) (length out) fits))
         (rw (take-at L rest (groups * 24) wide) (starts (startable zeros none-yet)))
 
     pub done-reply : (part : List ℕ)
         → ((y : TableReady job count (take (groups * 24) (L ++ rest)) groups (take (m .bytes) out)) → part ≡ unlines (carriedRows (jobOf job .header) (y .are) instructions))
-        → m .bytes ≤ 1048576
         → record { answered = accepted; figure = m .bytes; out = part ++ drop (m .bytes) out } ≡ tableAnswer text (firstWide instructions) out
     unfolding started-ready ready
-    done-reply part is small = whole-reply x out narrow part (is started-ready) fits small
+    done-reply part is = whole-reply x out narrow part (is started-ready) fits
 
 -- ---- the call
 

@@ -223,7 +223,7 @@ module _ {job : List ℕ} {at : ℕ} {g : Form} {f noiseless : List ℕ} {w : �
   pub fault-read : (n : ℕ) (b : Bool) (lines : n ≡ elementLines (q .noise .kind)) (weighted : b ≡ hasWeights (q .noise .kind)) (elements₀ elements₁ elements : List ℕ)
       → Inside elements₀ 0 → Kept 0 2 f elements₀ elements₁ → (n ≡ 0 → elements ≡ elements₁) → (weights : List Float) → length weights ≡ n → (next : ℕ)
       → Gathered (element-lines n b lines weighted) elements weights next n → (t : Float) → t ≡ totalFrom zeroFloat weights → (r : PauliFault) → FaultHeld g f t r
-      → (sums : List Float) → SumsOf (r .distribution) weights sums → FaultRead q elements sums (record { fault = r; following = n; behind = next })
+      → (sums : List Float) → SumsOf (r .distribution) weights sums → FaultRead q elements sums (record { fault = r; «element_lines» = n; behind = next })
   unfolding element-lines
   fault-read n b lines weighted elements₀ elements₁ elements fits own none weights size next gathered t total r held sums running =
       let fault = held .is (q .values) (q .noise) (q .said) few-outcomes in
@@ -247,7 +247,7 @@ module _ {job : List ℕ} {at : ℕ} {g : Form} {f noiseless : List ℕ} {w : �
           elements-held (q .header .qubits) (q .elements) (noise-view g (q .values) (q .noise) (q .said .says)) (q .said) (q .sound .distribution) (q .count) l₀ l fits
           (λ z. subst (Kept 0 2 f l₀) (sym (none (e ∙ sym (q .count) ∙ z))) own) each
 
-  pub prepared : {elements : List ℕ} {sums part : List Float} {r : Prepared} → FaultRead q elements part r → take (r .following) sums ≡ part → (mask : List ℕ)
+  pub prepared : {elements : List ℕ} {sums part : List Float} {r : Prepared} → FaultRead q elements part r → take (r .«element_lines») sums ≡ part → (mask : List ℕ)
       → Masks w mask (conditionOf (take (r .fault .condition .count) (r .fault .condition .outcomes)) (r .fault .condition .parity)) (bitIn w noiseless)
       → PreparedAs q elements sums mask r
   prepared read first mask masks =

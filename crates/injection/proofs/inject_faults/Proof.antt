@@ -44,8 +44,8 @@ returns : tie.Need-returns Inv-loop μ-loop
 returns c =
     injecting-spent _ _ _ _ _ _ _ _ _ _ _ _ _ _ _ (c .before .before .before .loop .inv .1) (c .before .before .before .before .before .before .before .before .before .before .before .before .pre .in-words) _ (c .before .before .next-fault .ensures _ _ (c .before .before .before .before .rule-of .ensures)) (c .before .before .before .loop .inv .4) (c .enum-told .given .1)
 
-enum-known-next-word : tie.Need-enum-known-next-word Inv-loop μ-loop
-enum-known-next-word c = search needs
+enum-known-position : tie.Need-enum-known-position Inv-loop μ-loop
+enum-known-position c = search needs
 
 same-length-3 : tie.Need-same-length-3 Inv-loop μ-loop
 same-length-3 c = c .before .before .before .before .loop .inv .2
@@ -55,7 +55,7 @@ same-length-4 c = c .before .before .before .before .loop .inv .3
 
 returns-2 : tie.Need-returns-2 Inv-loop μ-loop
 returns-2 c =
-    injecting-done _ _ _ _ _ _ _ _ _ _ _ _ _ _ _ (c .before .before .before .before .loop .inv .1) (c .before .before .before .before .before .before .before .before .before .before .before .before .before .pre .in-words) _ (c .before .before .before .next-fault .ensures _ _ (c .before .before .before .before .before .rule-of .ensures)) (c .before .before .before .before .loop .inv .4) _ (c .before .next-word .given .1)
+    injecting-done _ _ _ _ _ _ _ _ _ _ _ _ _ _ _ (c .before .before .before .before .loop .inv .1) (c .before .before .before .before .before .before .before .before .before .before .before .before .before .pre .in-words) _ (c .before .before .before .next-fault .ensures _ _ (c .before .before .before .before .before .rule-of .ensures)) (c .before .before .before .before .loop .inv .4) _ (c .before .position .given .1)
 
 enum-known-shot : tie.Need-enum-known-shot Inv-loop μ-loop
 enum-known-shot c = search needs
@@ -105,7 +105,7 @@ inject-faults-spec =
     same-length
     same-length-2
     returns
-    enum-known-next-word
+    enum-known-position
     same-length-3
     same-length-4
     returns-2

@@ -10,13 +10,23 @@ use Rattle.instruction_text.proofs.put_instruction.Statement.{statement
 use Rattle.instruction_text.proofs.put_instruction.Tie as tie
 
 next-known-requires : tie.Need-next-known-requires
-next-known-requires c κs = let pre = c .before .before .before .before .before .before .before .before .before .before .pre in (ahead-known (pre .0 .ahead) (pre .1), pre .3)
+next-known-requires c κs = let pre = c .before .before .before .before .before .before .before .before .before .before .before .before .before .pre in (ahead-known (pre .0 .ahead) (pre .1), pre .3)
 
 is-noise-requires : tie.Need-is-noise-requires
 is-noise-requires c κs = search needs
 
 put-noise-line-requires : tie.Need-put-noise-line-requires
-put-noise-line-requires c κs = (c .before .before .before .before .before .before .before .before .before .before .before .before .before .before .before .before .before .before .pre .0, omega (arith, few-lines (c .before .before .before .before .before .before .before .before .before .before .before .before .before .before .before .before .before .before .pre .0), c .before .before .before .before .before .before .before .before .before .before .before .before .before .before .before .before .before .before .pre .2), c .before .before .before .before .before .before .before .next-known .ensures, sym (c .before .before .before .before .is-noise .ensures) ∙ c .before .before .before .if1 .taken, omega (arith, c .before .before .before .before .before .before .before .next-known .kept, c .before .before .before .before .before .before .before .before .before .before .before .before .before .before .before .before .before .before .pre .3), c .before .before .before .before .before .before .before .before .before .before .before .before .before .before .before .before .before .before .pre .4)
+put-noise-line-requires c κs = (
+  c .before .before .before .before .before .before .before .before .before .before .before .before .before .before .before .before .before .before .before .before .before .before .before .before .pre .0,
+  omega (arith, few-lines (c .before .before .before .before .before .before .before .before .before .before .before .before .before .before .before .before .before .before .before .before .before .before .before .before .pre .0), c .before .before .before .before .before .before .before .before .before .before .before .before .before .before .before .before .before .before .before .before .before .before .before .before .pre .2),
+  c .before .before .before .before .before .before .before .before .before .before .next-known .ensures,
+  sym (c .before .before .before .before .before .before .before .is-noise .ensures) ∙ c .before .before .before .before .before .before .if1 .taken,
+  omega (arith, c .before .before .before .before .before .before .before .before .before .before .next-known .kept, c .before .before .before .before .before .before .before .before .before .before .before .before .before .before .before .before .before .before .before .before .before .before .before .before .pre .3),
+  c .before .before .before .before .before .before .before .before .before .before .before .before .before .before .before .before .before .before .before .before .before .before .before .before .pre .4,
+  c .before .before .before .before .before .before .before .before .before .before .before .before .before .before .before .before .before .before .before .before .before .before .before .before .pre .5,
+  c .before .before .before .before .before .before .before .before .before .before .before .before .before .before .before .before .before .before .before .before .before .before .before .before .pre .6,
+  c .before .before .before .before .before .before .before .before .before .before .before .before .before .before .before .before .before .before .before .before .before .before .before .before .pre .7,
+)
 
 same-length : tie.Need-same-length
 same-length c = search needs
@@ -26,6 +36,15 @@ same-length-2 c = search needs
 
 same-length-3 : tie.Need-same-length-3
 same-length-3 c = search needs
+
+same-length-4 : tie.Need-same-length-4
+same-length-4 c = search needs
+
+same-length-5 : tie.Need-same-length-5
+same-length-5 c = search needs
+
+same-length-6 : tie.Need-same-length-6
+same-length-6 c = search needs
 
 returns : tie.Need-returns
 returns c = search needs
@@ -43,19 +62,19 @@ part-put-bytes-end : tie.Need-part-put-bytes-end
 part-put-bytes-end c = search needs
 
 put-bytes-requires : tie.Need-put-bytes-requires
-put-bytes-requires c κs = rw length-take (omega (arith, few-lines (c .before .before .before .before .before .before .before .before .before .before .before .before .before .before .before .before .before .before .pre .0), c .before .before .before .before .before .before .before .before .before .before .before .before .before .before .before .before .before .before .pre .2, c .before .before .before .before .before .before .before .next-known .ensures .place .inside, ended-parts _ (c .before .before .before .before .before .before .before .before .before .before .before .before .before .before .before .before .before .before .pre .0 .ahead .ended)))
+put-bytes-requires c κs = rw length-take (omega (arith, few-lines (c .before .before .before .before .before .before .before .before .before .before .before .before .before .before .before .before .before .before .before .before .before .pre .0), c .before .before .before .before .before .before .before .before .before .before .before .before .before .before .before .before .before .before .before .before .before .pre .2, c .before .before .before .before .before .before .before .next-known .ensures .place .inside, ended-parts _ (c .before .before .before .before .before .before .before .before .before .before .before .before .before .before .before .before .before .before .before .before .before .pre .0 .ahead .ended)))
 
-add-t33 : tie.Need-add-t33
-add-t33 c = search needs
+add-t42 : tie.Need-add-t42
+add-t42 c = record { fits = omega (arith, few-lines (c .before .before .before .before .before .before .before .before .before .before .before .before .before .before .before .before .before .before .before .before .before .before .before .before .before .pre .0)) }
 
-same-length-4 : tie.Need-same-length-4
-same-length-4 c = search needs
+same-length-7 : tie.Need-same-length-7
+same-length-7 c = search needs
 
-same-length-5 : tie.Need-same-length-5
-same-length-5 c = search needs
+same-length-8 : tie.Need-same-length-8
+same-length-8 c = search needs
 
 returns-2 : tie.Need-returns-2
-returns-2 c = plain-put (c .before .before .before .before .before .before .before .before .before .before .before .before .before .before .before .before .before .before .before .before .before .before .pre .0) (c .before .before .before .before .before .before .before .before .before .before .before .next-known .ensures) (sym (c .before .before .before .before .before .before .before .before .is-noise .ensures) ∙ c .before .before .before .before .before .before .before .if1 .left) (c .before .before .before .put-bytes .ensures)
+returns-2 c = plain-put (c .before .before .before .before .before .before .before .before .before .before .before .before .before .before .before .before .before .before .before .before .before .before .before .before .before .pre .0) (c .before .before .before .before .before .before .before .before .before .before .before .next-known .ensures) (sym (c .before .before .before .before .before .before .before .before .is-noise .ensures) ∙ c .before .before .before .before .before .before .before .if1 .left) (c .before .before .before .put-bytes .ensures)
 
 pub put-instruction-spec : {M : Type 1} → statement M
 put-instruction-spec =
@@ -67,13 +86,16 @@ put-instruction-spec =
     same-length
     same-length-2
     same-length-3
+    same-length-4
+    same-length-5
+    same-length-6
     returns
     add-next
     sub-put-bytes
     part-put-bytes-start
     part-put-bytes-end
     put-bytes-requires
-    add-t33
-    same-length-4
-    same-length-5
+    add-t42
+    same-length-7
+    same-length-8
     returns-2)

@@ -135,9 +135,9 @@ module _ {p : Pass} {here : Reached} (b : Between p here) where
         }
 
     module _ {elements : List ℕ} {sums : List Float} {mask : List ℕ} {r : Prepared} (ready : PreparedAs noise-here elements sums mask r) (room : AllInside elements)
-        (masked : length mask ≡ 64)
+        (masked : 64 ≤ length mask)
       where
-        abbrev pub ready-here : ReadyOf (r .fault .probability) (r .fault .distribution) (take (r .following) sums) mask elements (p .shape .shots) (r .fault .correlation) (p .second) (p .base)
+        abbrev pub ready-here : ReadyOf (r .fault .probability) (r .fault .distribution) (take (r .«element_lines») sums) mask elements (p .shape .shots) (r .fault .correlation) (p .second) (p .base)
         ready-here =
             let D = noiseIn noise-here .distribution in
             let sound = noise-is .sound .distribution in
@@ -192,7 +192,7 @@ module _ {p : Pass} {here : Reached} (b : Between p here) where
                 record { put = record { settles = then-settled ∙ s .0; within = s .1; leaves = s .2 ∙ sym then-left } }
 
             pub noise-done : (i j : ℕ) → o ≡ drawn.Done i j
-                → InstructionPut p out here after (moved.To (record { place = record { byte = r .behind; line = here .place .line + 1 + r .following; position = i }; text = j }))
+                → InstructionPut p out here after (moved.To (record { place = record { byte = r .behind; line = here .place .line + 1 + r .«element_lines»; position = i }; text = j }))
             unfolding MovedTo
             noise-done i j e =
                 let t = done-step (here .place .line) later (Instruction.noise (noiseIn noise-here)) (drop (here .place .position) (p .main)) onward put i j e in

@@ -1,7 +1,7 @@
 -- `job_maker::make` meets its contract. Assumes nothing.
 use mathlib.Core.Path.{sym, _∙_}
 use borrow.Author.Tests.{not-true, not-false}
-use Rattle.job_maker.specs.Laws.Replies.{header-range, job-is, unheld-reply, unseeded-reply, large-reply, short-reply, whole-reply}
+use Rattle.job_maker.specs.Laws.Replies.{header-range, job-is, unheld-reply, unseeded-reply, long-reply, whole-reply}
 use borrow.Author.Needs.{needs}
 use Rattle.job_maker.proofs.make.Statement.{statement}
 use Rattle.job_maker.proofs.make.Tie as tie
@@ -36,6 +36,9 @@ slice-aggregate-put-job c = search needs
 put-job-requires : tie.Need-put-job-requires
 put-job-requires c κs = header-range _ _ _ _ (c .before .step .ensures) (sym (c .before .before .before .before .may-hold .ensures) ∙ not-false _ (c .before .before .before .if1 .left))
 
+text-fits-requires : tie.Need-text-fits-requires
+text-fits-requires c κs = search needs
+
 no-requires-3 : tie.Need-no-requires-3
 no-requires-3 c κs = search needs
 
@@ -43,25 +46,16 @@ same-length : tie.Need-same-length
 same-length c = search needs
 
 returns-3 : tie.Need-returns-3
-returns-3 c = rw (c .no3 .ensures) (large-reply _ _ _ _ _ _ (sym (c .before .before .before .before .before .before .before .before .before .may-hold .ensures) ∙ not-false _ (c .before .before .before .before .before .before .before .before .if1 .left)) (c .before .before .before .before .before .before .before .if2 .left) (job-is _ _ _ _ (c .before .before .before .before .before .before .step .ensures) (c .before .before .before .before .put-job .ensures)) (c .before .before .before .before .put-job .kept .0) (c .before .if3 .taken))
+returns-3 c = rw (c .no3 .ensures) (long-reply _ _ _ _ _ _ (sym (c .before .before .before .before .before .before .before .before .before .before .may-hold .ensures) ∙ not-false _ (c .before .before .before .before .before .before .before .before .before .if1 .left)) (c .before .before .before .before .before .before .before .before .if2 .left) (job-is _ _ _ _ (c .before .before .before .before .before .before .before .step .ensures) (c .before .before .before .before .before .put-job .ensures)) (c .before .before .before .before .before .put-job .kept .0) (sym (c .before .before .text-fits .ensures) ∙ not-true _ (c .before .if3 .taken)))
 
-no-requires-4 : tie.Need-no-requires-4
-no-requires-4 c κs = search needs
+put-job-requires-2 : tie.Need-put-job-requires-2
+put-job-requires-2 c κs = header-range _ _ _ _ (c .before .before .before .before .before .before .before .step .ensures) (sym (c .before .before .before .before .before .before .before .before .before .before .may-hold .ensures) ∙ not-false _ (c .before .before .before .before .before .before .before .before .before .if1 .left))
 
 same-length-2 : tie.Need-same-length-2
 same-length-2 c = search needs
 
 returns-4 : tie.Need-returns-4
-returns-4 c = rw (c .no4 .ensures) (short-reply _ _ _ _ _ _ (sym (c .before .before .before .before .before .before .before .before .before .before .may-hold .ensures) ∙ not-false _ (c .before .before .before .before .before .before .before .before .before .if1 .left)) (c .before .before .before .before .before .before .before .before .if2 .left) (job-is _ _ _ _ (c .before .before .before .before .before .before .before .step .ensures) (c .before .before .before .before .before .put-job .ensures)) (c .before .before .before .before .before .put-job .kept .0) (c .before .before .if3 .left) (c .before .if4 .taken))
-
-put-job-requires-2 : tie.Need-put-job-requires-2
-put-job-requires-2 c κs = header-range _ _ _ _ (c .before .before .before .before .before .before .before .step .ensures) (sym (c .before .before .before .before .before .before .before .before .before .before .may-hold .ensures) ∙ not-false _ (c .before .before .before .before .before .before .before .before .before .if1 .left))
-
-same-length-3 : tie.Need-same-length-3
-same-length-3 c = search needs
-
-returns-5 : tie.Need-returns-5
-returns-5 c = whole-reply _ _ _ _ _ _ (sym (c .before .before .before .before .before .before .before .before .before .before .before .before .before .may-hold .ensures) ∙ not-false _ (c .before .before .before .before .before .before .before .before .before .before .before .before .if1 .left)) (c .before .before .before .before .before .before .before .before .before .before .before .if2 .left) (job-is _ _ _ _ (c .before .before .before .before .before .before .before .before .before .before .step .ensures) (c .before .before .before .before .before .before .before .before .put-job .ensures)) (c .before .before .before .before .before .before .before .before .put-job .kept .0) (c .before .before .before .before .before .if3 .left) (c .before .before .before .before .if4 .left) (job-is _ _ _ _ (c .before .before .before .before .before .before .before .before .before .before .step .ensures) (c .before .before .put-job2 .ensures))
+returns-4 c = whole-reply _ _ _ _ _ _ (sym (c .before .before .before .before .before .before .before .before .before .before .before .before .before .may-hold .ensures) ∙ not-false _ (c .before .before .before .before .before .before .before .before .before .before .before .before .if1 .left)) (c .before .before .before .before .before .before .before .before .before .before .before .if2 .left) (job-is _ _ _ _ (c .before .before .before .before .before .before .before .before .before .before .step .ensures) (c .before .before .before .before .before .before .before .before .put-job .ensures)) (c .before .before .before .before .before .before .before .before .put-job .kept .0) (sym (c .before .before .before .before .before .text-fits .ensures) ∙ not-false _ (c .before .before .before .before .if3 .left)) (job-is _ _ _ _ (c .before .before .before .before .before .before .before .before .before .before .step .ensures) (c .before .before .put-job2 .ensures))
 
 pub make-spec : {M : Type 1} → statement M
 make-spec =
@@ -77,12 +71,10 @@ make-spec =
     slice-relend-prefix-put-job
     slice-aggregate-put-job
     put-job-requires
+    text-fits-requires
     no-requires-3
     same-length
     returns-3
-    no-requires-4
-    same-length-2
-    returns-4
     put-job-requires-2
-    same-length-3
-    returns-5)
+    same-length-2
+    returns-4)

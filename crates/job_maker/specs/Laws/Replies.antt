@@ -1,20 +1,21 @@
 -- The whole reply of the call that makes a job. Laws. Assumes nothing.
-use mathlib.Core.Path.{_≡_, refl, ap, _∙_}
-use mathlib.Core.Bool.{Bool, true, false, and-false}
+use mathlib.Core.Path.{_≡_, refl, sym, ap, _∙_}
+use mathlib.Core.Bool.{Bool, true, false, _&&_, and-false}
 use mathlib.Core.List.{List, [], _∷_, _++_}
 use Prim.Native.Nat.{ℕ, suc, _+_, _%_, _≤_, _<_}
 use native.Mathlib.Omega.{arith}
-use borrow.Author.Tests.{eq-eqb, ne-eqb, le-leb, lt-leb, leb-true, leb-false}
+use borrow.Author.Tests.{eq-eqb, ne-eqb, lt-leb, leb-true, leb-false}
 use lib.Dec.{leb}
 use lib.ListN.{length}
 use Rattle.stream.specs.Stream.{step}
 use Rattle.job.specs.Grammar.{headerWith}
 use Rattle.job.specs.Checks.{inRange}
-use Rattle.job.specs.Job.{answer, accepted}
-use Rattle.job.specs.Reply.{refusedText}
+use Rattle.job.specs.Job.{maxBytes, answer, accepted}
+use Rattle.job.specs.Reply.{refusedText, textFits}
 use Rattle.job.specs.Sound.{HeaderSound}
 use Rattle.writer.specs.Placed.{placed, Puts}
 use Rattle.writer.specs.Laws.Placing.{placed-over}
+use Rattle.writer.specs.Laws.Fits.{room-for, within-limit}
 use Rattle.made.specs.Made.{madeHeader, madeText, makeReply}
 use Rattle.made.specs.Laws.Replies.{header-fits}
 use Rattle.job_maker.specs.Whole.{JobPut}
@@ -60,7 +61,7 @@ module _ (qubits outcomes shots lines seed : ℕ) (out : List ℕ) where
           go [] e = refl
           go (a ∷ l) e = absurd (omega arith)
 
-      pub large-reply : 1048576 < r → refusedText (answer 15 0) (front ++ out) ≡ makeReply qubits outcomes shots lines seed out
+      large-reply : 1048576 < r → refusedText (answer 15 0) (front ++ out) ≡ makeReply qubits outcomes shots lines seed out
       unfolding makeReply madeText
       large-reply h = rw (all-lent, range, ne-eqb seed 0 seeded, lt-leb (length text) 1048576 (p .large h), and-false)
 
@@ -69,11 +70,8 @@ module _ (qubits outcomes shots lines seed : ℕ) (out : List ℕ) where
         unfolding madeText
         size = omega (arith, p .whole few .place)
 
-        pub short-reply : length (front ++ out) < r → refusedText (answer 15 0) (front ++ out) ≡ makeReply qubits outcomes shots lines seed out
-        unfolding makeReply
-        short-reply h =
-            let long : length out < length text = omega (arith, size, ap length all-lent) in
-            rw (all-lent, range, ne-eqb seed 0 seeded, lt-leb (length text) (length out) long)
+        fits-same : leb r (length (front ++ out)) && leb r maxBytes ≡ textFits text out
+        fits-same = rw (all-lent, size)
 
         -- the second pass puts what the first has measured
         again : {s : ℕ} {after : List ℕ} → JobPut (madeHeader qubits outcomes shots seed) lines (step seed) (front ++ out) after s → Puts 0 text (front ++ out) after s
@@ -84,11 +82,20 @@ module _ (qubits outcomes shots lines seed : ℕ) (out : List ℕ) where
             go true e = q .whole (leb-true s 1048576 e)
             go false e = absurd (omega (arith, q .large (leb-false s 1048576 e), size))
 
-        pub whole-reply : {s : ℕ} {after : List ℕ} → r ≤ length (front ++ out) → JobPut (madeHeader qubits outcomes shots seed) lines (step seed) (front ++ out) after s
-            → record { answered = accepted; figure = r; out = after } ≡ makeReply qubits outcomes shots lines seed out
-        unfolding makeReply
-        whole-reply {s} {after} h q =
-            let within : length text ≤ length out = omega (arith, size, ap length all-lent) in
-            let small : length text ≤ 1048576 = omega (arith, size) in
-            let written = again q .bytes ∙ ap (placed 0 text) all-lent ∙ placed-over text out within in
-            rw (range, ne-eqb seed 0 seeded, le-leb (length text) (length out) within, le-leb (length text) 1048576 small, written, size)
+      pub long-reply : leb r (length (front ++ out)) && leb r maxBytes ≡ false → refusedText (answer 15 0) (front ++ out) ≡ makeReply qubits outcomes shots lines seed out
+      unfolding makeReply
+      long-reply long = go (leb r 1048576) refl
+        where
+          go : (b : Bool) → leb r 1048576 ≡ b → refusedText (answer 15 0) (front ++ out) ≡ makeReply qubits outcomes shots lines seed out
+          go true e = rw (all-lent, range, ne-eqb seed 0 seeded, sym (fits-same (leb-true r 1048576 e)) ∙ long)
+          go false e = large-reply (leb-false r 1048576 e)
+
+      pub whole-reply : {s : ℕ} {after : List ℕ} → leb r (length (front ++ out)) && leb r maxBytes ≡ true
+          → JobPut (madeHeader qubits outcomes shots seed) lines (step seed) (front ++ out) after s
+          → record { answered = accepted; figure = r; out = after } ≡ makeReply qubits outcomes shots lines seed out
+      unfolding makeReply
+      whole-reply {s} {after} measured q =
+          let few = within-limit r (length (front ++ out)) measured in
+          let fits : textFits text out ≡ true = sym (fits-same few) ∙ measured in
+          let written = again few q .bytes ∙ ap (placed 0 text) all-lent ∙ placed-over text out (room-for (length text) (length out) fits) in
+          rw (range, ne-eqb seed 0 seeded, fits, written, size few)

@@ -1,6 +1,9 @@
--- `line_reader::line_at` meets its contract: a walk of its MIR, by hand. A `Reader` is made, passed on and held in a local, and `next_line` is called on a borrow of that local. All that the proof knows of the three callees is that each meets its contract.
--- The borrow's lifetime ends before that of the slice which the struct holds, so it is a lifetime ν of the walk within κ (`within-token`, `within-end`): the local is lent for ν ∷ κ, and comes back once that has ended.
--- In a local of a body MIR erases the lifetime of the struct's type, so the value is shown to have the type at `erased`: what the struct owns does not say the lifetime's name.
+-- `line_reader::line_at` meets its contract: a walk of its MIR, by hand. A `Reader` is made, passed on and held in a local, and `next_line` is called
+-- on a borrow of that local. All that the proof knows of the three callees is that each meets its contract.
+-- The borrow's lifetime ends before that of the slice which the struct holds, so it is a lifetime ν of the walk within κ (`within-token`,
+-- `within-end`): the local is lent for ν ∷ κ, and comes back once that has ended.
+-- In a local of a body MIR erases the lifetime of the struct's type, so the value is shown to have the type at `erased`: what the struct owns does
+-- not say the lifetime's name.
 -- Assumes nothing.
 use mathlib.Core.Path.{_≡_, refl, ap, _∙_}
 use Prim.Native.Nat.{ℕ, _<_, _^_}
@@ -55,16 +58,16 @@ use Rattle.line_reader.proofs.new as new
 use Rattle.line_reader.proofs.new.Symbol as new-def
 use Rattle.line_reader.proofs.new.Symbol.{name as #line-reader·new}
 use Rattle.line_reader.proofs.new.Met as new-thm
-use Rattle.line_reader.proofs.moved as skip
-use Rattle.line_reader.proofs.moved.Symbol as skip-def
+use Rattle.line_reader.proofs.moved as moved
+use Rattle.line_reader.proofs.moved.Symbol as moved-def
 use Rattle.line_reader.proofs.moved.Symbol.{name as #line-reader·moved}
-use Rattle.line_reader.proofs.moved.Met as skip-thm
+use Rattle.line_reader.proofs.moved.Met as moved-thm
 use Rattle.line_reader.proofs.next_line as next
 use Rattle.line_reader.proofs.next_line.Symbol as next-def
 use Rattle.line_reader.proofs.next_line.Symbol.{name as #line-reader·next-line}
 use Rattle.line_reader.proofs.next_line.Met as next-thm
 use Rattle.line_reader.proofs.line_at.Key.{name as #line-reader·line-at}
-use Rattle.line_reader.proofs.line_at as nth
+use Rattle.line_reader.proofs.line_at as line-at
 use Rattle.line_reader.proofs.line_at.Statement as stated
 use Rattle.line_reader.proofs.line_at.Code as code
 
@@ -72,7 +75,7 @@ use Rattle.line_reader.proofs.line_at.Code as code
 abbrev B : Lfts 1 → RattleType
 B κs = T.the-row (namedLft 1 0 tt κs)
 
-abbrev stayed : Stays (nth.ended .signature .params) (nth.ended .kept)
+abbrev stayed : Stays (line-at.ended .signature .params) (line-at.ended .kept)
 stayed = (stay-none-slice (0 ∷ []) tt (plain (λ _. u8)) yes, (stay-none (λ _. usize) yes, tt))
 
 module _ {M : Type 1} (𝓤 : URA M) (H : Heap 𝓤) (A : Atoms 𝓤) (mem : Memory → SProp 𝓤) (run : Routine → Fun 𝓤) where
@@ -80,8 +83,8 @@ module _ {M : Type 1} (𝓤 : URA M) (H : Heap 𝓤) (A : Atoms 𝓤) (mem : Mem
   abbrev New : Contract 𝓤
   New = tripleOf 𝓤 H A new.signature (new.spec 𝓤 H A mem run)
 
-  abbrev Skip : Contract 𝓤
-  Skip = tripleOf 𝓤 H A skip.signature (skip.spec 𝓤 H A mem run)
+  abbrev Move : Contract 𝓤
+  Move = tripleOf 𝓤 H A moved.signature (moved.spec 𝓤 H A mem run)
 
   abbrev Next : Contract 𝓤
   Next = tripleOf 𝓤 H A next.signature (next.spec 𝓤 H A mem run)
@@ -90,14 +93,14 @@ module _ {M : Type 1} (𝓤 : URA M) (H : Heap 𝓤) (A : Atoms 𝓤) (mem : Mem
 abbrev Made : RefT (List ℕ) → Reader → Type 0
 Made s r = (r .job ≡ s) × (r .at ≡ 0)
 
-abbrev Skipped : ℕ → Reader → Reader → Type 0
-Skipped k r r₁ = (r₁ .job ≡ r .job) × (r₁ .at ≡ k)
+abbrev Moved : ℕ → Reader → Reader → Type 0
+Moved k r r₁ = (r₁ .job ≡ r .job) × (r₁ .at ≡ k)
 
 abbrev Handed : Reader → RefT (List ℕ) → Reader → Type 0
 Handed r t z = (now t ≡ lineFrom (now (r .job)) (r .at)) × (z .job ≡ r .job) × (z .at ≡ behind (now (r .job)) (r .at))
 
--- so the line is the one behind k of the job's lines
-found : (k : ℕ) (s : RefT (List ℕ)) (r r₁ : Reader) (t : RefT (List ℕ)) (z : Reader) → Made s r → Skipped k r r₁ → Handed r₁ t z → now t ≡ lineFrom (now s) k
+-- so the line is the one at place k
+found : (k : ℕ) (s : RefT (List ℕ)) (r r₁ : Reader) (t : RefT (List ℕ)) (z : Reader) → Made s r → Moved k r r₁ → Handed r₁ t z → now t ≡ lineFrom (now s) k
 found k s r r₁ t z e e₁ e₂ =
     e₂ .0 ∙ ap (λ (x : RefT (List ℕ)). lineFrom (now x) (r₁ .at)) (e₁ .0 ∙ e .0) ∙ ap (lineFrom (now s)) (e₁ .1)
 
@@ -106,7 +109,7 @@ module _ {M : Type 1} (𝓤 : URA M) (H : Heap 𝓤) (A : Atoms 𝓤) (W : Given
   abbrev v : Val
   v = sliceVal (s .ptr) (length (s .now))
 
-  abbrev at : Vals nth.signature (κ, tt)
+  abbrev at : Vals line-at.signature (κ, tt)
   at = (v ∷ [], (vint w64 k ∷ [], tt))
 
   -- the struct's type as a local of a body has it, and as what `next_line` borrows has it
@@ -120,7 +123,7 @@ module _ {M : Type 1} (𝓤 : URA M) (H : Heap 𝓤) (A : Atoms 𝓤) (W : Given
   R = T.the-row α₁
 
   abbrev Post : Val → SProp 𝓤
-  Post = walkOf 𝓤 H A nth.ended stayed (nth.clauses 𝓤 H A at-mem run) .post (((κ, tt), (q, tt), tt, (s, (k, tt)), at), tt)
+  Post = walkOf 𝓤 H A line-at.ended stayed (line-at.clauses 𝓤 H A at-mem run) .post (((κ, tt), (q, tt), tt, (s, (k, tt)), at), tt)
 
   -- what a slice owns
   abbrev Own : RefT (List ℕ) → Val → Fml
@@ -133,7 +136,7 @@ module _ {M : Type 1} (𝓤 : URA M) (H : Heap 𝓤) (A : Atoms 𝓤) (W : Given
   abbrev to-new : New 𝓤 H A at-mem run .Ghost
   to-new = (((κ, tt), (q, tt), tt, (s, tt), (v ∷ [], tt)), tt)
 
-  goes-new : ent 𝓤 (onEntry 𝓤 H A nth.signature (κ, tt) (q, tt) (s, (k, tt)) at) (sep 𝓤 (New 𝓤 H A at-mem run .pre to-new) (sem 𝓤 H A (Own s v)))
+  goes-new : ent 𝓤 (onEntry 𝓤 H A line-at.signature (κ, tt) (q, tt) (s, (k, tt)) at) (sep 𝓤 (New 𝓤 H A at-mem run .pre to-new) (sem 𝓤 H A (Own s v)))
   goes-new =
       qed W ((‵ (flft κ q) ⊛ ‵ ftrue) ∷ ‵ (owns (ShrSlice (named 0) κ u8 ∷ usize ∷ []) (s, (k, tt)) at) ∷ []) ∵
       move ! (1 ∷ []) $ fsplit ! $ move ! (1 ∷ []) $ drop ! $ use1 W (‵ (Own s v) ⊛ ‵ (Own s v)) (shr-slice-copy 𝓤 H A W (named 0) κ u8 .twice s (v ∷ [])) $ split ! $
@@ -144,16 +147,16 @@ module _ {M : Type 1} (𝓤 : URA M) (H : Heap 𝓤) (A : Atoms 𝓤) (W : Given
   new-said r = exE 𝓤 _ (λ ws. snd∗ 𝓤 (sem 𝓤 H A (lasts new.ended (κ, tt) (s, tt) ws)) (fact 𝓤 (Made s r)))
 
   -- the call of `moved`, at the struct r with the machine value u
-  abbrev to-skip : Reader → Val → Skip 𝓤 H A at-mem run .Ghost
-  to-skip r u = (((κ, tt), (q, tt), tt, (r, (k, tt)), (u ∷ [], (vint w64 k ∷ [], tt))), tt)
+  abbrev to-moved : Reader → Val → Move 𝓤 H A at-mem run .Ghost
+  to-moved r u = (((κ, tt), (q, tt), tt, (r, (k, tt)), (u ∷ [], (vint w64 k ∷ [], tt))), tt)
 
-  goes-skip : (r : Reader) (u : Val) → ent 𝓤 (⋆ 𝓤 H A (‵ (B (κ, tt) .own r (u ∷ [])) ∷ (‵ (flft κ q) ⊛ ‵ ftrue) ∷ [])) (Skip 𝓤 H A at-mem run .pre (to-skip r u))
-  goes-skip r u =
+  goes-moved : (r : Reader) (u : Val) → ent 𝓤 (⋆ 𝓤 H A (‵ (B (κ, tt) .own r (u ∷ [])) ∷ (‵ (flft κ q) ⊛ ‵ ftrue) ∷ [])) (Move 𝓤 H A at-mem run .pre (to-moved r u))
+  goes-moved r u =
       qed W (‵ (B (κ, tt) .own r (u ∷ [])) ∷ (‵ (flft κ q) ⊛ ‵ ftrue) ∷ []) ∵ nothing ! $ owned ! usize (Is usize) (uint-makes 𝓤 H A W w64) k _ (refl, k-fits) $ fjoin ! $
       move ! (1 ∷ 0 ∷ []) $ fjoin ! $ move ! (1 ∷ 0 ∷ []) $ join ! $ frame ! $ done !
 
-  skip-said : (r r₁ : Reader) → ent 𝓤 (ensured 𝓤 H A skip.ended (skip.clauses 𝓤 H A at-mem run) (κ, tt) (r, (k, tt)) tt r₁) (fact 𝓤 (Skipped k r r₁))
-  skip-said r r₁ = exE 𝓤 _ (λ ws. snd∗ 𝓤 (sem 𝓤 H A (lasts skip.ended (κ, tt) (r, (k, tt)) ws)) (fact 𝓤 (Skipped k r r₁)))
+  moved-said : (r r₁ : Reader) → ent 𝓤 (ensured 𝓤 H A moved.ended (moved.clauses 𝓤 H A at-mem run) (κ, tt) (r, (k, tt)) tt r₁) (fact 𝓤 (Moved k r r₁))
+  moved-said r r₁ = exE 𝓤 _ (λ ws. snd∗ 𝓤 (sem 𝓤 H A (lasts moved.ended (κ, tt) (r, (k, tt)) ws)) (fact 𝓤 (Moved k r r₁)))
 
   -- a local's cell and what the struct in it owns are what is lent, and what comes back
   lies : (r : Reader) (u : Val) (l : ℕ) → ent 𝓤 (⋆ 𝓤 H A (‵ (fat fullShare (T′.mir erased) l 0 u) ∷ ‵ (R .own r (u ∷ [])) ∷ [])) (sem 𝓤 H A (mem R .lies r l 0))
@@ -190,15 +193,15 @@ module _ {M : Type 1} (𝓤 : URA M) (H : Heap 𝓤) (A : Atoms 𝓤) (W : Given
       → ent 𝓤 (⋆ 𝓤 H A (‵ (flft κ (PosShare·left q)) ∷ (‵ (flft κ (PosShare·right q)) ⊛ ‵ ftrue) ∷ ‵ (Own t u) ∷ ‵ (Own s v) ∷ [])) (Post u)
   exits t u e =
       qed W (‵ (flft κ (PosShare·left q)) ∷ (‵ (flft κ (PosShare·right q)) ⊛ ‵ ftrue) ∷ ‵ (Own t u) ∷ ‵ (Own s v) ∷ []) ∵
-      suffices ! _ (ends-at 𝓤 H A nth.ended stayed (nth.clauses 𝓤 H A at-mem run) W (((κ, tt), (q, tt), tt, (s, (k, tt)), at), tt) u t (tt, (tt, tt)) (tt, (tt, tt))) $ says ! e $
+      suffices ! _ (ends-at 𝓤 H A line-at.ended stayed (line-at.clauses 𝓤 H A at-mem run) W (((κ, tt), (q, tt), tt, (s, (k, tt)), at), tt) u t (tt, (tt, tt)) (tt, (tt, tt))) $ says ! e $
       move ! (1 ∷ []) $ split ! $ move ! (2 ∷ 0 ∷ []) $ use2 W (‵ (flft κ q)) (W .lfts .lft-join κ q) $ join ! $ frame ! $
       -- [what the line owns; what s owns]
       nothing ! $ owned ! usize (Is usize) (uint-makes 𝓤 H A W w64) k _ (refl, k-fits) $ fjoin ! $ move ! (2 ∷ 0 ∷ []) $ fjoin ! $ frame ! $ done !
 
-  module _ (C : Calls 𝓤 H) (Λ : Loops 𝓤 H) (fm : FmC 𝓤 H (W .laws) C) (known-new : Triple 𝓤 (C #line-reader·new) (New 𝓤 H A at-mem run)) (known-skip : Triple 𝓤 (C #line-reader·moved) (Skip 𝓤 H A at-mem run)) (known-next : Triple 𝓤 (C #line-reader·next-line) (Next 𝓤 H A at-mem run)) where
-    walk : Is (ShrSlice (named 0) κ u8) s (v ∷ []) → ent 𝓤 (onEntry 𝓤 H A nth.signature (κ, tt) (q, tt) (s, (k, tt)) at) (WpFn 𝓤 H C Λ code.function (v ∷ vint w64 k ∷ []) Post)
+  module _ (C : Calls 𝓤 H) (Λ : Loops 𝓤 H) (fm : FmC 𝓤 H (W .laws) C) (known-new : Triple 𝓤 (C #line-reader·new) (New 𝓤 H A at-mem run)) (known-moved : Triple 𝓤 (C #line-reader·moved) (Move 𝓤 H A at-mem run)) (known-next : Triple 𝓤 (C #line-reader·next-line) (Next 𝓤 H A at-mem run)) where
+    walk : Is (ShrSlice (named 0) κ u8) s (v ∷ []) → ent 𝓤 (onEntry 𝓤 H A line-at.signature (κ, tt) (q, tt) (s, (k, tt)) at) (WpFn 𝓤 H C Λ code.function (v ∷ vint w64 k ∷ []) Post)
     walk p =
-        qed W (raw (onEntry 𝓤 H A nth.signature (κ, tt) (q, tt) (s, (k, tt)) at) ∷ []) ∵ enter ! C Λ code.function (v ∷ vint w64 k ∷ []) _ $
+        qed W (raw (onEntry 𝓤 H A line-at.signature (κ, tt) (q, tt) (s, (k, tt)) at) ∷ []) ∵ enter ! C Λ code.function (v ∷ vint w64 k ∷ []) _ $
         alloc1 ! (λ l₀. alloc1 ! (λ l₁. alloc1 ! (λ l₂. alloc1 ! (λ l₃. alloc1 ! (λ l₄. alloc1 ! (λ l₅. alloc1 ! (λ l₆. alloc0 ! $ params1 ! $
         pass1 ! (init ! 10 refl (shr-slice-lawful 𝓤 H A W (named 0) κ u8 .typed s (v ∷ []) p .0)) $ pass1 ! (init ! 8 refl (tt, record { fits = k-fits })) $ pass0 ! $
         -- `new`
@@ -206,13 +209,14 @@ module _ {M : Type 1} (𝓤 : URA M) (H : Heap 𝓤) (A : Atoms 𝓤) (W : Given
         calls-at ! fm (New 𝓤 H A at-mem run) known-new to-new (and-then ! (load ! (from ! (stop !)) (look ! 12 refl)) (no-more !)) (λ u.
         use1 W (later (some (λ (r : Reader). ((‵ (flft κ q) ⊛ ‵ ftrue) ⊛ ‵ (B (κ, tt) .own r (u ∷ []))) ⊛ raw (ensured 𝓤 H A new.ended (new.clauses 𝓤 H A at-mem run) (κ, tt) (s, tt) tt r)))) (id⊢ 𝓤 _) $ await ! tt $ pick ! (λ r.
         split ! $ move ! (1 ∷ []) $ use1 W (raw (fact 𝓤 (Made s r))) (new-said r) $ heard ! (Made s r) (λ e. split ! $ move ! (1 ∷ []) $
-        -- [what the struct owns; the token; what s owns; room for _6; …; room for _5; …; room for _4; …; room for _3; …; _2; …; _1; …; room for _0; …]
+        -- [what the struct owns; the token; what s owns; room for _6; …; room for _5; …; room for _4; …; room for _3; …; _2; …; _1; …; room for _0;
+        -- …]
         peeks ! (B (κ, tt)) (Is (B (κ, tt))) (shows 𝓤 H A (B (κ, tt))) r (u ∷ []) (λ is. land ! (from ! (stop !)) (init ! 5 refl (typed r u is)) $
         -- `moved`
-        use2 W (raw (Skip 𝓤 H A at-mem run .pre (to-skip r u))) (goes-skip r u) $
-        calls-at ! fm (Skip 𝓤 H A at-mem run) known-skip (to-skip r u) (and-then ! (load ! (from ! (stop !)) (look ! 4 refl)) (and-then ! (load ! (from ! (stop !)) (look ! 10 refl)) (no-more !))) (λ u₁.
-        use1 W (later (some (λ (r₁ : Reader). ((‵ (flft κ q) ⊛ ‵ ftrue) ⊛ ‵ (B (κ, tt) .own r₁ (u₁ ∷ []))) ⊛ raw (ensured 𝓤 H A skip.ended (skip.clauses 𝓤 H A at-mem run) (κ, tt) (r, (k, tt)) tt r₁)))) (id⊢ 𝓤 _) $ await ! tt $ pick ! (λ r₁.
-        split ! $ move ! (1 ∷ []) $ use1 W (raw (fact 𝓤 (Skipped k r r₁))) (skip-said r r₁) $ heard ! (Skipped k r r₁) (λ e₁. split ! $ move ! (1 ∷ []) $
+        use2 W (raw (Move 𝓤 H A at-mem run .pre (to-moved r u))) (goes-moved r u) $
+        calls-at ! fm (Move 𝓤 H A at-mem run) known-moved (to-moved r u) (and-then ! (load ! (from ! (stop !)) (look ! 4 refl)) (and-then ! (load ! (from ! (stop !)) (look ! 10 refl)) (no-more !))) (λ u₁.
+        use1 W (later (some (λ (r₁ : Reader). ((‵ (flft κ q) ⊛ ‵ ftrue) ⊛ ‵ (B (κ, tt) .own r₁ (u₁ ∷ []))) ⊛ raw (ensured 𝓤 H A moved.ended (moved.clauses 𝓤 H A at-mem run) (κ, tt) (r, (k, tt)) tt r₁)))) (id⊢ 𝓤 _) $ await ! tt $ pick ! (λ r₁.
+        split ! $ move ! (1 ∷ []) $ use1 W (raw (fact 𝓤 (Moved k r r₁))) (moved-said r r₁) $ heard ! (Moved k r r₁) (λ e₁. split ! $ move ! (1 ∷ []) $
         peeks ! (B (κ, tt)) (Is (B (κ, tt))) (shows 𝓤 H A (B (κ, tt))) r₁ (u₁ ∷ []) (λ is₁. land ! (from ! (stop !)) (init ! 7 refl (typed r₁ u₁ is₁)) $
         assigns ! (of-opd ! (load ! (from ! (stop !)) (look ! 7 refl))) (from ! (stop !)) (init ! 9 refl (typed r₁ u₁ is₁)) $
         assigns ! (addr ! (from ! (stop !))) (from ! (stop !)) (init ! 3 refl (tt, tt)) $
@@ -226,7 +230,8 @@ module _ {M : Type 1} (𝓤 : URA M) (H : Heap 𝓤) (A : Atoms 𝓤) (W : Given
         use1 W (later (some (λ (t : RefT (List ℕ)). ((‵ (flft (ν ∷ κ) (PosShare·left q)) ⊛ ‵ (flft κ (PosShare·right q)) ⊛ ‵ ftrue) ⊛ ‵ (Own t u₂)) ⊛ raw (ensured 𝓤 H A next.ended (next.clauses 𝓤 H A at-mem run) (ν ∷ κ, (κ, tt)) (lent r₁ l₃ γ, tt) tt t)))) (id⊢ 𝓤 _) $ await ! tt $ pick ! (λ t.
         split ! $ move ! (1 ∷ []) $ use1 W (some (λ (zs : Reader × Unit {0}). ‵ (lasts next.ended (ν ∷ κ, (κ, tt)) (lent r₁ l₃ γ, tt) zs) ⊛ raw (fact 𝓤 (Handed r₁ t (zs .0))))) (id⊢ 𝓤 _) $ pick ! (λ zs.
         split ! $ move ! (1 ∷ []) $ heard ! (Handed r₁ t (zs .0)) (λ e₂. fsplit ! $ move ! (2 ∷ []) $ split ! $ move ! (1 ∷ []) $
-        -- [what the line owns; the tokens; the struct's last value; true; what is left of ν's token; the lender's part; what s owns; _6; …; _5; …; _4; …; …; _2; …; _1; …; room for _0; …]
+        -- [what the line owns; the tokens; the struct's last value; true; what is left of ν's token; the lender's part; what s owns; _6; …; _5; …;
+        -- _4; …; …; _2; …; _1; …; room for _0; …]
         peeks ! (ShrSlice (named 0) κ u8) (Is (ShrSlice (named 0) κ u8)) (shows 𝓤 H A (ShrSlice (named 0) κ u8)) t (u₂ ∷ []) (λ is₂. land ! (from ! (stop !)) (init ! 18 refl (shr-slice-lawful 𝓤 H A W (named 0) κ u8 .typed t _ is₂ .0)) $
         -- the lifetime is ended, and the local comes back
         move ! (1 ∷ []) $ split ! $ move ! (0 ∷ 5 ∷ []) $ use2 W (later (‵ (fdead (ν ∷ κ)) ⊛ ‵ (flft κ (PosShare·left q)))) (within-end 𝓤 H A W ν κ (PosShare·left q)) $ await ! tt $ split ! $
@@ -238,23 +243,23 @@ module _ {M : Type 1} (𝓤 : URA M) (H : Heap 𝓤) (A : Atoms 𝓤) (W : Given
         keep ! (0 ∷ 1 ∷ 2 ∷ 4 ∷ []) $ by ! (exits t u₂ (found k s r r₁ t (zs .0) e e₁ e₂))))))))))))))))))))))))
 
 module _ {M : Type 1} (𝓤 : URA M) (H : Heap 𝓤) (A : Atoms 𝓤) (W : Given 𝓤 H A) (mem : Memory → SProp 𝓤) (run : Routine → Fun 𝓤) where
-  nth-walks : (C : Calls 𝓤 H) (Λ : Loops 𝓤 H) → FmC 𝓤 H (W .laws) C → Triple 𝓤 (C #line-reader·new) (New 𝓤 H A mem run) → Triple 𝓤 (C #line-reader·moved) (Skip 𝓤 H A mem run) → Triple 𝓤 (C #line-reader·next-line) (Next 𝓤 H A mem run)
-      → Walks 𝓤 H A nth.ended stayed (WpFn 𝓤 H C Λ code.function) (nth.clauses 𝓤 H A mem run)
-  nth-walks C Λ fm known-new known-skip known-next = walked 𝓤 H A nth.ended stayed (nth.clauses 𝓤 H A mem run) (WpFn 𝓤 H C Λ code.function) (λ κs. (slice-vals, (uint-vals w64, tt))) (λ κs. (shr-slice-tells (named 0) (κs .0) u8, (uint-tells w64, tt)))
-      (λ κs qs bounds a g are. via 𝓤 _ (fst∗ 𝓤 _ (emp 𝓤)) (walk 𝓤 H A W mem run (κs .0) (qs .0) (a .0) (a .1 .0) (are .1 .0 .1) C Λ fm known-new known-skip known-next (are .0)))
+  line-at-walks : (C : Calls 𝓤 H) (Λ : Loops 𝓤 H) → FmC 𝓤 H (W .laws) C → Triple 𝓤 (C #line-reader·new) (New 𝓤 H A mem run) → Triple 𝓤 (C #line-reader·moved) (Move 𝓤 H A mem run) → Triple 𝓤 (C #line-reader·next-line) (Next 𝓤 H A mem run)
+      → Walks 𝓤 H A line-at.ended stayed (WpFn 𝓤 H C Λ code.function) (line-at.clauses 𝓤 H A mem run)
+  line-at-walks C Λ fm known-new known-moved known-next = walked 𝓤 H A line-at.ended stayed (line-at.clauses 𝓤 H A mem run) (WpFn 𝓤 H C Λ code.function) (λ κs. (slice-vals, (uint-vals w64, tt))) (λ κs. (shr-slice-tells (named 0) (κs .0) u8, (uint-tells w64, tt)))
+      (λ κs qs bounds a g are. via 𝓤 _ (fst∗ 𝓤 _ (emp 𝓤)) (walk 𝓤 H A W mem run (κs .0) (qs .0) (a .0) (a .1 .0) (are .1 .0 .1) C Λ fm known-new known-moved known-next (are .0)))
 
-nth-meets : {M : Type 1} (𝓤 : URA M) (H : Heap 𝓤) (A : Atoms 𝓤) (W : Given 𝓤 H A) (mem : Memory → SProp 𝓤) (run : Routine → Fun 𝓤) (𝓣 : Tables 𝓤 H)
-    → Triple 𝓤 (𝓣 .C #line-reader·new) (New 𝓤 H A mem run) → Triple 𝓤 (𝓣 .C #line-reader·moved) (Skip 𝓤 H A mem run) → Triple 𝓤 (𝓣 .C #line-reader·next-line) (Next 𝓤 H A mem run)
-    → Meets 𝓤 H A nth.signature (WpFn 𝓤 H (𝓣 .C) (𝓣 .Λ) code.function) (nth.spec 𝓤 H A mem run)
-nth-meets 𝓤 H A W mem run 𝓣 known-new known-skip known-next = walk-meets 𝓤 H A nth.ended stayed W (goes-none-slice 𝓤 H A W 1 (0 ∷ []) tt (plain (λ _. u8)) yes, (goes-none 𝓤 H A W 1 (λ _. usize) yes (λ κs x f. refl), tt)) (nth.clauses 𝓤 H A mem run)
-    (WpFn 𝓤 H (𝓣 .C) (𝓣 .Λ) code.function) (WpFn-mono 𝓤 H (W .laws) 𝓣 code.function) (nth-walks 𝓤 H A W mem run (𝓣 .C) (𝓣 .Λ) (fmOf 𝓤 H (W .laws) 𝓣) known-new known-skip known-next)
+line-at-meets : {M : Type 1} (𝓤 : URA M) (H : Heap 𝓤) (A : Atoms 𝓤) (W : Given 𝓤 H A) (mem : Memory → SProp 𝓤) (run : Routine → Fun 𝓤) (𝓣 : Tables 𝓤 H)
+    → Triple 𝓤 (𝓣 .C #line-reader·new) (New 𝓤 H A mem run) → Triple 𝓤 (𝓣 .C #line-reader·moved) (Move 𝓤 H A mem run) → Triple 𝓤 (𝓣 .C #line-reader·next-line) (Next 𝓤 H A mem run)
+    → Meets 𝓤 H A line-at.signature (WpFn 𝓤 H (𝓣 .C) (𝓣 .Λ) code.function) (line-at.spec 𝓤 H A mem run)
+line-at-meets 𝓤 H A W mem run 𝓣 known-new known-moved known-next = walk-meets 𝓤 H A line-at.ended stayed W (goes-none-slice 𝓤 H A W 1 (0 ∷ []) tt (plain (λ _. u8)) yes, (goes-none 𝓤 H A W 1 (λ _. usize) yes (λ κs x f. refl), tt)) (line-at.clauses 𝓤 H A mem run)
+    (WpFn 𝓤 H (𝓣 .C) (𝓣 .Λ) code.function) (WpFn-mono 𝓤 H (W .laws) 𝓣 code.function) (line-at-walks 𝓤 H A W mem run (𝓣 .C) (𝓣 .Λ) (fmOf 𝓤 H (W .laws) 𝓣) known-new known-moved known-next)
 
 pub line-at-spec : {M : Type 1} → stated.statement M
 unfolding code.routine tablesOf
 line-at-spec 𝓤 H 𝓜 𝓖 𝓡 =
-    entered 𝓤 H (tripleOf 𝓤 H (𝓖 .A) nth.signature (nth.spec 𝓤 H (𝓖 .A) (𝓜 .mem) (𝓡 .run)))
+    entered 𝓤 H (tripleOf 𝓤 H (𝓖 .A) line-at.signature (line-at.spec 𝓤 H (𝓖 .A) (𝓜 .mem) (𝓡 .run)))
     (tables 𝓤 H 𝓜 𝓡 code.env .C) (tables 𝓤 H 𝓜 𝓡 code.env .Λ) #line-reader·line-at code.function (code.unfolded 𝓤 H 𝓜 𝓡)
-    (nth-meets 𝓤 H (𝓖 .A) (givenOf 𝓤 H 𝓜 𝓖) (𝓜 .mem) (𝓡 .run) (tablesOf 𝓤 H 𝓜 (tables 𝓤 H 𝓜 𝓡 code.env))
+    (line-at-meets 𝓤 H (𝓖 .A) (givenOf 𝓤 H 𝓜 𝓖) (𝓜 .mem) (𝓡 .run) (tablesOf 𝓤 H 𝓜 (tables 𝓤 H 𝓜 𝓡 code.env))
     (cited 𝓤 H (New 𝓤 H (𝓖 .A) (𝓜 .mem) (𝓡 .run)) 𝓜 𝓡 code.env #line-reader·new new-def.routine code.calls-line-reader·new (new-thm.met 𝓤 H 𝓜 𝓖 𝓡))
-    (cited 𝓤 H (Skip 𝓤 H (𝓖 .A) (𝓜 .mem) (𝓡 .run)) 𝓜 𝓡 code.env #line-reader·moved skip-def.routine code.calls-line-reader·moved (skip-thm.met 𝓤 H 𝓜 𝓖 𝓡))
+    (cited 𝓤 H (Move 𝓤 H (𝓖 .A) (𝓜 .mem) (𝓡 .run)) 𝓜 𝓡 code.env #line-reader·moved moved-def.routine code.calls-line-reader·moved (moved-thm.met 𝓤 H 𝓜 𝓖 𝓡))
     (cited 𝓤 H (Next 𝓤 H (𝓖 .A) (𝓜 .mem) (𝓡 .run)) 𝓜 𝓡 code.env #line-reader·next-line next-def.routine code.calls-line-reader·next-line (next-thm.met 𝓤 H 𝓜 𝓖 𝓡)))

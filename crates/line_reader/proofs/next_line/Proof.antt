@@ -1,5 +1,8 @@
--- `line_reader::next_line` meets its contract: a walk of its MIR, by hand. The borrow of the struct is opened, `line_from` and `place_behind` are called on the slice that the struct holds and on its number, the number that `place_behind` returned is stored, and the borrow is closed at the struct with that number.
--- The slice is Copy: what job owns is had anew for each call, beside the token of its lifetime, which comes back. What the line owns is kept for the result.
+-- `line_reader::next_line` meets its contract: a walk of its MIR, by hand. The borrow of the struct is opened, `line_from` and `place_behind` are
+-- called on the slice that the struct holds and on its number, the number that `place_behind` returned is stored, and the borrow is closed at the
+-- struct with that number.
+-- The slice is Copy: what job owns is had anew for each call, beside the token of its lifetime, which comes back. What the line owns is kept for the
+-- result.
 -- Assumes nothing.
 use mathlib.Core.Path.{_≡_, refl, ap}
 use Prim.Native.Nat.{ℕ, _<_, _^_}
@@ -195,7 +198,8 @@ module _ {M : Type 1} (𝓤 : URA M) (H : Heap 𝓤) (A : Atoms 𝓤) (W : Given
         calls-at ! fm (LineFrom 𝓤 H A at-mem run) known-line to-line (and-then ! (load ! (from ! (stop !)) (look ! 13 refl)) (and-then ! (load ! (from ! (stop !)) (look ! 11 refl)) (no-more !))) (λ u.
         use1 W (later (some (λ (s : RefT (List ℕ)). ((‵ (flft κ′ q′) ⊛ ‵ ftrue) ⊛ ‵ (OwnLine s u)) ⊛ raw (ensured 𝓤 H A line.ended (line.clauses 𝓤 H A at-mem run) (κ′, tt) (h .job, (h .at, tt)) tt s)))) (id⊢ 𝓤 _) $ await ! tt $ pick ! (λ s.
         split ! $ move ! (1 ∷ []) $ use1 W (raw (fact 𝓤 (now s ≡ lineFrom (now (h .job)) (h .at)))) (line-said s) $ heard ! (now s ≡ lineFrom (now (h .job)) (h .at)) (λ e. split ! $ move ! (1 ∷ []) $
-        -- [what the line owns; 'a's token; what a Reader owns; the struct's cell; the open borrow; obs; auth; true; _5; …; room for _4; …; _3; …; _2; …; _1; …; room for _0; …]
+        -- [what the line owns; 'a's token; what a Reader owns; the struct's cell; the open borrow; obs; auth; true; _5; …; room for _4; …; _3; …; _2;
+        -- …; _1; …; room for _0; …]
         peeks ! (ShrSlice (named 0) κ′ u8) (Is (ShrSlice (named 0) κ′ u8)) (shows 𝓤 H A (ShrSlice (named 0) κ′ u8)) s (u ∷ []) (λ is.
         land ! (from ! (stop !)) (init ! 10 refl (shr-slice-lawful 𝓤 H A W erased κ′ u8 .typed s _ is .0)) $
         -- `place_behind`
@@ -203,7 +207,8 @@ module _ {M : Type 1} (𝓤 : URA M) (H : Heap 𝓤) (A : Atoms 𝓤) (W : Given
         calls-at ! fm (PlaceBehind 𝓤 H A at-mem run) known-place (to-place s u) (and-then ! (load ! (from ! (stop !)) (look ! 13 refl)) (and-then ! (load ! (from ! (stop !)) (look ! 11 refl)) (and-then ! (load ! (from ! (stop !)) (look ! 9 refl)) (no-more !)))) (λ w.
         use1 W (later (some (λ (n : ℕ). ((‵ (flft κ′ q′) ⊛ ‵ ftrue) ⊛ ‵ (usize .own n (w ∷ []))) ⊛ raw (ensured 𝓤 H A place.ended (place.clauses 𝓤 H A at-mem run) (κ′, tt) (h .job, (h .at, (s, tt))) tt n)))) (id⊢ 𝓤 _) $ await ! tt $ pick ! (λ n.
         split ! $ move ! (1 ∷ []) $ use1 W (raw (fact 𝓤 (Placed s n))) (place-said s n) $ heard ! (Placed s n) (λ e′. split ! $ move ! (1 ∷ []) $
-        -- [the number; 'a's token; what a Reader and the line own; the struct's cell; the open borrow; obs; auth; true; room for _5; …; _4; …; _3; …; _2; …; _1; …; room for _0; …]
+        -- [the number; 'a's token; what a Reader and the line own; the struct's cell; the open borrow; obs; auth; true; room for _5; …; _4; …; _3; …;
+        -- _2; …; _1; …; room for _0; …]
         peeks ! usize (Is usize) (shows 𝓤 H A usize) n (w ∷ []) (λ is′.
         land ! (from ! (stop !)) (init ! 8 refl (uint-lawful 𝓤 H A W w64 .typed n _ is′ .0)) $ rewrite ! 8 (λ (z : Val). ‵ (fat fullShare (tyInt w64) l₅ 0 z)) (ap only (is′ .0)) refl $
         assigns ! (of-opd ! (load ! (from ! (stop !)) (look ! 8 refl))) (from ! (hop ! (look ! 16 refl) (fld ! refl (stop !)))) (store-in ! 3 (sub ! 1 refl (whole !)) (tt, record { fits = is′ .1 })) $

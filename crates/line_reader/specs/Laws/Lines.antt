@@ -104,20 +104,13 @@ lines-left (suc n) job at =
     lines-left n job (behind job at) ∙ ap (drop n) (lines-behind job at) ∙ drop-drop n 1 (lines (drop at job)) ∙ ap (λ (i : ℕ). drop i (lines (drop at job))) k
 
 -- the line that begins there is the one behind so many of the job's lines
-pub line-behind : (n : ℕ) (job : List ℕ) (at : ℕ) → lineFrom job (behindLines n job at) ≡ getD (lines (drop at job)) n []
+line-behind : (n : ℕ) (job : List ℕ) (at : ℕ) → lineFrom job (behindLines n job at) ≡ getD (lines (drop at job)) n []
 unfolding behindLines lineFrom
 line-behind zero job at = sym (first-line (drop at job))
 line-behind (suc n) job at =
     let k : 1 + n ≡ suc n = omega arith in
     line-behind n job (behind job at) ∙ ap (λ (ls : List (List ℕ)). getD ls n []) (lines-behind job at) ∙ getD-drop 1 (lines (drop at job)) n []
     ∙ ap (λ (i : ℕ). getD (lines (drop at job)) i []) k
-
-pub numbered-behind : (ls : List (List ℕ)) (k : ℕ) → (k ≡ 0 → ⊥) → getD ls (k - 1) [] ≡ lineNumbered ls k
-unfolding lineNumbered
-numbered-behind ls zero h = absurd (h refl)
-numbered-behind ls (suc n) h =
-    let k : suc n - 1 ≡ n = omega arith in
-    ap (λ (i : ℕ). getD ls i []) k
 
 pub none-more : (job : List ℕ) (at n : ℕ) → n ≤ 0 → behindLines n job at ≡ at
 unfolding behindLines
@@ -174,11 +167,6 @@ pub behind-last-line : (job : List ℕ) (at : ℕ) (line : List ℕ) → line �
 behind-last-line job at line e h =
     let l : length line ≡ until LF (drop at job) = ap length e ∙ line-length job at in
     sym (behind-last job at (omega arith))
-
-pub numbered-none : (ls : List (List ℕ)) (k : ℕ) → k ≡ 0 → lineNumbered ls k ≡ []
-unfolding lineNumbered
-numbered-none ls zero e = refl
-numbered-none ls (suc n) e = absurd (omega arith)
 
 -- ---- where a line lies
 

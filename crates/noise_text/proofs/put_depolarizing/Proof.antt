@@ -16,8 +16,8 @@ use Rattle.noise_text.proofs.put_depolarizing.Tie as tie
 abbrev zeros : List ℕ
 zeros = replicate 31 0
 
-add-v : tie.Need-add-v
-add-v c = search needs
+add-bits : tie.Need-add-bits
+add-bits c = search needs
 
 array-borrow-prefix-members : tie.Need-array-borrow-prefix-members
 array-borrow-prefix-members c = search needs
@@ -60,7 +60,7 @@ pub put-depolarizing-spec : {M : Type 1} → statement M
 put-depolarizing-spec =
     tie.close
     (tie.spec
-    add-v
+    add-bits
     array-borrow-prefix-members
     slice-aggregate-select
     select-requires

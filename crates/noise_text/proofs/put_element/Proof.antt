@@ -21,7 +21,7 @@ put-depolarizing-requires c κs =
     (c .before .before .before .before .before .before .pre .0, rw (c .element-x .ensures, length-take) (omega (arith, r .few)), r .small)
 
 put-kept-requires : tie.Need-put-kept-requires
-put-kept-requires c κs = (c .before .before .before .before .pre .0, whole-in (c .before .before .before .before .args .d) (λ k e. miss (0 ∷ 2 ∷ 3 ∷ []) 1 tt (rw e at (c .before .match .keys2))) (c .before .before .before .before .pre .1))
+put-kept-requires c κs = (c .before .before .before .before .pre .0, whole-in (c .before .before .before .before .args .distribution) (λ k e. miss (0 ∷ 2 ∷ 3 ∷ []) 1 tt (rw e at (c .before .match .keys2))) (c .before .before .before .before .pre .1))
 
 same-length : tie.Need-same-length
 same-length c = search needs
@@ -34,7 +34,7 @@ same-length-2 : tie.Need-same-length-2
 same-length-2 c = search needs
 
 returns-2 : tie.Need-returns-2
-returns-2 c = rw (← whole-is (c .before .before .before .before .before .before .before .args .elements .now) (c .before .before .before .before .before .before .before .args .e) (c .before .before .before .before .before .before .before .args .d) (λ k e. miss (0 ∷ 2 ∷ 3 ∷ []) 1 tt (rw e at (c .before .before .before .before .match .keys2)))) (c .before .before .put-kept .ensures)
+returns-2 c = rw (← whole-is (c .before .before .before .before .before .before .before .args .elements .now) (c .before .before .before .before .before .before .before .args .e) (c .before .before .before .before .before .before .before .args .distribution) (λ k e. miss (0 ∷ 2 ∷ 3 ∷ []) 1 tt (rw e at (c .before .before .before .before .match .keys2)))) (c .before .before .put-kept .ensures)
 
 pub put-element-spec : {M : Type 1} → statement M
 put-element-spec =

@@ -12,15 +12,15 @@ use Rattle.noise_text.proofs.put_faults.Statement.{statement}
 use Rattle.noise_text.proofs.put_faults.Tie as tie
 
 abbrev Inv-loop : tie.InvT-loop
-Inv-loop out₀ from words more mask shots sums elements p d rule place₀ at₀ shot₀ out place at shot =
+Inv-loop out₀ text words more mask shots sums elements p distribution rule next₀ at₀ shot₀ out next at shot =
     (at ≤ length (words ++ more))
     × (shot ≤ shots)
-    × (place ≤ from + 1342 * shot)
+    × (next ≤ text + 1342 * shot)
     × (length out ≡ length out₀)
-    × ((q : Ready p d sums mask elements shots) → Putting q (words ++ more) from out₀ at shot place out)
+    × ((q : Ready p distribution sums mask elements shots) → Putting q (words ++ more) text out₀ at shot next out)
 
 abbrev μ-loop : tie.MeasureT-loop
-μ-loop out₀ from words more mask shots sums elements p d rule place₀ at₀ shot₀ out place at shot = shots - shot
+μ-loop out₀ text words more mask shots sums elements p distribution rule next₀ at₀ shot₀ out next at shot = shots - shot
 
 rule-of-requires : tie.Need-rule-of-requires Inv-loop μ-loop
 rule-of-requires c κs = c .before .before .before .before .before .before .pre .1 .small
@@ -43,14 +43,14 @@ same-length c = c .before .before .before .before .loop .inv .3
 returns : tie.Need-returns Inv-loop μ-loop
 returns c = λ q. put-spent q (c .before .before .before .before .loop .inv .4 q) (c .before .before .before .next-fault .ensures _ _ (c .before .before .before .before .before .rule-of .ensures)) (c .before .before .before .before .loop .inv .1) (c .before .enum-told .given .1) _ (c .count .ensures)
 
-enum-known-next-word : tie.Need-enum-known-next-word Inv-loop μ-loop
-enum-known-next-word c = search needs
+enum-known-position : tie.Need-enum-known-position Inv-loop μ-loop
+enum-known-position c = search needs
 
 same-length-2 : tie.Need-same-length-2 Inv-loop μ-loop
 same-length-2 c = c .before .before .before .before .loop .inv .3
 
 returns-2 : tie.Need-returns-2 Inv-loop μ-loop
-returns-2 c = λ q. put-done q (c .before .before .before .before .loop .inv .4 q) (c .before .before .before .next-fault .ensures _ _ (c .before .before .before .before .before .rule-of .ensures)) (c .before .before .before .before .loop .inv .1) _ (c .before .next-word .given .1) (omega (arith, c .before .before .before .before .loop .inv .2, c .before .before .before .before .loop .inv .1))
+returns-2 c = λ q. put-done q (c .before .before .before .before .loop .inv .4 q) (c .before .before .before .next-fault .ensures _ _ (c .before .before .before .before .before .rule-of .ensures)) (c .before .before .before .before .loop .inv .1) _ (c .before .position .given .1) (omega (arith, c .before .before .before .before .loop .inv .2, c .before .before .before .before .loop .inv .1))
 
 enum-known-s : tie.Need-enum-known-s Inv-loop μ-loop
 enum-known-s c = search needs
@@ -90,7 +90,7 @@ put-faults-spec =
     count-requires
     same-length
     returns
-    enum-known-next-word
+    enum-known-position
     same-length-2
     returns-2
     enum-known-s

@@ -10,7 +10,7 @@ use Rattle.noise_text.proofs.put_noise.Statement.{statement}
 use Rattle.noise_text.proofs.put_noise.Tie as tie
 
 returns : tie.Need-returns
-returns c = λ q text. no-draws q text _ _ (c .before .before .before .before .before .before .before .before .before .pre .1) (c .if1 .taken)
+returns c = λ q source. no-draws q source _ _ (c .before .before .before .before .before .before .before .before .before .pre .1) (c .if1 .taken)
 
 part-requires : tie.Need-part-requires
 part-requires c κs = search needs
@@ -43,13 +43,13 @@ same-length : tie.Need-same-length
 same-length c = c .before .before .before .before .before .before .put-faults .kept .0
 
 returns-2 : tie.Need-returns-2
-returns-2 c = λ q text. rw (c .position-after .ensures) (spent-draws q text _ _ (c .before .before .before .before .before .before .before .before .before .before .before .before .before .before .before .before .before .before .before .pre .1) _ (c .before .before .before .before .before .before .before .before .before .before .if1 .left) (part-both (q .ready .lent) _ (c .before .before .before .before .before .before .before .before .before .before .before .before .before .before .before .before .before .before .before .args .main .now) (c .before .before .before .before .before .before .before .before .before .before .before .before .before .before .before .before .before .before .before .args .more .now) _ _ _ (c .before .before .before .before .before .before .before .before .before .part .ensures (q .ready .lent) (q .second-is) (q .base-is)) (c .before .before .before .before .before .before .before .before .more-part .ensures)) (c .before .before .before .before .before .before .put-faults .ensures (q .ready)) (c .before .before .read .given .1))
+returns-2 c = λ q source. rw (c .position-after .ensures) (spent-draws q source _ _ (c .before .before .before .before .before .before .before .before .before .before .before .before .before .before .before .before .before .before .before .pre .1) _ (c .before .before .before .before .before .before .before .before .before .before .if1 .left) (part-both (q .ready .lent) _ (c .before .before .before .before .before .before .before .before .before .before .before .before .before .before .before .before .before .before .before .args .main .now) (c .before .before .before .before .before .before .before .before .before .before .before .before .before .before .before .before .before .before .before .args .more .now) _ _ _ (c .before .before .before .before .before .before .before .before .before .part .ensures (q .ready .lent) (q .second-is) (q .base-is)) (c .before .before .before .before .before .before .before .before .more-part .ensures)) (c .before .before .before .before .before .before .put-faults .ensures (q .ready)) (c .before .before .read .given .1))
 
 same-length-2 : tie.Need-same-length-2
 same-length-2 c = c .before .before .before .before .before .before .put-faults .kept .0
 
 returns-3 : tie.Need-returns-3
-returns-3 c = λ q text. rw (c .position-after2 .ensures) (done-draws q text _ _ (c .before .before .before .before .before .before .before .before .before .before .before .before .before .before .before .before .before .before .before .pre .1) _ (c .before .before .before .before .before .before .before .before .before .before .if1 .left) (part-both (q .ready .lent) _ (c .before .before .before .before .before .before .before .before .before .before .before .before .before .before .before .before .before .before .before .args .main .now) (c .before .before .before .before .before .before .before .before .before .before .before .before .before .before .before .before .before .before .before .args .more .now) _ _ _ (c .before .before .before .before .before .before .before .before .before .part .ensures (q .ready .lent) (q .second-is) (q .base-is)) (c .before .before .before .before .before .before .before .before .more-part .ensures)) (c .before .before .before .before .before .before .put-faults .ensures (q .ready)) (c .before .before .read2 .given .1))
+returns-3 c = λ q source. rw (c .position-after2 .ensures) (done-draws q source _ _ (c .before .before .before .before .before .before .before .before .before .before .before .before .before .before .before .before .before .before .before .pre .1) _ (c .before .before .before .before .before .before .before .before .before .before .if1 .left) (part-both (q .ready .lent) _ (c .before .before .before .before .before .before .before .before .before .before .before .before .before .before .before .before .before .before .before .args .main .now) (c .before .before .before .before .before .before .before .before .before .before .before .before .before .before .before .before .before .before .before .args .more .now) _ _ _ (c .before .before .before .before .before .before .before .before .before .part .ensures (q .ready .lent) (q .second-is) (q .base-is)) (c .before .before .before .before .before .before .before .before .more-part .ensures)) (c .before .before .before .before .before .before .put-faults .ensures (q .ready)) (c .before .before .read2 .given .1))
 
 pub put-noise-spec : {M : Type 1} → statement M
 put-noise-spec =

@@ -1,5 +1,6 @@
 -- `settling::settle_tested` meets its contract. Assumes nothing.
-use Rattle.settling.specs.Laws.Reply.{room-for, spent-reply, long-reply, done-reply}
+use Rattle.settling.specs.Laws.Reply.{spent-reply, long-reply, done-reply}
+use Rattle.writer.specs.Laws.Fits.{room-for}
 use lib.Seq.{length-take-le}
 use borrow.Author.Tests.{not-true, not-false}
 use mathlib.Core.Path.{sym, _∙_}

@@ -9,7 +9,6 @@ use borrow.Author.Tests.{leb-true, eq-eqb, eqb-true, le-leb, lt-leb}
 use lib.Dec.{eqb, leb}
 use lib.ListN.{length, take, drop, drop-of-length-le}
 use lib.Seq.{length-take-le}
-use Rattle.text.specs.Laws.Values.{both}
 use Rattle.job.specs.declared.Answer.{Answer}
 use Rattle.job.specs.Job.{maxBytes, answer, jobOf, checkJob}
 use Rattle.job.specs.Theorems.{checked-sound}
@@ -19,6 +18,7 @@ use Rattle.job_shape.specs.Laws.Tested.{passed-both, tests-passed, tests-short,
 use Rattle.writer.specs.declared.TextAnswer.{TextAnswer}
 use Rattle.writer.specs.Reply.{textReply}
 use Rattle.writer.specs.Laws.Placing.{placed-over}
+use Rattle.writer.specs.Laws.Fits.{room-for}
 use Rattle.draws.specs.Draws.{Lent}
 use Rattle.draws.specs.Left.{leftAfter}
 use Rattle.draws.specs.Settle.{Settled, settle, settledText}
@@ -56,9 +56,6 @@ refused-reply job s out {t} {r} tests ne says = go (eqb (checkJob job .number) 0
         absurd (ne (ap (λ (a : Answer). a .number) is ∙ eqb-true (checkJob job .number) 0 p))
 
 -- ---- settled
-
-pub room-for : (need lent : ℕ) → leb need lent && leb need maxBytes ≡ true → need ≤ lent
-room-for need lent fits = leb-true need lent (both (leb need lent) (leb need maxBytes) fits .0)
 
 abbrev sourceOf : Pass → Source
 sourceOf p = record { noiseless = p .noiseless; main = p .main; second = p .second; base = p .base }

@@ -9,8 +9,8 @@ use Rattle.shares.specs.Shares.{moved}
 use Rattle.share_marks.proofs.mark_taken.Statement.{statement}
 use Rattle.share_marks.proofs.mark_taken.Tie as tie
 
-lower-requires : tie.Need-lower-requires
-lower-requires c κs = search needs
+lesser-requires : tie.Need-lesser-requires
+lesser-requires c κs = search needs
 
 mul-marks : tie.Need-mul-marks
 mul-marks c = search needs
@@ -35,7 +35,7 @@ slice-read-marks-2 c = search needs
 
 add-marks-2 : tie.Need-add-marks-2
 add-marks-2 c =
-    omega (arith, getD-set-other (c .before .before .before .before .args .marks .now) (c .before .before .before .before .args .caller) (c .before .before .before .before .args .callers) (getD (c .before .before .before .before .args .marks .now) (c .before .before .before .before .args .caller) 0 + c .before .before .lower .result) 0 (λ (e : c .before .before .before .before .args .callers ≡ c .before .before .before .before .args .caller). omega (arith, e)))
+    omega (arith, getD-set-other (c .before .before .before .before .args .marks .now) (c .before .before .before .before .args .caller) (c .before .before .before .before .args .callers) (getD (c .before .before .before .before .args .marks .now) (c .before .before .before .before .args .caller) 0 + c .before .before .lesser .result) 0 (λ (e : c .before .before .before .before .args .callers ≡ c .before .before .before .before .args .caller). omega (arith, e)))
 
 slice-write-marks-2 : tie.Need-slice-write-marks-2
 slice-write-marks-2 c = search needs
@@ -45,13 +45,13 @@ same-length c = search needs
 
 returns : tie.Need-returns
 unfolding moved
-returns c = rw (← c .before .before .lower .ensures)
+returns c = rw (← c .before .before .lesser .ensures)
 
 pub mark-taken-spec : {M : Type 1} → statement M
 mark-taken-spec =
     tie.close
     (tie.spec
-    lower-requires
+    lesser-requires
     mul-marks
     slice-read-marks
     add-marks

@@ -21,14 +21,14 @@ add-t11 c = search needs
 returns-2 : tie.Need-returns-2
 returns-2 c = shot-unsatisfied _ _ _ _ _ (omega (arith, c .before .before .count .ensures)) (not-true _ (c .if2 .taken))
 
-add-element : tie.Need-add-element
-add-element c = search needs
+add-choose-element : tie.Need-add-choose-element
+add-choose-element c = search needs
 
-element-requires : tie.Need-element-requires
-element-requires c κs = (omega (arith, c .before .before .count .ensures), c .before .before .before .before .before .before .pre)
+choose-element-requires : tie.Need-choose-element-requires
+choose-element-requires c κs = (omega (arith, c .before .before .count .ensures), c .before .before .before .before .before .before .pre)
 
-enum-known-e : tie.Need-enum-known-e
-enum-known-e c = search needs
+enum-known-element : tie.Need-enum-known-element
+enum-known-element c = search needs
 
 enum-told : tie.Need-enum-told
 enum-told c = search needs
@@ -37,13 +37,13 @@ returns-3 : tie.Need-returns-3
 returns-3 c =
     let a = c .before .before .before .before .before .before .before .before .before .before .args in
     let inside : a .at < length (a .words .now ++ a .more .now) = omega (arith, c .before .before .before .before .before .before .count .ensures) in
-    shot-fault _ _ _ _ _ inside (not-false _ (c .before .before .before .before .if2 .left)) (c .before .before .before .element .ensures) _ _ (c .before .e .given .1)
+    shot-fault _ _ _ _ _ inside (not-false _ (c .before .before .before .before .if2 .left)) (c .before .before .before .choose-element .ensures) _ _ (c .before .element .given .1)
 
 returns-4 : tie.Need-returns-4
 returns-4 c =
     let a = c .before .before .before .before .before .before .before .before .before .args in
     let inside : a .at < length (a .words .now ++ a .more .now) = omega (arith, c .before .before .before .before .before .count .ensures) in
-    shot-spent-on _ _ _ _ _ inside (not-false _ (c .before .before .before .if2 .left)) (c .before .before .element .ensures) (c .enum-told .given .1)
+    shot-spent-on _ _ _ _ _ inside (not-false _ (c .before .before .before .if2 .left)) (c .before .before .choose-element .ensures) (c .enum-told .given .1)
 
 pub draw-shot-spec : {M : Type 1} → statement M
 draw-shot-spec =
@@ -53,9 +53,9 @@ draw-shot-spec =
     returns
     add-t11
     returns-2
-    add-element
-    element-requires
-    enum-known-e
+    add-choose-element
+    choose-element-requires
+    enum-known-element
     enum-told
     returns-3
     returns-4)

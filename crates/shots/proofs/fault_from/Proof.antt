@@ -13,12 +13,12 @@ use Rattle.shots.proofs.fault_from.Statement.{statement}
 use Rattle.shots.proofs.fault_from.Tie as tie
 
 abbrev Inv-loop : tie.InvT-loop
-Inv-loop words more at mask shots sums threshold chooser position₀ s₀ position s =
-    (position ≤ length (words ++ more)) × (s₀ ≤ s) × (s ≤ shots)
-    × ((p : Float) → threshold ≡ thresholdOf p → Later (words ++ more) mask shots p (chooser .distribution) sums s₀ at s position)
+Inv-loop words more at mask shots sums threshold chooser next₀ s₀ next s =
+    (next ≤ length (words ++ more)) × (s₀ ≤ s) × (s ≤ shots)
+    × ((p : Float) → threshold ≡ thresholdOf p → Later (words ++ more) mask shots p (chooser .distribution) sums s₀ at s next)
 
 abbrev μ-loop : tie.MeasureT-loop
-μ-loop words more at mask shots sums threshold chooser position₀ s₀ position s = shots - s
+μ-loop words more at mask shots sums threshold chooser next₀ s₀ next s = shots - s
 
 loop-holds : tie.Need-loop-holds Inv-loop μ-loop
 loop-holds c = (omega arith, omega arith, omega arith, λ p e. later-none)
@@ -29,8 +29,8 @@ sub-next-skip c = omega arith
 next-skip-requires : tie.Need-next-skip-requires Inv-loop μ-loop
 next-skip-requires c κs = omega arith
 
-add-position : tie.Need-add-position Inv-loop μ-loop
-add-position c = let a = c .before .before .before .before .before .before .before .before .args in record { fits = omega (arith, length-append (a .words .now) (a .more .now), c .before .before .before .before .before .before .before .before .good, c .next-skip .ensures .within) }
+add-next : tie.Need-add-next Inv-loop μ-loop
+add-next c = let a = c .before .before .before .before .before .before .before .before .args in record { fits = omega (arith, length-append (a .words .now) (a .more .now), c .before .before .before .before .before .before .before .before .good, c .next-skip .ensures .within) }
 
 add-s : tie.Need-add-s Inv-loop μ-loop
 add-s c = omega (arith, c .next-skip .ensures .within)
@@ -54,16 +54,16 @@ returns-2 c =
     let stays = c .before .before .before .before .before .next-skip .ensures .within in
     λ p d e. found-kind (e .kind) (found-spent (later-skip (c .before .before .before .before .before .before .before .loop .inv .3 p (e .threshold)) _ (c .before .before .before .before .before .next-skip .ensures .is p (e .threshold))) (omega arith) (c .before .before .before .is-set .ensures) (falls-behind _ _ _ _ _ _ (c .before .before .before .before .before .next-skip .ensures .is p (e .threshold)) (omega arith)) (c .before .before .draw-shot .ensures) (c .enum-told .given .1))
 
-enum-known-next-word : tie.Need-enum-known-next-word Inv-loop μ-loop
-enum-known-next-word c = search needs
+enum-known-position : tie.Need-enum-known-position Inv-loop μ-loop
+enum-known-position c = search needs
 
-enum-known-e : tie.Need-enum-known-e Inv-loop μ-loop
-enum-known-e c = search needs
+enum-known-element : tie.Need-enum-known-element Inv-loop μ-loop
+enum-known-element c = search needs
 
 returns-3 : tie.Need-returns-3 Inv-loop μ-loop
 returns-3 c =
     let stays = c .before .before .before .before .before .before .next-skip .ensures .within in
-    λ p d e. found-kind (e .kind) (found-at (later-skip (c .before .before .before .before .before .before .before .before .loop .inv .3 p (e .threshold)) _ (c .before .before .before .before .before .before .next-skip .ensures .is p (e .threshold))) (omega arith) (c .before .before .before .before .is-set .ensures) (falls-behind _ _ _ _ _ _ (c .before .before .before .before .before .before .next-skip .ensures .is p (e .threshold)) (omega arith)) (c .before .before .before .draw-shot .ensures) _ _ (c .before .e .given .1) (omega arith))
+    λ p d e. found-kind (e .kind) (found-at (later-skip (c .before .before .before .before .before .before .before .before .loop .inv .3 p (e .threshold)) _ (c .before .before .before .before .before .before .next-skip .ensures .is p (e .threshold))) (omega arith) (c .before .before .before .before .is-set .ensures) (falls-behind _ _ _ _ _ _ (c .before .before .before .before .before .before .next-skip .ensures .is p (e .threshold)) (omega arith)) (c .before .before .before .draw-shot .ensures) _ _ (c .before .element .given .1) (omega arith))
 
 add-s-2 : tie.Need-add-s-2 Inv-loop μ-loop
 add-s-2 c = omega (arith, c .before .before .before .before .before .before .next-skip .ensures .within)
@@ -74,10 +74,10 @@ loop-less c = omega (arith, c .before .before .before .before .before .before .n
 loop-again : tie.Need-loop-again Inv-loop μ-loop
 loop-again c =
     let stays = c .before .before .before .before .before .before .next-skip .ensures .within in (
-      quiet-within (c .before .before .before .draw-shot .ensures) (c .before .next-word .given .1),
+      quiet-within (c .before .before .before .draw-shot .ensures) (c .before .position .given .1),
       omega arith,
       omega arith,
-      λ p e. later-quiet (later-skip (c .before .before .before .before .before .before .before .before .loop .inv .3 p e) _ (c .before .before .before .before .before .before .next-skip .ensures .is p e)) (omega arith) (c .before .before .before .before .is-set .ensures) (falls-behind _ _ _ _ _ _ (c .before .before .before .before .before .before .next-skip .ensures .is p e) (omega arith)) (c .before .before .before .draw-shot .ensures) _ (c .before .next-word .given .1),
+      λ p e. later-quiet (later-skip (c .before .before .before .before .before .before .before .before .loop .inv .3 p e) _ (c .before .before .before .before .before .before .next-skip .ensures .is p e)) (omega arith) (c .before .before .before .before .is-set .ensures) (falls-behind _ _ _ _ _ _ (c .before .before .before .before .before .before .next-skip .ensures .is p e) (omega arith)) (c .before .before .before .draw-shot .ensures) _ (c .before .position .given .1),
     )
 
 returns-4 : tie.Need-returns-4 Inv-loop μ-loop
@@ -92,15 +92,15 @@ fault-from-spec =
     loop-holds
     sub-next-skip
     next-skip-requires
-    add-position
+    add-next
     add-s
     returns
     is-set-requires
     draw-shot-requires
     enum-told
     returns-2
-    enum-known-next-word
-    enum-known-e
+    enum-known-position
+    enum-known-element
     returns-3
     add-s-2
     loop-less

@@ -25,12 +25,12 @@ returns c =
 enum-told-2 : tie.Need-enum-told-2
 enum-told-2 c = search needs
 
-enum-known-e : tie.Need-enum-known-e
-enum-known-e c = search needs
+enum-known-element : tie.Need-enum-known-element
+enum-known-element c = search needs
 
 returns-2 : tie.Need-returns-2
 returns-2 c =
-    λ p d e. found-kind (e .kind) (found-at later-none (omega arith) (c .before .before .before .before .is-set .ensures) (λ inside. c .before .before .before .before .before .before .before .falls-next .ensures (c .before .before .before .before .before .before .if2 .taken) p (e .threshold)) (c .before .before .before .draw-shot .ensures) _ _ (c .before .e .given .1) (omega arith))
+    λ p d e. found-kind (e .kind) (found-at later-none (omega arith) (c .before .before .before .before .is-set .ensures) (λ inside. c .before .before .before .before .before .before .before .falls-next .ensures (c .before .before .before .before .before .before .if2 .taken) p (e .threshold)) (c .before .before .before .draw-shot .ensures) _ _ (c .before .element .given .1) (omega arith))
 
 fault-from-requires : tie.Need-fault-from-requires
 fault-from-requires c κs = search needs
@@ -48,7 +48,7 @@ next-fault-spec =
     enum-told
     returns
     enum-told-2
-    enum-known-e
+    enum-known-element
     returns-2
     fault-from-requires
     returns-3)

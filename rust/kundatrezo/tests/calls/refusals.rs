@@ -104,8 +104,27 @@ fn refusals_leave_lent_memory() {
     let draws = Draws::new(&[0]);
     let refusal = settle(&noisy, &[0], draws, &mut out).expect_err("the text is longer");
     assert_eq!(refusal.number, Number::ROOM);
-    assert!(refusal.figure >= settled(&noisy, &[0], draws).expect("there is room").len() as u64);
+    assert_eq!(refusal.figure, settled(&noisy, &[0], draws).expect("there is room").len() as u64);
     assert_eq!(out, [7; 60]);
+}
+
+/// Settling's figure is the size of the settled text, above 2^32 bytes too: Y on 31 qubits in every shot of each noise line.
+#[test]
+fn the_figure_of_a_text_above_32_bits() {
+    const LINES: usize = 3960;
+    const SHOTS: u64 = 4096;
+    let qubits = (100..131).map(|qubit| qubit.to_string()).collect::<Vec<_>>().join(",");
+    let header = format!("op=job qubits=131 outcomes=0 shots={SHOTS}\n");
+    let size = 4u64.pow(31) - 1;
+    let noise = format!("op=n p={ONE} corr=0 cond=- parity=0 d=2 q={qubits} size={size}\n");
+    let words = [0, size - 1].repeat(SHOTS as usize);
+    let draws = Draws::default().with_second(&words, 0);
+    let job = header.clone() + &noise.repeat(LINES);
+    let refusal = settle(job.as_bytes(), &[], draws, &mut []).expect_err("the text is longer");
+    assert_eq!(refusal.number, Number::ROOM);
+    let injections: usize = (0..SHOTS).map(|shot| format!("op=i shot={shot} x={qubits} z={qubits}\n").len()).sum();
+    assert_eq!(refusal.figure, (header.len() + LINES * injections) as u64);
+    assert!(refusal.figure > 1 << 32);
 }
 
 /// Noise by condition and correlation tells noiseless bits, the main list, the second one and the base apart.

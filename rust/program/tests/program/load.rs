@@ -18,12 +18,12 @@ fn words_are_those_of_the_call() {
     fill(12, &mut words).expect("not zero");
     assert_eq!(call("fill --state 12 --words 50"), Done::printed(bytes_of(&words)));
     assert_eq!(call("fill --state 12 --words 20 --skip 30"), Done::printed(bytes_of(&words[30..])));
-    let stretched: Vec<u64> = Xorshift::new(12).take(50).collect();
-    assert_eq!(call("fill --seed 12 --words 50"), Done::printed(bytes_of(&stretched)));
+    let mixed: Vec<u64> = Xorshift::new(12).take(50).collect();
+    assert_eq!(call("fill --seed 12 --words 50"), Done::printed(bytes_of(&mixed)));
     let path = folder("fill").join("words");
     let name = path.to_str().expect("a path in plain text");
     assert_eq!(call(&format!("fill --seed 12 --words 50 --output {name}")), Done::printed(""));
-    assert_eq!(fs::read(path).ok(), Some(bytes_of(&stretched)));
+    assert_eq!(fs::read(path).ok(), Some(bytes_of(&mixed)));
 }
 
 #[test]

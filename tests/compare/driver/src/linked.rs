@@ -2,28 +2,8 @@
 
 use crate::raw;
 use checker::calls::{Answer, Asked, Calls, Draws, Rows, Share};
-use reference::vectors::Call;
 use std::io::Write;
 use std::process::{Command, Stdio};
-
-/// The calls that the library has.
-pub const CALLS: &[Call] = &[
-    Call::Check,
-    Call::Run,
-    Call::Settle,
-    Call::RunShared,
-    Call::SettleShared,
-    Call::Walk,
-    Call::Annotate,
-    Call::Locations,
-    Call::Correlation,
-    Call::FaultTable,
-    Call::ByShot,
-    Call::ByOutcome,
-    Call::Fill,
-    Call::Make,
-    Call::Print,
-];
 
 /// A call's answer with the count or byte figure that it gives.
 fn figured(outcome: kundatrezo::Answer<u64>) -> Answer {

@@ -85,8 +85,8 @@ fn headers() -> impl Iterator<Item = Asked> {
     numbers.into_iter().map(|(qubits, outcomes, shots)| Asked { qubits, outcomes, shots, ..Asked::default() })
 }
 
-/// The kinds of line that a header and a number of lines allow and no small seed brings up. With many lines, all gates and both kinds of condition are asked for
-/// as well.
+/// The kinds of line that a header and a number of lines allow and no small seed brings up. With many lines, all gates and both kinds of condition
+/// are asked for as well.
 fn missing(under_test: &dyn Calls, asked: Asked) -> Vec<String> {
     let mut out = vec![0; MAX_BYTES];
     let mut found = BTreeSet::new();

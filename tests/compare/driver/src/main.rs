@@ -54,7 +54,7 @@ A difference is seen again by `compare CALL 1 SEED` with the seed that it prints
 
 /// The calls under test, and which of them are the library's; the others are document 01's plainest form.
 #[cfg(feature = "linked")]
-const UNDER_TEST: (&dyn Calls, &[Call]) = (&linked::Linked, linked::CALLS);
+const UNDER_TEST: (&dyn Calls, &[Call]) = (&linked::Linked, &CALLS);
 #[cfg(not(feature = "linked"))]
 const UNDER_TEST: (&dyn Calls, &[Call]) = (&checker::plain::Plain, &[]);
 

@@ -44,17 +44,7 @@ pub const ANY: Shape = Shape {
 };
 
 /// Jobs small enough to go through every set and shot.
-pub const SMALL: Shape = Shape {
-    limits: Header { edition: None, qubits: 8, outcomes: 5, shots: 5 },
-    lines: 40,
-    usual_lines: 25,
-    all_outcomes: false,
-    noise: 2,
-    tables: 0,
-    draws: true,
-    spread: None,
-    near_correlations: false,
-};
+pub const SMALL: Shape = Shape { limits: Header { edition: None, qubits: 8, outcomes: 5, shots: 5 }, lines: 40, ..ANY };
 
 /// Jobs with little room and many lines, so that what a line does is noticed by others.
 pub const DENSE: Shape = Shape {
@@ -62,11 +52,7 @@ pub const DENSE: Shape = Shape {
     lines: 150,
     usual_lines: 80,
     all_outcomes: true,
-    noise: 2,
-    tables: 0,
-    draws: true,
-    spread: None,
-    near_correlations: false,
+    ..ANY
 };
 
 /// A job as data.

@@ -22,11 +22,11 @@ room s = omega (arith, length-append (s .args .words .now) (s .args .more .now),
 count-requires : tie.Need-count-requires Inv-loop μ-loop
 count-requires c κs = search needs
 
-sub-least : tie.Need-sub-least Inv-loop μ-loop
-sub-least c = omega arith
+sub-lesser : tie.Need-sub-lesser Inv-loop μ-loop
+sub-lesser c = omega arith
 
-least-requires : tie.Need-least-requires Inv-loop μ-loop
-least-requires c κs = search needs
+lesser-requires : tie.Need-lesser-requires Inv-loop μ-loop
+lesser-requires c κs = search needs
 
 loop-holds : tie.Need-loop-holds Inv-loop μ-loop
 loop-holds c = passed-none
@@ -34,49 +34,49 @@ loop-holds c = passed-none
 add-pass-near : tie.Need-add-pass-near Inv-loop μ-loop
 add-pass-near c = record { fits = omega (arith, room (c .before .before .before .before .before)) }
 
-sub-least-2 : tie.Need-sub-least-2 Inv-loop μ-loop
-sub-least-2 c = omega arith
+sub-lesser-2 : tie.Need-sub-lesser-2 Inv-loop μ-loop
+sub-lesser-2 c = omega arith
 
-least-requires-2 : tie.Need-least-requires-2 Inv-loop μ-loop
-least-requires-2 c κs = search needs
+lesser-requires-2 : tie.Need-lesser-requires-2 Inv-loop μ-loop
+lesser-requires-2 c κs = search needs
 
 pass-near-requires : tie.Need-pass-near-requires Inv-loop μ-loop
 pass-near-requires c κs = omega arith
 
 add-i : tie.Need-add-i Inv-loop μ-loop
 add-i c =
-    let near = passed-near (c .before .least2 .ensures) (c .pass-near .ensures) in
+    let near = passed-near (c .before .lesser2 .ensures) (c .pass-near .ensures) in
     record { fits = omega (arith, near .within, room (c .before .before .before .before .before .before .before)) }
 
 returns : tie.Need-returns Inv-loop μ-loop
 returns c =
-    stopped-skipped (omega (arith, c .before .before .before .before .least .ensures, c .before .before .before .before .before .count .ensures))
-    (stopped-then (c .before .before .before .loop .inv) (stopped-near (c .before .before .least2 .ensures) (c .before .pass-near .ensures) (c .if1 .taken)))
+    stopped-skipped (omega (arith, c .before .before .before .before .lesser .ensures, c .before .before .before .before .before .count .ensures))
+    (stopped-then (c .before .before .before .loop .inv) (stopped-near (c .before .before .lesser2 .ensures) (c .before .pass-near .ensures) (c .if1 .taken)))
 
 add-pass-far : tie.Need-add-pass-far Inv-loop μ-loop
 add-pass-far c =
-    let near = passed-near (c .before .before .least2 .ensures) (c .before .pass-near .ensures) in
+    let near = passed-near (c .before .before .lesser2 .ensures) (c .before .pass-near .ensures) in
     record { fits = omega (arith, near .within, room (c .before .before .before .before .before .before .before .before)) }
 
 sub-pass-far : tie.Need-sub-pass-far Inv-loop μ-loop
-sub-pass-far c = let near = passed-near (c .before .before .least2 .ensures) (c .before .pass-near .ensures) in omega (arith, near .within)
+sub-pass-far c = let near = passed-near (c .before .before .lesser2 .ensures) (c .before .pass-near .ensures) in omega (arith, near .within)
 
 pass-far-requires : tie.Need-pass-far-requires Inv-loop μ-loop
 pass-far-requires c κs = omega arith
 
 add-i-2 : tie.Need-add-i-2 Inv-loop μ-loop
 add-i-2 c =
-    let near = passed-near (c .before .before .before .least2 .ensures) (c .before .before .pass-near .ensures) in
+    let near = passed-near (c .before .before .before .lesser2 .ensures) (c .before .before .pass-near .ensures) in
     record { fits = omega (arith, near .within, c .pass-far .ensures .within, room (c .before .before .before .before .before .before .before .before .before)) }
 
 loop-less : tie.Need-loop-less Inv-loop μ-loop
 loop-less c =
-    let near = passed-near (c .before .before .before .least2 .ensures) (c .before .before .pass-near .ensures) in
+    let near = passed-near (c .before .before .before .lesser2 .ensures) (c .before .before .pass-near .ensures) in
     omega (arith, near .within, c .pass-far .ensures .within)
 
 loop-again : tie.Need-loop-again Inv-loop μ-loop
 loop-again c =
-    passed-then (passed-then (c .before .before .before .before .loop .inv) (passed-near (c .before .before .before .least2 .ensures) (c .before .before .pass-near .ensures)))
+    passed-then (passed-then (c .before .before .before .before .loop .inv) (passed-near (c .before .before .before .lesser2 .ensures) (c .before .before .pass-near .ensures)))
     (c .pass-far .ensures)
 
 pub next-skip-spec : {M : Type 1} → statement M
@@ -86,12 +86,12 @@ next-skip-spec =
     Inv-loop
     μ-loop
     count-requires
-    sub-least
-    least-requires
+    sub-lesser
+    lesser-requires
     loop-holds
     add-pass-near
-    sub-least-2
-    least-requires-2
+    sub-lesser-2
+    lesser-requires-2
     pass-near-requires
     add-i
     returns

@@ -6,17 +6,17 @@ use Rattle.noise.specs.Laws.Scan.{passed-first, passed-second}
 use Rattle.noise.proofs.scan.pass_far.Statement.{statement}
 use Rattle.noise.proofs.scan.pass_far.Tie as tie
 
-sub-least : tie.Need-sub-least
-sub-least c = search needs
+sub-lesser : tie.Need-sub-lesser
+sub-lesser c = search needs
 
-least-requires : tie.Need-least-requires
-least-requires c κs = search needs
+lesser-requires : tie.Need-lesser-requires
+lesser-requires c κs = search needs
 
 pass-blocks-requires : tie.Need-pass-blocks-requires
 pass-blocks-requires c κs = search needs
 
 returns : tie.Need-returns
-returns c = passed-first _ _ _ _ (c .before .before .if1 .taken) _ (c .before .least .ensures) (c .pass-blocks .ensures)
+returns c = passed-first _ _ _ _ (c .before .before .if1 .taken) _ (c .before .lesser .ensures) (c .pass-blocks .ensures)
 
 sub-pass-blocks : tie.Need-sub-pass-blocks
 sub-pass-blocks c = search needs
@@ -33,8 +33,8 @@ pub pass-far-spec : {M : Type 1} → statement M
 pass-far-spec =
     tie.close
     (tie.spec
-    sub-least
-    least-requires
+    sub-lesser
+    lesser-requires
     pass-blocks-requires
     returns
     sub-pass-blocks

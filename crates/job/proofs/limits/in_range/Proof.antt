@@ -1,8 +1,8 @@
--- `check_lines::header::in_range` meets its contract. Assumes nothing.
+-- `job::limits::in_range` meets its contract. Assumes nothing.
 use native.Mathlib.Omega.{arith}
 use borrow.Author.Tests.{lt-leb, le-leb}
-use Rattle.check_lines.proofs.header.in_range.Statement.{statement}
-use Rattle.check_lines.proofs.header.in_range.Tie as tie
+use Rattle.job.proofs.limits.in_range.Statement.{statement}
+use Rattle.job.proofs.limits.in_range.Tie as tie
 
 returns : tie.Need-returns
 returns c = rw (lt-leb 1 (c .before .before .args .h .qubits) (omega arith))

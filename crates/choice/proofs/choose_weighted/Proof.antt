@@ -1,4 +1,4 @@
--- `choice::weigh` meets its contract.
+-- `choice::choose_weighted` meets its contract.
 use mathlib.Core.Path.{ap, _∙_}
 use native.Mathlib.Omega.{arith}
 use lib.ListN.{length-append}
@@ -7,8 +7,8 @@ use borrow.Author.Needs.{needs}
 use Rattle.draws.specs.Known.{rustPlace}
 use Rattle.noise.specs.Laws.Words.{word-read, none-read}
 use Rattle.choice.specs.Laws.Choice.{weighed, weighed-none}
-use Rattle.choice.proofs.weigh.Statement.{statement}
-use Rattle.choice.proofs.weigh.Tie as tie
+use Rattle.choice.proofs.choose_weighted.Statement.{statement}
+use Rattle.choice.proofs.choose_weighted.Tie as tie
 
 next-word-requires : tie.Need-next-word-requires
 next-word-requires c κs = search needs
@@ -39,5 +39,5 @@ returns c =
 returns-2 : tie.Need-returns-2
 returns-2 c = weighed-none _ (none-read (c .before .before .next-word .ensures) (c .enum-told .given .1))
 
-pub weigh-spec : {M : Type 1} → statement M
-weigh-spec = tie.close (tie.spec next-word-requires enum-known-word unit-requires element-by-requires add-t11 enum-told returns returns-2)
+pub choose-weighted-spec : {M : Type 1} → statement M
+choose-weighted-spec = tie.close (tie.spec next-word-requires enum-known-word unit-requires element-by-requires add-t11 enum-told returns returns-2)

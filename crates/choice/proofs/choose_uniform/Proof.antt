@@ -1,4 +1,4 @@
--- `choice::choose` meets its contract. The invariant: the choice from here on is the choice from the start.
+-- `choice::choose_uniform` meets its contract. The invariant: the choice from here on is the choice from the start.
 use mathlib.Core.Path.{_≡_, refl, sym, _∙_}
 use mathlib.Core.List.{_++_}
 use Prim.Native.Nat.{_-_, _<_}
@@ -9,8 +9,8 @@ use borrow.Author.Tests.{lt-ltb, le-ltb}
 use Rattle.draws.specs.Draws.{bounded}
 use Rattle.noise.specs.Laws.Words.{word-read, none-read}
 use Rattle.choice.specs.Laws.Choice.{chose, chose-none, below-limit, choose-takes, choose-rejects, choose-ends}
-use Rattle.choice.proofs.choose.Statement.{statement}
-use Rattle.choice.proofs.choose.Tie as tie
+use Rattle.choice.proofs.choose_uniform.Statement.{statement}
+use Rattle.choice.proofs.choose_uniform.Tie as tie
 
 abbrev Inv-loop : tie.InvT-loop
 Inv-loop words more at bound limit i₀ i = bounded bound (drop i (words ++ more)) ≡ bounded bound (drop at (words ++ more))
@@ -54,8 +54,8 @@ enum-told c = search needs
 returns-2 : tie.Need-returns-2 Inv-loop μ-loop
 returns-2 c = chose-none (sym (c .before .before .before .loop .inv) ∙ choose-ends _ _ _ (none-read (c .before .before .next-word .ensures) (c .enum-told .given .1)))
 
-pub choose-spec : {M : Type 1} → statement M
-choose-spec =
+pub choose-uniform-spec : {M : Type 1} → statement M
+choose-uniform-spec =
     tie.close
     (tie.spec
     Inv-loop

@@ -1,7 +1,7 @@
--- `settling::text_fits` meets its contract. Assumes nothing.
+-- `writer::text_fits` meets its contract. Assumes nothing.
 use borrow.Author.Tests.{le-leb, lt-leb}
-use Rattle.settling.proofs.text_fits.Statement.{statement}
-use Rattle.settling.proofs.text_fits.Tie as tie
+use Rattle.writer.proofs.text_fits.Statement.{statement}
+use Rattle.writer.proofs.text_fits.Tie as tie
 
 returns : tie.Need-returns
 returns c = rw (lt-leb _ _ (c .if1 .taken))
