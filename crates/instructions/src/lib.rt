@@ -11,6 +11,9 @@ ghost use Rattle.job.specs.Grammar.{NoiseLine, Written};
 ghost use Rattle.job.specs.Checks.{elementLines};
 ghost use Rattle.job.specs.Job.{wellEnded};
 ghost use Rattle.template.specs.Values.{Whole};
+ghost use Rattle.line_reader.specs.Reading.{lineFrom};
+ghost use Rattle.gate_text.specs.Gate.{GateBytes};
+ghost use Rattle.reader.specs.declared.Form.the-variants as Forms;
 ghost use Rattle.reader.specs.Parsed.{formOf, Parsed, Said};
 ghost use Rattle.instructions.specs.Reading.{NextLine, noiseForm};
 ghost use Rattle.instructions.specs.Ahead.{hasWeights};
@@ -44,7 +47,7 @@ pub fn next_line(job: &[u8], at: usize, fields: &mut [u64]) -> LineRead
     requires { ⌜ (wellEnded (now job) ≡ true) × (at < length (now job)) × Whole (now fields) ⌝ }
     ensures { λ r. ⌜ NextLine (now (job .entry)) at r (now (fields .exit)) ⌝ }
 {
-    let line = line_at(job, at);
+    let line = line_at(job, at, 0);
     let end = at + line.len();
     let form = read_line(line, fields);
     LineRead { form, end }
@@ -100,18 +103,34 @@ fn read_other(line: &[u8], fields: &mut [u64]) -> Form
     Form::WeightedElement
 }
 
-// What a line of an accepted job says. A gate line, of which there are many, is read without testing its form again.
-fn read_known(line: &[u8], fields: &mut [u64]) -> Form
-    requires { ⌜ KnownLine (now line) × Whole (now fields) ⌝ }
-    ensures { λ r. ⌜ Parsed (now (line .entry)) r (now (fields .exit)) ⌝ }
+// What a gate line of an accepted job says. There are many, so they are read without testing their form again.
+fn read_known_gate(line: &[u8], fields: &mut [u64])
+    requires { ⌜ KnownLine (now line) × GateBytes (now line) × Whole (now fields) ⌝ }
+    ensures { λ _. ⌜ Parsed (now (line .entry)) Forms.Unitary (now (fields .exit)) ⌝ }
 {
-    if !is_gate(line) {
-        return read_other(line, fields);
-    }
     let g = read_gate(line);
     set_number(&mut *fields, GATE, g.code);
     set_few(fields, OPERANDS, g.count, g.first, g.second);
-    Form::Unitary
+}
+
+// The fewest bytes of a gate line, `op=u g=0 q=0`, and of `x=- z=-`, with which an element line ends. None of them is an LF.
+const GATE_BYTES: usize = 12;
+
+const ELEMENT_BYTES: usize = 7;
+
+// The line of an accepted job that begins at a place and is no gate line. The end of an element line is looked for behind its fewest bytes.
+fn other_line<'a>(job: &'a [u8], at: usize) -> &'a [u8]
+    requires { ⌜ KnownAt (now job) at ⌝ }
+    ensures { λ line. ⌜ now line ≡ lineFrom (now (job .entry)) at ⌝ }
+{
+    let first = job[at];
+    if first == b'x' {
+        return line_at(job, at, ELEMENT_BYTES);
+    }
+    if first == b'w' {
+        return line_at(job, at, PAULI_START + ELEMENT_BYTES);
+    }
+    line_at(job, at, 0)
 }
 
 // Reads the line of an accepted job that begins at a place, as next_line does.
@@ -119,9 +138,18 @@ pub fn next_known(job: &[u8], at: usize, fields: &mut [u64]) -> LineRead
     requires { ⌜ KnownAt (now job) at × Whole (now fields) ⌝ }
     ensures { λ r. ⌜ NextLine (now (job .entry)) at r (now (fields .exit)) ⌝ }
 {
-    let line = line_at(job, at);
+    if is_gate(&job[at..]) {
+        let gate = line_at(job, at, GATE_BYTES);
+        let behind = at + gate.len();
+        read_known_gate(gate, fields);
+        return LineRead {
+            form: Form::Unitary,
+            end: behind,
+        };
+    }
+    let line = other_line(job, at);
     let end = at + line.len();
-    let form = read_known(line, fields);
+    let form = read_other(line, fields);
     LineRead { form, end }
 }
 

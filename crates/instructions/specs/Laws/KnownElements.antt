@@ -1,15 +1,16 @@
 -- An element line of an accepted job, read from its places. Laws. Assumes nothing.
 use Prim.Native.Nat.{ℕ, _+_, _≤_}
+use native.Mathlib.Nat.{add-zero}
 use native.Mathlib.Omega.{arith}
 use mathlib.Core.Path.{_≡_, refl, sym, ap, subst, _∙_}
 use mathlib.Core.Bool.{true}
 use mathlib.Core.List.{List, [], _∷_}
 use mathlib.Core.Option.{some}
 use lib.ListN.{length, getD, take, drop, set, length-drop}
-use lib.Seq.{length-take-le}
-use Rattle.text.specs.Bytes.{bytes, space, until}
-use Rattle.text.specs.Number.{allHex, hexFrom}
-use Rattle.text.specs.List.{listL}
+use lib.Seq.{length-take-le, getD-drop}
+use Rattle.text.specs.Bytes.{bytes, space, until, pieces}
+use Rattle.text.specs.Number.{numberOf, allHex, hexFrom}
+use Rattle.text.specs.List.{withFirst, piecesOf, listQ, onlyRising, listL}
 use Rattle.text.specs.Template.{Value, number, list, valueOf, valuesOf}
 use Rattle.text.specs.Laws.Pieces.{until-le}
 use Rattle.text.specs.Laws.Places.{literals}
@@ -19,14 +20,16 @@ use Rattle.template.specs.Values.{Whole}
 use Rattle.template.specs.Fields.{Held, HasForm, KnownPut}
 use Rattle.template.specs.Laws.Fields.{nothing-held, held-number, held-list}
 use Rattle.gate_text.specs.Laws.Gate.{allPlain, plain-on, letter-on, number-value, list-value, end-values}
+use Rattle.line_reader.specs.Reading.{lineFrom}
 use Rattle.job.specs.Grammar.{forms}
 use Rattle.reader.specs.declared.Form.the-variants as form
 use Rattle.reader.specs.Parsed.{placeOf, formOf, Parsed}
 use Rattle.reader.specs.Tried.{only, pauliPart}
 use Rattle.reader.specs.Laws.Sift.{sift, opens}
 use Rattle.reader.specs.Laws.Tried.{says, by-bytes, one-form, by-values}
-use Rattle.instructions.specs.Lines.{KnownLine}
+use Rattle.instructions.specs.Lines.{KnownLine, KnownAt}
 use Rattle.instructions.specs.Known.{xPlace, zPlace, ListsThere, ListsPut}
+use Rattle.instructions.specs.Laws.Known.{known-here, first-byte, filled}
 
 -- ---- its two lists
 
@@ -71,6 +74,14 @@ lists-there l =
       x = record { within = l .x-within; members = l .xs; is = l .x };
       z = record { within = l .z-within; members = l .zs; is = l .z };
     }
+
+-- `x=- z=-` is the shortest
+lists-long : {line : List ℕ} {from : ℕ} {vs : List Value} → Lists line from vs → from + 7 ≤ length line
+unfolding listL onlyRising listQ piecesOf withFirst numberOf pieces
+lists-long {line} {from} l =
+    let x = filled listL (drop (xPlace from) line) (until space (drop (xPlace from) line)) refl (l .x) in
+    let z = filled listL (drop (zPlace line from) line) (until space (drop (zPlace line from) line)) refl (l .z) in
+    omega (arith, x, z, l .z-within, until-le space (drop (zPlace line from) line), length-drop (zPlace line from) line)
 
 -- the second stands where the first one's end says, and both were put
 module _ {line : List ℕ} {from e : ℕ} {before between : List ℕ} (x : KnownPut line (xPlace from) 0 e before between) where
@@ -169,3 +180,15 @@ module _ {text : List ℕ} (k : KnownLine text) (first : getD text 0 0 ≡ 119) 
       let formed : HasForm text (formOf form.WeightedElement .template) after =
       record { values = weighted-values .0; reads = weighted-values .1; held = subst (Held after 1 2) are both } in
       by-bytes 119 _ first refl (only form.WeightedElement) refl (says form.WeightedElement refl formed (k .written) (weighted-values .2))
+
+-- ---- how long a line is at least
+
+module _ {job : List ℕ} {at : ℕ} (k : KnownAt job at) where
+  at-first : getD (lineFrom job at) 0 0 ≡ getD job at 0
+  at-first = first-byte k 0 (omega arith) ∙ getD-drop at job 0 0 ∙ ap (λ (i : ℕ). getD job i 0) (add-zero at)
+
+  pub element-long : getD job at 0 ≡ 120 → 7 ≤ length (lineFrom job at)
+  element-long e = lists-long (element-lists (known-here k) (at-first ∙ e))
+
+  pub weighted-long : getD job at 0 ≡ 119 → 26 ≤ length (lineFrom job at)
+  weighted-long e = lists-long (weighted-parts (known-here k) (at-first ∙ e) .lists-of)
