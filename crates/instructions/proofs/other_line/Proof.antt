@@ -1,6 +1,6 @@
 -- `instructions::other_line` meets its contract. Assumes nothing.
 use borrow.Author.Needs.{needs}
-use Rattle.instructions.specs.Laws.KnownElements.{element-long, weighted-long}
+use Rattle.instructions.specs.Laws.KnownLists.{element-long, weighted-long}
 use Rattle.instructions.proofs.other_line.Statement.{statement}
 use Rattle.instructions.proofs.other_line.Tie as tie
 
