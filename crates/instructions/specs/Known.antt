@@ -25,7 +25,7 @@ pub record ListsThere (line : List ℕ) (from : ℕ) : Type 0 where
   pub x : ListThere line (xPlace from)
   pub z : ListThere line (zPlace line from)
 
--- they were put into the words as lists, one after the other, up to the place behind them
+-- they were put into the words as the lists of a slot and the next; r is the place behind them
 pub record ListsPut (line : List ℕ) (from slot r : ℕ) (before after : List ℕ) : Type 0 where
   pub between : List ℕ
   pub x : (members : List ℕ) → listL (field line (xPlace from)) ≡ some members → ListPut before between slot members

@@ -162,18 +162,19 @@ fn other_line<'a>(job: &'a [u8], at: usize) -> &'a [u8]
     line_at(job, at, 0)
 }
 
-// Reads the line of an accepted job that begins at a place, as next_line does.
+// Reads the line of an accepted job that begins at a place, as next_line does. A gate line is told by its first bytes, before its end is looked for:
+// every line of such a job has four or more.
 pub fn next_known(job: &[u8], at: usize, fields: &mut [u64]) -> LineRead
     requires { ⌜ KnownAt (now job) at × Whole (now fields) ⌝ }
     ensures { λ r. ⌜ NextLine (now (job .entry)) at r (now (fields .exit)) ⌝ }
 {
     if is_gate(&job[at..]) {
         let gate = line_at(job, at, GATE_BYTES);
-        let behind = at + gate.len();
+        let end = at + gate.len();
         read_known_gate(gate, fields);
         return LineRead {
             form: Form::Unitary,
-            end: behind,
+            end,
         };
     }
     let line = other_line(job, at);

@@ -12,20 +12,20 @@ pub struct Reader<'a> {
     pub at: usize,
 }
 
-// The line that begins at a place, without the LF that ends it. From the end on it is empty. It is known to have so many bytes, none of which is an
-// LF; behind them, if there are any, its end is near.
-pub fn line_from<'a>(job: &'a [u8], at: usize, known: usize) -> &'a [u8]
-    requires { ⌜ known ≤ length (lineFrom (now job) at) ⌝ }
+// The line that begins at a place, without the LF that ends it. From the end on it is empty. It has at least so many bytes, none of which is an LF:
+// where that says something, the line is short, and its end is near behind them.
+pub fn line_from<'a>(job: &'a [u8], at: usize, fewest: usize) -> &'a [u8]
+    requires { ⌜ fewest ≤ length (lineFrom (now job) at) ⌝ }
     ensures { λ r. ⌜ now r ≡ lineFrom (now (job .entry)) at ⌝ }
 {
     if job.len() <= at {
         return &job[job.len()..];
     }
-    if known == 0 {
+    if fewest == 0 {
         let far = find_far(job, at, b'\n');
         return &job[at..far];
     }
-    let near = find(job, at + known, b'\n');
+    let near = find(job, at + fewest, b'\n');
     &job[at..near]
 }
 
@@ -67,14 +67,14 @@ pub fn new<'a>(job: &'a [u8]) -> Reader<'a>
     Reader { job, at: 0 }
 }
 
-// Hands out the next line, which is known to have so many bytes, and goes on behind it.
-pub fn next_line<'s, 'a>(r: &'s mut Reader<'a>, known: usize) -> &'a [u8]
-    requires { ⌜ known ≤ length (lineFrom (now (now r .job)) (now r .at)) ⌝ }
+// Hands out the next line, which has at least so many bytes, and goes on behind it.
+pub fn next_line<'s, 'a>(r: &'s mut Reader<'a>, fewest: usize) -> &'a [u8]
+    requires { ⌜ fewest ≤ length (lineFrom (now (now r .job)) (now r .at)) ⌝ }
     ensures { λ line. ⌜ (now line ≡ lineFrom (now (now (r .entry) .job)) (now (r .entry) .at)) × (now (r .exit) .job ≡ now (r .entry) .job) × (now (r .exit) .at ≡ behind (now (now (r .entry) .job)) (now (r .entry) .at)) ⌝ }
 {
     let job = r.job;
     let at = r.at;
-    let line = line_from(job, at, known);
+    let line = line_from(job, at, fewest);
     r.at = place_behind(job, at, line);
     line
 }
@@ -86,13 +86,13 @@ pub fn moved<'a>(r: Reader<'a>, at: usize) -> Reader<'a>
     Reader { job: r.job, at }
 }
 
-// The line that a reader at a place hands out, which is known to have so many bytes.
-pub fn line_at<'a>(job: &'a [u8], at: usize, known: usize) -> &'a [u8]
-    requires { ⌜ known ≤ length (lineFrom (now job) at) ⌝ }
+// The line that a reader at a place hands out, which has at least so many bytes.
+pub fn line_at<'a>(job: &'a [u8], at: usize, fewest: usize) -> &'a [u8]
+    requires { ⌜ fewest ≤ length (lineFrom (now job) at) ⌝ }
     ensures { λ line. ⌜ now line ≡ lineFrom (now (job .entry)) at ⌝ }
 {
     let mut r = moved(new(job), at);
-    next_line(&mut r, known)
+    next_line(&mut r, fewest)
 }
 
 // Where a line lies in a job: its first byte, and how many bytes it has.

@@ -2,20 +2,14 @@
 use mathlib.Core.Path.{_≡_, refl}
 use mathlib.Core.List.{List}
 use Prim.Native.Nat.{ℕ, suc, _<_}
-use lib.Bits.{bitXor}
 use lib.ListN.{length, getD}
 use Rattle.stream.specs.Stream.{left, right, step, stepped, fillReply}
-use Rattle.stream.specs.Laws.Linear.{stepped-linear}
 use Rattle.stream.specs.Laws.Words.{words-stepped, fill-refused, fill-done}
 
 -- From state 1 the first word is 1,082,269,761.
 pub first-word : step 1 ≡ 1082269761
 unfolding step left right
 first-word = refl
-
--- Any number of steps is linear over exclusive or.
-pub steps-linear : (n a b : ℕ) → stepped n (bitXor a b) ≡ bitXor (stepped n a) (stepped n b)
-steps-linear n a b = stepped-linear n .adds a b
 
 -- The call, with a seed that is not zero: entry i of the list is the seed stepped i + 1 times. With the seed zero the list is as it was.
 module _ (seed : ℕ) (words : List ℕ) where

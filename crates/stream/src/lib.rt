@@ -28,6 +28,9 @@ const JUMP_2048: u64 = 0xf2df0c3ec4bcaff7;
 
 const JUMP_3072: u64 = 0xa7815edb7afebac4;
 
+// The bits of a state.
+const STATE_BITS: u64 = 64;
+
 // The states from which the second, third and fourth quarter of a block go on.
 struct Starts {
     second: u64,
@@ -43,7 +46,7 @@ fn jump(state: u64) -> Starts
     let mut fourth = 0;
     let mut ahead = state;
     let mut k = 0u64;
-    while k < 64 {
+    while k < STATE_BITS {
         second ^= ahead * (JUMP_1024 >> k & 1);
         third ^= ahead * (JUMP_2048 >> k & 1);
         fourth ^= ahead * (JUMP_3072 >> k & 1);

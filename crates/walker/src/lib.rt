@@ -5,7 +5,7 @@ ghost use mathlib.Core.Bool.{true};
 ghost use mathlib.Core.Option.{some};
 ghost use Prim.Native.Nat.{_+_, _-_, _^_, _<_};
 ghost use lib.ListN.{length, getD};
-ghost use Rattle.pauli.specs.Fixed.{inSet, AllBelow};
+ghost use Rattle.pauli.specs.Fixed.{inSet};
 ghost use Rattle.text.specs.Bytes.{lines as Bytes·lines};
 ghost use Rattle.job.specs.Grammar.{Written, readLine};
 ghost use Rattle.job.specs.Job.{checkJob};

@@ -176,7 +176,8 @@ mod tests {
         assert_eq!(fill(0, &mut []).expect_err("zero").number, crate::Number::SEED);
     }
 
-    /// The rule, in the words of Marsaglia's paper, beside the engine's: 9,000 words have two of its blocks, parts of them one and none.
+    /// The rule, in the words of Marsaglia's paper, beside the engine's, which fills 4,096 words at a time: 9,000 have two such parts, their pieces
+    /// none and one.
     #[test]
     fn words_are_those_of_the_rule() {
         for seed in [1, 2, 3, 0x8000_0000_0000_0000, u64::MAX, 88_172_645_463_325_252] {

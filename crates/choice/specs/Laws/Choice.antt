@@ -108,14 +108,14 @@ chosen-by (Distribution.depolarizing qs) e ws = rw e
 chosen-by (Distribution.uniform Ps) e ws = rw e
 chosen-by (Distribution.weighted es) e ws = rw e
 
--- the kinds other than these two choose by their bound
+-- the kinds that are neither single nor weighted choose by their bound
 chosen-bounded : (d : PauliDistribution) (c : ℕ) → (d ≡ Single → ⊥) → ((t : Float) → d ≡ Weighted t → ⊥) → c ≡ boundOf d
     → (weights : List Float) (ws : List ℕ) → chosenBy d weights ws ≡ bounded c ws
 unfolding chosenBy boundOf
-chosen-bounded Single c one weighed e weights ws = absurd (one refl)
-chosen-bounded (Depolarizing k) c one weighed e weights ws = rw e
-chosen-bounded (Uniform n) c one weighed e weights ws = rw e
-chosen-bounded (Weighted t) c one weighed e weights ws = absurd (weighed t refl)
+chosen-bounded Single c one other e weights ws = absurd (one refl)
+chosen-bounded (Depolarizing k) c one other e weights ws = rw e
+chosen-bounded (Uniform n) c one other e weights ws = rw e
+chosen-bounded (Weighted t) c one other e weights ws = absurd (other t refl)
 
 module _ {d : PauliDistribution} {sums : List Float} {words : List ℕ} (at : ℕ) where
   pub chosen-one : d ≡ Single → at ≤ length words → ElementChosen words at d sums (Chosen 0 at)
@@ -129,7 +129,7 @@ module _ {d : PauliDistribution} {sums : List Float} {words : List ℕ} (at : �
 
   pub chosen-uniform : {a : Answer} (c : ℕ) → (d ≡ Single → ⊥) → ((t : Float) → d ≡ Weighted t → ⊥) → c ≡ boundOf d
       → Chose words (bounded c (drop at words)) a → ElementChosen words at d sums a
-  chosen-uniform c one weighed b q = chosen-as (λ weights. chosen-bounded d c one weighed b weights (drop at words)) q
+  chosen-uniform c one other b q = chosen-as (λ weights. chosen-bounded d c one other b weights (drop at words)) q
 
   pub chosen-weighted : {a : Answer} (t : Float) → d ≡ Weighted t → Weighed words at sums a → ElementChosen words at d sums a
   unfolding chosenBy

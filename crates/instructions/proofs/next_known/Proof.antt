@@ -20,8 +20,8 @@ is-gate-requires c κs = search needs
 line-at-requires : tie.Need-line-at-requires
 line-at-requires c κs = gate-fills (c .before .before .before .before .before .pre .0) (c .before .is-gate .ensures (c .if1 .taken))
 
-add-behind : tie.Need-add-behind
-add-behind c = search needs
+add-end : tie.Need-add-end
+add-end c = search needs
 
 read-known-gate-requires : tie.Need-read-known-gate-requires
 read-known-gate-requires c κs =
@@ -42,8 +42,8 @@ returns c =
 other-line-requires : tie.Need-other-line-requires
 other-line-requires c κs = search needs
 
-add-end : tie.Need-add-end
-add-end c = search needs
+add-end-2 : tie.Need-add-end-2
+add-end-2 c = search needs
 
 read-other-requires : tie.Need-read-other-requires
 read-other-requires c κs =
@@ -68,12 +68,12 @@ next-known-spec =
     part-is-gate-end
     is-gate-requires
     line-at-requires
-    add-behind
+    add-end
     read-known-gate-requires
     same-length
     returns
     other-line-requires
-    add-end
+    add-end-2
     read-other-requires
     same-length-2
     returns-2)

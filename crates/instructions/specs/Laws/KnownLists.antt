@@ -31,7 +31,7 @@ use Rattle.instructions.specs.Lines.{KnownLine, KnownAt}
 use Rattle.instructions.specs.Known.{xPlace, zPlace, listsEnd, ListsThere, ListsPut}
 use Rattle.instructions.specs.Laws.Known.{known-here, first-byte, filled}
 
--- ---- its two lists
+-- ---- the two lists of a Pauli
 
 -- what stands where in `x=L z=L` or `u=L v=L`, which begins at a place, and what the rest of the template says of the bytes behind it
 pub record Lists (line : List ℕ) (from : ℕ) (ts : List ℕ) (vs : List Value) : Type 0 where
@@ -161,7 +161,7 @@ module _ {text : List ℕ} (k : KnownLine text) (there : (getD text 0 0 ≡ 111)
       record { values = controlled-values .0; reads = controlled-values .1; held = subst (Held after 0 4) (sym are) four } in
       by-bytes 111 107 (there .0) (there .1) (only form.Controlled) refl (says form.Controlled refl formed (k .written) (controlled-values .2))
 
--- ---- the line without a weight
+-- ---- an element line without a weight
 
 module _ {text : List ℕ} (k : KnownLine text) (first : getD text 0 0 ≡ 120) where
   pub element-values : (vs : List Value) × (valuesOf (formOf form.Element .template) text ≡ some vs)
@@ -183,7 +183,7 @@ module _ {text : List ℕ} (k : KnownLine text) (first : getD text 0 0 ≡ 120) 
       record { values = element-values .0; reads = element-values .1; held = subst (Held after 0 2) (sym (all-lists l)) both } in
       by-bytes 120 _ first refl (only form.Element) refl (says form.Element refl formed (k .written) (element-values .2))
 
--- ---- the line with a weight
+-- ---- an element line with a weight
 
 -- what stands where in `w=H x=L z=L`
 pub record Weighted (line : List ℕ) (vs : List Value) : Type 0 where
@@ -249,7 +249,7 @@ module _ {text : List ℕ} (k : KnownLine text) (first : getD text 0 0 ≡ 119) 
       record { values = weighted-values .0; reads = weighted-values .1; held = subst (Held after 1 2) are both } in
       by-bytes 119 _ first refl (only form.WeightedElement) refl (says form.WeightedElement refl formed (k .written) (weighted-values .2))
 
--- ---- how long a line is at least
+-- ---- how long an element line is at least
 
 module _ {job : List ℕ} {at : ℕ} (k : KnownAt job at) where
   at-first : getD (lineFrom job at) 0 0 ≡ getD job at 0

@@ -104,9 +104,9 @@ found : (k : ℕ) (s : RefT (List ℕ)) (r r₁ : Reader) (t : RefT (List ℕ)) 
 found k s r r₁ t z e e₁ e₂ =
     e₂ .0 ∙ ap (λ (x : RefT (List ℕ)). lineFrom (now x) (r₁ .at)) (e₁ .0 ∙ e .0) ∙ ap (lineFrom (now s)) (e₁ .1)
 
--- and the bytes that are known are known there
-known-there : (k n : ℕ) (s : RefT (List ℕ)) (r r₁ : Reader) → Made s r → Moved k r r₁ → n ≤ length (lineFrom (now s) k) → n ≤ length (lineFrom (now (r₁ .job)) (r₁ .at))
-known-there k n s r r₁ e e₁ h = rw (e₁ .0 ∙ e .0, e₁ .1) h
+-- and the fewest bytes are those of the line there
+fewest-there : (k n : ℕ) (s : RefT (List ℕ)) (r r₁ : Reader) → Made s r → Moved k r r₁ → n ≤ length (lineFrom (now s) k) → n ≤ length (lineFrom (now (r₁ .job)) (r₁ .at))
+fewest-there k n s r r₁ e e₁ h = rw (e₁ .0 ∙ e .0, e₁ .1) h
 
 module _ {M : Type 1} (𝓤 : URA M) (H : Heap 𝓤) (A : Atoms 𝓤) (W : Given 𝓤 H A) (at-mem : Memory → SProp 𝓤) (run : Routine → Fun 𝓤) (κ : Lft) (q : Share) (s : RefT (List ℕ)) (k : ℕ) (k-fits : k < 2 ^ 64) (n : ℕ) (n-fits : n < 2 ^ 64) (known : n ≤ length (lineFrom (now s) k)) where
   -- the machine value that s has
@@ -231,7 +231,7 @@ module _ {M : Type 1} (𝓤 : URA M) (H : Heap 𝓤) (A : Atoms 𝓤) (W : Given
         move ! (9 ∷ 0 ∷ []) $ use2 W (‵ (mem R .lies r₁ l₄ 0)) (lies r₁ u₁ l₄) $ lft-new ! tt (λ ν. move ! (1 ∷ []) $
         use1 W (later (some (λ (γ : GName). ‵ (MutRef (named 0) (ν ∷ κ) R .own (lent r₁ l₄ γ) (vptr l₄ 0 ∷ [])) ⊛ ‵ (flent (ν ∷ κ) (Body (mem R) l₄ 0 γ))))) (lends-ref 𝓤 H A W R (named 0) (ν ∷ κ) r₁ l₄ 0) $ await ! tt $ pick ! (λ γ. split ! $
         -- `next_line`
-        move ! (0 ∷ 2 ∷ 3 ∷ []) $ use3 W (raw (Next 𝓤 H A at-mem run .pre (to-next ν r₁ l₄ γ)) ⊛ raw (Rest 𝓤 H A W ν (PosShare·left q))) (goes-next ν r₁ l₄ γ (known-there k n s r r₁ e e₁ known)) $ split ! $
+        move ! (0 ∷ 2 ∷ 3 ∷ []) $ use3 W (raw (Next 𝓤 H A at-mem run .pre (to-next ν r₁ l₄ γ)) ⊛ raw (Rest 𝓤 H A W ν (PosShare·left q))) (goes-next ν r₁ l₄ γ (fewest-there k n s r r₁ e e₁ known)) $ split ! $
         -- [what the callee asks; what is left of ν's token; the lender's part; what s owns; _7; …; _6; …; _5; …; …; _3; …; _2; …; _1; …;
         -- room for _0; …]
         calls-at ! fm (Next 𝓤 H A at-mem run) known-next (to-next ν r₁ l₄ γ) (and-then ! (load ! (from ! (stop !)) (look ! 4 refl)) (and-then ! (load ! (from ! (stop !)) (look ! 11 refl)) (no-more !))) (λ u₂.

@@ -1,7 +1,7 @@
 -- `line_reader::line_from` meets its contract.
 use mathlib.Core.Path.{sym, _∙_}
 use native.Mathlib.Omega.{arith}
-use Rattle.line_reader.specs.Laws.Lines.{line-found, empty-part, no-line, known-within, end-behind-known}
+use Rattle.line_reader.specs.Laws.Lines.{line-found, empty-part, no-line, fewest-within, end-behind-fewest}
 use borrow.Author.Needs.{needs}
 use Rattle.line_reader.proofs.line_from.Statement.{statement}
 use Rattle.line_reader.proofs.line_from.Tie as tie
@@ -40,12 +40,12 @@ returns-2 c =
 add-find : tie.Need-add-find
 add-find c =
     let a = c .before .before .before .args in
-    omega (arith, known-within (a .job .now) (a .at) (a .known) (c .before .before .before .pre) (omega arith))
+    omega (arith, fewest-within (a .job .now) (a .at) (a .fewest) (c .before .before .before .pre) (omega arith))
 
 find-requires : tie.Need-find-requires
 find-requires c κs =
     let a = c .before .before .before .args in
-    known-within (a .job .now) (a .at) (a .known) (c .before .before .before .pre) (omega arith)
+    fewest-within (a .job .now) (a .at) (a .fewest) (c .before .before .before .pre) (omega arith)
 
 sub-result-3 : tie.Need-sub-result-3
 sub-result-3 c = search needs
@@ -59,7 +59,7 @@ part-result-end-3 c = search needs
 returns-3 : tie.Need-returns-3
 returns-3 c =
     let a = c .before .before .before .before .before .args in
-    line-found (a .job .now) (a .at) _ (c .before .find .ensures .0 ∙ end-behind-known (a .job .now) (a .at) (a .known) (c .before .before .before .before .before .pre))
+    line-found (a .job .now) (a .at) _ (c .before .find .ensures .0 ∙ end-behind-fewest (a .job .now) (a .at) (a .fewest) (c .before .before .before .before .before .pre))
 
 pub line-from-spec : {M : Type 1} → statement M
 line-from-spec =

@@ -1,5 +1,5 @@
 -- `line_reader::next_line` meets its contract: a walk of its MIR, by hand. The borrow of the struct is opened, `line_from` and `place_behind` are
--- called on the slice that the struct holds and on its number, the first also on the bytes that are known, the number that `place_behind` returned is
+-- called on the slice that the struct holds and on its number, the first also on the fewest bytes, the number that `place_behind` returned is
 -- stored, and the borrow is closed at the struct with that number.
 -- The slice is Copy: what job owns is had anew for each call, beside the token of its lifetime, which comes back. What the line owns is kept for the
 -- result.
@@ -195,7 +195,7 @@ module _ {M : Type 1} (𝓤 : URA M) (H : Heap 𝓤) (A : Atoms 𝓤) (W : Given
         use1 W (‵ (fat fullShare (T′.mir erased) b o mach)) (W .laws .raw-at fullShare (T′.mir erased) b o mach) $
         move ! (1 ∷ []) $ peeks ! (B κ′) (Is (B κ′)) (shows 𝓤 H A (B κ′)) h (mach ∷ []) (λ was. move ! (1 ∷ 0 ∷ []) $
         let wt : Holds (hasTy (T′.mir (named 1)) mach) × WT mach = LL.lawful D L 𝓤 H A W .typed h _ was .0 in
-        -- [the struct's cell; what a Reader owns; the open borrow; obs; auth; 'a's token; what known owns; _6; …; _5; …; _4; …; _3; …; _2; …; _1; …;
+        -- [the struct's cell; what a Reader owns; the open borrow; obs; auth; 'a's token; what fewest owns; _6; …; _5; …; _4; …; _3; …; _2; …; _1; …;
         -- room for _0; …]
         assigns ! (of-opd ! (load ! (from ! (hop ! (look ! 17 refl) (fld ! refl (stop !)))) (look-in ! 0 (sub ! 0 refl (whole !))))) (from ! (stop !)) (init ! 13 refl (tt, wt .1 .0)) $
         assigns ! (of-opd ! (load ! (from ! (hop ! (look ! 17 refl) (fld ! refl (stop !)))) (look-in ! 0 (sub ! 1 refl (whole !))))) (from ! (stop !)) (init ! 11 refl (tt, wt .1 .1 .0)) $
@@ -204,7 +204,7 @@ module _ {M : Type 1} (𝓤 : URA M) (H : Heap 𝓤) (A : Atoms 𝓤) (W : Given
         calls-at ! fm (LineFrom 𝓤 H A at-mem run) known-line to-line (and-then ! (load ! (from ! (stop !)) (look ! 13 refl)) (and-then ! (load ! (from ! (stop !)) (look ! 11 refl)) (and-then ! (load ! (from ! (stop !)) (look ! 15 refl)) (no-more !)))) (λ u.
         use1 W (later (some (λ (s : RefT (List ℕ)). ((‵ (flft κ′ q′) ⊛ ‵ ftrue) ⊛ ‵ (OwnLine s u)) ⊛ raw (ensured 𝓤 H A line.ended (line.clauses 𝓤 H A at-mem run) (κ′, tt) (h .job, (h .at, (k, tt))) tt s)))) (id⊢ 𝓤 _) $ await ! tt $ pick ! (λ s.
         split ! $ move ! (1 ∷ []) $ use1 W (raw (fact 𝓤 (now s ≡ lineFrom (now (h .job)) (h .at)))) (line-said s) $ heard ! (now s ≡ lineFrom (now (h .job)) (h .at)) (λ e. split ! $ move ! (1 ∷ []) $
-        -- [what the line owns; 'a's token; what a Reader owns; the struct's cell; the open borrow; obs; auth; what known owns; _6; …; room for _5; …;
+        -- [what the line owns; 'a's token; what a Reader owns; the struct's cell; the open borrow; obs; auth; what fewest owns; _6; …; room for _5; …;
         -- _4; …; _3; …; _2; …; _1; …; room for _0; …]
         peeks ! (ShrSlice (named 0) κ′ u8) (Is (ShrSlice (named 0) κ′ u8)) (shows 𝓤 H A (ShrSlice (named 0) κ′ u8)) s (u ∷ []) (λ is.
         land ! (from ! (stop !)) (init ! 10 refl (shr-slice-lawful 𝓤 H A W erased κ′ u8 .typed s _ is .0)) $
@@ -213,7 +213,7 @@ module _ {M : Type 1} (𝓤 : URA M) (H : Heap 𝓤) (A : Atoms 𝓤) (W : Given
         calls-at ! fm (PlaceBehind 𝓤 H A at-mem run) known-place (to-place s u) (and-then ! (load ! (from ! (stop !)) (look ! 13 refl)) (and-then ! (load ! (from ! (stop !)) (look ! 11 refl)) (and-then ! (load ! (from ! (stop !)) (look ! 9 refl)) (no-more !)))) (λ w.
         use1 W (later (some (λ (n : ℕ). ((‵ (flft κ′ q′) ⊛ ‵ ftrue) ⊛ ‵ (usize .own n (w ∷ []))) ⊛ raw (ensured 𝓤 H A place.ended (place.clauses 𝓤 H A at-mem run) (κ′, tt) (h .job, (h .at, (s, tt))) tt n)))) (id⊢ 𝓤 _) $ await ! tt $ pick ! (λ n.
         split ! $ move ! (1 ∷ []) $ use1 W (raw (fact 𝓤 (Placed s n))) (place-said s n) $ heard ! (Placed s n) (λ e′. split ! $ move ! (1 ∷ []) $
-        -- [the number; 'a's token; what a Reader and the line own; the struct's cell; the open borrow; obs; auth; what known owns; room for _6; …;
+        -- [the number; 'a's token; what a Reader and the line own; the struct's cell; the open borrow; obs; auth; what fewest owns; room for _6; …;
         -- _5; …; _4; …; _3; …; _2; …; _1; …; room for _0; …]
         peeks ! usize (Is usize) (shows 𝓤 H A usize) n (w ∷ []) (λ is′.
         land ! (from ! (stop !)) (init ! 8 refl (uint-lawful 𝓤 H A W w64 .typed n _ is′ .0)) $ rewrite ! 8 (λ (z : Val). ‵ (fat fullShare (tyInt w64) l₆ 0 z)) (ap only (is′ .0)) refl $
@@ -222,7 +222,7 @@ module _ {M : Type 1} (𝓤 : URA M) (H : Heap 𝓤) (A : Atoms 𝓤) (W : Given
         -- the borrow is closed at the struct with the new number
         move ! (2 ∷ []) $ split ! $ use1 W (‵ (B κ′ .own (h′ n) (T′.lowered (h′ n) ∷ []))) (again n (is′ .1)) $
         move ! (4 ∷ []) $ use1 W (‵ (cellAt fullShare (B κ′ .mir) (T′.lowered (h′ n) ∷ []) b o)) (W .laws .at-raw fullShare (T′.mir erased) b o (T′.lowered (h′ n))) $ move ! (0 ∷ 1 ∷ 5 ∷ 6 ∷ 7 ∷ []) $ closes ! tt (B κ′) (h′ n) (T′.lowered (h′ n) ∷ []) b o $
-        -- [obs; the borrow; 's's token; what the line owns; the number; 'a's token; what known owns; _6; …]
+        -- [obs; the borrow; 's's token; what the line owns; the number; 'a's token; what fewest owns; _6; …]
         returns ! (look ! 19 refl) $ forget ! 7 refl $ forget ! 9 refl $ forget ! 11 refl $ forget ! 13 refl $ forget ! 15 refl $ forget ! 17 refl $ forget ! 19 refl $
         move ! (19 ∷ 20 ∷ []) $ free1 ! $ move ! (17 ∷ 18 ∷ []) $ free1 ! $ move ! (15 ∷ 16 ∷ []) $ free1 ! $ move ! (13 ∷ 14 ∷ []) $ free1 ! $ move ! (11 ∷ 12 ∷ []) $ free1 ! $ move ! (9 ∷ 10 ∷ []) $ free1 ! $ move ! (7 ∷ 8 ∷ []) $ free1 ! $ free0 ! $
         keep ! (0 ∷ 1 ∷ 2 ∷ 5 ∷ 3 ∷ []) $ by ! (exits s u n e (e′ e)))))))))))))))))))

@@ -4,12 +4,12 @@ use Prim.Native.Nat.{_-_}
 use mathlib.Core.Path.{sym, _∙_}
 use borrow.Author.Needs.{needs}
 use lib.ListN.{length-set}
-use Rattle.stream.specs.Laws.Block.{Block, block-begun, block-turn, block-ended}
+use Rattle.stream.specs.Laws.Block.{Chains, block-begun, block-turn, block-ended}
 use Rattle.stream.proofs.fill_block.Statement.{statement}
 use Rattle.stream.proofs.fill_block.Tie as tie
 
 abbrev Inv-loop : tie.InvT-loop
-Inv-loop state words₀ a₀ b₀ c₀ d₀ i₀ words a b c d i = Block state words a b c d i
+Inv-loop state words₀ a₀ b₀ c₀ d₀ i₀ words a b c d i = Chains state words a b c d i
 
 abbrev μ-loop : tie.MeasureT-loop
 μ-loop state words₀ a₀ b₀ c₀ d₀ i₀ words a b c d i = 1024 - i

@@ -40,7 +40,7 @@ xor-assoc =
     ∙ sym (xor-step a (bitXor b c)))
 
 -- a sum of two sums, the other way round
-pub xor-pairs : (a b c d : ℕ) → bitXor (bitXor a b) (bitXor c d) ≡ bitXor (bitXor a c) (bitXor b d)
+xor-pairs : (a b c d : ℕ) → bitXor (bitXor a b) (bitXor c d) ≡ bitXor (bitXor a c) (bitXor b d)
 xor-pairs a b c d =
     xor-assoc a b (bitXor c d)
     ∙ ap (bitXor a) (sym (xor-assoc b c d) ∙ ap (λ (x : ℕ). bitXor x d) (xor-comm b c) ∙ xor-assoc c b d)
@@ -67,7 +67,7 @@ linear-after {f = f} {g = g} lf lg = record { adds = λ a b. ap f (lg .adds a b)
 pub linear-none : Linear (λ s. 0)
 linear-none = record { adds = λ a b. refl }
 
-pub linear-self : Linear (λ s. s)
+linear-self : Linear (λ s. s)
 linear-self = record { adds = λ a b. refl }
 
 -- times a bit

@@ -1,15 +1,18 @@
 -- Every state is a sum of states that steps from 1 lead to. Assumes nothing.
 use mathlib.Core.Path.{_≡_, refl, sym, ap, ap₂, _∙_}
-use mathlib.Core.Bool.{Bool, true, false, cond}
+use mathlib.Core.Bool.{Bool, true}
 use mathlib.Core.List.{List, [], _∷_}
 use Prim.Native.Nat.{ℕ, zero, suc, _+_, _-_, _*_, _/_, _%_, _^_, _<_}
 use native.Mathlib.Omega.{arith}
 use native.Mathlib.Nat.{mul-zero, mul-one, zero-mul, mul-comm, mul-assoc, add-mul, div-add-mod', pow-suc}
-use native.Mathlib.Decide.{decLt, ℕ-discrete}
-use lib.Dec.{T, eqb, eqb→eq}
+use native.Mathlib.Decide.{decLt}
+use borrow.Author.Tests.{eqb-true}
+use lib.Dec.{eqb}
 use lib.ListN.{getD}
 use lib.Pow.{pow-pos, pow-lt, pow-add, split}
 use lib.Bits.{bitXor, xor-self, xor-shifted}
+use Rattle.job.specs.Clifford.{every}
+use Rattle.job.specs.Laws.Lists.{every-holds}
 use Rattle.stream.specs.Stream.{left, right, step}
 use Rattle.stream.specs.Laws.Linear.{bit-cases, xor-assoc}
 
@@ -23,22 +26,6 @@ unfoldable pub sumOf : ℕ → List ℕ → ℕ
 sumOf p [] = 0
 sumOf p (w ∷ ws) = bitXor (w * (p % 2)) (sumOf (p / 2) ws)
 
--- ---- a test at all numbers below n, which is computed
-
-unfoldable passes : (ℕ → Bool) → ℕ → Bool
-passes t zero = true
-passes t (suc n) = cond (t n) (passes t n) false
-
-passes-at : (t : ℕ → Bool) (n k : ℕ) → T (passes t n) → k < n → T (t k)
-unfolding passes
-passes-at t zero k h small = absurd (omega arith)
-passes-at t (suc n) k h small = at (t n) refl h (ℕ-discrete k n) (λ g below. passes-at t n k g below)
-  where
-    at : (b : Bool) → t n ≡ b → T (cond b (passes t n) false) → Dec (k ≡ n) → (T (passes t n) → k < n → T (t k)) → T (t k)
-    at true e g (yes same) before = rw (same, e) tt
-    at true e g (no other) before = before g (omega (arith, other))
-    at false e g d before = absurd g
-
 -- ---- the powers of two: seven are sums of states after 0 to 63 steps from 1, and each of the others follows from those above it
 
 -- which states sum to 2 ^ 57 .. 2 ^ 63
@@ -50,13 +37,13 @@ tops =
 unfoldable isTop : ℕ → Bool
 isTop k = eqb (sumOf (getD tops k 0) (states 64 1)) (2 ^ (57 + k))
 
-tops-pass : T (passes isTop 7)
-unfolding passes isTop tops sumOf states step left right
-tops-pass = tt
+tops-pass : every 7 isTop ≡ true
+unfolding every isTop tops sumOf states step left right
+tops-pass = refl
 
 top : (k : ℕ) → k < 7 → sumOf (getD tops k 0) (states 64 1) ≡ 2 ^ (57 + k)
 unfolding isTop
-top k h = eqb→eq _ _ (passes-at isTop 7 k tops-pass h)
+top k h = eqb-true _ _ (every-holds 7 isTop tops-pass k h)
 
 -- 2 ^ m is the lowest bit of a step from 2 ^ (m + 7); this is the rest of it
 unfoldable rest : ℕ → ℕ
@@ -65,13 +52,13 @@ rest m = bitXor (step (2 ^ (m + 7))) (2 ^ m)
 unfoldable isAbove : ℕ → Bool
 isAbove m = eqb (rest m % 2 ^ suc m + rest m / 2 ^ 64) 0
 
-rests-pass : T (passes isAbove 57)
-unfolding passes isAbove rest step left right
-rests-pass = tt
+rests-pass : every 57 isAbove ≡ true
+unfolding every isAbove rest step left right
+rests-pass = refl
 
 above : (m : ℕ) → m < 57 → rest m % 2 ^ suc m + rest m / 2 ^ 64 ≡ 0
 unfolding isAbove
-above m h = eqb→eq _ _ (passes-at isAbove 57 m rests-pass h)
+above m h = eqb-true _ _ (every-holds 57 isAbove rests-pass m h)
 
 xor-back : (a b : ℕ) → bitXor a (bitXor a b) ≡ b
 xor-back a b = sym (xor-assoc a a b) ∙ ap (λ (x : ℕ). bitXor x b) (xor-self a)
@@ -81,8 +68,8 @@ halves q n =
     ap (λ (x : ℕ). x * n) (sym (div-add-mod' q 2)) ∙ add-mul (q / 2 * 2) (q % 2) n
     ∙ ap₂ _+_ (mul-assoc (q / 2) 2 n ∙ ap (λ (x : ℕ). q / 2 * x) (mul-comm 2 n)) (mul-comm (q % 2) n)
 
-bit-below : (n b : ℕ) → 0 < n → b < 2 → n * b < n * 2
-bit-below n b h g = bit-cases (λ b. n * b < n * 2) g (omega arith) (omega arith)
+times-bit-below : (n b : ℕ) → 0 < n → b < 2 → n * b < n * 2
+times-bit-below n b h g = bit-cases (λ b. n * b < n * 2) g (omega arith) (omega arith)
 
 -- ---- what holds of 1, and of sums and steps of what it holds of, holds of every state
 
@@ -124,7 +111,7 @@ module _
     from-next : (m : ℕ) → m < 64 → From (suc m) → From m
     from-next m h from q small =
         let parts : q * 2 ^ m ≡ q / 2 * 2 ^ suc m + 2 ^ m * (q % 2) = halves q (2 ^ m) ∙ rw (pow-suc 2 m) in
-        let bit : 2 ^ m * (q % 2) < 2 ^ suc m = rw (pow-suc 2 m) (bit-below (2 ^ m) (q % 2) (pow-pos m) (omega arith)) in
+        let bit : 2 ^ m * (q % 2) < 2 ^ suc m = rw (pow-suc 2 m) (times-bit-below (2 ^ m) (q % 2) (pow-pos m) (omega arith)) in
         rw (parts, ← (xor-shifted (q / 2) (suc m) (2 ^ m * (q % 2)) bit))
         (add _ _ (from (q / 2) (omega (arith, parts))) (of-bit (2 ^ m) (q % 2) (omega arith) (power m h from)))
 

@@ -50,7 +50,7 @@ unfolding wordsFrom
 words-length zero state = refl
 words-length (suc n) state = ap suc (words-length n (step state))
 
-pub words-add : (m n state : ℕ) → wordsFrom (m + n) state ≡ wordsFrom m state ++ wordsFrom n (stepped m state)
+words-add : (m n state : ℕ) → wordsFrom (m + n) state ≡ wordsFrom m state ++ wordsFrom n (stepped m state)
 unfolding wordsFrom stepped
 words-add zero n state = rw zero-add
 words-add (suc m) n state = rw (suc-add, ← (stepped-before m state)) (ap (λ (l : List ℕ). step state ∷ l) (words-add m n (step state)))
