@@ -120,7 +120,7 @@ static void correlation(void) { kundatrezo_correlation(long_job, long_job_len); 
 
 static void line(void) { kundatrezo_line(NOISY, 20); }
 
-static void fill(void) { kundatrezo_fill(1, main_words, 1000); }
+static void fill(void) { kundatrezo_fill(1, main_words, 5000); }
 
 static void make(void) { kundatrezo_make(256, 1024, 4096, 1000, 1, out, sizeof out); }
 

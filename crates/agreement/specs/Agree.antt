@@ -3,23 +3,18 @@ use mathlib.Core.Bool.{false, cond}
 use mathlib.Core.List.{List}
 use Prim.Native.Nat.{ℕ, _%_}
 use lib.Dec.{eqb}
-use Rattle.pauli.specs.Bits.{sumOver}
 use Rattle.job.specs.declared.Answer.{Answer}
 use Rattle.job.specs.Job.{jobOf}
 use Rattle.job.specs.Reply.{TextReply, writtenBy}
 use Rattle.job.specs.declared.CountReply.{CountReply}
 use Rattle.rows.specs.Words.{wordsPerRow}
-use Rattle.rows.specs.Column.{column}
+use Rattle.totals.specs.Sum.{deltaSum}
 use Rattle.run.specs.Run.{Memory, RunReply, runReply}
 use Rattle.backward.specs.Settling.{settleReply}
 use Rattle.backward.specs.Walking.{walkReply}
 use Rattle.agreement.specs.declared.Call.{Call}
 use Rattle.agreement.specs.declared.Call.the-variants.{Run, Settle, Walk}
 use Rattle.agreement.specs.declared.Agreement.{Agreement}
-
--- the sum modulo 2 of a set's deltas in a shot, in rows of w words
-unfoldable pub deltaSum : ℕ → List ℕ → ℕ → List ℕ → ℕ
-deltaSum w deltas shot set = cond (sumOver set (column w deltas shot)) 1 0
 
 -- A call that refuses is the last one. Nothing is compared.
 abbrev pub refusedBy : Call → Answer → ℕ → Agreement

@@ -1,6 +1,6 @@
 -- Laws, for the proofs that cite them. Nothing here has to be believed.
--- Sums of deltas, and the loop over a set.
-pub mod Sums
+-- A count modulo 2.
+pub mod Parity
 -- What is said, by the answers of the calls.
 pub mod Cases
 -- The replies of the calls, one after the other.

@@ -1,4 +1,4 @@
--- Definitions that contracts cite: the sum of deltas, and the reply of the calls together.
+-- Definitions that contracts cite: the reply of the calls together.
 pub mod Agree
 -- That they agree.
 pub mod Theorems

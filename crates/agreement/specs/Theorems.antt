@@ -11,8 +11,9 @@ use Rattle.run.specs.Run.{Memory, runReply}
 use Rattle.backward.specs.Settling.{settleReply}
 use Rattle.backward.specs.Walking.{walkReply}
 use Rattle.backward.specs.CallTheorems.{deltas-walked}
-use Rattle.agreement.specs.Agree.{deltaSum, agreeReply}
-use Rattle.agreement.specs.Laws.Sums.{odd-mod}
+use Rattle.totals.specs.Sum.{deltaSum}
+use Rattle.agreement.specs.Agree.{agreeReply}
+use Rattle.agreement.specs.Laws.Parity.{odd-mod}
 use Rattle.agreement.specs.Laws.Cases.{compared-agrees}
 
 -- Demand 3, of this reply: where the answer is 0, the sum and the count are equal modulo 2.

@@ -2,12 +2,10 @@
 // 2 the count of the walk.
 ghost use mathlib.Core.Path.{_≡_};
 ghost use mathlib.Core.Bool.{true, false};
-ghost use Prim.Native.Nat.{_/_, _<_};
 ghost use Rattle.job.specs.Job.{jobOf, checkJob};
 ghost use Rattle.rows.specs.Words.{wordsPerRow};
-ghost use Rattle.rows.specs.Listed.{RowsIn};
 ghost use Rattle.run.specs.Run.{Source, Memory};
-ghost use Rattle.agreement.specs.Agree.{deltaSum, refusedBy, AgreeReply, agreeReply};
+ghost use Rattle.agreement.specs.Agree.{refusedBy, AgreeReply, agreeReply};
 use checker::examine;
 use job::Answer;
 use pauli::LAST_BIT;
@@ -15,6 +13,7 @@ use pauli::Shot;
 use pauli::WORD_BITS;
 use runner::run;
 use settling::settle;
+use totals::delta_sum;
 use walker::walk;
 
 // The calls, in their order.
@@ -56,23 +55,6 @@ fn row_words(job: &[u8]) -> usize
     let found = examine(job);
     let header = found.header;
     (header.shots as usize + LAST_BIT) / WORD_BITS
-}
-
-// The sum modulo 2 of the listed outcomes' deltas in a shot, where a row has w words. Whole words are added, and the shot's bit is taken at the end.
-fn delta_sum(deltas: &[u64], w: usize, shot: Shot, set: &[u64]) -> u64
-    requires { ⌜ RowsIn w (now set) (now deltas) × (shot .0 / 64 < w) ⌝ }
-    ensures { λ r. ⌜ r ≡ deltaSum w (now (deltas .entry)) (shot .0) (now (set .entry)) ⌝ }
-{
-    let s = shot.0;
-    let place = s / WORD_BITS;
-    let mut word = 0u64;
-    let mut i = 0;
-    while i < set.len() {
-        let id = set[i] as usize;
-        word ^= deltas[id * w + place];
-        i += 1;
-    }
-    (word >> (s % WORD_BITS)) % 2
 }
 
 // Runs a job, settles it with the same draws and noiseless bits, walks back on the settled text for a set of outcomes and a shot, and compares. The

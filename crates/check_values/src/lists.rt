@@ -61,6 +61,20 @@ pub fn short(f: &[u64], first: usize, end: usize) -> bool
     true
 }
 
+// Whether all members are below n.
+pub fn all_below(members: &[u64], n: u64) -> bool
+    ensures { λ r. ⌜ r ≡ allBelow n (now (members .entry)) ⌝ }
+{
+    let mut i = 0;
+    while i < members.len() {
+        if n <= members[i] {
+            return false;
+        }
+        i += 1;
+    }
+    true
+}
+
 // Whether n is among the members.
 pub fn contains(members: &[u64], n: u64) -> bool
     ensures { λ r. ⌜ r ≡ among (now (members .entry)) n ⌝ }

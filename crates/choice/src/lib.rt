@@ -163,17 +163,24 @@ pub fn fill_sums(distribution: PauliDistribution, sums: &mut [f64], weights: &[f
     }
 }
 
-// The element that u chooses: the first whose running sum is not below u, else the last.
+// The element that u chooses: the first whose running sum is not below u, else the last. The end is looked for once in two sums. Of the last two one
+// comparison chooses, without a branch, which could not be predicted.
 fn element_by(sums: &[f64], u: f64) -> usize
     ensures { λ r. ⌜ r ≡ rustPlace u (now (sums .entry)) ⌝ }
 {
     let mut i = 0;
-    while i + 1 < sums.len() {
-        if sums[i] < u {
-            i += 1;
-        } else {
+    while 2 < sums.len() - i {
+        if !(sums[i] < u) {
             return i;
         }
+        let second = i + 1;
+        if !(sums[second] < u) {
+            return second;
+        }
+        i = second + 1;
+    }
+    if 1 < sums.len() - i {
+        return i + (sums[i] < u) as usize;
     }
     i
 }
@@ -223,20 +230,8 @@ pub fn choose_element(
             element: 0,
             position: at,
         },
-        PauliDistribution::Depolarizing { qubit_count: _ } => choose_uniform(
-            words,
-            more,
-            at,
-            chooser.bound,
-            chooser.limit,
-        ),
-        PauliDistribution::Uniform { element_count: _ } => choose_uniform(
-            words,
-            more,
-            at,
-            chooser.bound,
-            chooser.limit,
-        ),
         PauliDistribution::Weighted { total: _ } => choose_weighted(words, more, at, sums),
+        // Both other kinds in one arm: so the code stays small enough to be inlined where a shot is drawn.
+        _ => choose_uniform(words, more, at, chooser.bound, chooser.limit),
     }
 }

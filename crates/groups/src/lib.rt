@@ -6,8 +6,8 @@ ghost use lib.ListN.{replicate, length};
 ghost use Rattle.pauli.specs.Fixed.{AllBelow};
 ghost use Rattle.single_faults.specs.Groups.{groupsOf};
 ghost use Rattle.groups.specs.Lent.{groupingOf, carriedIn, startOf, allCarried, Startable};
+use check_values::lists::all_below;
 use numbers::rising::is_rising;
-use walker::all_below;
 
 // How many words a group has.
 pub const GROUP_WORDS: usize = 24;

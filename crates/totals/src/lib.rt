@@ -1,15 +1,18 @@
 // Totals: a number for each row of a matrix of bits, equal to the ones in the row. A row that changed is counted again; a single bit that changes is
-// one more or one less.
+// one more or one less. And the other way, in one shot: the sum modulo 2 of listed rows.
+use pauli::Shot;
 use pauli::WORD_BITS;
 use rows::Shape;
 ghost use mathlib.Core.Path.{_≡_};
 ghost use mathlib.Core.Bool.{false};
-ghost use Prim.Native.Nat.{ℕ, _+_, _*_, _^_, _<_, _≤_};
+ghost use Prim.Native.Nat.{ℕ, _+_, _*_, _/_, _^_, _<_, _≤_};
 ghost use lib.ListN.{length, getD, set};
 ghost use Rattle.rows.specs.Words.{bitIn};
 ghost use Rattle.rows.specs.Overwrite.{flipped};
+ghost use Rattle.rows.specs.Listed.{RowsIn};
 ghost use Rattle.totals.specs.Ones.{onesTo};
 ghost use Rattle.totals.specs.Held.{TotalsHeld};
+ghost use Rattle.totals.specs.Sum.{deltaSum};
 
 // Whether a bit is 1 in n words from a place on.
 fn any_set(rows: &[u64], from: usize, n: usize) -> bool
@@ -84,4 +87,21 @@ pub fn flip_counted(rows: &mut [u64], totals: &mut [u64], shape: Shape, r: usize
     let was = (rows[r * shape.width + s / WORD_BITS] >> (s % WORD_BITS)) % 2;
     totals[r] = totals[r] + 1 - 2 * was;
     rows::flip_bit(rows, shape.width, r, s);
+}
+
+// The sum modulo 2 of the listed outcomes' deltas in a shot, where a row has w words. Whole words are added, and the shot's bit is taken at the end.
+pub fn delta_sum(deltas: &[u64], w: usize, shot: Shot, set: &[u64]) -> u64
+    requires { ⌜ RowsIn w (now set) (now deltas) × (shot .0 / 64 < w) ⌝ }
+    ensures { λ r. ⌜ r ≡ deltaSum w (now (deltas .entry)) (shot .0) (now (set .entry)) ⌝ }
+{
+    let s = shot.0;
+    let place = s / WORD_BITS;
+    let mut word = 0u64;
+    let mut k = 0;
+    while k < set.len() {
+        let id = set[k] as usize;
+        word ^= deltas[id * w + place];
+        k += 1;
+    }
+    (word >> (s % WORD_BITS)) % 2
 }

@@ -5,15 +5,15 @@ ghost use mathlib.Core.Bool.{true};
 ghost use mathlib.Core.Option.{some};
 ghost use Prim.Native.Nat.{_+_, _-_, _^_, _<_};
 ghost use lib.ListN.{length, getD};
-ghost use Rattle.pauli.specs.Fixed.{inSet, AllBelow};
+ghost use Rattle.pauli.specs.Fixed.{inSet};
 ghost use Rattle.text.specs.Bytes.{lines as Bytes·lines};
 ghost use Rattle.job.specs.Grammar.{Written, readLine};
-ghost use Rattle.job.specs.Checks.{allBelow};
 ghost use Rattle.job.specs.Job.{checkJob};
 ghost use Rattle.backward.specs.Walking.{walkReply};
 ghost use Rattle.template.specs.Values.{Whole};
 ghost use Rattle.lines_from_last.specs.Line.{LineBefore, OfJob};
 ghost use Rattle.walker.specs.Steps.{Started, WalkedBack, PassedOver, TextBack, Left, GatesGone};
+use check_values::lists::all_below;
 use checker::examine;
 use gate_text::is_gate;
 use gate_text::read_gate;
@@ -174,20 +174,6 @@ fn refused(number: u64, line: u64) -> CountReply
         answered: Answer { number, line },
         count: 0,
     }
-}
-
-// Whether all numbers are below n.
-pub fn all_below(numbers: &[u64], n: u64) -> bool
-    ensures { λ r. ⌜ r ≡ allBelow n (now (numbers .entry)) ⌝ }
-{
-    let mut i = 0;
-    while i < numbers.len() {
-        if n <= numbers[i] {
-            return false;
-        }
-        i += 1;
-    }
-    true
 }
 
 // The walk of a set of outcomes in a shot: the tests of the job, then 17, then 16.

@@ -176,12 +176,13 @@ mod tests {
         assert_eq!(fill(0, &mut []).expect_err("zero").number, crate::Number::SEED);
     }
 
-    /// The rule, in the words of Marsaglia's paper, beside the engine's.
+    /// The rule, in the words of Marsaglia's paper, beside the engine's, which fills 4,096 words at a time: 9,000 have two such parts, their pieces
+    /// none and one.
     #[test]
     fn words_are_those_of_the_rule() {
         for seed in [1, 2, 3, 0x8000_0000_0000_0000, u64::MAX, 88_172_645_463_325_252] {
             let mut state: u64 = seed;
-            let mut words = [0; 1000];
+            let mut words = [0; 9000];
             fill(seed, &mut words).expect("not zero");
             for word in words {
                 state ^= state << 13;
@@ -190,9 +191,11 @@ mod tests {
                 assert_eq!(word, state);
             }
             let (mut one_by_one, mut at_once) = (Xorshift { state: seed }, Xorshift { state: seed });
-            let mut parts = [[0; 500]; 2];
-            parts.iter_mut().for_each(|part| at_once.fill(part));
-            assert_eq!((parts.concat(), at_once), (words.to_vec(), Xorshift { state }));
+            let mut parts = [0; 9000];
+            let (first, second) = parts.split_at_mut(4095);
+            at_once.fill(first);
+            at_once.fill(second);
+            assert_eq!((parts, at_once), (words, Xorshift { state }));
             assert!(words.iter().all(|word| one_by_one.next() == Some(*word)));
         }
     }

@@ -28,7 +28,8 @@ use Rattle.backward.specs.Laws.Replies.{run-ends, settle-writes}
 use Rattle.backward.specs.Laws.CallsAgree.{Walkable, walkable-parts}
 use Rattle.agreement.specs.declared.Call.the-variants.{Run, Settle, Walk}
 use Rattle.agreement.specs.declared.Agreement.{Agreement}
-use Rattle.agreement.specs.Agree.{deltaSum, refusedBy, compared, AgreeReply, agreeReply}
+use Rattle.totals.specs.Sum.{deltaSum}
+use Rattle.agreement.specs.Agree.{refusedBy, compared, AgreeReply, agreeReply}
 use Rattle.agreement.specs.Laws.Cases.{said-run, said-settle, said-walk, said-compared}
 use Rattle.agreement.specs.Theorems.{calls-agree}
 

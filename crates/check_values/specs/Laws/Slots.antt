@@ -39,6 +39,21 @@ below-largest n (q ∷ []) h = let m : max q 0 ≡ q = omega arith in rw m (sym 
 below-largest n (q ∷ b ∷ l) h =
     max-below q (largestOf (b ∷ l)) n ∙ ap (λ (t : Bool). ltb q n && t) (below-largest n (b ∷ l) (λ (e : suc (length l) ≡ 0). omega arith))
 
+-- ---- below, member after member
+
+module _ (n : ℕ) (l : List ℕ) (i : ℕ) where
+  pub below-fails : i < length l → n ≤ getD l i 0 → allBelow n (drop i l) ≡ false
+  unfolding allBelow
+  below-fails h e = rw (step l i h, le-ltb (getD l i 0) n e)
+
+  pub below-next : i < length l → getD l i 0 < n → allBelow n (drop i l) ≡ allBelow n (drop (i + 1) l)
+  unfolding allBelow
+  below-next h e = rw (step l i h, lt-ltb (getD l i 0) n e)
+
+  pub below-end : length l ≤ i → allBelow n (drop i l) ≡ true
+  unfolding allBelow
+  below-end h = rw (drop-of-length-le l h)
+
 -- ---- a test of each list
 
 -- `all` is the test `one` of each list

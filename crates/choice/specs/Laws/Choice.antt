@@ -108,6 +108,15 @@ chosen-by (Distribution.depolarizing qs) e ws = rw e
 chosen-by (Distribution.uniform Ps) e ws = rw e
 chosen-by (Distribution.weighted es) e ws = rw e
 
+-- the kinds that are neither single nor weighted choose by their bound
+chosen-bounded : (d : PauliDistribution) (c : ℕ) → (d ≡ Single → ⊥) → ((t : Float) → d ≡ Weighted t → ⊥) → c ≡ boundOf d
+    → (weights : List Float) (ws : List ℕ) → chosenBy d weights ws ≡ bounded c ws
+unfolding chosenBy boundOf
+chosen-bounded Single c one other e weights ws = absurd (one refl)
+chosen-bounded (Depolarizing k) c one other e weights ws = rw e
+chosen-bounded (Uniform n) c one other e weights ws = rw e
+chosen-bounded (Weighted t) c one other e weights ws = absurd (other t refl)
+
 module _ {d : PauliDistribution} {sums : List Float} {words : List ℕ} (at : ℕ) where
   pub chosen-one : d ≡ Single → at ≤ length words → ElementChosen words at d sums (Chosen 0 at)
   unfolding chosenBy choiceOf nextOf
@@ -118,15 +127,9 @@ module _ {d : PauliDistribution} {sums : List Float} {words : List ℕ} (at : �
       → ElementChosen words at d sums a
   chosen-as e q = record { within = q .within; is = λ D r. q .is ∙ sym (chosen-by D (r .kind) (drop at words) ∙ e (weightsIn D)) }
 
-  pub chosen-depolarizing : {a : Answer} (k c : ℕ) → d ≡ Depolarizing k → c ≡ boundOf d → Chose words (bounded c (drop at words)) a
-      → ElementChosen words at d sums a
-  unfolding chosenBy
-  chosen-depolarizing k c e b q = chosen-as (λ weights. rw (b, e)) q
-
-  pub chosen-uniform : {a : Answer} (n c : ℕ) → d ≡ Uniform n → c ≡ boundOf d → Chose words (bounded c (drop at words)) a
-      → ElementChosen words at d sums a
-  unfolding chosenBy
-  chosen-uniform n c e b q = chosen-as (λ weights. rw (b, e)) q
+  pub chosen-uniform : {a : Answer} (c : ℕ) → (d ≡ Single → ⊥) → ((t : Float) → d ≡ Weighted t → ⊥) → c ≡ boundOf d
+      → Chose words (bounded c (drop at words)) a → ElementChosen words at d sums a
+  chosen-uniform c one other b q = chosen-as (λ weights. chosen-bounded d c one other b weights (drop at words)) q
 
   pub chosen-weighted : {a : Answer} (t : Float) → d ≡ Weighted t → Weighed words at sums a → ElementChosen words at d sums a
   unfolding chosenBy

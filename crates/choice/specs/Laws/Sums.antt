@@ -2,15 +2,16 @@
 use Prim.Native.Nat.{ℕ, suc, _+_, _-_, _<_, _≤_}
 use native.Mathlib.Numerals.{add-one}
 use native.Mathlib.Omega.{arith}
-use mathlib.Core.Path.{_≡_, sym, ap, _∙_}
-use mathlib.Core.Bool.{true, false}
+use mathlib.Core.Path.{_≡_, refl, sym, ap, _∙_}
+use mathlib.Core.Bool.{Bool, true, false}
 use mathlib.Core.List.{List, _++_, append-assoc, append-nil}
+use mir.Val.{boolByte}
 use lib.ListN.{length, getD, take, drop, set, drop-of-length-le}
 use lib.Seq.{drop-cons, take-all, take-suc-set}
 use lib.Ieee.{Float, nan, binary64, add, div, lt}
 use Rattle.job.specs.Float.{zeroFloat, one, totalFrom}
 use Rattle.draws.specs.Draws.{runningFrom, runningSums}
-use Rattle.draws.specs.Known.{belowUnit}
+use Rattle.draws.specs.Known.{belowUnit, rustPlace}
 
 -- ---- the total
 
@@ -46,11 +47,40 @@ running-end t s ws sums i l h total e =
 -- ---- running sums below u
 
 -- one that is, and one that is not
-pub below-more : (u : Float) (sums : List Float) (i : ℕ) → i < length sums → lt (getD sums i nan) u ≡ true
+below-here : (u : Float) (sums : List Float) (i : ℕ) → i < length sums → lt (getD sums i nan) u ≡ true
     → belowUnit u (drop i sums) ≡ suc (belowUnit u (drop (i + 1) sums))
 unfolding belowUnit
-below-more u sums i h e = rw (drop-cons sums i nan, e, add-one)
+below-here u sums i h e = rw (drop-cons sums i nan, e, add-one)
 
-pub below-stops : (u : Float) (sums : List Float) (i : ℕ) → i < length sums → lt (getD sums i nan) u ≡ false → belowUnit u (drop i sums) ≡ 0
+above-here : (u : Float) (sums : List Float) (i : ℕ) → i < length sums → lt (getD sums i nan) u ≡ false → belowUnit u (drop i sums) ≡ 0
 unfolding belowUnit
-below-stops u sums i h e = rw (drop-cons sums i nan, e)
+above-here u sums i h e = rw (drop-cons sums i nan, e)
+
+-- all before place i are, and the last is not among them
+pub record BelowUpTo (u : Float) (sums : List Float) (i : ℕ) : Type 0 where
+  pub within : i ≤ length sums - 1
+  pub same : i + belowUnit u (drop i sums) ≡ belowUnit u sums
+
+pub below-none : {u : Float} {sums : List Float} → BelowUpTo u sums 0
+below-none = record { within = omega arith; same = omega arith }
+
+module _ {u : Float} {sums : List Float} {i : ℕ} (q : BelowUpTo u sums i) where
+  -- one more
+  pub below-more : i + 1 < length sums → lt (getD sums i nan) u ≡ true → BelowUpTo u sums (i + 1)
+  below-more h e = record { within = omega arith; same = omega (arith, q .same, below-here u sums i (omega arith) e) }
+
+  -- one that is not, and the last
+  pub below-stops : i < length sums → lt (getD sums i nan) u ≡ false → i ≡ rustPlace u sums
+  below-stops h e = omega (arith, q .within, q .same, above-here u sums i h e)
+
+  pub below-last : length sums - i ≤ 1 → i ≡ rustPlace u sums
+  below-last h = omega (arith, q .within, q .same)
+
+-- of two that are left, the first is taken or the last
+pub below-two : {u : Float} {sums : List Float} {i : ℕ} → BelowUpTo u sums i → 1 < length sums - i → length sums - i ≤ 2
+    → i + boolByte (lt (getD sums i nan) u) ≡ rustPlace u sums
+below-two {u} {sums} {i} q h k = go (lt (getD sums i nan) u) refl
+  where
+    go : (b : Bool) → lt (getD sums i nan) u ≡ b → i + boolByte b ≡ rustPlace u sums
+    go true e = below-last (below-more q (omega arith) e) (omega arith)
+    go false e = omega (arith, below-stops q (omega arith) e)

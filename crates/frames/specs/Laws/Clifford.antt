@@ -4,7 +4,7 @@ use mathlib.Core.Path.{_≡_, refl, sym, ap, ap₂, _∙_, subst}
 use mathlib.Core.Bool.{Bool, true, false, not, _&&_, _||_}
 use mathlib.Core.List.{List, [], _∷_}
 use Prim.Native.Nat.{ℕ, zero, suc, _+_, _-_, _*_, _^_, _<_, _≤_}
-use native.Mathlib.Nat.{not-suc-le-zero, zero-add}
+use native.Mathlib.Nat.{zero-add}
 use native.Mathlib.Decide.{ℕ-discrete}
 use native.Mathlib.Omega.{arith}
 use lib.Dec.{eqb, ltb}
@@ -18,6 +18,7 @@ use Rattle.pauli.specs.Laws.Gates.{pauli-path}
 use Rattle.pauli.specs.Laws.Pairing.{anti-comm}
 use Rattle.job.specs.Clifford.{rowOver, every, generatorsAnticommute, isClifford}
 use Rattle.job.specs.Checks.{distinct}
+use Rattle.job.specs.Laws.Lists.{every-holds}
 use Rattle.frames.specs.Forward.{tableRow, imagesFrom, imagesOf, transformed}
 use Rattle.frames.specs.Conjugation.{IsRow, ExtendsTable}
 use Rattle.frames.specs.Laws.Same.{equal-bits}
@@ -26,15 +27,6 @@ use Rattle.frames.specs.Laws.Images.{imagesBy, transformed-extends, exte
 use Rattle.frames.specs.Laws.Commutation.{CommuteAsGenerators, ExtendsOnto}
 
 -- ---- the test, by the places
-
-every-holds : (n : ℕ) (f : ℕ → Bool) → every n f ≡ true → (i : ℕ) → i < n → f i ≡ true
-unfolding every
-every-holds zero f e i h = absurd (not-suc-le-zero h)
-every-holds (suc n) f e i h = go (ℕ-discrete i n) (both (f n) (every n f) e .0) (every-holds n f (both (f n) (every n f) e .1) i)
-  where
-    go : Dec (i ≡ n) → f n ≡ true → (i < n → f i ≡ true) → f i ≡ true
-    go (yes p) here rest = ap f p ∙ here
-    go (no p) here rest = rest (omega (arith, p))
 
 holds-every : (n : ℕ) (f : ℕ → Bool) → ((i : ℕ) → i < n → f i ≡ true) → every n f ≡ true
 unfolding every

@@ -1,7 +1,7 @@
 -- `instructions::read_lists` meets its contract. Assumes nothing.
 use native.Mathlib.Omega.{arith}
 use borrow.Author.Needs.{needs}
-use Rattle.instructions.specs.Laws.KnownElements.{second-there, lists-put}
+use Rattle.instructions.specs.Laws.KnownLists.{second-there, lists-put}
 use Rattle.instructions.proofs.read_lists.Statement.{statement}
 use Rattle.instructions.proofs.read_lists.Tie as tie
 
@@ -14,8 +14,13 @@ set-known-requires c κs = search needs
 add-set-known-2 : tie.Need-add-set-known-2
 add-set-known-2 c = search needs
 
+add-set-known-3 : tie.Need-add-set-known-3
+add-set-known-3 c = search needs
+
 set-known-requires-2 : tie.Need-set-known-requires-2
-set-known-requires-2 c κs = (omega arith, omega (arith, c .before .before .before .before .before .before .before .pre .1), second-there (c .before .before .before .set-known .ensures) (c .before .before .before .before .before .before .before .pre .0))
+set-known-requires-2 c κs =
+    let pre = c .before .before .before .before .before .before .before .pre in
+    (omega (arith, pre .0), omega (arith, pre .2), second-there (c .before .before .before .set-known .ensures) (pre .1))
 
 same-length : tie.Need-same-length
 same-length c = search needs
@@ -30,6 +35,7 @@ read-lists-spec =
     add-set-known
     set-known-requires
     add-set-known-2
+    add-set-known-3
     set-known-requires-2
     same-length
     returns)

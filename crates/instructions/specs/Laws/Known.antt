@@ -1,14 +1,21 @@
 -- The line at a place of a job, as it is handed out, and a gate line of an accepted job, read from its places. Laws. Assumes nothing.
-use Prim.Native.Nat.{ℕ, _+_, _-_, _≤_, _<_}
+use Prim.Native.Nat.{ℕ, zero, suc, _+_, _-_, _≤_, _<_}
 use native.Mathlib.Omega.{arith}
 use mathlib.Core.Path.{_≡_, refl, sym, ap, subst, _∙_}
-use mathlib.Core.Bool.{true}
+use mathlib.Core.Bool.{Bool, true, false}
 use mathlib.Core.List.{List, [], _∷_}
-use mathlib.Core.Option.{some}
-use lib.ListN.{length, take, drop, set}
+use mathlib.Core.Option.{Option, none, some}
+use borrow.Author.Tests.{ltb-true, ltb-false}
+use lib.Dec.{ltb}
+use lib.ListN.{length, getD, take, drop, set, length-drop}
+use lib.Seq.{getD-take, take-length}
 use Rattle.pauli.specs.Gate.{Gate, gateOf}
-use Rattle.text.specs.Bytes.{bytes, LF, until}
+use Rattle.text.specs.Bytes.{bytes, LF, space, until, pieces}
+use Rattle.text.specs.Number.{numberOf}
+use Rattle.text.specs.List.{withFirst, piecesOf, listQ}
 use Rattle.text.specs.Template.{Value, number, list, valuesOf, numberAt, listAt}
+use Rattle.text.specs.Laws.Values.{none-some}
+use Rattle.text.specs.Laws.Pieces.{until-le}
 use Rattle.text.specs.Laws.Places.{literals}
 use Rattle.template.specs.Values.{Whole}
 use Rattle.template.specs.Fields.{Held, HasForm, FewAre, ListPut}
@@ -23,7 +30,7 @@ use Rattle.reader.specs.declared.Form.{Form}
 use Rattle.reader.specs.declared.Form.the-variants as form
 use Rattle.reader.specs.Parsed.{placeOf, formOf, Parsed}
 use Rattle.reader.specs.Tried.{only}
-use Rattle.reader.specs.Laws.Sift.{sift, opens}
+use Rattle.reader.specs.Laws.Sift.{sift, opens, read-short}
 use Rattle.reader.specs.Laws.Tried.{says, by-bytes, one-form, by-values}
 use Rattle.gate_text.specs.declared.Gate.{Gate as GateWords}
 use Rattle.gate_text.specs.Gate.{gateTemplate, GateBytes, GateLine, GateRead}
@@ -71,6 +78,34 @@ module _ (job line : List ℕ) (at : ℕ) (handed : line ≡ lineFrom job at) wh
       let here : KnownLine (lineAt job at (at + length line)) = record { written = p .written; reads = p .reads; sound = p .sound } in
       subst KnownLine (sym handed-same) here
 
+-- ---- its first bytes
+
+module _ {job : List ℕ} {at : ℕ} (k : KnownAt job at) where
+  pub known-here : KnownLine (lineFrom job at)
+  known-here = handed-known job (lineFrom job at) at refl k
+
+  -- there are four or more
+  four-bytes : 4 ≤ until LF (drop at job)
+  four-bytes = go (ltb (length (lineFrom job at)) 4) refl
+    where
+      go : (b : Bool) → ltb (length (lineFrom job at)) 4 ≡ b → 4 ≤ until LF (drop at job)
+      go true e = absurd (none-some (sym (read-short _ (ltb-true _ _ e)) ∙ known-here .reads))
+      go false e = omega (arith, ltb-false (length (lineFrom job at)) 4 e, line-length job at)
+
+  -- which are those of the job
+  pub first-byte : (i : ℕ) → i < 4 → getD (lineFrom job at) i 0 ≡ getD (drop at job) i 0
+  unfolding lineFrom
+  first-byte i h = getD-take (until LF (drop at job)) (drop at job) i 0 (omega (arith, h, four-bytes))
+
+  slice-byte : (i : ℕ) → i < 4 → getD (lineFrom job at) i 0 ≡ getD (take (length job - at) (drop at job)) i 0
+  slice-byte i h =
+      let inside : i < length job - at = omega (arith, h, four-bytes, until-le LF (drop at job), length-drop at job) in
+      first-byte i h ∙ sym (getD-take (length job - at) (drop at job) i 0 inside)
+
+  pub gate-bytes : {line : List ℕ} → line ≡ lineFrom job at → GateBytes (take (length job - at) (drop at job)) → GateBytes line
+  gate-bytes handed there =
+      subst GateBytes (sym handed) (record { first = slice-byte 0 (omega arith) ∙ there .first; letter = slice-byte 3 (omega arith) ∙ there .letter })
+
 -- ---- a gate line
 
 -- the line is that of a gate
@@ -91,6 +126,24 @@ of-gate {text} {v} there reads =
 
 pub gate-line : {text : List ℕ} {v : Written} → OfGate text v → GateLine text
 gate-line o = record { values = o .values; reads = o .reads }
+
+-- a value has a byte or more
+pub filled : {A : Type 0} (f : List ℕ → Option A) (l : List ℕ) (n : ℕ) {a : A} → f [] ≡ none → f (take n l) ≡ some a → 1 ≤ n
+filled f l zero empty is = absurd (none-some (sym empty ∙ is))
+filled f l (suc n) empty is = omega arith
+
+-- `op=u g=0 q=0` is the shortest
+gate-long : {line : List ℕ} → GateLine line → 12 ≤ length line
+unfolding numberOf listQ piecesOf withFirst pieces
+gate-long {line} t =
+    let p = parts line (t .values) (t .reads) in
+    let code = filled numberOf (drop 7 line) (until space (drop 7 line)) refl (p .code) in
+    let q : ℕ = 7 + until space (drop 7 line) + 3 in
+    let operands = filled listQ (drop q line) (length (drop q line)) refl (ap listQ (take-length (drop q line)) ∙ p .operands) in
+    omega (arith, code, operands, p .further, length-drop q line)
+
+pub gate-fills : {job : List ℕ} {at : ℕ} → KnownAt job at → GateBytes (take (length job - at) (drop at job)) → 12 ≤ length (lineFrom job at)
+gate-fills k there = gate-long (gate-line (of-gate (gate-bytes k refl there) (known-here k .reads)))
 
 module _ {text : List ℕ} (k : KnownLine text) (there : GateBytes text) where
   abbrev of-known : OfGate text (k .written)

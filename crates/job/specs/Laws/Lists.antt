@@ -5,12 +5,14 @@ use mathlib.Core.Path.{_≡_, refl, sym, ap, _∙_, fun-ext}
 use mathlib.Core.Bool.{Bool, true, false, not, _&&_, true≢false}
 use mathlib.Core.List.{List, [], _∷_}
 use borrow.Author.Tests.{ltb-true, lt-ltb, eqb-true, eq-eqb, not-true, not-false}
+use native.Mathlib.Decide.{ℕ-discrete}
 use lib.Dec.{eqb, ltb}
 use lib.ListN.{length, getD}
 use Rattle.pauli.specs.Bits.{Bits, none, only, _⊕_, _∩_, _△_, outside, members, parity, sumOver}
 use Rattle.pauli.specs.Laws.Parity.{at-or-off, parity-△-right, parity-only-right, parity-none-right}
 use Rattle.text.specs.List.{risesFrom, isRising}
 use Rattle.text.specs.Laws.Values.{both}
+use Rattle.job.specs.Clifford.{every}
 use Rattle.job.specs.Checks.{allBelow, distinct}
 use Rattle.job.specs.Sound.{Every}
 
@@ -24,6 +26,16 @@ every-at P (a ∷ l) d e (suc i) h = every-at P l d (e .1) i (omega arith)
 pub every-map : {A : Type 0} (P Q : A → Type 0) (l : List A) → ((a : A) → P a → Q a) → Every P l → Every Q l
 every-map P Q [] f p = tt
 every-map P Q (a ∷ l) f p = (f a (p .0), every-map P Q l f (p .1))
+
+-- a test of each number below n, at one of them
+pub every-holds : (n : ℕ) (f : ℕ → Bool) → every n f ≡ true → (i : ℕ) → i < n → f i ≡ true
+unfolding every
+every-holds zero f e i h = absurd (omega arith)
+every-holds (suc n) f e i h = go (ℕ-discrete i n) (both (f n) (every n f) e .0) (every-holds n f (both (f n) (every n f) e .1) i)
+  where
+    go : Dec (i ≡ n) → f n ≡ true → (i < n → f i ≡ true) → f i ≡ true
+    go (yes p) here rest = ap f p ∙ here
+    go (no p) here rest = rest (omega (arith, p))
 
 -- ---- below
 

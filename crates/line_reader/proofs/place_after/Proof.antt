@@ -23,7 +23,7 @@ returns c =
     sym (l .inv ∙ no-more (a .job .now) (l .place) (l .left) (omega arith) (omega arith))
 
 line-from-requires : tie.Need-line-from-requires Inv-loop μ-loop
-line-from-requires c κs = tt
+line-from-requires c κs = omega arith
 
 place-behind-requires : tie.Need-place-behind-requires Inv-loop μ-loop
 place-behind-requires c κs = tt

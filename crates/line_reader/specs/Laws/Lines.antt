@@ -168,6 +168,31 @@ behind-last-line job at line e h =
     let l : length line ≡ until LF (drop at job) = ap length e ∙ line-length job at in
     sym (behind-last job at (omega arith))
 
+-- ---- a line that has at least so many bytes
+
+-- the separator is not among them
+until-past : (sep : ℕ) (l : List ℕ) (n : ℕ) → n ≤ until sep l → until sep l ≡ n + until sep (drop n l)
+unfolding until
+until-past sep l zero h = omega arith
+until-past sep [] (suc n) h = absurd (omega arith)
+until-past sep (b ∷ l) (suc n) h = go (eqb b sep) (until-past sep l n) h
+  where
+    go : (t : Bool) → (n ≤ until sep l → until sep l ≡ n + until sep (drop n l)) → suc n ≤ cond t 0 (suc (until sep l))
+        → cond t 0 (suc (until sep l)) ≡ suc n + until sep (drop n l)
+    go true ih k = absurd (omega arith)
+    go false ih k = omega (arith, ih (omega arith))
+
+module _ (job : List ℕ) (at n : ℕ) (fewest : n ≤ length (lineFrom job at)) where
+  pub fewest-within : at ≤ length job → at + n ≤ length job
+  fewest-within h = omega (arith, fewest, line-length job at, until-le LF (drop at job), length-drop at job)
+
+  -- from behind them on the end is the same
+  pub end-behind-fewest : endFrom job (at + n) ≡ endFrom job at
+  end-behind-fewest =
+      let first : n ≤ until LF (drop at job) = omega (arith, fewest, line-length job at) in
+      let left : until LF (drop n (drop at job)) ≡ until LF (drop (at + n) job) = ap (until LF) (drop-drop n at job) in
+      omega (arith, until-past LF (drop at job) n first)
+
 -- ---- where a line lies
 
 pub part-none : (job : List ℕ) (k : ℕ) → k ≡ 0 → record { start = length job; len = 0 } ≡ partNumbered job k

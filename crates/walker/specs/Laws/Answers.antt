@@ -1,18 +1,17 @@
 -- The tests of the call, and its reply. Laws. Assumes nothing.
-use Prim.Native.Nat.{ℕ, zero, suc, _+_, _≤_, _<_}
+use Prim.Native.Nat.{ℕ, zero, suc, _≤_, _<_}
 use native.Mathlib.Omega.{arith}
 use mathlib.Core.Path.{_≡_, refl, sym, ap, _∙_}
 use mathlib.Core.Bool.{true, false, _&&_}
 use mathlib.Core.List.{List}
 use borrow.Author.Tests.{eq-eqb, ne-eqb, lt-ltb, le-ltb}
 use lib.Dec.{ltb}
-use lib.ListN.{length, getD, drop, drop-of-length-le}
+use lib.ListN.{length}
 use Rattle.pauli.specs.Bits.{Bits, members}
 use Rattle.pauli.specs.Fixed.{AllBelow}
 use Rattle.pauli.specs.Laws.F2.{&&-false}
 use Rattle.text.specs.Bytes.{lines}
 use Rattle.text.specs.List.{isRising}
-use Rattle.text.specs.Laws.Pieces.{step}
 use Rattle.job.specs.declared.Answer.{Answer}
 use Rattle.job.specs.Checks.{allBelow}
 use Rattle.job.specs.Job.{answer, accepted, jobOf, recordedIn, checkJob}
@@ -27,21 +26,6 @@ use Rattle.backward.specs.Walk.{walk}
 use Rattle.backward.specs.Walking.{firstNoise, plainLines, walkable, walkAnswer, walkReply}
 use Rattle.lines_back.specs.declared.Walk.{Walk as WalkWords}
 use Rattle.walker.specs.Steps.{lineOrNone, WalkedBack}
-
--- ---- the tests on the set, member after member
-
-module _ (n : ℕ) (l : List ℕ) (i : ℕ) where
-  pub below-fails : i < length l → n ≤ getD l i 0 → allBelow n (drop i l) ≡ false
-  unfolding allBelow
-  below-fails h e = rw (step l i h, le-ltb (getD l i 0) n e)
-
-  pub below-next : i < length l → getD l i 0 < n → allBelow n (drop i l) ≡ allBelow n (drop (i + 1) l)
-  unfolding allBelow
-  below-next h e = rw (step l i h, lt-ltb (getD l i 0) n e)
-
-  pub below-end : length l ≤ i → allBelow n (drop i l) ≡ true
-  unfolding allBelow
-  below-end h = rw (drop-of-length-le l h)
 
 -- ---- the reply
 

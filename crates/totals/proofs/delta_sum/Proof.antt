@@ -1,19 +1,19 @@
--- `agreement::delta_sum` meets its contract. Assumes nothing.
+-- `totals::delta_sum` meets its contract. Assumes nothing.
 use Prim.Native.Nat.{_-_}
 use native.Mathlib.Omega.{arith}
 use mathlib.Core.Path.{_≡_}
 use lib.ListN.{length}
 use Rattle.pauli.specs.Bits.{sumOver}
 use Rattle.rows.specs.Column.{column}
-use Rattle.agreement.specs.Laws.Sums.{sumFrom, sum-starts, sum-turn, sum-ends}
-use Rattle.agreement.proofs.delta_sum.Statement.{statement}
-use Rattle.agreement.proofs.delta_sum.Tie as tie
+use Rattle.totals.specs.Laws.Sum.{sumFrom, sum-starts, sum-turn, sum-ends}
+use Rattle.totals.proofs.delta_sum.Statement.{statement}
+use Rattle.totals.proofs.delta_sum.Tie as tie
 
 abbrev Inv-loop : tie.InvT-loop
-Inv-loop deltas w set shot place word₀ i₀ word i = sumFrom w deltas shot set word i ≡ sumOver set (column w deltas shot)
+Inv-loop deltas w set shot place word₀ k₀ word k = sumFrom w deltas shot set word k ≡ sumOver set (column w deltas shot)
 
 abbrev μ-loop : tie.MeasureT-loop
-μ-loop deltas w set shot place word₀ i₀ word i = length set - i
+μ-loop deltas w set shot place word₀ k₀ word k = length set - k
 
 loop-holds : tie.Need-loop-holds Inv-loop μ-loop
 loop-holds c = sum-starts _ _ _ _
@@ -25,19 +25,19 @@ shared-slice-read-id : tie.Need-shared-slice-read-id Inv-loop μ-loop
 shared-slice-read-id c = omega arith
 
 mul-word : tie.Need-mul-word Inv-loop μ-loop
-mul-word c = omega (arith, c .before .before .before .pre .0 .fits (c .before .before .loop .i) (c .before .loop-test .taken))
+mul-word c = omega (arith, c .before .before .before .pre .0 .fits (c .before .before .loop .k) (c .before .loop-test .taken))
 
 add-word : tie.Need-add-word Inv-loop μ-loop
-add-word c = omega (arith, c .before .before .before .pre .0 .fits (c .before .before .loop .i) (c .before .loop-test .taken))
+add-word c = omega (arith, c .before .before .before .pre .0 .fits (c .before .before .loop .k) (c .before .loop-test .taken))
 
 mul-word-2 : tie.Need-mul-word-2 Inv-loop μ-loop
-mul-word-2 c = omega (arith, c .before .before .before .pre .0 .fits (c .before .before .loop .i) (c .before .loop-test .taken))
+mul-word-2 c = omega (arith, c .before .before .before .pre .0 .fits (c .before .before .loop .k) (c .before .loop-test .taken))
 
 shared-slice-read-word : tie.Need-shared-slice-read-word Inv-loop μ-loop
-shared-slice-read-word c = omega (arith, c .before .before .before .before .pre .0 .fits (c .before .before .before .loop .i) (c .before .before .loop-test .taken))
+shared-slice-read-word c = omega (arith, c .before .before .before .before .pre .0 .fits (c .before .before .before .loop .k) (c .before .before .loop-test .taken))
 
-add-i : tie.Need-add-i Inv-loop μ-loop
-add-i c = omega arith
+add-k : tie.Need-add-k Inv-loop μ-loop
+add-k c = omega arith
 
 loop-less : tie.Need-loop-less Inv-loop μ-loop
 loop-less c = omega arith
@@ -64,7 +64,7 @@ delta-sum-spec =
     add-word
     mul-word-2
     shared-slice-read-word
-    add-i
+    add-k
     loop-less
     loop-again
     shr-result

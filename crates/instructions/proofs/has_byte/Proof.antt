@@ -1,10 +1,10 @@
--- `instructions::begins` meets its contract. Assumes nothing.
+-- `instructions::has_byte` meets its contract. Assumes nothing.
 use mathlib.Core.Path.{sym}
 use mathlib.Core.Bool.{true≢false}
 use borrow.Author.Tests.{eqb-true}
 use borrow.Author.Needs.{needs}
-use Rattle.instructions.proofs.begins.Statement.{statement}
-use Rattle.instructions.proofs.begins.Tie as tie
+use Rattle.instructions.proofs.has_byte.Statement.{statement}
+use Rattle.instructions.proofs.has_byte.Tie as tie
 
 returns : tie.Need-returns
 returns c = λ e. absurd (true≢false (sym e))
@@ -15,5 +15,5 @@ shared-slice-read-result c = search needs
 returns-2 : tie.Need-returns-2
 returns-2 c = λ e. eqb-true _ _ e
 
-pub begins-spec : {M : Type 1} → statement M
-begins-spec = tie.close (tie.spec returns shared-slice-read-result returns-2)
+pub has-byte-spec : {M : Type 1} → statement M
+has-byte-spec = tie.close (tie.spec returns shared-slice-read-result returns-2)

@@ -1,8 +1,8 @@
--- The sum of a set's deltas: the loop over the set, and the count modulo 2. Laws. Assumes nothing.
+-- The sum of a set's deltas: words are added, and the shot's bit is taken. Laws. Assumes nothing.
 use mathlib.Core.Path.{_≡_, refl, sym, ap, _∙_}
-use mathlib.Core.Bool.{Bool, true, false, not, cond}
+use mathlib.Core.Bool.{Bool, true, false, cond}
 use mathlib.Core.List.{List}
-use Prim.Native.Nat.{ℕ, zero, suc, _+_, _*_, _/_, _%_, _^_, _<_, _≤_}
+use Prim.Native.Nat.{ℕ, _+_, _*_, _/_, _%_, _^_, _<_, _≤_}
 use native.Mathlib.Numerals.{add-one}
 use native.Mathlib.Omega.{arith}
 use borrow.Author.Tests.{eqb-true, eqb-false}
@@ -10,14 +10,12 @@ use lib.Bits.{bitXor}
 use lib.Dec.{eqb}
 use lib.ListN.{length, getD, drop, drop-of-length-le}
 use lib.Seq.{drop-cons}
-use Rattle.pauli.specs.Bits.{_⊕_, sumOver, odd, bit}
+use Rattle.pauli.specs.Bits.{_⊕_, sumOver, bit}
 use Rattle.pauli.specs.Laws.F2.{⊕-assoc, ⊕-false}
 use Rattle.pauli.specs.Laws.Word.{bit-zero, bit-xor}
 use Rattle.rows.specs.Words.{bitIn}
 use Rattle.rows.specs.Column.{column}
-use Rattle.agreement.specs.Agree.{deltaSum}
-
--- ---- words are added, and the shot's bit is taken
+use Rattle.totals.specs.Sum.{deltaSum}
 
 -- the shot's bit of the words that were added, and the deltas of the outcomes from place i on
 unfoldable pub sumFrom : ℕ → List ℕ → ℕ → List ℕ → ℕ → ℕ → Bool
@@ -50,14 +48,3 @@ module _ (w : ℕ) (deltas : List ℕ) (shot : ℕ) (set : List ℕ) where
     where
       last : bit word (shot % 64) ≡ sumFrom w deltas shot set word i
       last = unfold sumFrom sumOver in rw (drop-of-length-le set h) (sym (⊕-false _))
-
--- ---- a count modulo 2
-
-pub odd-mod : (n : ℕ) → cond (odd n) 1 0 ≡ n % 2
-unfolding odd
-odd-mod zero = refl
-odd-mod (suc n) = next (odd n) (odd-mod n)
-  where
-    next : (b : Bool) → cond b 1 0 ≡ n % 2 → cond (not b) 1 0 ≡ suc n % 2
-    next true e = omega arith
-    next false e = omega arith

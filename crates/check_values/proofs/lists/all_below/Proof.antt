@@ -1,18 +1,18 @@
--- `walker::all_below` meets its contract. Assumes nothing.
+-- `check_values::lists::all_below` meets its contract. Assumes nothing.
 use Prim.Native.Nat.{_-_, _≤_}
 use native.Mathlib.Omega.{arith}
 use mathlib.Core.Path.{_≡_, refl, sym, _∙_}
 use lib.ListN.{length, drop}
 use Rattle.job.specs.Checks.{allBelow}
-use Rattle.walker.specs.Laws.Answers.{below-fails, below-next, below-end}
-use Rattle.walker.proofs.all_below.Statement.{statement}
-use Rattle.walker.proofs.all_below.Tie as tie
+use Rattle.check_values.specs.Laws.Slots.{below-fails, below-next, below-end}
+use Rattle.check_values.proofs.lists.all_below.Statement.{statement}
+use Rattle.check_values.proofs.lists.all_below.Tie as tie
 
 abbrev Inv-loop : tie.InvT-loop
-Inv-loop numbers n i₀ i = (i ≤ length numbers) × (allBelow n numbers ≡ allBelow n (drop i numbers))
+Inv-loop members n i₀ i = (i ≤ length members) × (allBelow n members ≡ allBelow n (drop i members))
 
 abbrev μ-loop : tie.MeasureT-loop
-μ-loop numbers n i₀ i = length numbers - i
+μ-loop members n i₀ i = length members - i
 
 loop-holds : tie.Need-loop-holds Inv-loop μ-loop
 loop-holds c = (omega arith, refl)
