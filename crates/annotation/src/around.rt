@@ -10,18 +10,18 @@ ghost use Rattle.job.specs.Grammar.{Written};
 ghost use Rattle.job.specs.Job.{checkJob};
 ghost use Rattle.reader.specs.Parsed.{formOf};
 ghost use Rattle.writer.specs.Placed.{Puts};
-ghost use Rattle.writer.specs.Line.{depolarizingStart, StartOf};
+ghost use Rattle.line_writer.specs.Line.{depolarizingStart, StartOf};
 ghost use Rattle.circuit.specs.Annotate.{noiseLines};
 ghost use Rattle.annotation.specs.Lines.{beforeIt, aroundText, Annotates};
-use instructions::next_known;
-use line_qubits::fit;
-use line_qubits::noise_qubits;
+use crate::line_qubits::fit;
+use crate::line_qubits::noise_qubits;
+use known_lines::next_known;
+use line_writer::new_lines::put_depolarizing;
+use line_writer::new_lines::put_start;
 use reader::Form;
 use template::values::KEPT;
 use template::values::MAX_SLOTS;
 use template::values::VALUE_WORDS;
-use writer::noise_lines::put_depolarizing;
-use writer::noise_lines::put_start;
 use writer::put_bytes;
 
 // A line's noise, from how its line begins: none over no qubits.

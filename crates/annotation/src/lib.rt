@@ -1,4 +1,4 @@
-// Annotation of a job with depolarizing noise.
+// Annotation of a job with depolarizing noise, and the count of its fault locations.
 ghost use mathlib.Core.Path.{_≡_};
 ghost use Rattle.text.specs.Bytes.{lines as Bytes·lines};
 ghost use Rattle.job.specs.Job.{checkJob};
@@ -7,6 +7,8 @@ ghost use Rattle.circuit.specs.Replies.{annotateAnswer, annotateReply};
 ghost use Rattle.writer.specs.Reply.{textReply};
 
 pub mod around;
+mod line_qubits;
+pub mod locations;
 
 use crate::around::put_annotated;
 use check_values::floats::Checked;

@@ -13,8 +13,8 @@ use blocks::scatter;
 use job::Answer;
 use job::FIRST_EDITION;
 use job::Header;
-use job::limits::in_range;
 use job::refusals;
+use job_numbers::in_range;
 use pauli::LAST_BIT;
 use pauli::WORD_BITS;
 

@@ -1,2 +1,3 @@
--- Laws of the tests of lines other than noise, which proofs cite.
+-- What the tests of lines say. Definitions, and laws that proofs cite.
+pub mod Listed
 pub mod Laws

@@ -1,5 +1,5 @@
-// Tests of the header, and of each other kind of line, but noise and lines that are a Pauli alone, the number that refuses it after 2 and 3, 0 where
-// none does.
+// Tests of the header, of noise lines and of their element lines; and of each other kind of line, but lines that are a Pauli alone, the number that
+// refuses it after 2 and 3, 0 where none does.
 ghost use mathlib.Core.Path.{_≡_};
 ghost use mathlib.Core.Bool.{_&&_};
 ghost use mathlib.Core.List.{List, [], _∷_};
@@ -16,7 +16,9 @@ ghost use Rattle.check_values.specs.Contexts.{contextOf};
 ghost use Rattle.check_values.specs.Slots.{listsFrom};
 
 pub mod editions;
+pub mod elements;
 pub mod header;
+pub mod noise_lines;
 
 use check_values::clifford::is_clifford;
 use check_values::context::Context;

@@ -1,5 +1,5 @@
 // The choice of an element. An element is known by its number, from 0.
-use job::depolarizing_size;
+use job_numbers::depolarizing_size;
 use noise::NextWord;
 use noise::PauliDistribution;
 use noise::words::next_word;

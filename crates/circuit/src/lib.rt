@@ -1,3 +1,1 @@
-// The definitions of annotation, locations and the correlation check (specs/). The code is in the crates line_qubits, annotation, location_count and
-// correlations.
-pub fn nothing() {}
+// The definitions of annotation, locations and the correlation check (specs/). The code is in the crates annotation and correlations.

@@ -21,9 +21,9 @@ ghost use Rattle.correlations.specs.Links.{remainderOf, Unseen, Linked, 
 ghost use Rattle.correlations.specs.Rounds.{unlike, earliest, Looks, Remembers, Collects, RoundOf};
 use checker::check;
 use instructions::is_noise;
-use instructions::next_known;
 use job::Answer;
 use job::refusals;
+use known_lines::next_known;
 use reader::Form;
 use reader::slots::CORRELATION;
 use reader::slots::LISTED_SIZE;

@@ -1,2 +1,2 @@
-// The definitions of draws, of settling on lists and of execution (specs/). The code is in the crates noise, faults and execution.
-pub fn nothing() {}
+// The definitions of draws, of settling on lists and of execution (specs/). The code is in the crates noise, fault_scan, choice, shots and
+// faults, and in execution, runner and settling.

@@ -1,14 +1,13 @@
--- Execution of an accepted job, instruction after instruction, as the code does it. Definitions. Assumes nothing.
+-- Execution of one instruction of an accepted job, as the code does it. Definitions. Assumes nothing.
 use mathlib.Core.Path.{_≡_}
 use mathlib.Core.List.{List, _∷_}
 use Prim.Native.Nat.{ℕ, suc, _+_, _*_, _<_, _≤_}
 use lib.ListN.{length, drop}
 use lib.Ieee.{Float}
 use Rattle.job.specs.declared.Header.{Header}
-use Rattle.job.specs.declared.Answer.{Answer}
 use Rattle.job.specs.Line.{Instruction, Placed}
 use Rattle.job.specs.Grammar.{headerWith}
-use Rattle.job.specs.Job.{answer, accepted, placedAt, jobOf}
+use Rattle.job.specs.Job.{placedAt, jobOf}
 use Rattle.instructions.specs.declared.LineRead.{LineRead}
 use Rattle.instructions.specs.Ahead.{instructionsAt, Ahead}
 use Rattle.draws.specs.Draws.{Lent}
@@ -20,8 +19,7 @@ use Rattle.noise.specs.declared.Place.{Place}
 use Rattle.template.specs.Values.{Whole}
 use Rattle.faults.specs.Elements.{AllInside}
 use Rattle.faults.specs.Prepared.{NoiseLines, noiseIn}
-use Rattle.injection.specs.Holds.{Holds}
-use Rattle.execution.specs.declared.Answered.{Answered}
+use Rattle.execution.specs.Holds.{Holds}
 use Rattle.execution.specs.declared.Moved.{Moved}
 use Rattle.execution.specs.declared.Moved.the-variants.{To, Spent}
 
@@ -120,17 +118,3 @@ pub record Stepped (job : List ℕ) (shape : Shape) (noiseless main second : Lis
         → EndsAs job shape (lentBy shape noiseless second base) main
         (endingOf (headerOf job shape) (lentBy shape noiseless second base) (instructionsAt job (place .line) (place .byte)) (drop (place .position) main) states)
         (length (instructionsAt job (place .line) (place .byte))) (place .line) x′ z′ d′ r
-
--- ---- a job to its end
-
--- the words hold the states at the end, or the draws were spent
-pub data Finished (all : Ended) (w : ℕ) (x z d : List ℕ) (r : Answer) : Type 0 where
-  finished : (states : States) → all ≡ Ended.ended states → r ≡ accepted → Holds w x z d states → Finished all w x z d r
-  stopped : (k : ℕ) → all ≡ Ended.spentAt k → r ≡ answer 14 k → Finished all w x z d r
-
--- and the main list is left at a position
-pub record Executes (job : List ℕ) (shape : Shape) (noiseless main second : List ℕ) (base from : ℕ) (x z d x′ z′ d′ : List ℕ) (r : Answered) : Type 0 where
-  pub by : (states : States) → Holds (shape .width) x z d states
-      → Finished (execute (headerOf job shape) (lentBy shape noiseless second base) (instructionsAt job 2 from) main states) (shape .width) x′ z′ d′ (r .answer)
-  pub within : r .taken ≤ length main
-  pub leaves : drop (r .taken) main ≡ leftAfter (lentBy shape noiseless second base) (instructionsAt job 2 from) main

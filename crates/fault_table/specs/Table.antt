@@ -12,8 +12,8 @@ use Rattle.job.specs.Job.{checkJob, jobOf, recordedIn}
 use Rattle.instructions.specs.Lines.{numbered}
 use Rattle.single_faults.specs.Groups.{Groups, groupsOf, allRecorded}
 use Rattle.single_faults.specs.Table.{firstWide}
-use Rattle.groups.specs.Lent.{allCarried, startOf}
-use Rattle.fault_rows.specs.Rows.{rowsBytes}
+use Rattle.fault_table.specs.Lent.{allCarried, startOf}
+use Rattle.fault_table.specs.Rows.{rowsBytes}
 use Rattle.fault_table.specs.declared.Measured.{Measured}
 
 -- ---- bytes

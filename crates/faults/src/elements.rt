@@ -8,8 +8,8 @@ ghost use Rattle.template.specs.Values.{Whole, heldCount};
 ghost use Rattle.job.specs.Float.{float, zeroFloat, isWeight};
 ghost use Rattle.faults.specs.Elements.{Inside, xCount, zCount, elementX, elementZ, elementCounts, elementMembers, Kept};
 ghost use Rattle.faults.specs.Prepared.{ElementLines, Gathered};
-use instructions::next_known;
 use job::limits::MAX_ELEMENTS;
+use known_lines::next_known;
 use reader::slots::WEIGHT;
 use reader::slots::X;
 use template::values::KEPT;
@@ -96,14 +96,14 @@ pub fn keep_element(elements: &mut [u64], e: usize, values: &[u64], first: usize
     let second = first + 1;
     elements[start] = count(values, first);
     elements[start + Z_COUNT] = count(values, second);
-    rows::copy(
+    row_loops::copy(
         &mut *elements,
         start + X_MEMBERS,
         template::values::kept(values, first),
         0,
         kept_count(values, first),
     );
-    rows::copy(
+    row_loops::copy(
         elements,
         start + Z_MEMBERS,
         template::values::kept(values, second),

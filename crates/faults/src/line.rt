@@ -59,7 +59,7 @@ fn condition_of(values: &[u64]) -> OutcomeCondition
     ensures { λ r. ⌜ ConditionHeld (now (values .entry)) r ⌝ }
 {
     let mut outcomes = [0u64; KEPT];
-    rows::copy(&mut outcomes, 0, kept(values, CONDITION), 0, KEPT);
+    row_loops::copy(&mut outcomes, 0, kept(values, CONDITION), 0, KEPT);
     OutcomeCondition {
         outcomes,
         count: count(values, CONDITION) as usize,

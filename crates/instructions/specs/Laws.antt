@@ -13,5 +13,3 @@ pub mod Lines
 pub mod Read
 -- The line at a place of a job, as it is handed out; and a line that is known to be one of an accepted job.
 pub mod Known
--- A controlled Pauli and an element line that are known to be of an accepted job.
-pub mod KnownLists

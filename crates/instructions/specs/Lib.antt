@@ -2,6 +2,5 @@
 pub mod Reading
 pub mod Ahead
 pub mod Lines
-pub mod Known
 pub mod Plain
 pub mod Laws

@@ -1,9 +1,5 @@
-// The definitions of a job, of its lines, its instructions and the tests of a job (specs/), the types that answers have, the limits with the test of
-// a header's numbers, and the size of a depolarizing distribution. The code of the other tests is in the crates reader, instructions, check_values,
-// check_lines, check_noise and checker.
-ghost use mathlib.Core.Path.{_≡_};
-ghost use Prim.Native.Nat.{_-_, _^_, _<_};
-
+// The definitions of a job, of its lines, its instructions and the tests of a job (specs/), the types that answers have, and the limits. The code of
+// the tests is in the crates job_numbers, reader, instructions, check_values, check_lines and checker.
 pub mod limits;
 pub mod refusals;
 
@@ -32,12 +28,4 @@ pub struct Answer {
 pub struct CountReply {
     pub answered: Answer,
     pub count: u64,
-}
-
-// How many elements depolarizing noise over k qubits has: every Pauli on them but the identity.
-pub fn depolarizing_size(k: u64) -> u64
-    requires { ⌜ k < 32 ⌝ }
-    ensures { λ r. ⌜ r ≡ 4 ^ k - 1 ⌝ }
-{
-    (1u64 << (2 * k)) - 1
 }

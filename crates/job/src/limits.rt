@@ -1,7 +1,4 @@
 // The limits of a job.
-ghost use mathlib.Core.Path.{_≡_};
-ghost use Rattle.job.specs.Checks.{inRange};
-use crate::Header;
 use crate::SECOND_EDITION;
 
 // Bytes of its text.
@@ -15,25 +12,6 @@ pub const MAX_QUBITS: u64 = 256;
 pub const MAX_OUTCOMES: u64 = 1024;
 
 pub const MAX_SHOTS: u64 = 4096;
-
-// Whether a header may hold its numbers, whatever its edition.
-pub fn in_range(h: Header) -> bool
-    ensures { λ r. ⌜ r ≡ inRange h ⌝ }
-{
-    if h.qubits == 0 {
-        return false;
-    }
-    if MAX_QUBITS < h.qubits {
-        return false;
-    }
-    if MAX_OUTCOMES < h.outcomes {
-        return false;
-    }
-    if h.shots == 0 {
-        return false;
-    }
-    h.shots <= MAX_SHOTS
-}
 
 // Words of a row, 64 shots a word.
 pub const MAX_WIDTH: usize = 64;

@@ -1,13 +1,15 @@
-// The tests of a job; of an accepted one the shape of its rows, and where its instructions begin.
+// The tests of a job, and whether enough words are lent; of an accepted one the shape of its rows, and where its instructions begin.
 use checker::examine;
 use job::Answer;
 use numbers::pieces::find;
+use row_loops::shape_of;
 use rows::Shape;
-use rows::shape_of;
 ghost use mathlib.Core.Path.{_≡_};
 ghost use mathlib.Core.Bool.{true};
 ghost use Rattle.job_shape.specs.Tested.{Tests};
 ghost use Rattle.job_shape.specs.Header.{behindHeader};
+
+pub mod lent_words;
 
 // The answer to the tests. The shape is that of the job's rows where none refuses.
 pub struct Tested {

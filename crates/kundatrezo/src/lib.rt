@@ -186,7 +186,7 @@ pub extern "C" fn kundatrezo_annotate(job: &[u8], p: u64, out: &mut [u8]) -> Tex
 pub extern "C" fn kundatrezo_locations(job: &[u8]) -> CountReply
     ensures { λ r. ⌜ r ≡ locationsReply (now (job .entry)) ⌝ }
 {
-    location_count::locations(job)
+    annotation::locations::locations(job)
 }
 
 // Whether noise lines of one correlation all have one size, as their lines say it.
@@ -244,7 +244,7 @@ pub extern "C" fn kundatrezo_fault_table(job: &[u8], groups: &[u64], out: &mut [
 pub extern "C" fn kundatrezo_fill(seed: u64, words: &mut [u64]) -> Answer
     ensures { λ r. ⌜ fillReply seed (now (words .entry)) ≡ record { answered = r; words = now (words .exit) } ⌝ }
 {
-    stream::fill(seed, words)
+    seed_words::fill(seed, words)
 }
 
 // A whole job from a seed.

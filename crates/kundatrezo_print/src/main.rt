@@ -1,10 +1,13 @@
 // Prints the session of the job on standard input: the deltas of its recorded outcomes in each shot, or its refusal.
 ghost use mathlib.Core.Path.{_≡_};
 ghost use lib.ListN.{length};
+
+mod printing;
+
+use crate::printing::print_session;
 use libc::STDERR_FILENO;
 use libc::STDIN_FILENO;
 use libc::STDOUT_FILENO;
-use printing::print_session;
 
 // Room for one byte more than an input may have, which tells a longer input.
 fn input_buffer() -> [u8; 65537]

@@ -18,7 +18,7 @@ use Rattle.reader.specs.Parsed.{Said}
 use Rattle.frames.specs.Forward.{Setting}
 use Rattle.backward.specs.Walk.{Carried, carry, counts, Walk, backward}
 use Rattle.instructions.specs.Plain.{Plain}
-use Rattle.carry.specs.Full.{full}
+use Rattle.lines_back.specs.Full.{full}
 use Rattle.lines_back.specs.declared.Walk.{Walk as WalkWords}
 
 -- ---- a plain line

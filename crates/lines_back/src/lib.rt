@@ -9,6 +9,9 @@ ghost use Rattle.pauli.specs.declared.Pauli.{Pauli as PauliWords};
 ghost use Rattle.reader.specs.declared.Form.the-variants as Forms;
 ghost use Rattle.backward.specs.Walk.{oneMore};
 ghost use Rattle.lines_back.specs.Back.{HeldLine, Back, Readable, LineBack};
+
+mod carry;
+
 use pauli::OutcomeId;
 use pauli::Pauli;
 use pauli::Shot;
@@ -31,6 +34,7 @@ use template::values::number;
 
 // ---- Lines that change the observable alone
 
+// Gate lines come here from the table of single faults; the walk takes them as they stand on their lines (`walker::gates_back`).
 pub fn unitary(values: &[u64], b: Pauli) -> Pauli
     requires { ⌜ HeldLine Forms.Unitary (now values) ⌝ }
     ensures { λ r. ⌜ ((shot : ℕ) (set : Bits) → Back Forms.Unitary (now (values .entry)) shot b set r set false) ⌝ }

@@ -8,31 +8,34 @@ ghost use Rattle.text.specs.Written.{Free};
 ghost use Rattle.instructions.specs.Reading.{lineAt};
 ghost use Rattle.lines_from_last.specs.Line.{LineBefore, NoLf};
 
-// Whether there is an LF among eight bytes. All are compared, whatever the first ones are, so that the compiler compares them at once.
+// As many bytes make a block.
+const BLOCK: usize = 8;
+
+// Whether there is an LF in a block. All are compared, whatever the first ones are, so that the compiler compares them at once.
 fn has_lf(job: &[u8], from: usize) -> bool
     requires { ⌜ from + 8 ≤ length (now job) ⌝ }
     ensures { λ r. ⌜ (r ≡ false → NoLf (now (job .entry)) from (from + 8)) ⌝ }
 {
     let mut found = false;
     let mut k = 0;
-    while k < 8 {
+    while k < BLOCK {
         found = found | (job[from + k] == b'\n');
         k += 1;
     }
     found
 }
 
-// Back from e over blocks of eight bytes without LF.
+// Back from e over blocks without LF.
 fn skip_blocks(job: &[u8], e: usize) -> usize
     requires { ⌜ e < length (now job) ⌝ }
     ensures { λ r. ⌜ (r ≤ e) × Free LF (lineAt (now (job .entry)) r e) ⌝ }
 {
     let mut i = e;
-    while 8 <= i {
-        if has_lf(job, i - 8) {
+    while BLOCK <= i {
+        if has_lf(job, i - BLOCK) {
             return i;
         }
-        i -= 8;
+        i -= BLOCK;
     }
     i
 }

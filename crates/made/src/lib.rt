@@ -1,2 +1,1 @@
-// The definitions of made jobs, a reproducible load (specs/), by the choice rule of docs/MAKING.md. A crate needs a function: this is it.
-pub fn nothing() {}
+// The definitions of made jobs, a reproducible load (specs/), by the choice rule of docs/MAKING.md.

@@ -8,7 +8,10 @@ ghost use Rattle.text.specs.Number.{decimal};
 ghost use Rattle.text.specs.List.{listText};
 ghost use Rattle.made.specs.Choice.{pauli};
 ghost use Rattle.made_fields.specs.Lines.{FieldIs, PartIs, PauliIs};
-use choices::few;
+
+pub mod choices;
+
+use crate::choices::few;
 use writer::put_byte;
 use writer::put_bytes;
 use writer::put_list;

@@ -5,9 +5,15 @@ ghost use lib.ListN.{length};
 ghost use Rattle.made.specs.Making.{ring, instruction};
 ghost use Rattle.made_fields.specs.Lines.{MadeIs, Ready};
 ghost use Rattle.made_lines.specs.Ring.{entryAt, Stands, StandsFor};
-use choices::pick;
+
+mod gates;
+mod noise_lines;
+mod other_lines;
+
 use job::Header;
+use job::SECOND_EDITION;
 use made_fields::Making;
+use made_fields::choices::pick;
 use made_fields::moved;
 
 // ---- The ring of kinds
@@ -16,7 +22,7 @@ use made_fields::moved;
 fn ring_length(h: Header) -> u64
     ensures { λ r. ⌜ ((recorded : ℕ) → r ≡ length (ring h recorded)) ⌝ }
 {
-    if h.edition == 2 {
+    if h.edition == SECOND_EDITION {
         return 17;
     }
     16
@@ -26,7 +32,7 @@ fn ring_length(h: Header) -> u64
 fn standing_last(h: Header) -> u64
     ensures { λ r. ⌜ ((recorded : ℕ) → StandsFor h recorded 16 r) ⌝ }
 {
-    if h.edition == 2 {
+    if h.edition == SECOND_EDITION {
         return 16;
     }
     0
@@ -69,23 +75,23 @@ fn put_kind(out: &mut [u8], m: Making, h: Header, kind: u64) -> Making
     ensures { λ r. ⌜ MadeIs (entryAt h (m .recorded) kind .made (m .state)) m r (now (out .entry)) (now (out .exit)) ⌝ }
 {
     match kind {
-        1 => made_gates::put_clifford(out, m, h),
-        2 => made_plain::put_p(out, m, h),
-        3 => made_plain::put_e(out, m, h),
-        4 => made_plain::put_controlled(out, m, h),
-        5 => made_plain::put_permute(out, m, h),
-        6 => made_plain::put_conditional(out, m, h),
-        7 => made_plain::put_reset(out, m, h),
-        8 => made_plain::put_injection(out, m, h),
-        9 => made_noise::put_single(out, m, h),
-        10 => made_noise::put_spread(out, m, h),
-        11 => made_noise::put_listed(out, m, h, false),
-        12 => made_noise::put_listed(out, m, h, true),
-        13 => made_plain::put_flip(out, m, h),
-        14 => made_plain::put_measure(out, m, h),
-        15 => made_plain::put_allocate(out, m, h),
-        16 => made_plain::put_barrier(out, m, h),
-        _ => made_gates::put_unitary(out, m, h),
+        1 => gates::put_clifford(out, m, h),
+        2 => other_lines::put_p(out, m, h),
+        3 => other_lines::put_e(out, m, h),
+        4 => other_lines::put_controlled(out, m, h),
+        5 => other_lines::put_permute(out, m, h),
+        6 => other_lines::put_conditional(out, m, h),
+        7 => other_lines::put_reset(out, m, h),
+        8 => other_lines::put_injection(out, m, h),
+        9 => noise_lines::put_single(out, m, h),
+        10 => noise_lines::put_spread(out, m, h),
+        11 => noise_lines::put_listed(out, m, h, false),
+        12 => noise_lines::put_listed(out, m, h, true),
+        13 => other_lines::put_flip(out, m, h),
+        14 => other_lines::put_measure(out, m, h),
+        15 => other_lines::put_allocate(out, m, h),
+        16 => other_lines::put_barrier(out, m, h),
+        _ => gates::put_unitary(out, m, h),
     }
 }
 

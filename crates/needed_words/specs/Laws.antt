@@ -1,4 +1,6 @@
 -- Laws, for the proofs that cite them. Nothing here has to be believed.
+-- From instruction to instruction, to the end.
+pub mod Going
 -- Bits past the last shot.
 pub mod Padding
 -- From the states of shots to the words of the reply.

@@ -11,7 +11,7 @@ use Rattle.draws.specs.Left.{leftAfter}
 use Rattle.draws.specs.Execute.{starts, Ended, execute}
 use Rattle.rows.specs.declared.Shape.{Shape}
 use Rattle.rows.specs.Words.{wordsPerRow, pack}
-use Rattle.execution.specs.declared.Answered.{Answered}
+use Rattle.needed_words.specs.declared.Answered.{Answered}
 use Rattle.execution.specs.Steps.{headerOf}
 use Rattle.run.specs.Run.{Source, RunReply, frameWords, outcomeWords, lentOf, flipTotals}
 

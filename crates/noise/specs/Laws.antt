@@ -1,7 +1,4 @@
 -- Laws, for the proofs that cite them. Nothing here has to be believed.
 pub mod Words
-pub mod Threshold
-pub mod Fraction
-pub mod Scan
 pub mod Condition
 pub mod Position

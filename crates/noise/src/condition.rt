@@ -50,5 +50,5 @@ pub fn condition_mask(
     ensures { λ _. ⌜ Masks width (now (mask .exit)) (conditionOf (now (outcomes .entry)) parity) (bitIn width (now (noiseless .entry))) ⌝ }
 {
     fill(&mut *mask, width, start_mask(outcomes.len(), parity));
-    rows::add_listed(mask, 0, noiseless, width, outcomes);
+    row_loops::add_listed(mask, 0, noiseless, width, outcomes);
 }

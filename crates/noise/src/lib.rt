@@ -1,7 +1,6 @@
-// A noise line by value, the words that it draws from, and its condition as a mask. Elements are chosen in the crate choice, and its shots gone
-// through in the crate shots.
+// A noise line by value, the words that it draws from, and its condition as a mask; and where a pass over a job stands. The next word that brings a
+// fault is found in the crate fault_scan, elements are chosen in the crate choice, and the line's shots gone through in the crate shots.
 pub mod condition;
-pub mod scan;
 pub mod words;
 
 use job::limits::MAX_MEMBERS;

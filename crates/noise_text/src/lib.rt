@@ -17,6 +17,7 @@ use crate::lists::select;
 use faults::elements::element_counts;
 use faults::elements::element_members;
 use faults::elements::element_x;
+use line_writer::new_lines::put_inject;
 use noise::PauliDistribution;
 use noise::PauliFault;
 use noise::words::count;
@@ -28,7 +29,6 @@ use shots::NextFault;
 use shots::next_fault;
 use shots::rule_of;
 use template::values::KEPT;
-use writer::noise_lines::put_inject;
 
 // ---- An element
 

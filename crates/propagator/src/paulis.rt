@@ -31,8 +31,8 @@ fn anticommutation_mask(
     requires { ⌜ (r * shape .width + shape .width ≤ length (now masks)) × (length (now x) ≡ shape .qubits * shape .width) × (length (now z) ≡ shape .qubits * shape .width) × PauliIn (shape .qubits) (now px) (now pz) ⌝ }
     ensures { λ _. ⌜ MaskPut (shape .width) (shape .qubits) (written (now (px .entry)) (now (pz .entry))) r (now (x .entry)) (now (z .entry)) (now (masks .entry)) (now (masks .exit)) ⌝ }
 {
-    rows::sum_listed(&mut *masks, r, x, shape.width, pz);
-    rows::add_listed(masks, r, z, shape.width, px);
+    row_loops::sum_listed(&mut *masks, r, x, shape.width, pz);
+    row_loops::add_listed(masks, r, z, shape.width, px);
 }
 
 // Adds a Pauli in the shots of a mask, row r.
@@ -48,8 +48,8 @@ fn add_pauli(
     requires { ⌜ (r * shape .width + shape .width ≤ length (now masks)) × (length (now x) ≡ shape .qubits * shape .width) × (length (now z) ≡ shape .qubits * shape .width) × PauliIn (shape .qubits) (now px) (now pz) ⌝ }
     ensures { λ _. ⌜ ((d : List ℕ) → Acts (shape .width) (λ s. onFrame (λ F. F times when (column (shape .width) (now (masks .entry)) s r) (pauliOf (written (now (px .entry)) (now (pz .entry)))))) (now (x .entry)) (now (z .entry)) d (now (x .exit)) (now (z .exit)) d) ⌝ }
 {
-    rows::add_mask_listed(x, shape.width, px, masks, r);
-    rows::add_mask_listed(z, shape.width, pz, masks, r);
+    row_loops::add_mask_listed(x, shape.width, px, masks, r);
+    row_loops::add_mask_listed(z, shape.width, pz, masks, r);
 }
 
 // ---- Exponentials and controlled Paulis
@@ -107,8 +107,8 @@ pub fn measure(
     ensures { λ _. ⌜ Acts (shape .width) (lineRule (shape .qubits) (shape .outcomes) (Line.measure (written (now (px .entry)) (now (pz .entry))) (outcome .0))) (now (x .entry)) (now (z .entry)) (now (deltas .entry)) (now (x .entry)) (now (z .entry)) (now (deltas .exit)) × TotalsHeld (shape .width) (shape .outcomes) (now (deltas .exit)) (now (totals .exit)) ⌝ }
 {
     let id = outcome.0;
-    rows::add_listed(&mut *deltas, id, x, shape.width, pz);
-    rows::add_listed(&mut *deltas, id, z, shape.width, px);
+    row_loops::add_listed(&mut *deltas, id, x, shape.width, pz);
+    row_loops::add_listed(&mut *deltas, id, z, shape.width, px);
     totals::recount(deltas, totals, shape.width, id);
 }
 
@@ -127,7 +127,7 @@ pub fn apply_conditional_pauli(
     requires { ⌜ (shape .width ≤ length (now scratch)) × (length (now x) ≡ shape .qubits * shape .width) × (length (now z) ≡ shape .qubits * shape .width) × (length (now deltas) ≡ shape .outcomes * shape .width) × PauliIn (shape .qubits) (now px) (now pz) × (allBelow (shape .outcomes) (now outcomes) ≡ true) × (distinct (now outcomes) ≡ true) ⌝ }
     ensures { λ _. ⌜ ((parity : Bool) → Acts (shape .width) (lineRule (shape .qubits) (shape .outcomes) (Line.conditional (written (now (px .entry)) (now (pz .entry))) (now (outcomes .entry)) parity)) (now (x .entry)) (now (z .entry)) (now (deltas .entry)) (now (x .exit)) (now (z .exit)) (now (deltas .entry))) ⌝ }
 {
-    rows::sum_listed(&mut *scratch, 0, deltas, shape.width, outcomes);
+    row_loops::sum_listed(&mut *scratch, 0, deltas, shape.width, outcomes);
     add_pauli(x, z, shape, px, pz, scratch, 0);
 }
 
@@ -136,8 +136,8 @@ pub fn reset_qubits(x: &mut [u64], z: &mut [u64], shape: Shape, qubits: &[u64])
     requires { ⌜ (length (now x) ≡ shape .qubits * shape .width) × (length (now z) ≡ shape .qubits * shape .width) × (allBelow (shape .qubits) (now qubits) ≡ true) ⌝ }
     ensures { λ _. ⌜ ((m : ℕ) (d : List ℕ) → Acts (shape .width) (lineRule (shape .qubits) m (Line.reset (now (qubits .entry)))) (now (x .entry)) (now (z .entry)) d (now (x .exit)) (now (z .exit)) d) ⌝ }
 {
-    rows::clear_listed(x, shape.width, qubits);
-    rows::clear_listed(z, shape.width, qubits);
+    row_loops::clear_listed(x, shape.width, qubits);
+    row_loops::clear_listed(z, shape.width, qubits);
 }
 
 // ---- Single shots
@@ -148,8 +148,8 @@ pub fn inject_pauli(x: &mut [u64], z: &mut [u64], shape: Shape, shot: Shot, px: 
     ensures { λ _. ⌜ ((m : ℕ) (d : List ℕ) → Acts (shape .width) (lineRule (shape .qubits) m (Line.inject (shot .0) (written (now (px .entry)) (now (pz .entry))))) (now (x .entry)) (now (z .entry)) d (now (x .exit)) (now (z .exit)) d) ⌝ }
 {
     let s = shot.0;
-    rows::flip_listed(x, shape.width, px, s);
-    rows::flip_listed(z, shape.width, pz, s);
+    row_loops::flip_listed(x, shape.width, px, s);
+    row_loops::flip_listed(z, shape.width, pz, s);
 }
 
 // Adds 1 to an outcome's delta in one shot.

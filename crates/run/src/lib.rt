@@ -1,2 +1,1 @@
-// The definition of a run's reply (specs/). The code is in the crate runner.
-pub fn nothing() {}
+// The definition of a run's reply (specs/). The code is in the crates job_shape and runner.

@@ -8,9 +8,9 @@ use Rattle.job.specs.Job.{jobOf, checkJob}
 use Rattle.draws.specs.Left.{leftAfter}
 use Rattle.rows.specs.declared.Shape.{Shape}
 use Rattle.run.specs.Run.{Memory, lentOf, runReply}
-use Rattle.execution.specs.declared.Answered.{Answered}
+use Rattle.needed_words.specs.declared.Answered.{Answered}
 use Rattle.job_shape.specs.Tested.{shapeFor}
-use Rattle.runner.specs.Enough.{enoughLent}
+use Rattle.job_shape.specs.Enough.{enoughLent}
 
 pub record RunReady (job : List ℕ) (shape : Shape) (x z d totals noiseless : List ℕ) : Type 0 where
   pub passes : checkJob job .number ≡ 0

@@ -1,2 +1,1 @@
-// The definition of the printed session (specs/). The code is in the crate printing.
-pub fn nothing() {}
+// The definition of the printed session (specs/). The code is in the crates session_text and kundatrezo_print.

@@ -11,11 +11,11 @@ ghost use Rattle.writer.specs.Placed.{Puts};
 ghost use Rattle.session_text.specs.Lines.{headerText, deltaText};
 use job::Answer;
 use job::Header;
+use line_writer::put_numbers;
 use pauli::LAST_BIT;
 use pauli::OutcomeId;
 use pauli::Shot;
 use pauli::WORD_BITS;
-use writer::line::put_numbers;
 use writer::put_byte;
 
 // `ok=0 refusal=N line=N`

@@ -16,7 +16,7 @@ use Rattle.backward.specs.Settling.{settleReply}
 use Rattle.settling.specs.declared.Answered.{Answered}
 use Rattle.settling.specs.declared.TextLength.{TextLength}
 use Rattle.settling.specs.declared.TextLength.the-variants as length-of
-use Rattle.instruction_text.specs.Pass.{Pass, lentBy}
+use Rattle.settling.specs.Pass.{Pass, lentBy}
 
 -- what all instructions come to
 abbrev pub settledBy : Pass → Settled

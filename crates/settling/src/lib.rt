@@ -7,12 +7,15 @@ ghost use Rattle.job_shape.specs.Tested.{Tests};
 ghost use Rattle.run.specs.Run.{outcomeWords};
 ghost use Rattle.writer.specs.Reply.{textReply};
 ghost use Rattle.backward.specs.Settling.{settleReply};
-ghost use Rattle.instruction_text.specs.Pass.{passOf};
+ghost use Rattle.settling.specs.Pass.{passOf};
 ghost use Rattle.settling.specs.Whole.{Fits, SettledPut, SettledTo};
+
+mod instruction_text;
+
+use crate::instruction_text::Moved;
+use crate::instruction_text::Reached;
+use crate::instruction_text::put_instruction;
 use faults::elements::ELEMENTS_WORDS;
-use instruction_text::Moved;
-use instruction_text::Reached;
-use instruction_text::put_instruction;
 use job::Answer;
 use job::limits::MAX_ELEMENTS;
 use job::limits::MAX_WIDTH;

@@ -1,6 +1,6 @@
 // A run and settling by a caller with a share of the main list.
 use job::Answer;
-use runner::Lengths;
+use job_shape::lent_words::Lengths;
 use runner::run_tested;
 use settling::settle_tested;
 use share_marks::common;
@@ -45,7 +45,7 @@ pub fn run_shared<'a>(
 ) -> Answer
     ensures { λ r. ⌜ sharedRunReply (now (job .entry)) (record { x = now (x .entry); z = now (z .entry); deltas = now (deltas .entry); totals = now (totals .entry); source = record { noiseless = now (noiseless .entry); main = now (main .entry); second = now (second .entry); base = base } }) (record { shares = now (shares .entry); marks = now (marks .entry); caller = caller }) ≡ record { reply = record { answered = r; x = now (x .exit); z = now (z .exit); deltas = now (deltas .exit); totals = now (totals .exit) }; marks = now (marks .exit) } ⌝ }
 {
-    let tested = runner::tested(
+    let tested = job_shape::lent_words::tested(
         job,
         Lengths {
             x: x.len(),

@@ -16,7 +16,7 @@ use Rattle.shots.specs.declared.ShotDraw.the-variants as draw
 use Rattle.shots.specs.declared.NextFault.{NextFault}
 use Rattle.shots.specs.declared.NextFault.the-variants as next
 use Rattle.noise.specs.Kinds.{Represents}
-use Rattle.noise.specs.Scan.{thresholdOf}
+use Rattle.fault_scan.specs.Scan.{thresholdOf}
 use Rattle.choice.specs.Choice.{Sized}
 use Rattle.noise.specs.Condition.{Masks}
 

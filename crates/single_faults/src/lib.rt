@@ -1,2 +1,1 @@
-// The table of single faults: definitions and theorems. A crate needs a function: this is it.
-pub fn nothing() {}
+// The table of single faults: definitions and theorems.

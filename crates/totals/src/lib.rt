@@ -86,7 +86,7 @@ pub fn flip_counted(rows: &mut [u64], totals: &mut [u64], shape: Shape, r: usize
 {
     let was = (rows[r * shape.width + s / WORD_BITS] >> (s % WORD_BITS)) % 2;
     totals[r] = totals[r] + 1 - 2 * was;
-    rows::flip_bit(rows, shape.width, r, s);
+    row_loops::flip_bit(rows, shape.width, r, s);
 }
 
 // The sum modulo 2 of the listed outcomes' deltas in a shot, where a row has w words. Whole words are added, and the shot's bit is taken at the end.

@@ -26,7 +26,7 @@ fn add_row_if(dst: &mut [u64], w: usize, q: usize, src: &[u64], i: usize, on: bo
     if !on {
         return;
     }
-    rows::xor_words(dst, q * w, src, i * w, w);
+    row_loops::xor_words(dst, q * w, src, i * w, w);
 }
 
 // Adds row r of the table on the operands in the shots of saved row r.
@@ -86,10 +86,10 @@ pub fn apply_clifford(
     requires { ⌜ ((length (now qubits) + length (now qubits)) * shape .width ≤ length (now scratch)) × (length (now x) ≡ shape .qubits * shape .width) × (length (now z) ≡ shape .qubits * shape .width) × TableFor (length (now qubits)) (now table) × (allBelow (shape .qubits) (now qubits) ≡ true) ⌝ }
     ensures { λ _. ⌜ ((m : ℕ) (d : List ℕ) → Acts (shape .width) (lineRule (shape .qubits) m (Line.clifford (now (qubits .entry)) (tableOf (now (table .entry))))) (now (x .entry)) (now (z .entry)) d (now (x .exit)) (now (z .exit)) d) ⌝ }
 {
-    rows::save_listed(&mut *scratch, 0, x, shape.width, qubits);
-    rows::save_listed(&mut *scratch, qubits.len(), z, shape.width, qubits);
-    rows::clear_listed(x, shape.width, qubits);
-    rows::clear_listed(z, shape.width, qubits);
+    row_loops::save_listed(&mut *scratch, 0, x, shape.width, qubits);
+    row_loops::save_listed(&mut *scratch, qubits.len(), z, shape.width, qubits);
+    row_loops::clear_listed(x, shape.width, qubits);
+    row_loops::clear_listed(z, shape.width, qubits);
     add_images(x, z, shape, qubits, table, scratch);
 }
 
@@ -105,7 +105,7 @@ fn add_to_places(rows: &mut [u64], shape: Shape, places: &[u64], qubits: &[u64],
     while i < places.len() {
         let place = places[i] as usize;
         let q = qubits[place] as usize;
-        rows::xor_words(rows, q * w, saved, i * w, w);
+        row_loops::xor_words(rows, q * w, saved, i * w, w);
         i += 1;
     }
 }
@@ -115,8 +115,8 @@ fn permute_rows(rows: &mut [u64], shape: Shape, places: &[u64], qubits: &[u64], 
     requires { ⌜ (length (now rows) ≡ shape .qubits * shape .width) × (allBelow (shape .qubits) (now qubits) ≡ true) × (isPermutation (length (now qubits)) (now places) ≡ true) × (length (now qubits) * shape .width ≤ length (now saved)) ⌝ }
     ensures { λ _. ⌜ RowsPermuted (shape .width) (now (places .entry)) (now (qubits .entry)) (now (rows .entry)) (now (rows .exit)) ⌝ }
 {
-    rows::save_listed(&mut *saved, 0, rows, shape.width, qubits);
-    rows::clear_listed(rows, shape.width, qubits);
+    row_loops::save_listed(&mut *saved, 0, rows, shape.width, qubits);
+    row_loops::clear_listed(rows, shape.width, qubits);
     add_to_places(rows, shape, places, qubits, saved);
 }
 

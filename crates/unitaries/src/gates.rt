@@ -20,7 +20,7 @@ pub fn apply_h(x: &mut [u64], z: &mut [u64], shape: Shape, qubit: QubitId)
     ensures { λ _. ⌜ ((d : List ℕ) → Acts (shape .width) (λ s. onFrame (swapXZ (qubit .0))) (now (x .entry)) (now (z .entry)) d (now (x .exit)) (now (z .exit)) d) ⌝ }
 {
     let q = qubit.0;
-    rows::swap_words(x, z, q * shape.width, shape.width);
+    row_loops::swap_words(x, z, q * shape.width, shape.width);
 }
 
 // SqrtZ adds X to Z.
@@ -29,7 +29,7 @@ pub fn apply_s(x: &[u64], z: &mut [u64], shape: Shape, qubit: QubitId)
     ensures { λ _. ⌜ ((d : List ℕ) → Acts (shape .width) (λ s. onFrame (addXtoZ (qubit .0))) (now (x .entry)) (now (z .entry)) d (now (x .entry)) (now (z .exit)) d) ⌝ }
 {
     let q = qubit.0;
-    rows::xor_words(z, q * shape.width, x, q * shape.width, shape.width);
+    row_loops::xor_words(z, q * shape.width, x, q * shape.width, shape.width);
 }
 
 // SqrtX adds Z to X.
@@ -38,7 +38,7 @@ pub fn apply_sqrt_x(x: &mut [u64], z: &[u64], shape: Shape, qubit: QubitId)
     ensures { λ _. ⌜ ((d : List ℕ) → Acts (shape .width) (λ s. onFrame (addZtoX (qubit .0))) (now (x .entry)) (now (z .entry)) d (now (x .exit)) (now (z .entry)) d) ⌝ }
 {
     let q = qubit.0;
-    rows::xor_words(x, q * shape.width, z, q * shape.width, shape.width);
+    row_loops::xor_words(x, q * shape.width, z, q * shape.width, shape.width);
 }
 
 // ControlledX adds control X to target X, target Z to control Z.
@@ -48,8 +48,8 @@ pub fn apply_cnot(x: &mut [u64], z: &mut [u64], shape: Shape, control: QubitId, 
 {
     let control_row = control.0;
     let target_row = target.0;
-    rows::add_row(x, shape.width, target_row, control_row);
-    rows::add_row(z, shape.width, control_row, target_row);
+    row_loops::add_row(x, shape.width, target_row, control_row);
+    row_loops::add_row(z, shape.width, control_row, target_row);
 }
 
 // ControlledZ adds each X to the other's Z.
@@ -59,14 +59,14 @@ pub fn apply_cz(x: &[u64], z: &mut [u64], shape: Shape, first: QubitId, second: 
 {
     let first_row = first.0;
     let second_row = second.0;
-    rows::xor_words(
+    row_loops::xor_words(
         z,
         second_row * shape.width,
         x,
         first_row * shape.width,
         shape.width,
     );
-    rows::xor_words(
+    row_loops::xor_words(
         z,
         first_row * shape.width,
         x,
@@ -92,8 +92,8 @@ pub fn apply_swap(x: &mut [u64], z: &mut [u64], shape: Shape, first: QubitId, se
 {
     let first_row = first.0;
     let second_row = second.0;
-    rows::swap_rows(x, shape.width, first_row, second_row);
-    rows::swap_rows(z, shape.width, first_row, second_row);
+    row_loops::swap_rows(x, shape.width, first_row, second_row);
+    row_loops::swap_rows(z, shape.width, first_row, second_row);
 }
 
 // The operand at place i.

@@ -13,7 +13,7 @@ use Rattle.job.specs.Job.{gathered, jobOf}
 use Rattle.frames.specs.Forward.{settingOf}
 use Rattle.backward.specs.Walk.{Walk, walkBack, walk}
 use Rattle.backward.specs.Walking.{firstNoise, plainLines}
-use Rattle.carry.specs.Full.{full}
+use Rattle.lines_back.specs.Full.{full}
 use Rattle.lines_back.specs.declared.Walk.{Walk as WalkWords}
 use Rattle.lines_from_last.specs.Line.{OfJob, LinesLeft}
 use Rattle.lines_back.specs.Back.{walkOf, writtenBack, noiseBack}

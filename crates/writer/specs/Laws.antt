@@ -3,6 +3,4 @@ pub mod Placing
 pub mod Digits
 pub mod Lists
 pub mod Lengths
-pub mod Line
-pub mod Lines
 pub mod Fits

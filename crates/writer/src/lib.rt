@@ -15,8 +15,6 @@ use job::Answer;
 use job::limits::MAX_BYTES;
 
 pub mod lengths;
-pub mod line;
-pub mod noise_lines;
 
 // What a call that writes text says: its answer, and its byte figure.
 #[repr(C)]

@@ -20,13 +20,13 @@ use Rattle.instructions.specs.Lines.{Left, numbered}
 use Rattle.instructions.specs.Laws.Lines.{Passed, left-all, here, line-read, left-more, numbered-some}
 use Rattle.instructions.specs.Laws.Places.{whole-line}
 use Rattle.writer.specs.Placed.{Puts}
-use Rattle.writer.specs.Line.{depolarizingStart, depolarizingText, StartOf}
+use Rattle.line_writer.specs.Line.{depolarizingStart, depolarizingText, StartOf}
 use Rattle.writer.specs.Laws.Placing.{placed-over, puts-length, Rest, rest-all, rest-more, rest-none}
-use Rattle.writer.specs.Laws.Lines.{start-length, depolarizing-next}
+use Rattle.line_writer.specs.Laws.Lines.{start-length, depolarizing-next}
 use Rattle.circuit.specs.Annotate.{noiseText, noiseLines, annotated, annotatedText, noiseOn, firstUnfit}
-use Rattle.line_qubits.specs.Qubits.{NoiseQubits}
+use Rattle.annotation.specs.Qubits.{NoiseQubits}
 use Rattle.annotation.specs.Lines.{beforeIt, aroundText, Annotates}
-use Rattle.line_qubits.specs.Laws.Merging.{part-few}
+use Rattle.annotation.specs.Laws.Merging.{part-few}
 use Rattle.annotation.specs.Laws.Around.{annotated-line, unfit-here, unfit-later}
 
 -- ---- the noise of one line

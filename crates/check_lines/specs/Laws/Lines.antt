@@ -1,4 +1,4 @@
--- The tests of the header and of a line of each form, by its values. Laws. Assumes nothing.
+-- The tests of the header and of each form but noise and elements, by the values of a line. Laws. Assumes nothing.
 use Prim.Native.Nat.{ℕ, _≤_, _<_}
 use native.Mathlib.Omega.{arith}
 use mathlib.Core.Path.{_≡_, refl, sym, ap, ap₂, subst, _∙_}

@@ -27,11 +27,11 @@ use Rattle.noise.specs.Laws.Position.{main-after, main-stays, main-spent, posit
 use Rattle.faults.specs.Elements.{AllInside}
 use Rattle.faults.specs.declared.Prepared.{Prepared}
 use Rattle.faults.specs.Prepared.{NoiseLines, noiseIn, PreparedAs}
-use Rattle.injection.specs.declared.Drawn.{Drawn}
-use Rattle.injection.specs.declared.Drawn.the-variants as drawn
-use Rattle.injection.specs.Holds.{Holds}
-use Rattle.injection.specs.Injected.{LineReady, FaultsReady, executedAs, placeOf, Injected, FaultsInjected}
-use Rattle.injection.specs.Laws.Holds.{holds-some}
+use Rattle.execution.specs.declared.injection.Drawn.{Drawn}
+use Rattle.execution.specs.declared.injection.Drawn.the-variants as drawn
+use Rattle.execution.specs.Holds.{Holds}
+use Rattle.execution.specs.Injected.{LineReady, FaultsReady, executedAs, placeOf, Injected, FaultsInjected}
+use Rattle.execution.specs.Laws.Holds.{holds-some}
 use Rattle.execution.specs.declared.Moved.{Moved}
 use Rattle.execution.specs.declared.Moved.the-variants.{To, Spent}
 use Rattle.execution.specs.Steps.{headerOf, lentBy, Ending, endingOf, EndsBy, EndsAs, NoiseReady, NoiseRoom, NoiseDone}

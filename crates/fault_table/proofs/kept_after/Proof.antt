@@ -3,7 +3,7 @@ use types.Run.{miss}
 use native.Mathlib.Omega.{arith}
 use mathlib.Core.List.{[], _∷_}
 use Rattle.instructions.specs.Laws.Meaning.{othersThan}
-use Rattle.noise_rows.specs.Laws.Keeping.{an-element, a-weighted-element}
+use Rattle.fault_table.specs.Laws.Keeping.{an-element, a-weighted-element}
 use Rattle.fault_table.specs.Laws.Kept.{element-kept, header-kept, edition-kept, none-kept}
 use borrow.Author.Needs.{needs}
 use Rattle.fault_table.proofs.kept_after.Statement.{statement}

@@ -27,18 +27,18 @@ use Rattle.draws.specs.Draws.{elementAt}
 use Rattle.draws.specs.Laws.SettledText.{element-sound}
 use Rattle.backward.specs.Walk.{Carried, Walk, backward, walkBack, walk}
 use Rattle.backward.specs.Walking.{lineFirst, plainLines}
-use Rattle.carry.specs.Laws.Same.{anti-left, same-backward}
+use Rattle.lines_back.specs.Laws.Same.{anti-left, same-backward}
 use Rattle.lines_from_last.specs.Line.{LineBefore, LinesLeft}
 use Rattle.lines_from_last.specs.Laws.Left.{all-left, one-done, left-known, gathered-more, none-left}
 use Rattle.lines_back.specs.Back.{Readable}
 use Rattle.single_faults.specs.Carried.{rowsBy, markBy, carriedTo, carriedMarks, carriedRowsOf, carriedRows}
-use Rattle.groups.specs.Lent.{allCarried, startOf}
-use Rattle.groups_back.specs.Back.{carriedBy, GroupsBack}
-use Rattle.fault_rows.specs.Rows.{rowsBytes, RowsBefore}
-use Rattle.fault_rows.specs.Laws.Putting.{rows-length}
-use Rattle.noise_rows.specs.Said.{sizeSaid, marksOf, KeptFor, elementsWith, ElementKnown, rowsSaid, NoiseFits, RowsReady}
-use Rattle.noise_rows.specs.Laws.Keeping.{marks-long}
-use Rattle.noise_rows.specs.Laws.Kinds.{rows-same}
+use Rattle.fault_table.specs.Lent.{allCarried, startOf}
+use Rattle.fault_table.specs.Back.{carriedBy, GroupsBack}
+use Rattle.fault_table.specs.Rows.{rowsBytes, RowsBefore}
+use Rattle.fault_table.specs.Laws.Putting.{rows-length}
+use Rattle.fault_table.specs.Said.{sizeSaid, marksOf, KeptFor, elementsWith, ElementKnown, rowsSaid, NoiseFits, RowsReady}
+use Rattle.fault_table.specs.Laws.Keeping.{marks-long}
+use Rattle.fault_table.specs.Laws.Kinds.{rows-same}
 use Rattle.fault_table.specs.Table.{tableBytes, keptAfter, TableReady}
 use Rattle.fault_table.specs.Laws.Measuring.{all-at}
 use Rattle.fault_table.specs.Laws.Lines.{said-bytes, bytes-append, pauli-more, noise-there, noise-fits}

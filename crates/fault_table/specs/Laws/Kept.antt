@@ -11,7 +11,7 @@ use Rattle.reader.specs.declared.Form.{Form}
 use Rattle.reader.specs.declared.Form.the-variants as form
 use Rattle.reader.specs.Parsed.{placeOf, formOf}
 use Rattle.instructions.specs.Laws.Meaning.{some-same, Meaning, meaning}
-use Rattle.noise_rows.specs.Said.{isElement}
+use Rattle.fault_table.specs.Said.{isElement}
 use Rattle.fault_table.specs.Table.{keptAfter}
 
 pub element-kept : (n : ℕ) (w : Written) → true ≡ isElement w → n + 1 ≡ keptAfter w n

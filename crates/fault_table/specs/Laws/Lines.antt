@@ -16,9 +16,9 @@ use Rattle.job.specs.Theorems.{checked-sound}
 use Rattle.job.specs.Laws.Lists.{below-more}
 use Rattle.draws.specs.Laws.Before.{instruction-behind}
 use Rattle.single_faults.specs.Table.{isWide, wideFirst, firstWide}
-use Rattle.fault_rows.specs.Rows.{rowsBytes}
-use Rattle.noise_rows.specs.Said.{wideKind, wideSaid, sizeSaid, NoiseFits}
-use Rattle.noise_rows.specs.Laws.Kinds.{few-elements}
+use Rattle.fault_table.specs.Rows.{rowsBytes}
+use Rattle.fault_table.specs.Said.{wideKind, wideSaid, sizeSaid, NoiseFits}
+use Rattle.fault_table.specs.Laws.Kinds.{few-elements}
 use Rattle.fault_table.specs.Table.{instructionBytes, tableBytes}
 
 -- ---- a line in front of others

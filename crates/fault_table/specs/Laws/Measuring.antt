@@ -23,9 +23,9 @@ use Rattle.instructions.specs.Laws.Meaning.{Meaning, meaning}
 use Rattle.instructions.specs.Laws.Lines.{numbered-some, here, line-read, left-all, left-more}
 use Rattle.lines_back.specs.Laws.Forms.{noise-written}
 use Rattle.single_faults.specs.Table.{firstWide}
-use Rattle.fault_rows.specs.Rows.{rowsBytes}
-use Rattle.fault_rows.specs.Laws.Putting.{rows-small}
-use Rattle.noise_rows.specs.Said.{wideSaid, sizeSaid}
+use Rattle.fault_table.specs.Rows.{rowsBytes}
+use Rattle.fault_table.specs.Laws.Putting.{rows-small}
+use Rattle.fault_table.specs.Said.{wideSaid, sizeSaid}
 use Rattle.fault_table.specs.Table.{tableBytes, Measures}
 use Rattle.fault_table.specs.Laws.Lines.{said-bytes, said-wide, said-split, noise-small}
 

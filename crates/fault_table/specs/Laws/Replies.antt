@@ -30,10 +30,10 @@ use Rattle.single_faults.specs.Groups.{Groups, groupsOf, allRecorded}
 use Rattle.single_faults.specs.Table.{firstWide, tableText, tableAnswer, groupsAnswer, tableReply}
 use Rattle.single_faults.specs.Laws.Rows.{table-rows}
 use Rattle.single_faults.specs.Carried.{markBy, carriedTo, carriedMarks, carriedRowsOf, carriedRows}
-use Rattle.groups.specs.declared.Tested.the-variants as tested
-use Rattle.groups.specs.Lent.{groupingOf, allCarried, startOf, Startable}
-use Rattle.fault_rows.specs.Rows.{rowsBytes}
-use Rattle.fault_rows.specs.Laws.Putting.{rows-length}
+use Rattle.fault_table.specs.declared.groups.Tested.the-variants as tested
+use Rattle.fault_table.specs.Lent.{groupingOf, allCarried, startOf, Startable}
+use Rattle.fault_table.specs.Rows.{rowsBytes}
+use Rattle.fault_table.specs.Laws.Putting.{rows-length}
 use Rattle.fault_table.specs.declared.Measured.{Measured}
 use Rattle.fault_table.specs.Table.{instructionBytes, tableBytes, Measures, Grouped, TableReady}
 

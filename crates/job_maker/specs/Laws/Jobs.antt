@@ -14,8 +14,8 @@ use Rattle.text.specs.Laws.Written.{unlines-append}
 use Rattle.job.specs.declared.Header.{Header}
 use Rattle.job.specs.Sound.{HeaderSound}
 use Rattle.writer.specs.Placed.{Puts}
-use Rattle.writer.specs.Line.{isList, valuesIn, Lent}
-use Rattle.writer.specs.Laws.Lines.{line-length, numbers-lent}
+use Rattle.line_writer.specs.Line.{isList, valuesIn, Lent}
+use Rattle.line_writer.specs.Laws.Lines.{line-length, numbers-lent}
 use Rattle.writer.specs.Laws.Placing.{puts-more, Rest, rest-all, rest-more, rest-none}
 use Rattle.made.specs.Making.{instruction}
 use Rattle.made.specs.Made.{headerText, madeTexts}

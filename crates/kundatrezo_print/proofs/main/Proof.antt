@@ -2,7 +2,7 @@
 use mathlib.Core.Path.{sym}
 use native.Mathlib.Omega.{arith}
 use lib.Seq.{length-take-le}
-use Rattle.printing.specs.Laws.Length.{printed-next}
+use Rattle.kundatrezo_print.specs.Laws.Length.{printed-next}
 use borrow.Author.Needs.{needs}
 use Rattle.kundatrezo_print.proofs.main.Statement.{statement}
 use Rattle.kundatrezo_print.proofs.main.Tie as tie

@@ -21,7 +21,7 @@ use Rattle.instructions.specs.Laws.Meaning.{some-same, unitary-said, clifford-s
 use Rattle.frames.specs.Forward.{Setting}
 use Rattle.backward.specs.Walk.{carry, counts, Walk, oneMore, backward}
 use Rattle.instructions.specs.Laws.Read.{Idle}
-use Rattle.carry.specs.Full.{full}
+use Rattle.lines_back.specs.Full.{full}
 use Rattle.lines_back.specs.declared.Walk.{Walk as WalkWords}
 use Rattle.lines_back.specs.Back.{HeldLine, Back, Readable, walkOf, writtenBack, noiseBack, LineBack}
 

@@ -23,7 +23,7 @@ use Rattle.frames.specs.Forward.{exponentiate, controlledPauli, imagesOf}
 use Rattle.backward.specs.Walk.{cliffordBack, permuteBack, carry, counts}
 use Rattle.instructions.specs.Plain.{heldPauli}
 use Rattle.instructions.specs.Laws.Read.{unitary-read, clifford-read, exponential-read, controlled-read, permute-read, measure-read, conditional-read, reset-read, inject-read, flip-read}
-use Rattle.carry.specs.Full.{full}
+use Rattle.lines_back.specs.Full.{full}
 use Rattle.lines_back.specs.Back.{HeldLine, carriedOf, Back}
 
 -- the lists of a Pauli on at most 256 qubits

@@ -12,9 +12,9 @@ use Rattle.writer.specs.Laws.Placing.{puts-more}
 use Rattle.writer.specs.Laws.Lists.{decimal-length, list-length}
 use Rattle.job.specs.Line.{SparsePauli}
 use Rattle.made.specs.Choice.{Chosen, given, _>>=_, few, pauli}
-use Rattle.choices.specs.declared.Number.{Number}
-use Rattle.choices.specs.declared.Numbers.{Numbers}
-use Rattle.choices.specs.Chosen.{NumberIs, ListIs}
+use Rattle.made_fields.specs.declared.choices.Number.{Number}
+use Rattle.made_fields.specs.declared.choices.Numbers.{Numbers}
+use Rattle.made_fields.specs.Chosen.{NumberIs, ListIs}
 use Rattle.made_fields.specs.declared.Making.{Making}
 use Rattle.made_fields.specs.Lines.{FieldIs, PartIs, PauliIs, MadeIs}
 

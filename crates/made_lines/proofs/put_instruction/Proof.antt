@@ -1,6 +1,6 @@
 -- `made_lines::put_instruction` meets its contract. Assumes nothing.
 use native.Mathlib.Omega.{arith}
-use Rattle.choices.specs.Laws.Made.{pick-below}
+use Rattle.made_fields.specs.Laws.Made.{pick-below}
 use Rattle.made_lines.specs.Laws.Standing.{ring-some, kind-ready, instruction-made}
 use borrow.Author.Needs.{needs}
 use Rattle.made_lines.proofs.put_instruction.Statement.{statement}

@@ -11,8 +11,8 @@ use lib.ListN.{length, getD, drop}
 use Rattle.job.specs.declared.Header.{Header}
 use Rattle.made.specs.Choice.{_>>=_, pick}
 use Rattle.made.specs.Making.{Entry, alwaysStands, unitary, barrier, ring, firstStanding, instruction}
-use Rattle.choices.specs.declared.Number.{Number}
-use Rattle.choices.specs.Chosen.{NumberIs}
+use Rattle.made_fields.specs.declared.choices.Number.{Number}
+use Rattle.made_fields.specs.Chosen.{NumberIs}
 use Rattle.made_fields.specs.declared.Making.{Making}
 use Rattle.made_fields.specs.Lines.{MadeIs, Ready}
 use Rattle.made_lines.specs.Ring.{entryAt, Stands, StandsFor}

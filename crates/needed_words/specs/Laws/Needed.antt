@@ -13,10 +13,11 @@ use Rattle.rows.specs.Overwrite.{cleared}
 use Rattle.rows.specs.Laws.Pack.{cleared-all}
 use Rattle.totals.specs.Held.{TotalsHeld}
 use Rattle.totals.specs.Laws.Held.{held-zeros}
-use Rattle.injection.specs.Holds.{Holds}
-use Rattle.injection.specs.Laws.Holds.{holds-starts}
-use Rattle.execution.specs.declared.Answered.{Answered}
-use Rattle.execution.specs.Steps.{headerOf, lentBy, RowsFor, Finished}
+use Rattle.execution.specs.Holds.{Holds}
+use Rattle.execution.specs.Laws.Holds.{holds-starts}
+use Rattle.needed_words.specs.declared.Answered.{Answered}
+use Rattle.execution.specs.Steps.{headerOf, lentBy, RowsFor}
+use Rattle.needed_words.specs.Executed.{Finished}
 use Rattle.run.specs.Run.{Source, lentOf}
 use Rattle.needed_words.specs.Needed.{NeededReady, NeededRun}
 use Rattle.needed_words.specs.Laws.Padding.{past-shots}

@@ -13,7 +13,7 @@ use Rattle.job.specs.Line.{Distribution, sizeOf, Noise, Instruction}
 use Rattle.job.specs.Float.{float, zeroFloat}
 use Rattle.writer.specs.Placed.{Puts}
 use Rattle.writer.specs.Laws.Placing.{puts-nothing, puts-more}
-use Rattle.writer.specs.Laws.Lines.{inject-next}
+use Rattle.line_writer.specs.Laws.Lines.{inject-next}
 use Rattle.draws.specs.Draws.{elementAt, Lent, Fault, Draws, alsoFault, drawShots, drawLine, partOf, mainAfter}
 use Rattle.draws.specs.Settle.{SettledLine, injectText, injection, Step, noiseStep, stepOf}
 use Rattle.draws.specs.Left.{spentOn, leftSpent}

@@ -6,7 +6,7 @@ use native.Mathlib.Nat.{add-zero}
 use native.Mathlib.Omega.{arith}
 use lib.ListN.{length, getD, take, drop, length-append, length-drop}
 use lib.Seq.{take-at, drop-at, take-append-le, take-take, take-add, drop-drop, getD-take, getD-drop, length-take-le}
-use Rattle.writer.specs.Line.{PauliLent}
+use Rattle.line_writer.specs.Line.{PauliLent}
 use Rattle.faults.specs.Elements.{xCount, zCount, xMembers, zMembers, elementX, elementZ, elementCounts, elementMembers}
 use Rattle.noise_text.specs.Elements.{Kept}
 

@@ -1,6 +1,7 @@
 -- `runner::run_tested` meets its contract.
-use Rattle.runner.specs.Laws.Passed.{range, passed-at, needed-ready, needed-reply, row-words}
-use Rattle.runner.specs.Laws.Replies.{enough-words, same-test}
+use Rattle.runner.specs.Laws.Passed.{passed-at, needed-ready, needed-reply}
+use Rattle.runner.specs.Laws.Replies.{same-test}
+use Rattle.job_shape.specs.Laws.Enough.{range, row-words, enough-words}
 use lib.Seq.{length-take-le}
 use mathlib.Core.Path.{sym, _∙_}
 use native.Mathlib.Omega.{arith}

@@ -2,9 +2,7 @@
 use mathlib.Core.Path.{_≡_, refl, sym, ap, subst, _∙_}
 use mathlib.Core.Bool.{Bool, true, false}
 use mathlib.Core.List.{List, [], _++_, append-nil}
-use Prim.Native.Nat.{ℕ, _+_, _*_, _/_, _^_, _≤_, _<_}
-use native.Mathlib.Nat.{mul-le-mul}
-use native.Mathlib.Omega.{arith}
+use Prim.Native.Nat.{ℕ, _≤_}
 use lib.ListN.{length, drop}
 use lib.Dec.{eqb}
 use borrow.Author.Tests.{eqb-true, eqb-false}
@@ -12,7 +10,7 @@ use Rattle.job.specs.declared.Header.{Header}
 use Rattle.job.specs.declared.Answer.{Answer}
 use Rattle.job.specs.Grammar.{headerWith}
 use Rattle.job.specs.Job.{answer, jobOf, checkJob}
-use Rattle.job.specs.Sound.{InstructionsSound, HeaderSound}
+use Rattle.job.specs.Sound.{InstructionsSound}
 use Rattle.job.specs.Theorems.{checked-sound}
 use Rattle.instructions.specs.Ahead.{instructionsAt, Ahead}
 use Rattle.job_shape.specs.declared.Tested.{Tested}
@@ -20,12 +18,12 @@ use Rattle.job_shape.specs.Tested.{testedAnswer, Tests}
 use Rattle.job_shape.specs.Header.{behindHeader}
 use Rattle.rows.specs.Shape.{shapeOf}
 use Rattle.run.specs.Run.{Memory, frameWords, outcomeWords, enoughWords, untouched, runReply}
-use Rattle.execution.specs.declared.Answered.{Answered}
+use Rattle.needed_words.specs.declared.Answered.{Answered}
 use Rattle.execution.specs.Steps.{headerOf}
 use Rattle.needed_words.specs.Needed.{NeededReady, NeededRun}
 use Rattle.job_shape.specs.Laws.Tested.{passed-both}
 use Rattle.job_shape.specs.Laws.Header.{header-started}
-use Rattle.runner.specs.Enough.{enoughLent}
+use Rattle.job_shape.specs.Enough.{enoughLent}
 use Rattle.runner.specs.Ran.{RunReady, RanTo}
 use Rattle.runner.specs.Laws.Replies.{run-refused, run-short, run-enough, needed-over, lengthsOf, same-test}
 
@@ -38,9 +36,6 @@ pub record Passed (job : List ℕ) (h : Header) (from : ℕ) : Type 0 where
   pub sound : InstructionsSound h 0 (instructionsAt job 2 from)
 
 module _ (job : List ℕ) (passes : checkJob job .number ≡ 0) where
-  pub range : HeaderSound (jobOf job .header)
-  range = checked-sound job passes .header
-
   pub passed-at : {from : ℕ} → from ≡ behindHeader job → Passed job (jobOf job .header) from
   passed-at found =
       let begun = header-started job passes in
@@ -123,10 +118,3 @@ pub ran-alone : (job : List ℕ) (m : Memory) {x z d totals : List ℕ} {r : Ans
     }) x z d totals r
     → runReply job m ≡ record { answered = r .answer; x = x; z = z; deltas = d; totals = totals }
 ran-alone job m none e ran = rw (e, append-nil (m .source .main)) at (ran .is)
-
--- ---- products fit a word
-
-pub row-words : (rows shots : ℕ) → rows ≤ 1024 → shots ≤ 4096 → rows * ((shots + 63) / 64) < 2 ^ 64
-row-words rows shots few short =
-    let w : (shots + 63) / 64 ≤ 64 = omega arith in
-    omega (arith, mul-le-mul few w)

@@ -2,20 +2,17 @@
 use mathlib.Core.Path.{_≡_, refl}
 use mathlib.Core.Bool.{true, false}
 use mathlib.Core.List.{List, _++_}
-use Prim.Native.Nat.{ℕ, _*_, _≤_, _<_}
-use lib.Dec.{leb}
+use Prim.Native.Nat.{ℕ}
 use lib.ListN.{length, length-replicate, drop}
-use borrow.Author.Tests.{eq-eqb, ne-eqb, leb-true, le-leb, lt-leb}
-use Rattle.text.specs.Laws.Values.{both}
+use borrow.Author.Tests.{eq-eqb, ne-eqb}
 use Rattle.job.specs.declared.Header.{Header}
 use Rattle.job.specs.Job.{answer, jobOf, checkJob}
 use Rattle.draws.specs.Execute.{starts, Ended, execute}
 use Rattle.rows.specs.Laws.Pack.{length-tabulated, length-pack}
 use Rattle.run.specs.Run.{Memory, frameWords, outcomeWords, enoughWords, lentOf, untouched, spentReply, flipTotals, finishedReply, endedReply, runReply}
 use Rattle.needed_words.specs.Needed.{neededReply}
-use Rattle.rows.specs.declared.Shape.{Shape}
-use Rattle.runner.specs.declared.Lengths.{Lengths}
-use Rattle.runner.specs.Enough.{suffice, enoughLent}
+use Rattle.job_shape.specs.declared.lent_words.Lengths.{Lengths}
+use Rattle.job_shape.specs.Enough.{suffice, enoughLent}
 
 -- ---- needed words in front of the others
 
@@ -51,54 +48,6 @@ module _ (job : List ℕ) (m : Memory) where
     run-enough e = rw (eq-eqb (checkJob job .number) 0 passed, e)
 
 -- ---- 13
-
-pub record Enough (shape : Shape) (lent : Lengths) : Type 0 where
-  pub of-x : shape .qubits * shape .width ≤ lent .x
-  pub of-z : shape .qubits * shape .width ≤ lent .z
-  pub of-deltas : shape .outcomes * shape .width ≤ lent .deltas
-  pub of-totals : shape .outcomes ≤ lent .totals
-  pub of-noiseless : shape .outcomes * shape .width ≤ lent .noiseless
-
-pub enough-words : {shape : Shape} {lent : Lengths} → suffice shape lent ≡ true → Enough shape lent
-unfolding suffice
-enough-words {shape} {lent} e =
-    let frame = shape .qubits * shape .width in
-    let outcomes = shape .outcomes * shape .width in
-    let (four, n) = both _ (leb outcomes (lent .noiseless)) e in
-    let (three, t) = both _ (leb (shape .outcomes) (lent .totals)) four in
-    let (two, d) = both _ (leb outcomes (lent .deltas)) three in
-    let (a, b) = both (leb frame (lent .x)) (leb frame (lent .z)) two in
-    record {
-      of-x = leb-true frame (lent .x) a;
-      of-z = leb-true frame (lent .z) b;
-      of-deltas = leb-true outcomes (lent .deltas) d;
-      of-totals = leb-true (shape .outcomes) (lent .totals) t;
-      of-noiseless = leb-true outcomes (lent .noiseless) n;
-    }
-
-module _ (shape : Shape) (lent : Lengths) where
-  pub short-x : lent .x < shape .qubits * shape .width → false ≡ suffice shape lent
-  unfolding suffice
-  short-x e = rw (lt-leb _ (lent .x) e)
-
-  module _ (hx : shape .qubits * shape .width ≤ lent .x) where
-    pub short-z : lent .z < shape .qubits * shape .width → false ≡ suffice shape lent
-    unfolding suffice
-    short-z e = rw (le-leb _ (lent .x) hx, lt-leb _ (lent .z) e)
-
-    module _ (hz : shape .qubits * shape .width ≤ lent .z) where
-      pub short-deltas : lent .deltas < shape .outcomes * shape .width → false ≡ suffice shape lent
-      unfolding suffice
-      short-deltas e = rw (le-leb _ (lent .x) hx, le-leb _ (lent .z) hz, lt-leb _ (lent .deltas) e)
-
-      module _ (hd : shape .outcomes * shape .width ≤ lent .deltas) where
-        pub short-totals : lent .totals < shape .outcomes → false ≡ suffice shape lent
-        unfolding suffice
-        short-totals e = rw (le-leb _ (lent .x) hx, le-leb _ (lent .z) hz, le-leb _ (lent .deltas) hd, lt-leb _ (lent .totals) e)
-
-        pub by-noiseless : shape .outcomes ≤ lent .totals → leb (shape .outcomes * shape .width) (lent .noiseless) ≡ suffice shape lent
-        unfolding suffice
-        by-noiseless e = rw (le-leb _ (lent .x) hx, le-leb _ (lent .z) hz, le-leb _ (lent .deltas) hd, le-leb _ (lent .totals) e)
 
 -- the lengths of what a run is lent
 abbrev pub lengthsOf : Memory → Lengths

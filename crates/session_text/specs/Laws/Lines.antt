@@ -17,8 +17,8 @@ use Rattle.rows.specs.Words.{wordsPerRow, bitIn}
 use Rattle.session.specs.Session.{refusalLines, bitText, deltaLines}
 use Rattle.writer.specs.Placed.{Puts}
 use Rattle.writer.specs.Laws.Placing.{Rest, rest-all, rest-more, rest-none}
-use Rattle.writer.specs.Line.{isList, valuesIn, Lent}
-use Rattle.writer.specs.Laws.Lines.{line-length, numbers-lent}
+use Rattle.line_writer.specs.Line.{isList, valuesIn, Lent}
+use Rattle.line_writer.specs.Laws.Lines.{line-length, numbers-lent}
 use Rattle.session_text.specs.Lines.{headerText, deltaText}
 
 -- ---- the lines

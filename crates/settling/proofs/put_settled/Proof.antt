@@ -1,8 +1,8 @@
 -- `settling::put_settled` meets its contract. The invariant: behind the header some lines are put, and the others come from the instructions from
 -- here on. Assumes nothing.
-use Rattle.instruction_text.specs.Laws.Pass.{moved-spent, moved-to}
+use Rattle.settling.specs.Laws.Instruction.{moved-spent, moved-to}
 use Rattle.settling.specs.Laws.Pass.{Going, fits-sizes, header-at, header-put, pass-begins, pass-on, pass-spent, pass-done}
-use Rattle.instruction_text.specs.Pass.{passOf}
+use Rattle.settling.specs.Pass.{passOf}
 use lib.Seq.{length-take-le}
 use lib.ListN.{length, length-take}
 use Prim.Native.Nat.{_+_, _-_}

@@ -17,10 +17,10 @@ use Rattle.writer.specs.Placed.{Puts}
 use Rattle.writer.specs.Laws.Placing.{puts-nothing, puts-more}
 use Rattle.draws.specs.Left.{leftAfter}
 use Rattle.draws.specs.Settle.{SettledLine, Settled, prefixed, settle, settledText}
-use Rattle.instruction_text.specs.declared.Reached.{Reached}
+use Rattle.settling.specs.declared.instruction_text.Reached.{Reached}
 use Rattle.settling.specs.declared.TextLength.the-variants as text-length
 use Rattle.noise_text.specs.Injections.{textOf}
-use Rattle.instruction_text.specs.Pass.{Pass, lentBy, settledFrom, leftFrom, Between, Onward, SpentHere}
+use Rattle.settling.specs.Pass.{Pass, lentBy, settledFrom, leftFrom, Between, Onward, SpentHere}
 use Rattle.settling.specs.Whole.{settledBy, leftByAll, Fits, takenFor, PutAll, SettledPut}
 use Rattle.noise_text.specs.Laws.Injections.{text-append}
 

@@ -29,7 +29,7 @@ use Rattle.backward.specs.Settling.{settledAnswer, settleReply}
 use Rattle.settling.specs.declared.Answered.{Answered}
 use Rattle.settling.specs.declared.TextLength.{TextLength}
 use Rattle.settling.specs.declared.TextLength.the-variants as text-length
-use Rattle.instruction_text.specs.Pass.{Pass, passOf, lentBy}
+use Rattle.settling.specs.Pass.{Pass, passOf, lentBy}
 use Rattle.settling.specs.Whole.{settledBy, leftByAll, Fits, takenFor, PutAll, SettledPut, SettledTo}
 
 -- ---- refused before any draw

@@ -6,11 +6,11 @@ use lib.ListN.{length}
 use Rattle.job.specs.declared.Answer.{Answer}
 use Rattle.job.specs.Job.{jobOf}
 use Rattle.run.specs.Run.{Memory, enoughWords, untouched, withSource}
-use Rattle.execution.specs.declared.Answered.{Answered}
+use Rattle.needed_words.specs.declared.Answered.{Answered}
 use Rattle.job_shape.specs.declared.Tested.{Tested}
 use Rattle.job_shape.specs.Tested.{Tests}
 use Rattle.job_shape.specs.Laws.Tested.{passed-both}
-use Rattle.runner.specs.Enough.{enoughLent}
+use Rattle.job_shape.specs.Enough.{enoughLent}
 use Rattle.runner.specs.Ran.{RanTo}
 use Rattle.runner.specs.Laws.Replies.{lengthsOf, same-test}
 use Rattle.shares.specs.Shares.{Share, ownLeft, commonLeft}

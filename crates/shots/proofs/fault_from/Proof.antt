@@ -8,7 +8,7 @@ use native.Mathlib.Omega.{arith}
 use mathlib.Core.Path.{_≡_}
 use Prim.Native.Nat.{_-_, _≤_}
 use lib.Ieee.{Float}
-use Rattle.noise.specs.Scan.{thresholdOf}
+use Rattle.fault_scan.specs.Scan.{thresholdOf}
 use Rattle.shots.proofs.fault_from.Statement.{statement}
 use Rattle.shots.proofs.fault_from.Tie as tie
 

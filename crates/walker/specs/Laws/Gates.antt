@@ -17,7 +17,7 @@ use Rattle.job.specs.Sound.{LineSound}
 use Rattle.job.specs.Laws.Lists.{below-more}
 use Rattle.instructions.specs.Laws.Known.{OfGate, of-gate, gate-line}
 use Rattle.backward.specs.Walk.{carry, counts, backward}
-use Rattle.carry.specs.Laws.Parts.{operand-below}
+use Rattle.lines_back.specs.Laws.Parts.{operand-below}
 use Rattle.lines_from_last.specs.Line.{OfJob}
 use Rattle.lines_back.specs.declared.Walk.{Walk as WalkWords}
 use Rattle.lines_back.specs.Back.{writtenBack, noiseBack}

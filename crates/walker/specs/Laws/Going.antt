@@ -23,8 +23,8 @@ use Rattle.instructions.specs.Laws.Meaning.{read-says}
 use Rattle.frames.specs.Forward.{Setting, settingOf}
 use Rattle.backward.specs.Walk.{counts, Walk, oneMore, backward, walkBack, walk}
 use Rattle.backward.specs.Walking.{noiseFirst, firstNoise, lineFirst, plainLines}
-use Rattle.carry.specs.Full.{full}
-use Rattle.carry.specs.Laws.Same.{same-backward}
+use Rattle.lines_back.specs.Full.{full}
+use Rattle.lines_back.specs.Laws.Same.{same-backward}
 use Rattle.lines_from_last.specs.Line.{LineBefore, OfJob}
 use Rattle.lines_from_last.specs.Laws.Left.{all-left, line-left, one-done, left-known, line-known, gathered-more, none-left}
 use Rattle.lines_back.specs.declared.Walk.{Walk as WalkWords}

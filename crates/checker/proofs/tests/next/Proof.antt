@@ -1,7 +1,7 @@
 -- `checker::tests::next` meets its contract. Assumes nothing.
 use Rattle.check_values.specs.Contexts.{contextOf}
 use Rattle.checker.specs.Laws.Contexts.{sum-same, context-same, passed-begun}
-use Rattle.check_noise.specs.Laws.Elements.{passed-expected}
+use Rattle.check_lines.specs.Laws.Elements.{passed-expected}
 use borrow.Author.Needs.{needs}
 use Rattle.checker.proofs.tests.next.Statement.{statement}
 use Rattle.checker.proofs.tests.next.Tie as tie

@@ -1,10 +1,10 @@
 -- `checker::tests::own_number` meets its contract. Assumes nothing.
 use native.Mathlib.Omega.{arith}
 use mathlib.Core.Path.{_∙_}
-use Rattle.check_noise.specs.Laws.Elements.{unread-said}
+use Rattle.check_lines.specs.Laws.Elements.{unread-said}
 use Rattle.check_lines.specs.Laws.Lines.{tests-header, tests-edition, tests-pauli, tests-exponential, tests-allocate, tests-reset, tests-barrier}
-use Rattle.check_noise.specs.Laws.Noise.{tests-uniform, tests-weighted, tests-element}
-use Rattle.check_noise.specs.Laws.Elements.{no-weights, with-weights}
+use Rattle.check_lines.specs.Laws.Noise.{tests-uniform, tests-weighted, tests-element}
+use Rattle.check_lines.specs.Laws.Elements.{no-weights, with-weights}
 use borrow.Author.Needs.{needs}
 use Rattle.checker.proofs.tests.own_number.Statement.{statement}
 use Rattle.checker.proofs.tests.own_number.Tie as tie

@@ -1,3 +1,0 @@
-// Tests of noise lines and of their element lines.
-pub mod elements;
-pub mod noise_lines;

@@ -1,3 +1,0 @@
--- Laws, for the proofs that cite them. Nothing here has to be believed.
-pub mod Lists
-pub mod Made

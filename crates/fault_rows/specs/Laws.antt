@@ -1,2 +1,0 @@
--- Laws: rows and their bytes.
-pub mod Putting

@@ -1,0 +1,155 @@
+// Words gone over for the next one that brings a fault. For that p becomes a threshold, a whole number: so a word is tested with no float, and eight
+// words with one branch.
+use noise::NextWord;
+use noise::words::STEP_WORDS;
+use noise::words::STEPS;
+use noise::words::STEPS_FLOAT;
+use noise::words::count;
+use noise::words::is_fault;
+use noise::words::next_word;
+use noise::words::word_at;
+ghost use mathlib.Core.Path.{_≡_};
+ghost use mathlib.Core.Bool.{true, false};
+ghost use mathlib.Core.List.{_++_};
+ghost use Prim.Native.Nat.{_+_, _-_, _^_, _≤_, min};
+ghost use lib.Dec.{leb};
+ghost use lib.ListN.{length, getD};
+ghost use lib.Ieee.{Float};
+ghost use Rattle.draws.specs.Draws.{falls};
+ghost use Rattle.fault_scan.specs.Scan.{thresholdOf, Quiet, Passed, Stopped, Skipped};
+
+// As many words make a block.
+const BLOCK: usize = 8;
+
+// A word with its top bit alone, 2^63.
+const TOP_BIT: u64 = 9223372036854775808;
+
+// ---- A word beside the threshold
+
+// The least whole number that is not below p * 2^53: floor(word / 2048) is below it where a fault falls. It is 0 for a p that is not above zero, NaN
+// included, and 2^53, above every floor(word / 2048), for one that is not below 1.
+pub fn threshold(p: f64) -> u64
+    ensures { λ r. ⌜ r ≡ thresholdOf p ⌝ }
+{
+    if p > 0.0 {
+        if p < 1.0 {
+            // The product is exact; its whole part is below it if the first word of that step brings a fault.
+            let whole = std::num::truncating_f64_to_u64(p * STEPS_FLOAT);
+            if is_fault(whole * STEP_WORDS, p) {
+                return whole + 1;
+            }
+            return whole;
+        }
+        return STEPS;
+    }
+    0
+}
+
+// A fault falls if floor(word / 2048) is below the threshold.
+fn falls_below(word: u64, threshold: u64) -> bool
+    ensures { λ r. ⌜ ((p : Float) → threshold ≡ thresholdOf p → r ≡ falls word p) ⌝ }
+{
+    word / STEP_WORDS < threshold
+}
+
+// Their difference, which wraps, and so has its top bit set, where a fault falls.
+fn difference(word: u64, threshold: u64) -> u64
+    ensures { λ r. ⌜ ((p : Float) → threshold ≡ thresholdOf p → leb (2 ^ 63) r ≡ falls word p) ⌝ }
+{
+    std::num::wrapping_sub_u64(word / STEP_WORDS, threshold)
+}
+
+// Whether there is a next word, and it brings a fault.
+pub fn falls_next(words: &[u64], more: &[u64], at: usize, threshold: u64) -> bool
+    ensures { λ r. ⌜ (r ≡ true → (p : Float) → threshold ≡ thresholdOf p → falls (getD (now (words .entry) ++ now (more .entry)) at 0) p ≡ true) ⌝ }
+{
+    match next_word(words, more, at) {
+        NextWord::Word(word) => falls_below(word, threshold),
+        NextWord::Spent => false,
+    }
+}
+
+// ---- Words passed over
+
+// Whether one of a block's words brings a fault. With no branch between them a compiler can take several words at once.
+fn has_fault(words: &[u64], at: usize, threshold: u64) -> bool
+    requires { ⌜ at + 8 ≤ length (now words) ⌝ }
+    ensures { λ r. ⌜ (r ≡ false → Quiet threshold (now (words .entry)) at 8) ⌝ }
+{
+    let mut seen = 0;
+    let mut i = 0;
+    while i < BLOCK {
+        seen = seen | difference(words[at + i], threshold);
+        i += 1;
+    }
+    seen >= TOP_BIT
+}
+
+// Of n words from a position on, how many are passed over in whole blocks.
+fn pass_blocks(words: &[u64], at: usize, n: usize, threshold: u64) -> usize
+    requires { ⌜ n ≤ length (now words) - at ⌝ }
+    ensures { λ r. ⌜ Passed threshold (now (words .entry)) at n r ⌝ }
+{
+    let mut i = 0;
+    while BLOCK <= n - i {
+        if has_fault(words, at + i, threshold) {
+            return i;
+        }
+        i += BLOCK;
+    }
+    i
+}
+
+// The lesser of two numbers.
+fn lesser(a: usize, b: usize) -> usize
+    ensures { λ r. ⌜ r ≡ min a b ⌝ }
+{
+    if a < b {
+        return a;
+    }
+    b
+}
+
+// As `pass_blocks`, where the words lie in two parts, the second behind the first, up to the end of the part that has the position.
+fn pass_far(words: &[u64], more: &[u64], at: usize, n: usize, threshold: u64) -> usize
+    requires { ⌜ n ≤ length (now words ++ now more) - at ⌝ }
+    ensures { λ r. ⌜ Passed threshold (now (words .entry) ++ now (more .entry)) at n r ⌝ }
+{
+    if at < words.len() {
+        return pass_blocks(words, at, lesser(n, words.len() - at), threshold);
+    }
+    pass_blocks(more, at - words.len(), n, threshold)
+}
+
+// How many of n words bring no fault before one that does, one by one.
+fn pass_near(words: &[u64], more: &[u64], at: usize, n: usize, threshold: u64) -> usize
+    requires { ⌜ n ≤ length (now words ++ now more) - at ⌝ }
+    ensures { λ r. ⌜ Stopped threshold (now (words .entry) ++ now (more .entry)) at n r ⌝ }
+{
+    let mut i = 0;
+    while i < n {
+        if falls_below(word_at(words, more, at + i), threshold) {
+            return i;
+        }
+        i += 1;
+    }
+    i
+}
+
+// How many shots, of so many, are passed over before the next fault: as many words bring none. Fewer where the words end. The first words are taken
+// one by one, since with a large p a fault is among them, and so are those of the block that ends the blocks.
+pub fn next_skip(words: &[u64], more: &[u64], at: usize, shots: usize, threshold: u64) -> usize
+    requires { ⌜ at ≤ length (now words ++ now more) ⌝ }
+    ensures { λ r. ⌜ Skipped threshold (now (words .entry) ++ now (more .entry)) at shots r ⌝ }
+{
+    let n = lesser(shots, count(words, more) - at);
+    let mut i = 0;
+    loop {
+        let near = pass_near(words, more, at + i, lesser(n - i, BLOCK), threshold);
+        i += near;
+        if near < BLOCK {
+            return i;
+        }
+        i += pass_far(words, more, at + i, n - i, threshold);
+    }
+}

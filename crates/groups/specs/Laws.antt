@@ -1,3 +1,0 @@
--- Laws: the lent list group after group, and the words of groups one after the other.
-pub mod Listed
-pub mod Words

@@ -1,2 +1,0 @@
--- Laws: lines back for groups.
-pub mod Lines

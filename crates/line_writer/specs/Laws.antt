@@ -1,0 +1,3 @@
+-- Laws of lines that are put. Assumes nothing.
+pub mod Line
+pub mod Lines

@@ -1,2 +1,0 @@
--- Laws of lines of one instruction.
-pub mod Laws

@@ -1,3 +1,0 @@
--- Laws: characters that are kept, and noise lines by their forms.
-pub mod Keeping
-pub mod Kinds
