@@ -1,6 +1,6 @@
 //! A reproducible load: jobs and words from a seed.
 
-use crate::arguments::{Arguments, FILE, Flag};
+use crate::arguments::{Arguments, Flag, NEW_FILE};
 use crate::commands::{room, write_out};
 use crate::words::List;
 use crate::{Failure, files};
@@ -18,7 +18,7 @@ const PARAMETERS: [&Flag; 5] = [&QUBITS, &OUTCOMES, &SHOTS, &LINES, &SEED];
 pub const JOB_FLAGS: &[Flag] = &[QUBITS, OUTCOMES, SHOTS, LINES, SEED];
 
 pub const OUTPUT_WORDS: Flag =
-    Flag { name: "--output", value: FILE, text: "write the words to this file; without it, to standard output" };
+    Flag { name: "--output", value: NEW_FILE, text: "write the words to this file; without it, to standard output" };
 
 pub const JOB: &str = "\
 Writes a job with this header and as many lines behind it, whose kinds and values a seed chooses, by the rule of

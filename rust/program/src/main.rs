@@ -78,7 +78,7 @@ fn obey(arguments: &[OsString]) -> Result<(), Failure> {
     let Some((first, rest)) = arguments.split_first() else {
         return Err(Failure::Other(format!("a command is missing\n\n{}", whole_help().trim_end())));
     };
-    let name = first.to_string_lossy();
+    let name = files::shown(first);
     if name == "--help" || name == "-h" {
         return print(whole_help());
     }
@@ -89,7 +89,10 @@ fn obey(arguments: &[OsString]) -> Result<(), Failure> {
         Failure::Other(format!("there is no command '{name}'; 'kundatrezo --help' names those that there are"))
     })?;
     match Arguments::read(command, rest) {
-        Ok(Some(arguments)) => (command.obey)(&arguments),
+        Ok(Some(arguments)) => {
+            arguments.names(command).test()?;
+            (command.obey)(&arguments)
+        }
         Ok(None) => print(command.help()),
         Err(text) => Err(Failure::Other(format!("{text}; see 'kundatrezo {name} --help'"))),
     }
@@ -106,7 +109,7 @@ fn print(text: impl AsRef<[u8]>) -> Result<(), Failure> {
 const SUMMARY: &str = "Kundatrezo: a Pauli-frame noise engine. Calls on jobs that lie in files.";
 
 /// What all commands have in common, in paragraphs.
-const COMMON: [&str; 2] = [
+const COMMON: [&str; 3] = [
     "\
 JOB is a file, or - for standard input; docs/JOBS.md has the language of jobs. A file of words holds 64-bit
 words, eight bytes each, the lowest byte first. An option whose value is shown with .. may be given several
@@ -114,8 +117,13 @@ times, others once. What follows -- is no option.",
     "\
 Exit status: 0, the work is done; 1, the call refused, and standard error says by which number, at which
 line, and what may help (docs/REFUSALS.md has more); 2, the arguments are at fault, or a file or standard
-output can't be read or written. Unless the status is 0 no file is written, but for those that were
-written before one could not be, and for an account of shared words, which a refusal by 14 changes too.",
+output can't be read or written. Unless the status is 0 no file is changed, but for an account of shared words,
+which is written before all else and by a refusal by 14 too.",
+    "\
+A file is written beside its name, as NAME.XXXXXXXXXXXXXXXX.partial, and gets its name when all is written: until
+then the old file stays as it was. The new file has the old one's mode. Where the name is a link, the file that it
+leads to is replaced. A file that is read and written at once, or named for two outputs, is refused. Pipes and
+devices are written under their names.",
 ];
 
 /// The help of the whole program.

@@ -1,6 +1,6 @@
 //! A main list that several callers have shares of: its account, in a file.
 
-use crate::arguments::{Arguments, FILE, Flag};
+use crate::arguments::{ACCOUNT_FILE, Arguments, Flag};
 use crate::commands::{OUTPUT, list, write_out};
 use crate::files::Output;
 use crate::words::{self, List};
@@ -9,14 +9,18 @@ use kundatrezo::{AccountError, Answer, Caller, MAX_CALLERS, Number, Refusal, Sha
 use std::ffi::{OsStr, OsString};
 use std::fs::{self, File};
 use std::io::ErrorKind;
+use std::path::PathBuf;
 
 const SHARES: Flag = Flag {
     name: "--shares",
     value: "L",
     text: "the words of each caller's stretch, with commas between, caller 0 first",
 };
-const ACCOUNT: Flag =
-    Flag { name: "--account", value: FILE, text: "draw from the shared list of this account, and bring it up to date" };
+const ACCOUNT: Flag = Flag {
+    name: "--account",
+    value: ACCOUNT_FILE,
+    text: "draw from the shared list of this account, and bring it up to date",
+};
 const CALLER: Flag = Flag { name: "--caller", value: "N", text: "the caller of the account who draws, from 0" };
 
 /// Those of the command `share`, and those of a run or of settling.
@@ -63,7 +67,7 @@ fn test_unused(path: &OsStr) -> Result<(), Failure> {
     if fs::metadata(path).is_ok_and(|found| found.is_file()) && fs::read_to_string(path).is_ok_and(in_use) {
         let text =
             "words of this account are taken, and a new one would hand them out again; if it is to, remove this file";
-        return Err(Failure::Other(format!("{}: {text}", path.display())));
+        return Err(Failure::Other(format!("{}: {text}", files::shown(path))));
     }
     Ok(())
 }
@@ -120,7 +124,7 @@ impl Share {
             }
             _ => "",
         };
-        Failure::Other(format!("{}: {error}{remedy}", self.path.display()))
+        Failure::Other(format!("{}: {error}{remedy}", files::shown(&self.path)))
     }
 
     /// Make a call that draws from the list, and say what it leaves. The account stays as it is until this is kept.
@@ -167,6 +171,14 @@ impl Share {
     }
 }
 
+/// The file whose lock an account's user holds.
+pub fn lock_name(account: &OsStr) -> OsString {
+    // an account that is called by several names, as by a link, has one lock
+    let mut lock = fs::canonicalize(account).map_or_else(|_| account.to_owned(), PathBuf::into_os_string);
+    lock.push(".lock");
+    lock
+}
+
 /// That no other run draws by the same account meanwhile: a file beside it, which is removed at the end.
 struct Lock(OsString);
 
@@ -179,7 +191,7 @@ impl Lock {
             Ok(_) => Ok(Self(lock)),
             Err(error) if error.kind() == ErrorKind::AlreadyExists => {
                 let text = "another run draws by this account (if none does, remove this file)";
-                Err(Failure::Other(format!("{}: {text}", lock.display())))
+                Err(Failure::Other(format!("{}: {text}", files::shown(&lock))))
             }
             Err(error) => Err(files::fault(&lock, &error)),
         }
