@@ -107,7 +107,7 @@ pub use error_model::{ErrorModel, Mechanism, error_model};
 pub use examination::{Examination, examine};
 pub use frames::{Frames, bit};
 pub use make::{JobParameters, make, make_job};
-pub use output::{FileId, OutputFile, WrittenFile, write_file};
+pub use output::{FileId, OutputFile, WrittenFile, write_file, written_path};
 pub use refusal::{Answer, Number, Refusal};
 pub use sampler::{Bench, Counts, Named, Sampler, first_named};
 pub use shares::{AccountError, Caller, MAX_CALLERS, SharedDraws};

@@ -51,10 +51,7 @@ impl OutputFile {
             Err(error) if error.kind() == ErrorKind::NotFound => None,
             Err(error) => return Err(error),
         };
-        let whole = match old {
-            Some(_) => fs::canonicalize(path)?,
-            None => new_place(path)?,
-        };
+        let whole = written_path(path)?;
         if old.is_some() {
             // to rename asks nothing of the file that is replaced, but a file that is protected is to stay
             OpenOptions::new().write(true).open(&whole)?;
@@ -190,6 +187,19 @@ fn sync_folder(folder: &Path) -> io::Result<()> {
     const EXCUSED: [ErrorKind; 3] = [ErrorKind::PermissionDenied, ErrorKind::InvalidInput, ErrorKind::Unsupported];
     let synced = File::open(folder).and_then(|folder| folder.sync_all());
     synced.or_else(|error| if EXCUSED.contains(&error.kind()) { Ok(()) } else { Err(error) })
+}
+
+/// The path without links of the file that [`OutputFile`] writes under a name, also if it is not there yet.
+///
+/// # Errors
+///
+/// Its folder is not there or can't be read, or links lead nowhere.
+pub fn written_path(path: impl AsRef<Path>) -> io::Result<PathBuf> {
+    let path = path.as_ref();
+    match fs::canonicalize(path) {
+        Err(error) if error.kind() == ErrorKind::NotFound => new_place(path),
+        found => found,
+    }
 }
 
 /// Where a file is created that is not there: in the folder without links, and where links lead to that lead nowhere yet.
