@@ -21,6 +21,11 @@ const SECOND: Flag = Flag { name: "--second", value: FILE, text: "read the words
 const SECOND_SEED: Flag =
     Flag { name: "--second-seed", value: "N", text: "make the words of the second list from a seed" };
 const SECOND_STATE: Flag = Flag { name: "--second-state", value: "N", text: "make them from a bare state" };
+const SECOND_WORDS: Flag = Flag {
+    name: "--second-words",
+    value: "N",
+    text: "read or make at most N words for the second list; without it 33554432, 256 MiB",
+};
 const BASE: Flag = Flag { name: "--base", value: "N", text: "the base of the second list; without it 0" };
 const NOISELESS: Flag =
     Flag { name: "--noiseless", value: FILE, text: "rows of the noiseless bits of the outcomes; without it, zeros" };
@@ -28,7 +33,8 @@ const NOISELESS: Flag =
 /// The options of a main list, of one that is made, and of all that is lent.
 pub const MAIN_FLAGS: &[Flag] = &[MAIN, SEED, STATE, SKIP, WORDS];
 pub const MADE_FLAGS: &[Flag] = &[SEED, STATE, SKIP, WORDS];
-pub const FLAGS: &[Flag] = &[MAIN, SEED, STATE, SKIP, WORDS, SECOND, SECOND_SEED, SECOND_STATE, BASE, NOISELESS];
+pub const FLAGS: &[Flag] =
+    &[MAIN, SEED, STATE, SKIP, WORDS, SECOND, SECOND_SEED, SECOND_STATE, SECOND_WORDS, BASE, NOISELESS];
 
 /// What the help says of the options above.
 pub const DETAILS: &str = "\
@@ -41,7 +47,8 @@ endless, as /dev/urandom is.
 With a seed the words are those of Marsaglia's 64-bit xorshift (left 13, right 7, left 17) from the state
 that SplitMix64 makes of the seed. Every seed is good, 0 and small ones too. A bare state is the state of
 the xorshift itself: from 1 the first word is 1082269761. The streams of small states begin alike; take
-seeds for a series. A list has at most 268435456 words.";
+seeds for a series. A list has at most 268435456 words. The second list is held from its front to the place that
+the job reads, 8 bytes a word; a corr that asks for more than --second-words is refused by 14.";
 
 /// What the help of a run says of a series.
 pub const SERIES: &str = "\
@@ -51,6 +58,9 @@ second list, if one is given, was not read: that is a --base for the next run.";
 
 /// Most words of a list: no job of main-list noise needs as many, and they are 2 GiB.
 pub const MOST: usize = 1 << 28;
+
+/// Most words of the second list unless an option says otherwise, 256 MiB: a short job may name a far place.
+const MOST_SECOND: usize = 1 << 25;
 
 /// Where a list has its words from.
 enum Source {
@@ -92,11 +102,16 @@ impl List {
     /// The main list, as far as options give it.
     fn main(arguments: &Arguments) -> Result<Self, Failure> {
         let mut main = Self::read(arguments, &MAIN, &SEED, &STATE)?;
-        if let Some(words) = arguments.number(WORDS.name)? {
-            main.most = usize::try_from(words).unwrap_or(MOST).min(MOST);
-        }
+        main.most = most(arguments, &WORDS, MOST)?;
         arguments.number(SKIP.name)?.map(|words| main.skip(words)).transpose()?;
         Ok(main)
+    }
+
+    /// The second list, as far as options give it.
+    fn second(arguments: &Arguments) -> Result<Self, Failure> {
+        let mut second = Self::read(arguments, &SECOND, &SECOND_SEED, &SECOND_STATE)?;
+        second.most = most(arguments, &SECOND_WORDS, MOST_SECOND)?;
+        Ok(second)
     }
 
     /// The main list to its end, or as long as options say.
@@ -144,20 +159,29 @@ impl List {
         Ok(self.words.len() > before)
     }
 
-    /// What to do where the list is too short.
-    fn remedy(&self, name: &str) -> String {
-        let (words, seed) = (self.words.len(), self.seed);
-        match &self.source {
-            Source::None => format!("there is no {name} list: {seed} N makes as many words as are needed"),
-            _ if words == self.most && words < MOST => format!("{} allows no more than {words} words", WORDS.name),
-            Source::File(..) => {
-                format!("the {name} list has {words} words and this line needs more: lend a longer one, or {seed} N")
+    /// What to do where the list is too short. A line that reads the second list does so from a place on.
+    fn remedy(&self, name: &str, place: Option<u64>) -> String {
+        let (words, seed, most) = (self.words.len(), self.seed, self.most);
+        match (&self.source, place) {
+            (Source::None, _) => format!("there is no {name} list: {seed} N makes as many words as are needed"),
+            (_, Some(place)) if place >= MOST as u64 || words == MOST => {
+                format!("a list has at most {MOST} words, and this line, from place base + corr on, reads past them")
             }
-            Source::Made(_) => {
-                format!("a list has at most {MOST} words, and place base + corr of this line lies past it")
-            }
+            (_, Some(place)) if place >= most as u64 || words == most => format!(
+                "this line reads the second list from place {place} on, and the list may have {most} words ({} MiB); {} N \
+                 allows up to {MOST}, 8 bytes each",
+                (8 * most).div_ceil(1 << 20),
+                SECOND_WORDS.name
+            ),
+            (_, None) if words == most && most < MOST => format!("{} allows no more than {words} words", WORDS.name),
+            _ => format!("the {name} list has {words} words and this line needs more: lend a longer one, or {seed} N"),
         }
     }
+}
+
+/// How many words a list may have.
+fn most(arguments: &Arguments, flag: &Flag, default: usize) -> Result<usize, Failure> {
+    Ok(arguments.number(flag.name)?.map_or(default, |words| usize::try_from(words).unwrap_or(MOST).min(MOST)))
 }
 
 /// What a run or settling is lent to draw from.
@@ -186,7 +210,7 @@ impl<'a> Lent<'a> {
             None => vec![0; need],
         };
         let mut main = List::main(arguments)?;
-        let second = List::read(arguments, &SECOND, &SECOND_SEED, &SECOND_STATE)?;
+        let second = List::second(arguments)?;
         if let (Source::Made(main), Source::Made(second)) = (&main.source, &second.source)
             && main == second
         {
@@ -243,8 +267,8 @@ impl<'a> Lent<'a> {
                 self.main.grow((lines * for_line).max(2 * self.main.words.len()))
             }
             Some(correlation) => {
-                let place = self.base.wrapping_add(correlation);
-                let Some(place) = usize::try_from(place).ok().filter(|place| *place < MOST) else {
+                let place = usize::try_from(self.place(correlation)).ok();
+                let Some(place) = place.filter(|place| *place < self.second.most) else {
                     return Ok(false);
                 };
                 self.second.grow((place + for_line).max(2 * self.second.words.len()))
@@ -258,9 +282,15 @@ impl<'a> Lent<'a> {
         line.split(' ').find_map(|field| field.strip_prefix("corr="))?.parse().ok()
     }
 
+    /// From where on a line with this correlation reads the second list.
+    fn place(&self, correlation: u64) -> u64 {
+        self.base.wrapping_add(correlation)
+    }
+
     /// What to do about a refusal by 13, 14, 15 or 26.
     fn remedy(&self, refusal: &Refusal) -> Option<String> {
-        let reads_main = refusal.number != Number::DRAWS || self.correlation(refusal).is_none();
+        let correlation = self.correlation(refusal).filter(|_| refusal.number == Number::DRAWS);
+        let reads_main = correlation.is_none();
         let of_share = self.share.as_ref().filter(|_| reads_main).and_then(|share| share.remedy(refusal));
         if of_share.is_some() {
             return of_share;
@@ -272,8 +302,8 @@ impl<'a> Lent<'a> {
                 self.noiseless.len(),
                 self.examined.outcome_words()
             )),
-            Number::DRAWS if reads_main => Some(self.main.remedy("main")),
-            Number::DRAWS => Some(self.second.remedy("second")),
+            Number::DRAWS if reads_main => Some(self.main.remedy("main", None)),
+            Number::DRAWS => Some(self.second.remedy("second", correlation.map(|own| self.place(own)))),
             _ => longer(refusal),
         }
     }
