@@ -68,6 +68,15 @@ pub const NEW_FILE: &str = "OUTPUT";
 /// The value of an option that names the account of a shared list, which is read and written.
 pub const ACCOUNT_FILE: &str = "ACCOUNT";
 
+/// Options that a command refuses because their name would mean two things, with what to say: by the command's name and theirs.
+const AMBIGUOUS: [(&str, &str, &str); 1] = [(
+    "fill",
+    "--seed",
+    "'fill' has no --seed, which would mean two things: --state N takes N as the state itself, as kundatrezo_fill, \
+     'fill' of the Rust and Python packages and 'make' take their seed; --run-seed N mixes N first, as run, settle and \
+     sample do with theirs",
+)];
+
 impl Command {
     pub fn flags(&self) -> impl Iterator<Item = &'static Flag> {
         self.options.iter().flat_map(|group| group.iter())
@@ -125,6 +134,10 @@ impl Arguments {
     ) -> Result<(), String> {
         let mut parts = argument.as_bytes().splitn(2, |byte| *byte == b'=');
         let name = OsStr::from_bytes(parts.next().unwrap_or_default());
+        let ambiguous = AMBIGUOUS.iter().find(|(own, flag, _)| *own == command.name && *flag == name);
+        if let Some((_, _, text)) = ambiguous {
+            return Err((*text).into());
+        }
         let flag = command.flags().find(|flag| flag.name == name).ok_or_else(|| {
             format!("'{}' has no option '{}' (after --, a name may begin with -)", command.name, shown(name))
         })?;

@@ -207,9 +207,9 @@ the injections and flips of all, each among the same lines, and twice where two 
     Command {
         name: "fill",
         operand: Operand::None,
-        summary: "words from a seed, the same on every machine",
+        summary: "words from a state or a seed, the same on every machine",
         details: &[load::WORDS],
-        options: &[words::MADE_FLAGS, &[load::OUTPUT_WORDS]],
+        options: &[words::FILL_FLAGS, &[load::OUTPUT_WORDS]],
         obey: load::write_words,
     },
     Command {

@@ -26,8 +26,10 @@ docs/MAKING.md. The same numbers give the same job on every machine, and every m
 five are wanted. The seed is taken as it is, and not mixed as that of a run.";
 
 pub const WORDS: &str = "\
-Writes words from a seed, eight bytes each, the lowest first: those that a run makes by the same --seed or
---state and --skip. --words is wanted.";
+Writes words from a number, eight bytes each, the lowest first. With --state the number is the state of the
+xorshift itself, as for kundatrezo_fill, for 'fill' of the Rust and Python packages, and for 'make'. With
+--run-seed it is mixed first: these are the words that a run makes by --seed and the same --skip. There is no
+--seed, which would mean either. --words is wanted, and --state or --run-seed.";
 
 /// The command `make`.
 pub fn write_job(arguments: &Arguments) -> Result<(), Failure> {
@@ -57,9 +59,6 @@ pub fn write_job(arguments: &Arguments) -> Result<(), Failure> {
 
 /// The command `fill`.
 pub fn write_words(arguments: &Arguments) -> Result<(), Failure> {
-    let list = List::whole(arguments)?;
-    if !list.is_given() {
-        return Err(Failure::Other("--seed or --state is wanted".into()));
-    }
+    let list = List::filled(arguments)?;
     write_out(arguments, &files::bytes_of(&list.words))
 }

@@ -18,7 +18,7 @@ use std::os::unix::fs::FileExt;
 use std::thread::available_parallelism;
 
 const SHOTS: Flag = Flag { name: "--shots", value: "N", text: "the number of shots, at least 1" };
-const SEED: Flag = Flag { name: "--seed", value: "N", text: "the seed of all words, any number" };
+const SEED: Flag = Flag { name: "--seed", value: "N", text: "the seed of all words, any number, which is mixed" };
 const SET: Flag = Flag {
     name: "--set",
     value: "L..",

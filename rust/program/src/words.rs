@@ -13,13 +13,24 @@ const MAIN: Flag = Flag {
     value: FILE,
     text: "read the words of the main list from this file, or - for standard input",
 };
-const SEED: Flag = Flag { name: "--seed", value: "N", text: "make the words of the main list from a seed, any number" };
+const SEED: Flag = Flag {
+    name: "--seed",
+    value: "N",
+    text: "make the words of the main list from a seed, any number, which is mixed",
+};
 const STATE: Flag = Flag { name: "--state", value: "N", text: "make them from a bare state of the xorshift, not 0" };
+const FILL_STATE: Flag = Flag {
+    name: "--state",
+    value: "N",
+    text: "words from this state, not 0: the seed that kundatrezo_fill and 'make' take",
+};
+const RUN_SEED: Flag =
+    Flag { name: "--run-seed", value: "N", text: "the words that a run makes by --seed N, any number, which is mixed" };
 const SKIP: Flag = Flag { name: "--skip", value: "N", text: "leave out the first N words of the main list" };
 const WORDS: Flag = Flag { name: "--words", value: "N", text: "read or make at most N words for the main list" };
 const SECOND: Flag = Flag { name: "--second", value: FILE, text: "read the words of the second list from this file" };
 const SECOND_SEED: Flag =
-    Flag { name: "--second-seed", value: "N", text: "make the words of the second list from a seed" };
+    Flag { name: "--second-seed", value: "N", text: "make the words of the second list from a seed, which is mixed" };
 const SECOND_STATE: Flag = Flag { name: "--second-state", value: "N", text: "make them from a bare state" };
 const SECOND_WORDS: Flag = Flag {
     name: "--second-words",
@@ -30,9 +41,9 @@ const BASE: Flag = Flag { name: "--base", value: "N", text: "the base of the sec
 const NOISELESS: Flag =
     Flag { name: "--noiseless", value: FILE, text: "rows of the noiseless bits of the outcomes; without it, zeros" };
 
-/// The options of a main list, of one that is made, and of all that is lent.
+/// The options of a main list, of the words that `fill` writes, and of all that is lent.
 pub const MAIN_FLAGS: &[Flag] = &[MAIN, SEED, STATE, SKIP, WORDS];
-pub const MADE_FLAGS: &[Flag] = &[SEED, STATE, SKIP, WORDS];
+pub const FILL_FLAGS: &[Flag] = &[FILL_STATE, RUN_SEED, SKIP, WORDS];
 pub const FLAGS: &[Flag] =
     &[MAIN, SEED, STATE, SKIP, WORDS, SECOND, SECOND_SEED, SECOND_STATE, SECOND_WORDS, BASE, NOISELESS];
 
@@ -44,10 +55,11 @@ from place base + c on. Without --main, --seed and --state the main list is empt
 hold any random bytes, a multiple of eight, and is read no further than the job needs, so that it may be
 endless, as /dev/urandom is.
 
-With a seed the words are those of Marsaglia's 64-bit xorshift (left 13, right 7, left 17) from the state
-that SplitMix64 makes of the seed. Every seed is good, 0 and small ones too. A bare state is the state of
-the xorshift itself: from 1 the first word is 1082269761. The streams of small states begin alike; take
-seeds for a series. A list has at most 268435456 words. The second list is held from its front to the place that
+A seed is mixed: the words are those of Marsaglia's 64-bit xorshift (left 13, right 7, left 17) from the
+state that SplitMix64 makes of the seed. Every seed is good, 0 and small ones too. 'kundatrezo fill
+--run-seed N' writes these words. A bare state is the state of the xorshift itself, as kundatrezo_fill and
+'kundatrezo make' take their seeds: from 1 the first word is 1082269761. The streams of small states begin
+alike; take seeds for a series. A list has at most 268435456 words. The second list is held from its front to the place that
 the job reads, 8 bytes a word; a corr that asks for more than --second-words is refused by 14.";
 
 /// What the help of a run says of a series.
@@ -79,9 +91,9 @@ pub struct List {
 }
 
 impl List {
-    /// The list that three options of a command give.
-    fn read(arguments: &Arguments, file: &Flag, seed: &'static Flag, state: &Flag) -> Result<Self, Failure> {
-        let path = arguments.value(file.name);
+    /// The list that the options of a command for a file, a seed and a state give.
+    fn read(arguments: &Arguments, file: Option<&Flag>, seed: &'static Flag, state: &Flag) -> Result<Self, Failure> {
+        let path = file.and_then(|file| arguments.value(file.name));
         let by_seed = arguments.number(seed.name)?;
         let by_state = arguments.number(state.name)?;
         let source = match (path, by_seed, by_state) {
@@ -92,7 +104,8 @@ impl List {
                 Source::Made(Xorshift::from_state(number).map_err(|refusal| Failure::refused(&refusal, b"", None))?)
             }
             _ => {
-                let names = [file.name, seed.name, state.name].join(", ");
+                let names: Vec<&str> = file.into_iter().chain([seed, state]).map(|flag| flag.name).collect();
+                let names = names.join(", ");
                 return Err(Failure::Other(format!("of {names} one at most can be given")));
             }
         };
@@ -101,7 +114,11 @@ impl List {
 
     /// The main list, as far as options give it.
     fn main(arguments: &Arguments) -> Result<Self, Failure> {
-        let mut main = Self::read(arguments, &MAIN, &SEED, &STATE)?;
+        Self::first(arguments, Some(&MAIN), &SEED)
+    }
+
+    fn first(arguments: &Arguments, file: Option<&Flag>, seed: &'static Flag) -> Result<Self, Failure> {
+        let mut main = Self::read(arguments, file, seed, &STATE)?;
         main.most = most(arguments, &WORDS, MOST)?;
         arguments.number(SKIP.name)?.map(|words| main.skip(words)).transpose()?;
         Ok(main)
@@ -109,22 +126,33 @@ impl List {
 
     /// The second list, as far as options give it.
     fn second(arguments: &Arguments) -> Result<Self, Failure> {
-        let mut second = Self::read(arguments, &SECOND, &SECOND_SEED, &SECOND_STATE)?;
+        let mut second = Self::read(arguments, Some(&SECOND), &SECOND_SEED, &SECOND_STATE)?;
         second.most = most(arguments, &SECOND_WORDS, MOST_SECOND)?;
         Ok(second)
     }
 
     /// The main list to its end, or as long as options say.
     pub fn whole(arguments: &Arguments) -> Result<Self, Failure> {
-        let mut main = Self::main(arguments)?;
-        if matches!(main.source, Source::Made(_)) && arguments.value(WORDS.name).is_none() {
+        Self::main(arguments)?.grown_whole(arguments)
+    }
+
+    /// The words that `fill` writes.
+    pub fn filled(arguments: &Arguments) -> Result<Self, Failure> {
+        if [FILL_STATE, RUN_SEED].iter().all(|flag| arguments.value(flag.name).is_none()) {
+            return Err(Failure::Other(format!("{} or {} is wanted", FILL_STATE.name, RUN_SEED.name)));
+        }
+        Self::first(arguments, None, &RUN_SEED)?.grown_whole(arguments)
+    }
+
+    fn grown_whole(mut self, arguments: &Arguments) -> Result<Self, Failure> {
+        if matches!(self.source, Source::Made(_)) && arguments.value(WORDS.name).is_none() {
             return Err(Failure::Other(format!("{} is wanted for words that are made", WORDS.name)));
         }
         if arguments.number(WORDS.name)?.is_some_and(|words| words > MOST as u64) {
             return Err(Failure::Other(format!("a list has at most {MOST} words")));
         }
-        main.grow(main.most)?;
-        Ok(main)
+        self.grow(self.most)?;
+        Ok(self)
     }
 
     pub fn is_given(&self) -> bool {

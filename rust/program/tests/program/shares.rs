@@ -326,7 +326,7 @@ fn no_account_in_use_is_written_over() {
     let faults = [
         ("share --words 25 --shares 10,0", "--main, --seed or --state is wanted"),
         ("share --seed 5 --words 268435457 --shares 10,0", "a list has at most 268435456 words"),
-        ("fill --seed 5 --words 268435457", "a list has at most 268435456 words"),
+        ("fill --state 5 --words 268435457", "a list has at most 268435456 words"),
     ];
     for (arguments, said) in faults {
         let done = call(&folder, arguments);
