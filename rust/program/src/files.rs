@@ -7,6 +7,7 @@ use std::fs::File;
 use std::io::{self, Read, Write};
 use std::os::fd::AsFd;
 use std::os::unix::ffi::OsStrExt;
+use std::path::Path;
 
 /// A file that is read, or standard input for `-`.
 pub fn open(path: &OsStr) -> Result<Box<dyn Read>, Failure> {
@@ -48,13 +49,19 @@ pub fn job(path: &OsStr) -> Result<Vec<u8>, Failure> {
 
 /// The next words of a file, eight bytes each, the lowest first: as many as this, or fewer where it ends.
 pub fn words(path: &OsStr, source: &mut dyn Read, count: usize) -> Result<Vec<u64>, Failure> {
-    // piece by piece, so that the bytes take no memory beside the words
-    const PIECE: usize = 1 << 16;
     let mut words = Vec::new();
+    append_words(path, source, count, &mut words)?;
+    Ok(words)
+}
+
+/// The same at the end of a list, piece by piece: the bytes take no memory beside the words.
+pub fn append_words(path: &OsStr, source: &mut dyn Read, count: usize, words: &mut Vec<u64>) -> Result<(), Failure> {
+    const PIECE: usize = 1 << 16;
+    let end = words.len().saturating_add(count);
     let mut bytes = Vec::with_capacity(PIECE);
-    while words.len() < count {
+    while words.len() < end {
         bytes.clear();
-        let wanted = (count - words.len()).saturating_mul(8).min(PIECE);
+        let wanted = (end - words.len()).saturating_mul(8).min(PIECE);
         source.take(wanted as u64).read_to_end(&mut bytes).map_err(|error| fault(path, &error))?;
         let (whole, rest) = bytes.as_chunks();
         if !rest.is_empty() {
@@ -66,7 +73,7 @@ pub fn words(path: &OsStr, source: &mut dyn Read, count: usize) -> Result<Vec<u6
             break;
         }
     }
-    Ok(words)
+    Ok(())
 }
 
 /// Leave out the next words of a file.
@@ -200,6 +207,9 @@ impl Names {
             // elsewhere - stands for standard input
             if *path == "-" {
                 return Err(Failure::Other("what is written goes to a file, and - is none".into()));
+            }
+            if Path::new(path).is_dir() {
+                return refused(path, "this is a folder, and what is written goes to a file");
             }
             let Some(id) = FileId::of(path) else {
                 continue;

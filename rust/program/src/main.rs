@@ -117,13 +117,13 @@ times, others once. What follows -- is no option.",
     "\
 Exit status: 0, the work is done; 1, the call refused, and standard error says by which number, at which
 line, and what may help (docs/REFUSALS.md has more); 2, the arguments are at fault, or a file or standard
-output can't be read or written. Unless the status is 0 no file is changed, but for an account of shared words,
-which is written before all else and by a refusal by 14 too.",
+output can't be read or written. Unless the status is 0 no file is changed, but for an account of shared
+words, which is written before all else, and by a refusal by 14 too.",
     "\
-A file is written beside its name, as NAME.XXXXXXXXXXXXXXXX.partial, and gets its name when all is written: until
-then the old file stays as it was. The new file has the old one's mode. Where the name is a link, the file that it
-leads to is replaced. A file that is read and written at once, or named for two outputs, is refused. Pipes and
-devices are written under their names.",
+A file is written in its folder as NAME.XXXXXXXXXXXXXXXX.partial, and gets its name when all is written; until
+then the old file stays as it was. The new file has the mode of the old one. If the name is a link, the file
+that it leads to is replaced. An output that is also an input, or is named for two outputs, is refused. Pipes
+and devices are written under their names.",
 ];
 
 /// The help of the whole program.

@@ -38,10 +38,10 @@ where the words are made or the file has no end. An account of which words are t
 pub const DETAILS: &str = "\
 With --account and --caller a job draws from a list that several callers share ('kundatrezo share'): words of
 the caller's own stretch first, then common ones, and none twice. The list is given as for the account, without
---words. The account is locked while the job runs, by the file ACCOUNT.lock, which stays. It is brought up to date
-when the job is done, before any other file is written, and when it is refused by 14; any other refusal takes no
-word. A run's last line has 'own=' and 'common=' with the words that it took of either part,
-and 'own-left=' and 'common-left=' with those that are left; 'second=' is as without shares.";
+--words. The account is locked while the job runs, by the file ACCOUNT.lock, which stays. It is brought up to
+date when the job is done, before any other file is written, and when it is refused by 14; any other refusal
+takes no word. A run's last line has 'own=' and 'common=' with the words that it took of either part, and
+'own-left=' and 'common-left=' with those that are left; 'second=' is as without shares.";
 
 /// The command `share`: the account of a list of which nothing is taken.
 pub fn print_account(arguments: &Arguments) -> Result<(), Failure> {

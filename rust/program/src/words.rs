@@ -59,8 +59,10 @@ A seed is mixed: the words are those of Marsaglia's 64-bit xorshift (left 13, ri
 state that SplitMix64 makes of the seed. Every seed is good, 0 and small ones too. 'kundatrezo fill
 --run-seed N' writes these words. A bare state is the state of the xorshift itself, as kundatrezo_fill and
 'kundatrezo make' take their seeds: from 1 the first word is 1082269761. The streams of small states begin
-alike; take seeds for a series. A list has at most 268435456 words. The second list is held from its front to the place that
-the job reads, 8 bytes a word; a corr that asks for more than --second-words is refused by 14.";
+alike; take seeds for a series.
+
+A list has at most 268435456 words. The second list is held from its front to the last place that the job
+reads, 8 bytes a word; a corr that asks for more than --second-words is refused by 14.";
 
 /// What the help of a run says of a series.
 pub const SERIES: &str = "\
@@ -182,7 +184,7 @@ impl List {
                 self.words.resize(before + missing, 0);
                 made.fill(&mut self.words[before..]);
             }
-            Source::File(path, file) => self.words.extend(files::words(path, file, missing)?),
+            Source::File(path, file) => files::append_words(path, file, missing, &mut self.words)?,
         }
         Ok(self.words.len() > before)
     }

@@ -259,7 +259,7 @@ fn accounts_come_first() {
     fs::remove_file(folder.join("account.lock")).expect("it stays");
     let run = "run - --seed 5 --second-seed 6 --account account --caller 0 --deltas";
     // a file that can't be written is found before a word is taken, a device that is full after
-    for (output, marks) in [("/nowhere/rows", [0, 0, 0]), ("/dev/full", [10, 0, 0])] {
+    for (output, marks) in [("/nowhere/rows", [0, 0, 0]), (".", [0, 0, 0]), ("/dev/full", [10, 0, 0])] {
         let done = shell(&folder, &format!("\"$0\" {run} {output}"));
         assert_eq!((done.status, taken(&folder)), (2, marks.to_vec()), "{done:?}");
     }
