@@ -142,6 +142,9 @@ impl Partial {
             match OpenOptions::new().write(true).create_new(true).mode(mode).open(&path) {
                 Ok(file) => return Ok((file, Self { path, whole, is_named: false })),
                 Err(error) if error.kind() == ErrorKind::AlreadyExists => fault = error,
+                Err(error) if error.kind() == ErrorKind::PermissionDenied => {
+                    return Err(io::Error::new(error.kind(), "no file may be created in its folder"));
+                }
                 Err(error) => return Err(error),
             }
         }

@@ -9,7 +9,7 @@ use kundatrezo::{AccountError, Answer, Caller, FileId, MAX_CALLERS, Number, Refu
 use std::ffi::{OsStr, OsString};
 use std::fs::{self, File, OpenOptions, Permissions, TryLockError};
 use std::io::{self, ErrorKind, Read};
-use std::os::unix::fs::{MetadataExt, PermissionsExt};
+use std::os::unix::fs::{MetadataExt, PermissionsExt, fchown};
 use std::path::PathBuf;
 
 const SHARES: Flag = Flag {
@@ -241,11 +241,12 @@ impl Lock {
     }
 }
 
-/// A new file has the account's mode: whoever may write the account may lock it.
+/// A new file has the account's mode and, if the process may set it, its owner: whoever may write the account may lock it.
 fn open_lock(path: &OsStr, account: &OsStr) -> io::Result<File> {
     match OpenOptions::new().read(true).write(true).create_new(true).open(path) {
         Ok(file) => {
             if let Ok(account) = fs::metadata(account) {
+                _ = fchown(&file, Some(account.uid()), Some(account.gid()));
                 file.set_permissions(Permissions::from_mode(account.mode() & 0o666))?;
             }
             Ok(file)
