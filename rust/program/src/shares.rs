@@ -108,7 +108,8 @@ pub struct Share {
     pub report: String,
     /// The words that were available to the job.
     pub available: Vec<u64>,
-    lock: Lock,
+    /// Until the account is brought up to date.
+    lock: Option<Lock>,
 }
 
 /// What a job leaves of the list: its account, what a run says of it, and the words that the job had.
@@ -131,7 +132,7 @@ impl Share {
         let path = written_path(path).map_err(|error| files::fault(path, &error))?.into_os_string();
         let lock = Lock::of(&path)?;
         let account = read_account(&path)?;
-        Ok(Some(Self { path, account, caller, report: String::new(), available: Vec::new(), lock }))
+        Ok(Some(Self { path, account, caller, report: String::new(), available: Vec::new(), lock: Some(lock) }))
     }
 
     /// How many words the list has.
@@ -176,12 +177,14 @@ impl Share {
     /// Bring the account up to date, before anything else is written: what fails later has used words up, and handed none out twice.
     pub fn keep(&mut self, left: Left) -> Result<(), Failure> {
         if left.account != self.account {
-            if !self.lock.is_held() || read_account(&self.path)? != self.account {
+            if !self.lock.as_ref().is_some_and(Lock::is_held) || read_account(&self.path)? != self.account {
                 let text = "the account or its lock was changed while the job ran; nothing is written, run it again";
                 return Err(Failure::Other(format!("{}: {text}", shown(&self.path))));
             }
             files::write(&self.path, left.account.as_bytes())?;
         }
+        // others may draw while this job's files are written
+        self.lock = None;
         (self.report, self.available) = (left.report, left.available);
         Ok(())
     }

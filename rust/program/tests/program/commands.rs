@@ -424,10 +424,8 @@ fn memory_for_the_second_list_is_bounded() {
     // a file of no end is no text of counts, nor sets
     for arguments in ["merge /dev/zero", "sample - --shots 9 --seed 1 --sets /dev/zero"] {
         let done = bounded(arguments, &far(0));
-        assert!(
-            done.status == 2 && done.stderr.ends_with("/dev/zero: the text has more than 67108864 bytes\n"),
-            "{done:?}"
-        );
+        assert!(done.status == 2 && done.stderr.starts_with("kundatrezo: /dev/zero: "), "{done:?}");
+        assert!(!done.stderr.contains("memory"), "{done:?}");
     }
 }
 

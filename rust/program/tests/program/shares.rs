@@ -158,7 +158,9 @@ impl Waiting {
             let inode = fs::metadata(self.folder.join("account.lock")).map(|found| format!(":{} ", found.ino()));
             inode.is_ok_and(|inode| fs::read_to_string("/proc/locks").expect("a list").contains(&inode))
         };
+        let mut tries = 0..2000;
         while !is_locked() {
+            tries.next().expect("it is locked within ten seconds");
             std::thread::sleep(Duration::from_millis(5));
         }
         self
