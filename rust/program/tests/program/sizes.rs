@@ -51,6 +51,10 @@ fn an_older_job_gets_its_sizes() {
     let names = [path.as_os_str(), "--output".as_ref(), sized.as_os_str()];
     assert_eq!(kundatrezo([["sizes".as_ref()].as_slice(), &names].concat(), b""), Done::printed(""));
     assert_eq!(fs::read_to_string(sized).ok(), Some(every_kind()));
+    // not in its own place
+    let names = [path.as_os_str(), "--output".as_ref(), path.as_os_str()];
+    assert_eq!(kundatrezo([["sizes".as_ref()].as_slice(), &names].concat(), b"").status, 2);
+    assert_eq!(fs::read_to_string(path).ok(), Some(without_sizes(&every_kind())));
 }
 
 /// Whatever a job holds beside noise lines without a size, and also if it is no job, is copied byte by byte.
