@@ -70,8 +70,8 @@ _CALLS: dict[str, tuple[Any, list[str]]] = {
 }
 
 PATH = Path(os.environ.get("KUNDATREZO_LIBRARY") or Path(__file__).with_name("libkundatrezo.so")).absolute()
-"""The library's file: that beside this one, or the one that the environment variable KUNDATREZO_LIBRARY names. The path is made absolute, since a bare name would
-be looked for in the system's folders. The variable is trusted: whatever code it names is run in this process."""
+"""The library's file: that beside this one, or the one that the environment variable KUNDATREZO_LIBRARY names. The path is made absolute, since a bare
+name would be looked for in the system's folders. The variable is trusted: whatever code it names is run in this process."""
 
 
 def _loaded() -> dict[str, tuple[Callable[..., Any], list[str]]]:

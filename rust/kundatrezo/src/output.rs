@@ -9,12 +9,13 @@ use std::path::{Path, PathBuf};
 
 /// A file that gets its name when it is whole.
 ///
-/// Until [`finish`](Self::finish) the bytes go to a file beside it, `NAME.XXXXXXXXXXXXXXXX.partial` with 16 random hexadecimal digits. That file is created
-/// exclusively, so it is nobody else's and no link is followed. `finish` syncs it, renames it and syncs the folder. A file that is dropped before is removed;
-/// what was there under the name stays as it was. A killed process leaves its `.partial` file, which no later call reads or writes.
+/// Until [`finish`](Self::finish) the bytes go to a file beside it, `NAME.XXXXXXXXXXXXXXXX.partial` with 16 random hexadecimal digits. That file is
+/// created exclusively, so it is nobody else's and no link is followed. `finish` syncs it, renames it and syncs the folder. If the value is dropped
+/// before, the file is removed, and what was there under the name stays as it was. A killed process leaves its `.partial` file, which no later call
+/// reads or writes.
 ///
-/// - A file that is replaced hands on its mode and, if the process may set them, its owner and group. It must be writable. Other hard links to it keep the
-///   old content.
+/// - A file that is replaced must be writable. It hands on its mode and, if the process may set them, its owner and group. Other hard links to it
+///   keep the old content.
 /// - A symbolic link stays, and the file that it leads to is replaced or created.
 /// - A pipe or a device is opened and written under its name; `finish` does nothing more.
 ///
@@ -53,7 +54,7 @@ impl OutputFile {
         };
         let whole = written_path(path)?;
         if old.is_some() {
-            // to rename asks nothing of the file that is replaced, but a file that is protected is to stay
+            // a rename would replace a protected file, too
             OpenOptions::new().write(true).open(&whole)?;
         }
         let (file, partial) = Partial::create(whole, if old.is_some() { 0o600 } else { 0o666 })?;
@@ -63,7 +64,7 @@ impl OutputFile {
         Ok(Self { file, partial: Some(partial) })
     }
 
-    /// Sync and close the file, which has not its name yet: several files can be written first and get their names after.
+    /// Sync and close the file, which does not have its name yet: several files can be written first and get their names after.
     ///
     /// # Errors
     ///
@@ -95,7 +96,7 @@ impl Write for OutputFile {
     }
 }
 
-/// A whole file that has not its name yet. Dropped, it is removed.
+/// A whole file that does not have its name yet. If it is dropped, the file is removed.
 #[derive(Debug)]
 #[must_use = "it is removed unless it is finished"]
 pub struct WrittenFile {
@@ -185,7 +186,7 @@ fn hand_on(old: &Metadata, file: &File) -> io::Result<()> {
     file.set_permissions(Permissions::from_mode(old.mode() & 0o777))
 }
 
-/// Have the folder's entries stored. A folder that may be written and not read, or a file system that has no such call, is no fault of the file.
+/// Have the folder's entries stored. If the folder may not be read, or the file system can't do it, the file is written all the same.
 fn sync_folder(folder: &Path) -> io::Result<()> {
     const EXCUSED: [ErrorKind; 3] = [ErrorKind::PermissionDenied, ErrorKind::InvalidInput, ErrorKind::Unsupported];
     let synced = File::open(folder).and_then(|folder| folder.sync_all());
@@ -205,7 +206,7 @@ pub fn written_path(path: impl AsRef<Path>) -> io::Result<PathBuf> {
     }
 }
 
-/// Where a file is created that is not there: in the folder without links, and where links lead to that lead nowhere yet.
+/// The path of a file that is not there yet, without links: the name may be a link to it.
 fn new_place(path: &Path) -> io::Result<PathBuf> {
     const MOST_LINKS: usize = 40;
     let mut path = path.to_owned();
@@ -254,7 +255,7 @@ impl FileId {
         }
     }
 
-    /// The file of which this is the metadata; none for a pipe, a device or a folder.
+    /// The file that has this metadata; none for a pipe, a device or a folder.
     #[must_use]
     pub fn of_metadata(found: &Metadata) -> Option<Self> {
         found.is_file().then(|| Self(Id::There { device: found.dev(), inode: found.ino() }))

@@ -164,7 +164,7 @@ impl<'a> SharedDraws<'a> {
         draws.ok().filter(|draws| draws.to_string() == account).ok_or(AccountError::Form)
     }
 
-    /// How many words the list of an account has; none where the text is no account, or was edited.
+    /// How many words the list of an account has; none if the text is no account, or was edited.
     #[must_use]
     pub fn length_of(account: &str) -> Option<u64> {
         Account::read(account).ok().map(|account| account.list)
@@ -188,8 +188,8 @@ impl<'a> SharedDraws<'a> {
     }
 }
 
-/// The account: the list's length and check sum, then each stretch and the common part with what is taken of it, and last a check sum of the lines before, the
-/// seal. [`SharedDraws::resumed`] reads it. The seal shows an edit by mistake; it is no secret, and whoever wants to deceive can make it.
+/// The account: the list's length and check sum, then each stretch and the common part with what is taken of it, and last the seal, a check sum of
+/// the lines before it. [`SharedDraws::resumed`] reads it. The seal shows an edit by mistake. It is no secret: whoever wants to cheat can compute it.
 impl fmt::Display for SharedDraws<'_> {
     fn fmt(&self, f: &mut fmt::Formatter<'_>) -> fmt::Result {
         let mut lines = format!("list={} sum={:016x}\n", self.main.len(), sum(self.main));

@@ -25,12 +25,12 @@ pub fn open_file(path: &OsStr) -> Result<File, Failure> {
 /// Most bytes of a text of counts or sets: 64 MiB.
 const MOST_TEXT: u64 = 1 << 26;
 
-/// A text, of which no more is read than it may have.
+/// A text, read no further than its longest.
 pub fn text(path: &OsStr) -> Result<String, Failure> {
     text_of(path, &mut open(path)?, MOST_TEXT)
 }
 
-/// The text of a file that has at most so many bytes.
+/// The text of a file of at most `most` bytes.
 pub fn text_of(path: &OsStr, file: &mut dyn Read, most: u64) -> Result<String, Failure> {
     let mut text = String::new();
     file.take(most + 1).read_to_string(&mut text).map_err(|error| fault(path, &error))?;
@@ -125,7 +125,7 @@ impl Output {
     }
 }
 
-/// The files that a command writes. They get their names together, when all are written: where one can't be, all that was there stays.
+/// The files that a command writes. They get their names together, when all are written: if one can't be, all that was there stays.
 #[derive(Default)]
 pub struct Outputs {
     begun: Vec<(OsString, OutputFile)>,

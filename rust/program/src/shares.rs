@@ -33,7 +33,7 @@ Shares a main list among 1 to 8 callers: each has a stretch of it, in their orde
 is common. Writes the list's account, of which nothing is taken yet: 'list=' and 'sum=' with the list's length
 and a check sum, then for each caller 'share=' with the length of the stretch and 'taken=' with the words taken
 of it, the same of the common part, and 'seal=' with a check sum of these lines. --shares is wanted, and --words
-where the words are made or the file has no end. An account of which words are taken is not written over.";
+if the words are made or the file has no end. An account in use is not written over.";
 
 pub const DETAILS: &str = "\
 With --account and --caller a job draws from a list that several callers share ('kundatrezo share'): words of
@@ -66,7 +66,7 @@ pub fn print_account(arguments: &Arguments) -> Result<(), Failure> {
     Ok(())
 }
 
-/// That no account of which words are taken is written over: they would be handed out again. Of an edited one it can't be told.
+/// That no account in use is written over: its words would be handed out again. An edited one may be in use.
 fn test_unused(path: &OsStr) -> Result<(), Failure> {
     let mut start = Vec::new();
     let is_account = match File::open(path) {
@@ -208,8 +208,8 @@ pub fn lock_name(account: &OsStr) -> OsString {
     lock
 }
 
-/// That no other process draws by the same account meanwhile: the system's lock on a file beside it. The file stays, and the lock is gone with the process,
-/// however it ends.
+/// The system's lock on a file beside the account: no other process draws by the account meanwhile. The file stays, and the lock is gone with the
+/// process, however it ends.
 struct Lock {
     path: OsString,
     file: File,

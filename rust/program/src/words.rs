@@ -189,7 +189,7 @@ impl List {
         Ok(self.words.len() > before)
     }
 
-    /// What to do where the list is too short. A line that reads the second list does so from a place on.
+    /// What to do if the list is too short. A line that reads the second list does so from `place` on.
     fn remedy(&self, name: &str, place: Option<u64>) -> String {
         let (words, seed, most) = (self.words.len(), self.seed, self.most);
         match (&self.source, place) {
@@ -312,7 +312,7 @@ impl<'a> Lent<'a> {
         line.split(' ').find_map(|field| field.strip_prefix("corr="))?.parse().ok()
     }
 
-    /// From where on a line with this correlation reads the second list.
+    /// The place from which a line with this correlation reads the second list.
     fn place(&self, correlation: u64) -> u64 {
         self.base.wrapping_add(correlation)
     }

@@ -114,7 +114,7 @@ fn closed_pipes_leave_the_old_file() {
         fs::remove_file(folder.join(old)).expect("it is there");
         assert_eq!(names(&folder), ["bell", "counts", "noisy", "rows"]);
     }
-    // of several files that a run writes none is changed where one can't be
+    // if one of several files can't be written, none is changed
     for name in ["x", "z"] {
         fs::write(folder.join(name), "old").expect("it can be written");
     }
@@ -191,7 +191,7 @@ fn pipes_devices_and_links() {
     assert_eq!((null.status, null.stderr.as_str()), (0, ""));
     let piped = shell(&folder, "\"$0\" run bell --deltas rows && \"$0\" run bell --deltas /dev/stdout | cat");
     assert!(piped.status == 0 && piped.stdout.ends_with(b"shots=3\n"), "{piped:?}");
-    // two pipes, of which the second is read when the first is at its end
+    // two pipes; the second is read when the first is at its end
     let script = "mkfifo one two && { \"$0\" run bell --deltas one --totals two & cat one two >both; wait; }";
     assert_eq!(shell(&folder, script).status, 0);
     assert_eq!(call(&folder, "run bell --deltas one.file --totals two.file").status, 0);
