@@ -52,7 +52,10 @@ impl OutputFile {
             Err(error) if error.kind() == ErrorKind::NotFound => None,
             Err(error) => return Err(error),
         };
-        let whole = written_path(path)?;
+        let whole = match old {
+            Some(_) => fs::canonicalize(path)?,
+            None => new_place(path)?,
+        };
         if old.is_some() {
             // a rename would replace a protected file, too
             OpenOptions::new().write(true).open(&whole)?;

@@ -2,6 +2,7 @@
 
 use crate::common::{Done, finish, folder, kundatrezo, names};
 use kundatrezo::Xorshift;
+use std::collections::BTreeSet;
 use std::fs::{self, File, Permissions};
 use std::io::Write;
 use std::os::unix::fs::{MetadataExt, PermissionsExt};
@@ -209,6 +210,30 @@ fn runs_that_are_killed_or_lose_their_lock() {
     // and one that nobody touches draws
     assert_eq!(Waiting::start(&folder, waits).until_locked().fed(&sixty()), (Some(0), String::new()));
     assert_eq!(taken(&folder), [10, 0, 20]);
+}
+
+/// Runs at the same time: those that find the account locked try again, and no two take the same words.
+#[test]
+fn many_runs_at_once() {
+    const RUNS: u64 = 24;
+    let folder = folder("at_once");
+    printed(call(&folder, "share --seed 5 --words 300 --shares 0 --output /account"));
+    let run = || loop {
+        let done = call(&folder, "run - --seed 5 --second-seed 6 --account /account --caller 0");
+        if done.status == 0 {
+            let said = String::from_utf8(done.stdout).expect("text");
+            let left =
+                said.split_once("common-left=").and_then(|(_, rest)| rest.split_once(' ')).expect("what is left");
+            return left.0.parse::<u64>().expect("a number");
+        }
+        assert!(done.stderr.contains("another run draws by this account"), "{done:?}");
+    };
+    let left: BTreeSet<u64> = std::thread::scope(|scope| {
+        let threads: Vec<_> = (0..RUNS).map(|_| scope.spawn(run)).collect();
+        threads.into_iter().map(|thread| thread.join().expect("it runs")).collect()
+    });
+    assert_eq!(left, (1..=RUNS).map(|run| 300 - 10 * run).collect());
+    assert_eq!(taken(&folder), [0, 10 * RUNS]);
 }
 
 /// `share` reads its list before it writes: an account that is made and drawn from meanwhile stays.
