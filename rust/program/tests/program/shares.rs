@@ -5,7 +5,7 @@ use kundatrezo::Xorshift;
 use std::collections::BTreeSet;
 use std::fs::{self, File, Permissions};
 use std::io::Write;
-use std::os::unix::fs::{MetadataExt, PermissionsExt};
+use std::os::unix::fs::PermissionsExt;
 use std::path::{Path, PathBuf};
 use std::process::{Child, Command, Stdio};
 use std::time::Duration;
@@ -141,7 +141,6 @@ fn accounts_are_locked() {
 /// A process that waits for the words of its list.
 struct Waiting {
     child: Child,
-    folder: PathBuf,
 }
 
 impl Waiting {
@@ -150,15 +149,14 @@ impl Waiting {
         let mut command = Command::new(env!("CARGO_BIN_EXE_kundatrezo"));
         let piped = command.stdin(Stdio::piped()).stdout(Stdio::piped()).stderr(Stdio::piped());
         let child = piped.args(arguments.split(' ')).current_dir(folder).spawn().expect("it starts");
-        Self { child, folder: folder.to_owned() }
+        Self { child }
     }
 
     /// Until it holds the lock of the account, by the system's list: to try would take the lock away.
     fn until_locked(self) -> Self {
-        let is_locked = || {
-            let inode = fs::metadata(self.folder.join("account.lock")).map(|found| format!(":{} ", found.ino()));
-            inode.is_ok_and(|inode| fs::read_to_string("/proc/locks").expect("a list").contains(&inode))
-        };
+        let process = self.child.id().to_string();
+        let is_own = |line: &str| line.contains(" FLOCK ") && line.split_whitespace().any(|word| word == process);
+        let is_locked = || fs::read_to_string("/proc/locks").expect("a list").lines().any(is_own);
         let mut tries = 0..2000;
         while !is_locked() {
             tries.next().expect("it is locked within ten seconds");
