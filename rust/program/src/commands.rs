@@ -4,7 +4,7 @@ use crate::arguments::{Arguments, Command, FILE, Flag, NEW_FILE, Operand};
 use crate::completions::{self, SHELLS};
 use crate::files::{Names, Outputs, shown};
 use crate::words::{self, Lent};
-use crate::{Failure, counts, faults, files, load, manual, numbers, print, rates, sample, shares, shots, sizes};
+use crate::{Failure, counts, faults, files, load, manual, numbers, print, rates, sample, say, shares, shots, sizes};
 use kundatrezo::{Examination, Frames, MAX_BYTES, Number, Refusal, Shots, bit};
 use std::ffi::{OsStr, OsString};
 use std::fmt::Write;
@@ -355,7 +355,7 @@ fn annotate(arguments: &Arguments) -> Result<(), Failure> {
     })?;
     write_out(arguments, &out[..bytes])?;
     if p < 0.0 {
-        eprintln!("note: p is below zero: no fault will fall");
+        say("note: p is below zero: no fault will fall");
     }
     Ok(())
 }

@@ -63,11 +63,11 @@ fn main() -> ExitCode {
     match obey(&arguments) {
         Ok(()) => ExitCode::SUCCESS,
         Err(Failure::Refused(text)) => {
-            eprintln!("{text}");
+            say(&text);
             ExitCode::from(1)
         }
         Err(Failure::Other(text)) => {
-            eprintln!("kundatrezo: {text}");
+            say(&format!("kundatrezo: {text}"));
             ExitCode::from(2)
         }
         Err(Failure::Unread) => ExitCode::from(2),
@@ -96,6 +96,11 @@ fn obey(arguments: &[OsString]) -> Result<(), Failure> {
         Ok(None) => print(command.help()),
         Err(text) => Err(Failure::Other(format!("{text}; see 'kundatrezo {name} --help'"))),
     }
+}
+
+/// Write a line to standard error. If it can't be written, the status tells all the same.
+fn say(line: &str) {
+    _ = writeln!(io::stderr(), "{line}");
 }
 
 /// Write to standard output.

@@ -94,6 +94,24 @@ fn full_disks_leave_the_old_file() {
     }
 }
 
+/// A message that can't be written changes no status: the log of a run may lie on the same full disk.
+#[test]
+fn messages_that_cannot_be_written() {
+    let folder = prepared("unsaid");
+    let cases = [
+        ("annotate bell --p 0.5 --output gone/out", 2),
+        ("check noisy --x", 2),
+        ("walk noisy --shot 0 --set 0", 1),
+        ("annotate bell --p -0.5 --output out", 0),
+    ];
+    for (arguments, status) in cases {
+        assert_eq!(call(&folder, &format!("{arguments} 2>/dev/full")).status, status, "{arguments}");
+    }
+    assert_eq!(names(&folder), LEFT);
+    let full = shell(&folder, "trap '' XFSZ; ulimit -f 0; exec \"$0\" settle bell --output rows 2>log");
+    assert_eq!((full.status, read(&folder, "log").len()), (2, 0));
+}
+
 /// What can't be printed leaves no file either: the status says that the work is not done.
 #[test]
 fn closed_pipes_leave_the_old_file() {
