@@ -94,7 +94,7 @@ class Calls:
             self.seen[name] += 1
         except Refused as refusal:
             self.seen[f"{name} refused by {refusal.number}"] += 1
-        except (ValueError, NotImplementedError) as error:
+        except ValueError as error:
             self.seen[f"{name} {type(error).__name__}"] += 1
 
     def package(self) -> None:

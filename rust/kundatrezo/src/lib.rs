@@ -20,7 +20,7 @@
 //!
 //! Beside the calls, [`Sampler`] runs any number of shots of a job from a seed, by several threads, and counts; [`split`] shares the shots of a
 //! settled job among several benches, and `^=` on [`Frames`] adds what they leave; [`clifford_line`] writes a Clifford of up to eight qubits, such as
-//! a code's encoder, as a line; [`error_model`] gives a job's noise to a decoder.
+//! a code's encoder, as a line; [`error_model`] gives a job's noise to a decoder; [`OutputFile`] writes a file whole or not at all.
 //!
 //! # Rows
 //!
@@ -90,6 +90,7 @@ mod float_state;
 mod frames;
 mod make;
 mod noise;
+mod output;
 mod refusal;
 mod sampler;
 mod shares;
@@ -106,6 +107,7 @@ pub use error_model::{ErrorModel, Mechanism, error_model};
 pub use examination::{Examination, examine};
 pub use frames::{Frames, bit};
 pub use make::{JobParameters, make, make_job};
+pub use output::{FileId, OutputFile, WrittenFile, write_file, written_path};
 pub use refusal::{Answer, Number, Refusal};
 pub use sampler::{Bench, Counts, Named, Sampler, first_named};
 pub use shares::{AccountError, Caller, MAX_CALLERS, SharedDraws};

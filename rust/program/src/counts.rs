@@ -1,6 +1,6 @@
 //! The counts of a sample as a text, and the sum of such texts.
 
-use crate::arguments::{Arguments, FILE, Flag};
+use crate::arguments::{Arguments, Flag, NEW_FILE};
 use crate::files::{self, Output};
 use crate::sample::part;
 use crate::{Failure, rates};
@@ -8,7 +8,7 @@ use kundatrezo::Counts;
 use std::collections::BTreeSet;
 
 const OUTPUT: Flag =
-    Flag { name: "--output", value: FILE, text: "write the counts to this file; without it, to standard output" };
+    Flag { name: "--output", value: NEW_FILE, text: "write the counts to this file; without it, to standard output" };
 
 pub const FLAGS: &[Flag] = &[OUTPUT];
 
@@ -110,7 +110,7 @@ type Rows = Vec<(String, u64)>;
 pub fn merge(arguments: &Arguments) -> Result<(), Failure> {
     let mut entries = Vec::new();
     for path in arguments.operands() {
-        let name = path.display().to_string();
+        let name = files::shown(path);
         let (sample, rows) = Sample::read(&files::text(path)?).ok_or_else(|| {
             Failure::Other(format!("{name}: these are not the counts that 'kundatrezo sample' writes, whole"))
         })?;

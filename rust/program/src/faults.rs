@@ -1,8 +1,8 @@
 //! What each possible fault does, as a table and as a detector error model.
 
-use crate::Failure;
 use crate::arguments::{Arguments, Flag};
 use crate::commands::{examined, list, outcomes_wanted, write_out};
+use crate::{Failure, say};
 use kundatrezo::{Answer, MAX_BYTES, MAX_GROUPS, Number, Refusal};
 
 const GROUP: Flag = Flag {
@@ -55,12 +55,12 @@ pub fn model(arguments: &Arguments) -> Result<(), Failure> {
     let model = called(arguments, &named, |job| kundatrezo::error_model(job, &detectors, &observables))?;
     write_out(arguments, model.to_string().as_bytes())?;
     if model.mechanisms().iter().any(|mechanism| mechanism.has_condition) {
-        eprintln!("note: noise with a condition has the probability of shots in which it holds");
+        say("note: noise with a condition has the probability of shots in which it holds");
     }
     for correlation in model.mixed_correlations() {
-        eprintln!(
+        say(&format!(
             "note: lines with corr={correlation} differ in p, condition, kind or size, and are taken for independent"
-        );
+        ));
     }
     Ok(())
 }

@@ -1,9 +1,9 @@
 //! Any number of shots of a job: how often outcomes and parities are flipped, or the shots themselves in the forms that decoders read.
 
-use crate::arguments::{Arguments, FILE, Flag};
+use crate::arguments::{Arguments, FILE, Flag, NEW_FILE};
 use crate::commands::{list, outcomes_wanted};
 use crate::counts::{Sample, crc32};
-use crate::files::{self, Output};
+use crate::files::{self, Output, shown};
 use crate::progress::Progress;
 use crate::turns::Turns;
 use crate::{Failure, print, shots};
@@ -18,7 +18,7 @@ use std::os::unix::fs::FileExt;
 use std::thread::available_parallelism;
 
 const SHOTS: Flag = Flag { name: "--shots", value: "N", text: "the number of shots, at least 1" };
-const SEED: Flag = Flag { name: "--seed", value: "N", text: "the seed of all words, any number" };
+const SEED: Flag = Flag { name: "--seed", value: "N", text: "the seed of all words, any number, which is mixed" };
 const SET: Flag = Flag {
     name: "--set",
     value: "L..",
@@ -28,8 +28,11 @@ const SETS: Flag =
     Flag { name: "--sets", value: FILE, text: "read sets from this file, a line each, after those of --set" };
 const FORMAT: Flag =
     Flag { name: "--format", value: "FORM", text: "counts, which is taken without it, or shots by row: 01 or b8" };
-const OUTPUT: Flag =
-    Flag { name: "--output", value: FILE, text: "write counts or rows to this file; without it, to standard output" };
+const OUTPUT: Flag = Flag {
+    name: "--output",
+    value: NEW_FILE,
+    text: "write counts or rows to this file; without it, to standard output",
+};
 const THREADS: Flag = Flag {
     name: "--threads",
     value: "N",
@@ -87,9 +90,10 @@ pub fn sample(arguments: &Arguments) -> Result<(), Failure> {
             output.write(text.as_bytes())?;
             output.finish()
         }
+        // what can't be printed leaves no file, as the status says
         (_, Some(_)) => {
-            output.finish()?;
-            print(text)
+            print(text)?;
+            output.finish()
         }
         (_, None) => output.finish(),
     }
@@ -155,7 +159,7 @@ fn sets(arguments: &Arguments, job: Examination) -> Result<Vec<Vec<u64>>, Failur
     // each with where it stands, for what is said of it
     let mut given: Vec<(String, String)> = option.into_iter().map(|text| (String::new(), text)).collect();
     if let Some(path) = arguments.value(SETS.name) {
-        let place = |line: usize| format!("{}, line {}: ", path.display(), line + 1);
+        let place = |line: usize| format!("{}, line {}: ", shown(path), line + 1);
         given.extend(files::text(path)?.lines().enumerate().map(|(line, text)| (place(line), text.to_owned())));
     }
     let set = |(place, text): &(String, String)| {
@@ -213,7 +217,7 @@ fn noiseless(arguments: &Arguments, sampler: Sampler, job: Examination) -> Resul
             }
             let rows = files::words(path, &mut files::open(path)?, job.outcome_words())?;
             if rows.len() < job.outcome_words() {
-                let text = format!("{}: {} words, and {} are needed", path.display(), rows.len(), job.outcome_words());
+                let text = format!("{}: {} words, and {} are needed", shown(path), rows.len(), job.outcome_words());
                 return Err(Failure::Other(text));
             }
             let sum = crc32(&files::bytes_of(&rows));
@@ -224,10 +228,10 @@ fn noiseless(arguments: &Arguments, sampler: Sampler, job: Examination) -> Resul
             let bytes = file.metadata().map_err(|error| files::fault(path, &error))?.len();
             let needed = sampler.shots().saturating_mul(job.outcomes.div_ceil(8) as u64);
             if bytes < needed {
-                let text = format!("{}: {bytes} bytes, and {needed} are needed", path.display());
+                let text = format!("{}: {bytes} bytes, and {needed} are needed", shown(path));
                 return Err(Failure::Other(text));
             }
-            Ok((sampler, Noiseless::Given(file, path.display().to_string())))
+            Ok((sampler, Noiseless::Given(file, shown(path))))
         }
         _ => Err(Failure::Other(format!("of {}, {} one at most can be given", NOISELESS.name, NOISELESS_SHOTS.name))),
     }

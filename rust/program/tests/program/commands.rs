@@ -326,8 +326,10 @@ fn arguments_at_fault() {
         ("make --qubits 1 --shots 1 --lines 1 --seed 1", "--outcomes is wanted\n"),
         ("make", "--qubits, --outcomes, --shots, --lines and --seed are wanted\n"),
         ("make 5", "no argument is wanted"),
-        ("fill --seed 1", "--words is wanted for words that are made"),
-        ("fill --words 5", "--seed or --state is wanted"),
+        ("fill --run-seed 1", "--words is wanted for words that are made"),
+        ("fill --words 5", "--state or --run-seed is wanted"),
+        ("fill --words 5 --skip 1", "--state or --run-seed is wanted"),
+        ("fill --words 5 --state 1 --run-seed 1", "of --run-seed, --state one at most can be given"),
         ("run - --seed 1 --main /dev/null", "of --main, --seed, --state one at most can be given"),
         ("run - --seed 1 --state 1", "of --main, --seed, --state one at most can be given"),
         ("run - --seed 1 --second-seed 1", "the words of the two lists are to differ"),
@@ -386,6 +388,47 @@ fn numbers_are_converted_both_ways() {
     assert_eq!(call("bits 1e-3 0.5", ""), Done::printed("3f50624dd2f1a9fc\n3fe0000000000000\n"));
 }
 
+/// A short job that names a far place of the second list takes no memory for it unless an option allows it.
+#[test]
+fn memory_for_the_second_list_is_bounded() {
+    let far = |corr: u64| {
+        format!(
+            "op=job qubits=1 outcomes=0 shots=1\nop=n p=3fe0000000000000 corr={corr} cond=- parity=0 d=1 x=0 z=- size=1\n"
+        )
+    };
+    let bounded = |arguments: &str, job: &str| {
+        let script = format!("ulimit -v 150000; exec \"$0\" {arguments}");
+        finish(Command::new("sh").arg("-c").arg(script).arg(env!("CARGO_BIN_EXE_kundatrezo")), job.as_bytes())
+    };
+    for arguments in [
+        "run - --second-seed 1",
+        "settle - --second-seed 1",
+        "run - --second /dev/zero",
+        "run - --second-seed 1 --base 7",
+    ] {
+        let done = bounded(arguments, &far(268_435_000));
+        assert!(done.status == 1 && done.stderr.starts_with("refused: 14 "), "{arguments}: {done:?}");
+        let place = if arguments.ends_with('7') { 268_435_007 } else { 268_435_000 };
+        let hint = format!(
+            "\nhint: this line reads the second list from place {place} on, and the list may have 33554432 words (256 \
+             MiB); --second-words N allows up to 268435456, 8 bytes each\n"
+        );
+        assert!(done.stderr.ends_with(&hint), "{done:?}");
+    }
+    // the limit and its neighbours, lower and raised
+    let limits = [(30, 30, 1), (29, 30, 0), (33_554_432, 33_554_432, 1), (33_554_432, 33_554_434, 0)];
+    for (corr, words, status) in limits {
+        let done = call(&format!("run - --second-seed 1 --second-words {words}"), far(corr));
+        assert_eq!(done.status, status, "{corr} {words}: {done:?}");
+    }
+    // a file of no end is no text of counts, nor sets
+    for arguments in ["merge /dev/zero", "sample - --shots 9 --seed 1 --sets /dev/zero"] {
+        let done = bounded(arguments, &far(0));
+        assert!(done.status == 2 && done.stderr.starts_with("kundatrezo: /dev/zero: "), "{done:?}");
+        assert!(!done.stderr.contains("memory"), "{done:?}");
+    }
+}
+
 /// The least rooms to write in: a full device, and a pipe that nobody reads.
 #[test]
 fn output_that_cannot_be_written_fails() {
@@ -416,7 +459,7 @@ fn help_names_every_command_and_option() {
         String::from_utf8(done.stdout).expect("text")
     };
     let whole = help("--help");
-    let lists = "main seed state skip words second second-seed second-state base noiseless";
+    let lists = "main seed state skip words second second-seed second-state second-words base noiseless";
     let drawn: &[&str] = &lists.split(' ').chain(["account", "caller"]).collect::<Vec<_>>();
     let commands = [
         ("check", vec![]),
@@ -432,7 +475,7 @@ fn help_names_every_command_and_option() {
         ("split", vec!["parts", "prefix"]),
         ("add", vec!["output"]),
         ("make", vec!["qubits", "outcomes", "shots", "lines", "seed", "output", "room"]),
-        ("fill", vec!["seed", "state", "skip", "words", "output"]),
+        ("fill", vec!["state", "run-seed", "skip", "words", "output"]),
         ("sizes", vec!["output"]),
         ("bits", vec![]),
         ("decimal", vec![]),

@@ -1,6 +1,6 @@
 //! Samples: the same answer for every number of threads and parts, rows, refusals, and outputs that can't be written.
 
-use crate::common::{Done, finish, folder, kundatrezo};
+use crate::common::{Done, finish, folder, kundatrezo, names};
 use kundatrezo::{Xorshift, bit};
 use std::fs;
 use std::path::Path;
@@ -235,10 +235,10 @@ fn full_disks_and_closed_pipes() {
             let done = shell(&format!("{sample}{target}"));
             assert!(done.status == 2 && done.stderr.contains("No space left"), "{format} {target}: {done:?}");
         }
-        // a file may have no more than 8 blocks of 512 bytes
+        // a file may have no bytes
         let full = shell(&format!("trap '' XFSZ; ulimit -f 0; exec {sample} --output rows"));
-        assert!(full.status == 2 && full.stderr.contains("rows.partial: "), "{full:?}");
-        assert!(!folder.join("rows").exists() && !folder.join("rows.partial").exists());
+        assert!(full.status == 2 && full.stderr.starts_with("kundatrezo: rows: "), "{full:?}");
+        assert_eq!(names(&folder), [""; 0]);
     }
     // a link stays one
     fs::write(folder.join("old"), "old").expect("it can be written");
