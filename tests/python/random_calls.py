@@ -101,8 +101,9 @@ class Calls:
         """Every function of the package on one job."""
         job, choose = self.job(), self.random.choice
         self.make("Job", lambda: Job(self.damaged(job.text)))
-        frames, outcomes = job.qubits * job.row_words, job.outcomes * job.row_words
-        rows = Rows(*(self.words(self.near(need)) for need in (frames, frames, outcomes, job.outcomes)))
+        outcomes = job.outcomes * job.row_words
+        shapes = [(self.near(count), job.row_words) for count in (job.qubits, job.qubits, job.outcomes)]
+        rows = Rows(*(self.words(count * words).reshape(count, words) for count, words in shapes), self.words(self.near(job.outcomes)))
         lists = {"second": self.words(choice_of(self.random, 400)), "base": self.number(5)}
         lists["noiseless"] = choose([None, self.words(self.near(outcomes))])
         self.make("run", lambda: job.run(self.words(choice_of(self.random, 900)), rows=rows, **lists))

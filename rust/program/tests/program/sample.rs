@@ -27,10 +27,14 @@ fn call(arguments: &str, stdin: impl AsRef<[u8]>) -> Done {
     kundatrezo(arguments.split_whitespace(), stdin.as_ref())
 }
 
-/// What a call prints that does its work.
+/// What a call prints that does its work, with notes at most.
 fn printed(arguments: &str, stdin: impl AsRef<[u8]>) -> Vec<u8> {
     let done = call(arguments, stdin);
-    assert_eq!((done.status, done.stderr.as_str()), (0, ""), "{arguments}");
+    assert!(
+        done.status == 0 && done.stderr.lines().all(|line| line.starts_with("note: ")),
+        "{arguments}: {}",
+        done.stderr
+    );
     done.stdout
 }
 
@@ -161,8 +165,105 @@ fn noiseless_bits_come_again_or_are_given() {
         2,
         "81009 are needed",
     );
-    fs::write(path("rows"), [0; 8]).expect("it can be written");
-    fails(&format!("sample - --shots 9 --seed 3 --noiseless {}", path("rows")), &wide(), 2, "70 are needed");
+    fs::write(path("shots"), [0; 9 * 9000 + 1]).expect("it can be written");
+    let odd = format!("sample - --shots 9000 --seed 3 --noiseless-shots {}", path("shots"));
+    fails(&odd, &wide(), 2, "81001 bytes, and 81000 are needed, 9 for each shot");
+}
+
+/// Noiseless rows for another number of shots are told by their size: outcome 0 is 1 in no shot, and outcome 1 in all of 4,096.
+#[test]
+fn noiseless_bits_of_another_size_are_refused() {
+    let folder = folder("sample_noiseless_size");
+    let job = "op=job qubits=1 outcomes=2 shots=10\nop=o x=- z=0 id=0\n\
+               op=n p=3ff0000000000000 corr=- cond=0 parity=0 d=1 x=0 z=- size=1\nop=o x=- z=0 id=1\n";
+    let sample = |bytes: usize| {
+        let rows = folder.join("rows");
+        fs::write(&rows, vec![0; bytes]).expect("it can be written");
+        format!("sample - --shots 9000 --seed 3 --noiseless {}", rows.display())
+    };
+    assert!(text(printed(&sample(16), job)).contains("id=1 total=9000 "));
+    for (bytes, said) in [
+        (0, "rows: 0 words, and for outcomes=2 and shots=10 there are to be 2\n"),
+        (8, "rows: 1 words, and for outcomes=2 and shots=10 there are to be 2\n"),
+        (24, "rows: 3 words or more, and for outcomes=2 and shots=10 there are to be 2\n"),
+        (2 * 64 * 8, "rows: 3 words or more, and for outcomes=2 and shots=10 there are to be 2\n"),
+        (17, "rows: its bytes are no whole number of 64-bit words\n"),
+    ] {
+        fails(&sample(bytes), job, 2, said);
+    }
+    let endless = "sample - --shots 9000 --seed 3 --noiseless /dev/zero";
+    fails(endless, job, 2, "/dev/zero: 3 words or more, and for outcomes=2 and shots=10 there are to be 2");
+}
+
+/// Counts are merged if they are whole and belong together.
+#[test]
+fn what_merge_refuses() {
+    let folder = folder("merge");
+    let path = |name: &str| folder.join(name).display().to_string();
+    let sample = |seed: u64, options: &str| {
+        text(printed(&format!("sample {SYNDROME} --shots 9000 --seed {seed} --set 4,5,6 --set 0 {options}"), ""))
+    };
+    let (one, two) = (sample(1, ""), sample(2, ""));
+    fs::write(path("one"), &one).expect("it can be written");
+    let merge = |other: &[u8], said: &str| {
+        fs::write(path("other"), other).expect("it can be written");
+        fails(&format!("merge {} {}", path("one"), path("other")), "", 2, &format!("{}: {said}", path("other")));
+    };
+    let lines: Vec<&str> = two.split_inclusive('\n').collect();
+    for count in 2..lines.len() {
+        let said = format!(
+            "the text is cut off: 9 lines of counts are to follow its first two, and there are {}\n",
+            count - 2
+        );
+        merge(lines[..count].concat().as_bytes(), &said);
+    }
+    merge(&two.as_bytes()[..two.len() - 4], "the text is cut off: ");
+    let no_counts = "this is no text of counts, such as 'kundatrezo sample' writes\n";
+    for other in [lines[0].as_bytes(), b"", b"\xff\0\xfe", b"ok=1\n", &fs::read(SYNDROME).expect("the example")] {
+        merge(other, no_counts);
+    }
+    fails("merge /dev/zero", "", 2, no_counts);
+    merge(
+        two.replace("draws=xorshift", "draws=skips").as_bytes(),
+        "drawn by the rule 'skips', and others by 'xorshift': ",
+    );
+    merge(two.replacen("total=", "total=1", 1).as_bytes(), "line 3 is not as it was written\n");
+    merge(sample(1, "").as_bytes(), "part 1/1 of seed 1 is there twice\n");
+    merge(sample(2, "--set 1").as_bytes(), "counts of other sets\n");
+    merge(sample(2, "--named block").as_bytes(), "sampled by other options: named= or noiseless= differ\n");
+    // a text of an earlier version is read with the two lines that are named
+    let old = two.replace(" recorded=7 sets=2 counted=0", "").replace(" draws=xorshift", "");
+    merge(old.as_bytes(), "a text of an earlier version, which does not name its rule of draws ");
+    merge(
+        old.as_bytes(),
+        &format!(
+            "a text of an earlier version, which does not name its rule of draws or the number of its lines: it may be cut off. If it is whole, write its first two lines as\n{}",
+            lines[..2].concat()
+        ),
+    );
+    assert!(text(printed(&format!("merge {} -", path("one")), &two)).contains(" seed=1,2 part=1/1 of=18000\n"));
+}
+
+/// Parts of two samples, in any order, are the two samples.
+#[test]
+fn parts_of_several_seeds_are_merged() {
+    let folder = folder("merge_seeds");
+    let path = |name: String| folder.join(name).display().to_string();
+    let mut files = Vec::new();
+    for (seed, part) in [(1, 2), (2, 1), (1, 3), (2, 2), (1, 1), (2, 3)] {
+        files.push(path(format!("{seed}.{part}")));
+        let own = format!("--seed {seed} --part {part}/3 --output {}", files[files.len() - 1]);
+        printed(&format!("sample {SYNDROME} --shots 20000 {own}"), "");
+    }
+    let whole = [1, 2].map(|seed| {
+        let file = path(seed.to_string());
+        printed(&format!("sample {SYNDROME} --shots 20000 --seed {seed} --output {file}"), "");
+        file
+    });
+    let merged = printed(&format!("merge {}", files.join(" ")), "");
+    assert_eq!(text(merged), text(printed(&format!("merge {}", whole.join(" ")), "")));
+    fails(&format!("merge {}", files[1..].join(" ")), "", 2, "of the 3 parts of seed 1 these are missing: 2\n");
+    fails(&format!("merge {} {}", files.join(" "), files[0]), "", 2, "seed 1 is in both");
 }
 
 #[test]
@@ -206,7 +307,7 @@ fn refusals_and_wrong_arguments() {
     let far = wide().replace("corr=8300", "corr=18446744073709551000");
     let hint = "op=n p=3fb999999999999a corr=18446744073709551000 cond=- parity=0 d=1 x=1 z=- size=1\nhint: place corr";
     fails("sample - --shots 10 --seed 1", &far, 1, hint);
-    fails("merge -", "ok=1\n", 2, "these are not the counts");
+    fails("merge -", "ok=1\n", 2, "this is no text of counts");
     // the longest job, whose header has no room for more digits
     let longest =
         format!("op=job qubits=1 outcomes=0 shots=1\n{}{}", "op=u g=4 q=0\n".repeat(8), "op=z q=0\n".repeat(116_493));
