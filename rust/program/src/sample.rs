@@ -1,7 +1,7 @@
 //! Any number of shots of a job: how often outcomes and parities are flipped, or the shots themselves in the forms that decoders read.
 
 use crate::arguments::{Arguments, FILE, Flag};
-use crate::commands::{list, outcomes_wanted};
+use crate::commands::{outcomes, outcomes_wanted};
 use crate::files::{self, Output};
 use crate::progress::Progress;
 use crate::turns::Turns;
@@ -21,7 +21,7 @@ const SEED: Flag = Flag { name: "--seed", value: "N", text: "the seed of all wor
 const SET: Flag = Flag {
     name: "--set",
     value: "L..",
-    text: "outcomes, rising, with commas between, whose parity is counted; may be given again",
+    text: "outcomes, with commas between, whose parity is counted; may be given again",
 };
 const SETS: Flag =
     Flag { name: "--sets", value: FILE, text: "read sets from this file, a line each, after those of --set" };
@@ -160,11 +160,9 @@ fn sets(arguments: &Arguments, job: Examination) -> Result<Vec<Vec<u64>>, Failur
     }
     let set = |(place, text): &(String, String)| {
         let fault = || format!("{place}a set is to be {SET_IS}, not '{}'", text.escape_default());
-        let set = list(text).ok_or_else(|| Failure::Other(fault()))?;
-        job.test_set(&set).map_err(|refusal| {
-            let remedy = outcomes_wanted(&format!("{place}the set {text}"), job.recorded);
-            Failure::refused(&refusal, &[], Some(remedy))
-        })?;
+        let set = outcomes(text).ok_or_else(|| Failure::Other(fault()))?;
+        job.test_set(&set)
+            .map_err(|_| Failure::refused_list(&outcomes_wanted(&format!("{place}the set {text}"), job.recorded)))?;
         Ok(set)
     };
     given.iter().map(set).collect()

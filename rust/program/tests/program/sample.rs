@@ -284,13 +284,29 @@ fn named_shots() {
 fn refusals_and_wrong_arguments() {
     let sample = |options: &str| format!("sample {SYNDROME} --shots 10 --seed 1 {options}");
     fails("sample - --shots 1 --seed 1", "op=job qubits=0 outcomes=0 shots=1\n", 1, "refused: 3 ");
-    fails(&sample("--set 3,1"), "", 1, "refused: 17 ");
-    fails(&sample("--set 3,7"), "", 1, "hint: the set 3,7: it names recorded outcomes, 0 to 6, and rises strictly");
+    // the order of a set plays no part, and its refusal says nothing of a walk
+    assert_eq!(printed(&sample("--set 3,1"), ""), printed(&sample("--set 1,3"), ""));
+    let list =
+        "refused: 17 (a set or group cut short, not strictly rising, or with an outcome that is not recorded)\nhint: ";
+    for set in ["3,7", "3,1,3"] {
+        let said = format!("{list}the set {set}: it names recorded outcomes, 0 to 6, each once\n");
+        fails(&sample(&format!("--set {set}")), "", 1, &said);
+    }
+    for (shots, digits) in
+        [("1e6", "1000000"), ("1_000_000", "1000000"), ("1,000", "1000"), ("2.5e3", "2500"), ("10.0", "10")]
+    {
+        let said = format!("the value of --shots is to be a number below 2^64, not '{shots}': write {digits}\n");
+        fails(&format!("sample {SYNDROME} --shots {shots} --seed 1"), "", 2, &said);
+    }
+    for shots in ["1.5", "-3", "1e99", "a", "", "nan"] {
+        let said = format!("the value of --shots is to be a number below 2^64, not '{shots}'\n");
+        fails(&format!("sample {SYNDROME} --shots={shots} --seed 1"), "", 2, &said);
+    }
     fails(&sample("--set a"), "", 2, "a set is to be numbers");
-    let sets = folder("sample_sets").join("sets").into_os_string().into_string().expect("a plain path");
+    let sets = folder("sample_refused_sets").join("sets").into_os_string().into_string().expect("a plain path");
     for (text, status, said) in [
         ("0\n\n", 2, ", line 2: a set is to be numbers with commas between, or -, not ''\n"),
-        ("-\n0\n3,7\n", 1, ", line 3: the set 3,7: it names recorded outcomes, 0 to 6, and rises strictly\n"),
+        ("-\n0\n3,7\n", 1, ", line 3: the set 3,7: it names recorded outcomes, 0 to 6, each once\n"),
     ] {
         fs::write(&sets, text).expect("it can be written");
         fails(&sample(&format!("--sets {sets}")), "", status, &format!("{sets}{said}"));
