@@ -11,6 +11,7 @@ from typing import NamedTuple, Optional, Sequence, Union
 import numpy as np
 import numpy.typing as npt
 
+from . import _hints
 from ._library import Answer, Lendable, Words, binary64, call, read_words, whole, written_words
 from ._words import Stream
 
@@ -80,11 +81,11 @@ class Refused(ValueError):
 
 
 def test(answer: Answer, job: bytes = b"", figure: int = 0, hint: str = "") -> None:
-    """Raise what an answer refuses by."""
+    """Raise what an answer refuses by, with its likely cause where the caller gives none."""
     if answer.number:
         part = call("line", job, answer.line)
         line = job[part.start : part.start + part.len].decode(errors="backslashreplace")
-        raise Refused(answer.number, answer.line, line, figure, hint)
+        raise Refused(answer.number, answer.line, line, figure, hint or _hints.hint(answer.number, answer.line, job))
 
 
 def test_job(job: Job) -> None:

@@ -12,7 +12,7 @@ import subprocess
 import numpy as np
 import pytest
 from conftest import PROGRAM, REPOSITORY, circuits, jobs, program, sets_of
-from hypothesis import given
+from hypothesis import given, settings
 from hypothesis import strategies as st
 
 import kundatrezo
@@ -38,7 +38,8 @@ def test_jobs_are_checked():
         Job(str(BELL).replace("q=0,1", "q=0,9"))
     refused = refusal.value
     assert (refused.number, refused.line, refused.line_text) == (4, 3, "op=u g=11 q=0,9")
-    assert str(refused) == "4 (a qubit not below the header's qubits) at line 3: op=u g=11 q=0,9"
+    said = "4 (a qubit not below the header's qubits) at line 3: op=u g=11 q=0,9\nhint: the header has qubits=2: they are 0 to 1"
+    assert str(refused) == said
     assert str(pickle.loads(pickle.dumps(refused))) == str(refused)
     assert pickle.loads(pickle.dumps(BELL)) == BELL and hash(BELL) == hash(Job(str(BELL)))
     with pytest.raises(AttributeError):
@@ -46,6 +47,36 @@ def test_jobs_are_checked():
     with pytest.raises(Refused) as refusal:
         Job(b"")
     assert (refusal.value.number, refusal.value.line) == (1, 0)
+
+
+@settings(max_examples=150)
+@given(jobs(), st.data())
+def test_refusals_have_the_hints_of_the_program(job, data):
+    """Any refused job is refused in the same words, its line shortened where it is long."""
+    text = bytearray(job.text)
+    for _ in range(data.draw(st.integers(1, 3))):
+        place = data.draw(st.integers(0, len(text)))
+        text[place : place + data.draw(st.integers(0, 3))] = data.draw(st.sampled_from([b"", b"\n", b"0", b" ", b"=", b"x=", b"\xff", b"\0", b"op=u g=H q=0\n"]))
+    done = subprocess.run([PROGRAM, "check", "-"], input=bytes(text), capture_output=True)
+    try:
+        Job(bytes(text))
+        assert done.returncode == 0
+    except Refused as refusal:
+        hint = done.stderr.decode().partition("\nhint: ")[2]
+        assert (done.returncode, refusal.hint) == (1, hint.removesuffix("\n"))
+
+
+def test_a_path_is_no_text():
+    path = REPOSITORY / "examples/bell.job"
+    for text in (str(path), "bell.job"):
+        with pytest.raises(Refused, match=r"hint: Job\(text\) takes the text of a job: Job.read\(path\) reads a file"):
+            Job(text)
+    with pytest.raises(Refused, match="hint: the last line has no line end: add LF"):
+        Job("op=job qubits=1 outcomes=0 shots=1")
+    with pytest.raises(Refused, match="hint: byte 1 of the job is none of a text: is it the right file?"):
+        Job.read(_library.PATH)
+    with pytest.raises(Refused, match="hint: settle the job first, and walk the settled job"):
+        SYNDROME.walk(0, [0])
 
 
 def test_refusals_have_the_texts_of_the_header():
