@@ -578,6 +578,30 @@ op=t shot=0 id=1
         }
     }
 
+    /// Noiseless bits for another number of shots would be read in a wrong shape: the job has two outcomes and five shots.
+    #[test]
+    fn noiseless_bits_of_another_size_are_refused() {
+        let sampler = Sampler::new(JOB.as_bytes(), 9_000, 1).expect("it is accepted");
+        for words in [0, 1, 3, 128] {
+            let error = sampler.clone().with_noiseless(&vec![0; words]).expect_err("another size");
+            let header = "the job's header has outcomes=2 and shots=5, which are 2 words";
+            assert_eq!(error.to_string(), format!("noiseless bits of {words} words: {header}"));
+        }
+        assert!(sampler.with_noiseless(&[0, 0]).is_ok());
+        let most = Sampler::new(JOB.replace("shots=5", "shots=4096").as_bytes(), 9_000, 1).expect("it is accepted");
+        assert!(most.clone().with_noiseless(&[0; 2 * 64]).is_ok() && most.with_noiseless(&[0, 0]).is_err());
+    }
+
+    #[test]
+    fn conditions_that_can_fall() {
+        assert_eq!(conditions(JOB.as_bytes()), [(3, Some(0))]);
+        let measured = JOB.replace("op=r id=0 angle=0", "op=o x=- z=0 id=0");
+        assert_eq!(conditions(measured.as_bytes()), [(3, None)]);
+        for p in ["0000000000000000", "8000000000000000", "bfe0000000000000"] {
+            assert_eq!(conditions(JOB.replace("3fd0000000000000", p).as_bytes()), []);
+        }
+    }
+
     /// Guesses that are too small are made good, and change nothing.
     #[test]
     fn more_words_are_made_where_they_are_needed() {

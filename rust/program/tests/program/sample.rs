@@ -195,6 +195,32 @@ fn noiseless_bits_of_another_size_are_refused() {
     fails(endless, job, 2, "/dev/zero: 3 words or more, and for outcomes=2 and shots=10 there are to be 2");
 }
 
+/// Noise with a condition comes with a note where its noiseless bits are not given, and where those of a random outcome are no more than rows.
+#[test]
+fn conditions_come_with_notes() {
+    let folder = folder("sample_notes");
+    let path = |name: &str| folder.join(name).display().to_string();
+    fs::write(path("rows"), [0; 70 * 8]).expect("it can be written");
+    fs::write(path("shots"), [0; 9 * 100]).expect("it can be written");
+    let notes = |options: &str, job: &str| {
+        let done = call(&format!("sample - --shots 100 --seed 3 {options}"), job);
+        assert_eq!(done.status, 0, "{done:?}");
+        done.stderr
+    };
+    let no_bits = "note: line 7 has noise with a condition, and without --noiseless or --noiseless-shots all noiseless bits are 0\n";
+    let random = |bit: &str| {
+        let what = "the condition of line 7 looks at outcome 0, which op=r records at random";
+        format!("note: {what}, and its noiseless bit {bit}: --noiseless-shots gives it for each\n")
+    };
+    assert_eq!(notes("", &wide()), format!("{no_bits}{}", random("is 0 in every shot")));
+    let rows = format!("--noiseless {}", path("rows"));
+    assert_eq!(notes(&rows, &wide()), random("comes again every 10 shots"));
+    let measured = wide().replace("op=r id=0 angle=0", "op=o x=- z=0 id=0");
+    assert_eq!([notes("", &measured), notes(&rows, &measured)], [no_bits, ""]);
+    assert_eq!(notes(&format!("--noiseless-shots {}", path("shots")), &wide()), "");
+    assert_eq!(notes("", &wide().replace("cond=0 parity=1", "cond=- parity=0")), "");
+}
+
 /// Counts are merged if they are whole and belong together.
 #[test]
 fn what_merge_refuses() {
