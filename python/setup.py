@@ -1,8 +1,8 @@
-"""Builds the package: links libkundatrezo.so, which it calls, from the archive libkundatrezo.a, and builds libkundatrezo_edge.so, by which refusals have
-hints, from the Rust crate.
+"""Builds the package: links libkundatrezo.so, which it calls, from the archive libkundatrezo.a, and builds libkundatrezo_edge.so, by which refusals
+have hints, from the Rust crate.
 
-The archive lies in the folder that the environment variable KUNDATREZO_LIB_DIR names, or in target/staticlib of the repository. The crate is that of the
-repository; without it, or without cargo, the package has no hints.
+The archive lies in the folder that the environment variable KUNDATREZO_LIB_DIR names, or in target/staticlib of the repository. The crate is that of
+the repository; without it, or without cargo, the package has no hints.
 """
 
 import os

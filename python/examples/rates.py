@@ -34,8 +34,9 @@ def arguments() -> argparse.Namespace:
     parser = argparse.ArgumentParser(description="Logical error rates of the repetition and the rotated surface code, with a plot.")
     parser.add_argument("--plot", default="rates.png", metavar="FILE", help="write the plot to this file (%(default)s)")
     parser.add_argument("--shots", type=int, default=100_000, metavar="N", help="the shots of each point (%(default)s)")
-    parser.add_argument("--seed", type=int, default=2026, metavar="N", help="the seed of the first point, from which the others count on (%(default)s)")
-    parser.add_argument("--p", type=float, nargs="+", default=[0.002, 0.004, 0.008, 0.016], metavar="P", help="the probabilities of a fault (%(default)s)")
+    parser.add_argument("--seed", type=int, default=2026, metavar="N", help="the seed of the first point; the others count on from it (%(default)s)")
+    probabilities = [0.002, 0.004, 0.008, 0.016]
+    parser.add_argument("--p", type=float, nargs="+", default=probabilities, metavar="P", help="the probabilities of a fault (%(default)s)")
     parser.add_argument("--threads", type=int, default=os.cpu_count(), metavar="N", help="the threads that sample (%(default)s)")
     return parser.parse_args()
 

@@ -21,7 +21,7 @@ DRAWS = "xorshift"
 # The 97.5th percentile of the normal distribution.
 _QUANTILE = 1.959963984540054
 
-_NO_COUNTS = "this is no text of counts, such as 'kundatrezo sample' writes"
+_NO_COUNTS = "these are no counts as 'kundatrezo sample' writes them"
 # What stands for noiseless bits that were given for each shot.
 LENT = "shots"
 
@@ -64,13 +64,13 @@ class Subject:
     def test_same(self, other: Subject) -> None:
         """That counts of the other can be added."""
         if self.draws != other.draws:
-            raise ValueError(f"drawn by the rule '{other.draws}', and others by '{self.draws}': counts of two rules are not added")
+            raise ValueError(f"sampled by the rule of draws '{other.draws}', others by '{self.draws}': counts of different rules can't be added")
         if replace(self, sets=(), named=None, noiseless=None) != replace(other, sets=(), named=None, noiseless=None):
-            raise ValueError("counts of another job")
+            raise ValueError("these are counts of another job")
         if (self.named, self.noiseless) != (other.named, other.noiseless):
-            raise ValueError("sampled by other options: named= or noiseless= differ")
+            raise ValueError("sampled with other options: named= or noiseless= differs")
         if self.sets != other.sets:
-            raise ValueError("counts of other sets")
+            raise ValueError("these are counts of other sets")
 
 
 @dataclass(frozen=True)
@@ -103,11 +103,11 @@ class Sample:
         """Further parts of the same sample."""
         seed = min(set(self.seeds) & set(other.seeds))
         if replace(self, places=other.places) != other:
-            raise ValueError(f"seed {seed} is in both, and the parts are not those of one sample")
+            raise ValueError(f"both have seed {seed}, and they are not parts of one sample")
         joined: list[tuple[int, int]] = []
         for first, last in sorted(self.places + other.places):
             if joined and first <= joined[-1][1]:
-                raise ValueError(f"part {first}/{self.parts} of seed {seed} is there twice")
+                raise ValueError(f"part {first}/{self.parts} of seed {seed} is counted twice")
             if joined and first == joined[-1][1] + 1:
                 first = joined.pop()[0]
             joined.append((first, last))
@@ -142,8 +142,8 @@ def _ordered(samples: list[Sample]) -> tuple[Sample, ...]:
 
 @dataclass(frozen=True, eq=False)
 class Counts:
-    """In how many shots outcomes and the parities of sets of outcomes are flipped. Counts are equal if their texts are. Those of other parts of a sample, and
-    those of other seeds, are added by `+` and `sum`.
+    """In how many shots outcomes and the parities of sets of outcomes are flipped. Counts are equal if their texts are. Those of other parts of a sample,
+    and those of other seeds, are added by `+` and `sum`.
 
     >>> job = Job("op=job qubits=1 outcomes=1 shots=1\\nop=n p=3fe0000000000000 corr=- cond=- parity=0 d=1 x=0 z=- size=1\\nop=o x=- z=0 id=0\\n")
     >>> from kundatrezo import sample
@@ -262,7 +262,7 @@ class Counts:
             return NotImplemented
         self.subject.test_same(other.subject)
         if (self.counted is None) != (other.counted is None):
-            raise ValueError("one has shots that a function of the caller's counted, and the other has not")
+            raise ValueError("only one of the two has a line of counted shots")
         if self.shots + other.shots >= 2**64 or sum(sample.whole for sample in self.samples + other.samples) >= 2**64:
             raise ValueError("the sum has 2^64 shots or more")
         samples = list(self.samples)
@@ -307,7 +307,7 @@ class Counts:
             return counts
         of = counts.subject
         if replace(subject_of(job, of.sets, of.named, of.noiseless), draws=of.draws) != of:
-            raise ValueError("counts of another job")
+            raise ValueError("these are counts of another job")
         return replace(counts, job=job)
 
 
@@ -326,7 +326,7 @@ def _fields(line: str) -> dict[str, str]:
 
 
 def _changed(line: int) -> ValueError:
-    return ValueError(f"line {line} is not as it was written")
+    return ValueError(f"line {line} is not as 'kundatrezo sample' writes it")
 
 
 def _parsed(lines: list[str]) -> Counts:
@@ -341,15 +341,15 @@ def _parsed(lines: list[str]) -> Counts:
         raise _changed(1)
     wanted, there = recorded + sets + counted, len(rest) + bool(lines[-1])
     if there < wanted or lines[-1]:
-        end = ", the last without its end" if lines[-1] else ""
-        raise ValueError(f"the text is cut off: {wanted} lines of counts are to follow its first two, and there are {there}{end}")
+        end = ", the last without its line end" if lines[-1] else ""
+        raise ValueError(f"the text is cut off: its first line says {wanted} lines of counts, and there are {there}{end}")
     if there > wanted:
-        raise ValueError(f"there are {there} lines of counts, and by its first line {wanted}")
+        raise ValueError(f"its first line says {wanted} lines of counts, and there are {there}")
     totals = [_total(line, place, shots) for place, line in enumerate(rest, 3)]
     read_sets = tuple(_set(line, place) for place, line in enumerate(rest[recorded : recorded + sets], recorded + 3))
     samples, subject = _second_line(lines[1], Subject(qubits, outcomes, recorded, 0, read_sets))
     if sum(sample.shots for sample in samples) != shots:
-        raise ValueError("the shots of its first line are not those of its parts")
+        raise ValueError("the shots of its first line do not match its parts")
     of_outcomes = np.array(totals[:recorded] + [0] * (outcomes - recorded), dtype=np.uint64)
     of_sets = np.array(totals[recorded : recorded + sets], dtype=np.uint64)
     return Counts(subject, _ordered(samples), shots, of_outcomes, of_sets, totals[-1] if counted else None)
@@ -389,8 +389,8 @@ def _second_line(line: str, subject: Subject) -> tuple[list[Sample], Subject]:
 
 
 def _raise_earlier(lines: list[str]) -> NoReturn:
-    """A text of an earlier version names neither its rule nor the number of its lines. It may be cut off, so it is not read; the error has the two lines with
-    which it is."""
+    """A text of an earlier version names neither its rule nor the number of its lines. It may be cut off, so it is not read; the error has the two lines
+    with which it is."""
     begin = lambda key: sum(line.startswith(key) for line in lines[2:])
     header = f"{lines[0]} recorded={begin('id=')} sets={begin('set=')} counted=0"
     try:
@@ -399,6 +399,6 @@ def _raise_earlier(lines: list[str]) -> NoReturn:
         raise ValueError(_NO_COUNTS) from None
     first = "\n".join(counts.text().split("\n")[:2])
     raise ValueError(
-        "a text of an earlier version, which does not name its rule of draws or the number of its lines: it may be cut off. If it is whole, "
-        f"write its first two lines as\n{first}"
+        "counts of an earlier version, which name neither their rule of draws nor the number of their lines: they may be cut off. "
+        f"If they are whole, replace the first two lines by\n{first}"
     )

@@ -1,5 +1,5 @@
-"""The likely cause of a refusal, by the Rust crate: its C interface, libkundatrezo_edge.so, lies beside this file if cargo was at hand when the package was
-built."""
+"""The likely cause of a refusal, by the Rust crate: its C interface, libkundatrezo_edge.so, lies beside this file if cargo was at hand when the package
+was built."""
 
 from __future__ import annotations
 

@@ -7,6 +7,7 @@ from dataclasses import dataclass
 from math import prod
 from pathlib import Path
 from typing import NamedTuple, Optional, Sequence, Union
+from warnings import warn
 
 import numpy as np
 import numpy.typing as npt
@@ -19,6 +20,8 @@ MAX_BYTES = 1_048_576
 MAX_SHOTS = 4_096
 MAX_OUTCOMES = 1_024
 MAX_GROUPS = 16
+# Most words that are made for a list, 2 GiB.
+MAX_LIST = 1 << 28
 
 TEXTS = {
     1: "the job is empty, longer than 1,048,576 bytes, or has no LF at its end",
@@ -102,7 +105,7 @@ def test_lists(lists: Sequence[Sequence[int]], name: str) -> None:
 
 
 def rising(job: Job, what: str, lists: Sequence[Sequence[int]]) -> list[tuple[int, ...]]:
-    """Lists of outcomes in rising order: the order in which a caller names them plays no part. `Refused` by 17 if one is not recorded, or named twice."""
+    """Lists of outcomes in rising order: that in which a caller names them plays no part. `Refused` by 17 if one is not recorded, or named twice."""
     test_lists(lists, f"{what}s")
     found = [tuple(sorted(int(outcome) for outcome in read_words(list_))) for list_ in lists]
     for list_ in found:
@@ -115,8 +118,8 @@ def rising(job: Job, what: str, lists: Sequence[Sequence[int]]) -> list[tuple[in
 
 @dataclass(frozen=True)
 class Rows:
-    """What a run leaves. A row has a bit for each shot: shot s is bit s mod 64 of word s // 64. `bits` makes booleans of it. Rows have the shape of a job, and a
-    run takes those of its own job's shape alone."""
+    """What a run leaves. A row has a bit for each shot: shot s is bit s mod 64 of word s // 64. `bits` makes booleans of it. Rows have the shape of a job,
+    and a run takes only those of its own job's shape."""
 
     x: Words
     """The X part of the frames, a row for each qubit."""
@@ -140,11 +143,11 @@ class Rows:
         return [(job.qubits, job.row_words), (job.qubits, job.row_words), (job.outcomes, job.row_words), (job.outcomes,)]
 
     def test_shape(self, job: Job) -> None:
-        """That these are rows for a job: in others its run would leave rows that a reader takes for longer ones. Too few words are the engine's to refuse."""
+        """That these are rows for a job: in larger ones the bits of its run would stand in the wrong places. Too few words are the engine's to refuse."""
         for name, shape in zip(("x", "z", "deltas", "totals"), Rows._shapes(job)):
             given = getattr(self, name)
             if given.shape != shape and given.size >= prod(shape):
-                raise ValueError(f"rows.{name} has the shape {given.shape}, and for this job it is {shape}: Rows.of(job) makes rows for it")
+                raise ValueError(f"rows.{name} has shape {given.shape}, and this job needs {shape}: Rows.of(job) makes rows for it")
 
 
 class FaultTable(NamedTuple):
@@ -229,7 +232,7 @@ class Job:
         if noiseless is None:
             return np.zeros(shape, dtype=np.uint64).reshape(-1)
         if np.ndim(noiseless) > 1 and np.shape(noiseless) != shape:
-            raise ValueError(f"noiseless bits have the shape {np.shape(noiseless)}, and for this job it is {shape}")
+            raise ValueError(f"noiseless bits have shape {np.shape(noiseless)}, and this job needs {shape}")
         return read_words(noiseless)
 
     def run(
@@ -302,19 +305,21 @@ class Job:
             try:
                 return once(main, other)
             except Refused as refusal:
-                corr = refusal.line_text.partition(" corr=")[2].partition(" ")[0]
-                stream, name = (main_stream, "seed") if corr == "-" else (second_stream, "second_seed")
                 if refusal.number != 14:
                     raise
-                if stream is None:
-                    raise Refused(14, refusal.line, refusal.line_text, hint=f"{name}=N makes as many words as are needed") from None
+                corr = refusal.line_text.partition(" corr=")[2].partition(" ")[0]
+                place = 0 if corr == "-" else (base + int(corr)) % 2**64 + 2 * self.shots
+                list_, stream, name = (main, main_stream, "seed") if corr == "-" else (other, second_stream, "second_seed")
+                if stream is None or place > MAX_LIST:
+                    hint = f"{name}=N makes as many words as are needed"
+                    if stream is None and list_.size:
+                        hint = f"the list has {list_.size} words and this line needs more"
+                    elif place > MAX_LIST:
+                        hint = f"a list has at most {MAX_LIST} words, and place base + corr of this line lies past it"
+                    raise Refused(14, refusal.line, refusal.line_text, hint=hint) from None
                 if corr == "-":
                     main = stream.first(max(2 * main.size, 2 * self.shots * self.text.count(b"\nop=n ")))
                 else:
-                    place = (base + int(corr)) % 2**64 + 2 * self.shots
-                    if place > 1 << 28:
-                        hint = f"a list has at most {1 << 28} words, and place base + corr of this line lies past it"
-                        raise Refused(14, refusal.line, refusal.line_text, hint=hint) from None
                     other = stream.first(max(2 * other.size, place))
 
     def walk(self, shot: int, set: Sequence[int]) -> int:
@@ -332,6 +337,8 @@ class Job:
         out = np.zeros(MAX_BYTES, dtype=np.uint8)
         said = call("annotate", self.text, binary64(p), out)
         test(said.answer, self.text)
+        if p < 0:
+            warn("p is below zero: no fault will fall", stacklevel=2)
         return Job(out[: said.figure].tobytes())
 
     def locations(self) -> int:
@@ -403,7 +410,7 @@ def _turned(name: str, rows: Words, outcomes: int, shots: int, shape: tuple[int,
     # a row has a bit for each of the others
     row_words = -(-(shots if name == "by_shot" else outcomes) // 64)
     if np.ndim(rows) == 2 and np.shape(rows)[1] > row_words:
-        raise ValueError(f"these rows have {np.shape(rows)[1]} words, and for outcomes={outcomes} and shots={shots} it is {row_words}")
+        raise ValueError(f"these rows have {np.shape(rows)[1]} words each, but outcomes={outcomes} and shots={shots} need {row_words}")
     out = np.zeros(shape, dtype=np.uint64) if out is None else out
     test(call(name, outcomes, shots, read_words(rows), written_words(out)))
     return out
@@ -417,7 +424,7 @@ def bits(rows: Words, count: int) -> npt.NDArray[np.bool_]:
     if given.ndim != 2:
         raise ValueError(f"rows are to be an array with a row of words each, not of shape {given.shape}")
     if not 0 <= (count := whole(count, "count")) <= 64 * given.shape[1]:
-        raise ValueError(f"a row of {given.shape[1]} words has {64 * given.shape[1]} bits, and {count} are asked for")
+        raise ValueError(f"a row of {given.shape[1]} words has {64 * given.shape[1]} bits, not {count}")
     if given.shape[1] == 0:
         return np.zeros((len(given), 0), dtype=bool)
     packed = read_words(rows).astype("<u8", copy=False).reshape(given.shape)

@@ -16,14 +16,12 @@ import numpy as np
 import numpy.typing as npt
 
 from ._counts import LENT, Counts, Sample, part_blocks, subject_of
-from ._jobs import MAX_SHOTS, Job, Refused, Rows, bits, by_outcome, by_shot, rising, test_job, words
+from ._jobs import MAX_LIST, MAX_SHOTS, Job, Refused, Rows, bits, by_outcome, by_shot, rising, test_job, words
 from ._library import Lendable, Words, read_words, whole
 from ._words import Stream, state_of_block
 
 Bools = npt.NDArray[np.bool_]
 
-# Most words of a list of a block.
-_MOST_WORDS = 1 << 28
 # Blocks of a task at most, and tasks that an executor is given ahead.
 _TASK, _AHEAD = 256, 64
 
@@ -50,14 +48,14 @@ def sample(
     `count` is a function, such as a decoder, that is given the parities of the sets by shot, or all outcomes where there are no sets, as an array of
     booleans with a row for each shot, and gives for each shot whether it counts. Processes need one that can be pickled.
 
-    `part` is (I, K) for the I-th of K parts of the shots, from 1, as the program's --part: the counts of all parts, here or on other machines, add up to those
-    of the whole.
+    `part` is (I, K) for the I-th of K parts of the shots, from 1, as the program's --part: the counts of all parts, here or on other machines, add up to
+    those of the whole.
 
     A job with injections or flips wants `named`: "whole", they stand in the shots of the whole that they name, or "block", in those of each block.
 
     `noiseless` has noiseless bits for the job's own shots, in the layout of deltas, which come again: shot s has those of s mod `job.shots`. `noiseless_shots`
-    has them for each shot, a row of packed bytes, eight outcomes to a byte, the lowest first. Without them all are 0; a warning says so if noise with a
-    condition looks at them.
+    has them for each shot, a row of packed bytes, eight outcomes to a byte, the lowest first. Without them all are 0; a warning says so if noise with
+    a condition looks at them.
     """
     plan = _Plan.of(job, shots, seed, sets, part, named, noiseless)
     given = _given(plan, noiseless_shots)
@@ -92,8 +90,8 @@ def sample_shots(
     noiseless: Optional[Lendable] = None,
     noiseless_shots: Optional[npt.NDArray[np.uint8]] = None,
 ) -> Iterator[np.ndarray]:
-    """The shots of the same sample, or of its part, block by block, as decoders read them: an array with a row for each shot, and in it a boolean for each
-    set, or for each outcome where there are no sets; `packed`, bytes that have eight of them each, the lowest first."""
+    """The shots of the same sample, or of its part, block by block, as decoders read them: an array with a row for each shot, and in it a boolean for
+    each set, or for each outcome where there are no sets; `packed`, bytes that have eight of them each, the lowest first."""
     plan = _Plan.of(job, shots, seed, sets, part, named, noiseless)
     given = _given(plan, noiseless_shots)
     _warn_of_conditions(plan, given is not None)
@@ -234,8 +232,8 @@ def _noiseless_rows(job: Job, noiseless: Lendable) -> Words:
     rows, shape = read_words(noiseless), (job.outcomes, job.row_words)
     if rows.size != shape[0] * shape[1] or (np.ndim(noiseless) > 1 and np.shape(noiseless) != shape):
         raise ValueError(
-            f"noiseless bits of {rows.size} words, of shape {np.shape(noiseless)}: the job's header has outcomes={job.outcomes} and shots={job.shots}, "
-            f"which are {shape[0] * shape[1]} words, {job.row_words} for each outcome"
+            f"noiseless bits of {rows.size} words, shape {np.shape(noiseless)}, but the header's outcomes={job.outcomes} and shots={job.shots} "
+            f"need exactly {shape[0] * shape[1]}, shape {shape}"
         )
     return rows.reshape(shape)
 
@@ -245,8 +243,8 @@ _RANDOM = re.compile(rb"^op=r id=(\d+) ", re.MULTILINE)
 
 
 def _warn_of_conditions(plan: _Plan, given: bool) -> None:
-    """Say that noise with a condition looks at noiseless bits that are not given, or at those of a random outcome, which are the same in all shots or come
-    again."""
+    """Say that noise with a condition looks at noiseless bits that are not given, or at those of a random outcome, which are the same in all shots or
+    come again."""
     text = plan.job.text
     falls = lambda found: struct.unpack(">d", bytes.fromhex(found[1].decode()))[0] > 0
     conditions = [(text.count(b"\n", 0, found.start()) + 1, found[2].split(b",")) for found in _CONDITION.finditer(text) if falls(found)]
@@ -259,7 +257,7 @@ def _warn_of_conditions(plan: _Plan, given: bool) -> None:
     if found:
         same = "is 0 in every shot" if plan.noiseless is None else f"comes again every {plan.job.shots} shots"
         what = f"the condition of line {found[0]} looks at outcome {int(found[1])}, which op=r records at random"
-        warn(f"{what}, and its noiseless bit {same}: noiseless_shots= gives it for each", stacklevel=3)
+        warn(f"{what}, and its noiseless bit {same}: noiseless_shots= gives it for each shot", stacklevel=3)
 
 
 _NAMED = re.compile(rb"^op=[it] shot=(\d+) .*$", re.MULTILINE)
@@ -314,12 +312,12 @@ class _Bench:
             except Refused as refusal:
                 # the guess was too small: the same words, and more of them
                 corr = refusal.line_text.partition(" corr=")[2].partition(" ")[0]
-                place = 0 if corr == "-" else int(corr or _MOST_WORDS)
-                longer = min(_MOST_WORDS, 2 * lengths[corr != "-"] + place + job.shots)
+                place = 0 if corr == "-" else int(corr or MAX_LIST)
+                longer = min(MAX_LIST, 2 * lengths[corr != "-"] + place + job.shots)
                 if refusal.number != 14:
                     raise
-                if place >= _MOST_WORDS or longer == lengths[corr != "-"]:
-                    hint = f"place corr of this line lies past {_MOST_WORDS} words, the most of a list"
+                if place >= MAX_LIST or longer == lengths[corr != "-"]:
+                    hint = f"place corr of this line lies past {MAX_LIST} words, the most of a list"
                     raise Refused(14, refusal.line, refusal.line_text, hint=hint) from None
                 lengths[corr != "-"] = longer
 
@@ -365,7 +363,7 @@ class _Need:
         return need
 
     def main(self, shots: int) -> int:
-        return min(_MOST_WORDS, int(self.mean * shots + 8 * sqrt(self.variance * shots)) + 64) if self.mean else 0
+        return min(MAX_LIST, int(self.mean * shots + 8 * sqrt(self.variance * shots)) + 64) if self.mean else 0
 
     def second(self, shots: int) -> int:
-        return 0 if self.place is None or self.place >= _MOST_WORDS else min(_MOST_WORDS, self.place + 2 * shots + 64)
+        return 0 if self.place is None or self.place >= MAX_LIST else min(MAX_LIST, self.place + 2 * shots + 64)

@@ -54,9 +54,10 @@ def test_jobs_are_checked():
 def test_refusals_have_the_hints_of_the_program(job, data):
     """Any refused job is refused in the same words, its line shortened where it is long."""
     text = bytearray(job.text)
+    pieces = [b"", b"\n", b"0", b" ", b"=", b"x=", b"\xff", b"\0", b"op=u g=H q=0\n"]
     for _ in range(data.draw(st.integers(1, 3))):
         place = data.draw(st.integers(0, len(text)))
-        text[place : place + data.draw(st.integers(0, 3))] = data.draw(st.sampled_from([b"", b"\n", b"0", b" ", b"=", b"x=", b"\xff", b"\0", b"op=u g=H q=0\n"]))
+        text[place : place + data.draw(st.integers(0, 3))] = data.draw(st.sampled_from(pieces))
     done = subprocess.run([PROGRAM, "check", "-"], input=bytes(text), capture_output=True)
     try:
         Job(bytes(text))
@@ -73,7 +74,7 @@ def test_a_path_is_no_text():
             Job(text)
     with pytest.raises(Refused, match="hint: the last line has no line end: add LF"):
         Job("op=job qubits=1 outcomes=0 shots=1")
-    with pytest.raises(Refused, match="hint: byte 1 of the job is none of a text: is it the right file?"):
+    with pytest.raises(Refused, match="hint: byte 1 is not text: is this the right file?"):
         Job.read(_library.PATH)
     with pytest.raises(Refused, match="hint: settle the job first, and walk the settled job"):
         SYNDROME.walk(0, [0])
@@ -260,19 +261,19 @@ def test_rows_have_the_shape_of_their_job():
     rows = Rows.of(long)
     assert (rows.shots, long.run(seed=1, rows=rows).shots) == (0, 4096)
     for job in (SYNDROME, long.with_shots(4032), BELL):
-        with pytest.raises(ValueError, match=r"rows.x has the shape \(5, 64\), and for this job it is .*: Rows.of\(job\) makes rows for it"):
+        with pytest.raises(ValueError, match=r"rows.x has shape \(5, 64\), and this job needs .*: Rows.of\(job\) makes rows for it"):
             job.run(seed=1, rows=rows)
     # other shots in as many words: the run says how many
     assert long.with_shots(4095).run(seed=1, rows=rows) is rows and rows.shots == 4095
     own = Rows.of(SYNDROME)
-    for wrong in (Rows(own.x, own.z, rows.deltas, own.totals), Rows(own.x, own.z, own.deltas.T.copy(), own.totals), Rows(own.x, own.z, own.deltas, rows.x)):
-        with pytest.raises(ValueError, match="has the shape"):
-            SYNDROME.run(seed=1, rows=wrong)
-    with pytest.raises(ValueError, match=r"noiseless bits have the shape \(7, 64\), and for this job it is \(7, 1\)"):
+    for wrong in ((rows.deltas, own.totals), (own.deltas.T.copy(), own.totals), (own.deltas, rows.x)):
+        with pytest.raises(ValueError, match="has shape"):
+            SYNDROME.run(seed=1, rows=Rows(own.x, own.z, *wrong))
+    with pytest.raises(ValueError, match=r"noiseless bits have shape \(7, 64\), and this job needs \(7, 1\)"):
         SYNDROME.run(seed=1, noiseless=rows.deltas)
-    with pytest.raises(ValueError, match="these rows have 64 words, and for outcomes=7 and shots=64 it is 1"):
+    with pytest.raises(ValueError, match="these rows have 64 words each, but outcomes=7 and shots=64 need 1"):
         by_shot(rows.deltas, 64)
-    with pytest.raises(ValueError, match="these rows have 2 words, and for outcomes=7 and shots=3 it is 1"):
+    with pytest.raises(ValueError, match="these rows have 2 words each, but outcomes=7 and shots=3 need 1"):
         by_outcome(np.zeros((3, 2), dtype=np.uint64), 7)
 
 
@@ -280,7 +281,7 @@ def test_bits_are_those_of_words():
     deltas = SYNDROME.run(seed=1).deltas
     assert bits(deltas, 64).sum(axis=1).tolist() == SYNDROME.run(seed=1).totals.tolist()
     assert bits(deltas.tolist(), 64).tolist() == bits(deltas, 64).tolist()
-    with pytest.raises(ValueError, match="a row of 1 words has 64 bits, and 65 are asked for"):
+    with pytest.raises(ValueError, match="a row of 1 words has 64 bits, not 65"):
         bits(deltas, 65)
     for wrong in (bits(deltas, 64), deltas.astype(float), [[0.5]]):
         with pytest.raises(TypeError):
@@ -353,12 +354,14 @@ def test_words_past_the_list():
         Circuit().fault(0.5, "X0", corr=7).job().settle(seed=1)
     for corr in (300_000_000, 2**64 - 1):
         far = Circuit().fault(0.5, "X0", corr=corr).job()
-        for call in (lambda: far.run(second_seed=1), lambda: kundatrezo.sample(far, 1, 1)):
+        for call in (lambda: far.run(second_seed=1), lambda: far.settle(seed=1), lambda: kundatrezo.sample(far, 1, 1)):
             with pytest.raises(Refused) as refusal:
                 call()
             # what may help is no option that the call does not have, or that is given
             assert (refusal.value.number, refusal.value.line) == (14, 2) and "seed" not in refusal.value.hint
             assert re.search(r"place (base \+ )?corr of this line lies past", refusal.value.hint)
+    with pytest.raises(Refused, match="hint: the list has 10 words and this line needs more$"):
+        SYNDROME.run(fill(1, 10))
 
 
 def test_the_floating_point_state():
@@ -489,3 +492,10 @@ def test_numbers_of_other_libraries():
 def test_annotation_wants_a_number():
     with pytest.raises(TypeError, match="a probability or weight is a number, not '0.1'"):
         BELL.annotate("0.1")
+
+
+def test_annotation_below_zero_is_noted():
+    with pytest.warns(UserWarning, match="p is below zero: no fault will fall"):
+        noisy = BELL.annotate(-0.5)
+    done = subprocess.run([PROGRAM, "annotate", "-", "--p=-0.5"], input=BELL.text, capture_output=True, check=True)
+    assert (done.stdout, done.stderr) == (noisy.text, b"note: p is below zero: no fault will fall\n")

@@ -42,13 +42,14 @@ def test_counts_are_equal_if_their_texts_are():
 
 
 def test_texts_are_read_back(tmp_path):
-    for counts in (taken(1), taken(1, count=odd), taken(1, (2, 3), named="block"), taken(3, (1, 9)) + taken(3, (5, 9)) + taken(4), taken(1, (1, 9), 1)):
+    some = taken(3, (1, 9)) + taken(3, (5, 9)) + taken(4)
+    for counts in (taken(1), taken(1, count=odd), taken(1, (2, 3), named="block"), some, taken(1, (1, 9), 1)):
         read = Counts.of_text(counts.text())
         assert read == counts and (read.job, Counts.of_text(counts.text(), SYNDROME).job) == (None, SYNDROME)
         assert (read.rates == counts.rates).all() and (read.set_intervals == counts.set_intervals).all() and read.sets == counts.sets
         (tmp_path / "counts").write_text(counts.text())
         assert Counts.read(tmp_path / "counts") == counts
-    with pytest.raises(ValueError, match="counts of another job"):
+    with pytest.raises(ValueError, match="these are counts of another job"):
         Counts.of_text(taken(1).text(), SYNDROME.with_shots(5))
 
 
@@ -66,7 +67,8 @@ def test_parts_are_saved_by_several_machines_and_merged(tmp_path, count):
     assert merged(tmp_path, [some.text(), parts[2].text(), (parts[3] + parts[5]).text()]) == (0, whole.text())
     assert sum(map(Counts.of_text, [part.text() for part in parts])) == whole and not whole.missing
     if count:
-        assert whole.text().splitlines()[-1].startswith(f"counted total={whole.counted} rate=") and whole.counted == sum(part.counted for part in parts)
+        assert whole.text().splitlines()[-1].startswith(f"counted total={whole.counted} rate=")
+        assert whole.counted == sum(part.counted for part in parts)
         assert whole.counted == sum(np.count_nonzero(odd(block)) for seed in (1, 2) for block in sample_shots(SYNDROME, 20_000, seed, SETS))
     for one, other, third in permutations(parts[:3]):
         assert one + other + third == third + (one + other) == sum(parts[:3])
@@ -87,8 +89,9 @@ def test_parts_of_python_and_of_the_program(tmp_path):
 def test_any_job(job, more, parts, data):
     """What the program writes of any job is read and written here, and its parts add up."""
     sets, shots = data.draw(sets_of(job)), job.shots + more
-    options = [part for set_ in sets for part in ("--set", ",".join(map(str, set_)) or "-")]
-    texts = [program("sample", "-", "--shots", shots, "--seed", 5, "--named", "whole", *options, "--part", f"{place}/{parts}", job=job) for place in range(1, parts + 1)]
+    options = ["--shots", shots, "--seed", 5, "--named", "whole"]
+    options += [part for set_ in sets for part in ("--set", ",".join(map(str, set_)) or "-")]
+    texts = [program("sample", "-", *options, "--part", f"{place}/{parts}", job=job) for place in range(1, parts + 1)]
     whole = sum(Counts.of_text(text.decode(), job) for text in texts)
     assert whole == sample(job, shots, 5, sets, named="whole")
 
@@ -97,7 +100,8 @@ def test_what_is_refused(tmp_path):
     """The program's sentences."""
     one, text = taken(1), taken(2, count=odd).text()
     lines = text.splitlines(keepends=True)
-    wrong = ["".join(lines[:count]) for count in range(len(lines))] + [text[:-1], text[:-9], text + "set=- total=0\n", "ok=1\n", "\0\0", str(SYNDROME)]
+    wrong = ["".join(lines[:count]) for count in range(len(lines))]
+    wrong += [text[:-1], text[:-9], text + "set=- total=0\n", text.replace("\n", "\r\n"), "ok=1\n", "\0\0", str(SYNDROME)]
     for old, new in (
         ("shots=20000", "shots=20001"),
         ("part=1/1", "part=2/1"),
@@ -142,7 +146,7 @@ def test_what_is_refused(tmp_path):
         assert merged(tmp_path, [one.text(), other]) == (2, str(error.value))
     with pytest.raises(ValueError) as error:
         taken(1, (2, 3)) + taken(1, (2, 3))
-    assert str(error.value) == "part 2/3 of seed 1 is there twice"
+    assert str(error.value) == "part 2/3 of seed 1 is counted twice"
     for other in (5, None, "1"):
         with pytest.raises(TypeError):
             one + other
@@ -152,7 +156,7 @@ def test_texts_of_earlier_versions(tmp_path):
     """Such a text may be cut off. It is refused, with the two lines with which it is read."""
     text = taken(1).text()
     old = text.replace(" recorded=7 sets=3 counted=0", "").replace(f" draws={DRAWS}", "")
-    with pytest.raises(ValueError, match="a text of an earlier version, which does not name its rule of draws or the number of its lines") as error:
+    with pytest.raises(ValueError, match="counts of an earlier version, which name neither their rule of draws nor ") as error:
         Counts.of_text(old)
     assert merged(tmp_path, [old]) == (2, str(error.value))
     first = str(error.value).split("\n", 1)[1]

@@ -162,14 +162,14 @@ def test_noiseless_bits_of_another_size(shape):
     """Rows for another number of shots would be read in a wrong shape."""
     job = conditional()
     for call in (sample, lambda *arguments, **options: next(sample_shots(*arguments, **options))):
-        with pytest.raises(ValueError, match="the job's header has outcomes=2 and shots=10, which are 2 words, 1 for each outcome"):
+        with pytest.raises(ValueError, match=r"but the header's outcomes=2 and shots=10 need exactly 2, shape \(2, 1\)"):
             call(job, 100, 1, noiseless=np.zeros(shape, dtype=np.uint64))
 
 
 def test_conditions_are_noted(tmp_path):
     """Noise with a condition looks at noiseless bits, which are 0 unless they are given, and of a random outcome are no more than what is given."""
     no_bits = "line 3 has noise with a condition, and without {} all noiseless bits are 0"
-    random = "the condition of line 3 looks at outcome 0, which op=r records at random, and its noiseless bit {}: {} gives it for each"
+    random = "the condition of line 3 looks at outcome 0, which op=r records at random, and its noiseless bit {}: {} gives it for each shot"
     rows, shots = words(np.zeros((2, 10), dtype=bool)), np.zeros((100, 1), dtype=np.uint8)
     (tmp_path / "rows").write_bytes(rows.tobytes())
     (tmp_path / "shots").write_bytes(shots.tobytes())
@@ -273,6 +273,17 @@ def test_a_larger_distance_is_better():
         counts = sample(experiment.job, 50_000, 1, experiment.sets, count=matching.Matching(model))
         rates.append(counts.counted_interval)
     assert rates[1][1] < rates[0][0]
+
+
+def test_matching_says_where_it_is_greedy():
+    """Shots with more flipped detectors than are matched at best are counted, in any number of calls."""
+    experiment = codes.surface(5, 2, 0.03)
+    decoder = matching.Matching(error_model(experiment.job, experiment.detectors, [experiment.observable]))
+    shots = np.concatenate(list(sample_shots(experiment.job, 5_000, 1, experiment.sets)))
+    many = np.count_nonzero(shots[:, :-1].sum(axis=1) > matching.MOST_AT_BEST)
+    with ThreadPoolExecutor(3) as threads:
+        sample(experiment.job, 5_000, 1, experiment.sets, threads, count=decoder)
+    assert decoder.greedy_shots == many > 0
 
 
 def test_a_million_shots_by_the_program(tmp_path):

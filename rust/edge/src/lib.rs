@@ -7,8 +7,8 @@ use kundatrezo::Number;
 use std::panic::catch_unwind;
 use std::slice;
 
-/// Write what a user may do about the refusal of a job by a number at a line, from 1, to the front of `out`, as far as it has room, and return how many bytes
-/// that text has: 0 where nothing can be said. It is UTF-8.
+/// Write what a user may do about the refusal of a job by a number at a line, from 1, to the front of `out`, as far as it has room, and return how many
+/// bytes that text has: 0 where nothing can be said. It is UTF-8.
 ///
 /// # Safety
 ///

@@ -147,8 +147,13 @@ impl SavedCounts {
     }
 
     /// The shots that a caller's own function counts, in the place of those that the counts have.
+    ///
+    /// # Panics
+    ///
+    /// Panics if they are more than the counts have shots.
     #[must_use]
     pub fn with_counted(mut self, counted: u64) -> Self {
+        assert!(counted <= self.counts.shots, "no more shots than there are");
         self.counts.counted = Some(counted);
         self
     }
@@ -159,7 +164,8 @@ impl SavedCounts {
         Self { noiseless: Some(LENT.into()), ..self }
     }
 
-    /// The text: a line for the job, one for the sample, and one for each recorded outcome, each set, and the shots that a function of the caller's counts.
+    /// The text: a line for the job, one for the sample, and one for each recorded outcome, each set, and the shots that a function of the caller's
+    /// counts.
     #[must_use]
     pub fn text(&self) -> String {
         let Counts { shots, counted, .. } = self.counts;
@@ -200,73 +206,44 @@ impl SavedCounts {
     ///
     /// Says what is wrong with a text that is cut off, was changed, or is no text of counts.
     pub fn read(text: &str) -> Result<Self, CountsError> {
-        let Some((header, second)) = head(text) else {
+        let lines: Vec<&str> = text.split('\n').collect();
+        let [header, second, _, ..] = lines[..] else {
             return fault(NO_COUNTS);
         };
-        if field(header, "recorded").is_none() || field(second, "draws").is_none() {
-            return Err(earlier(text, header, second));
+        if !header.starts_with("ok=1 qubits=") || !second.starts_with("job=") {
+            return fault(NO_COUNTS);
         }
-        let read = Self::parse(text, header, second)?;
-        match read.text().lines().zip(text.lines()).position(|(written, given)| written != given) {
-            Some(place) => fault(format!("line {} is not as it was written", place + 1)),
+        if field(header, "recorded").is_none() || field(second, "draws").is_none() {
+            return Err(earlier(&lines));
+        }
+        let read = Self::parse(&lines)?;
+        match read.text().split('\n').zip(&lines).position(|(written, given)| written != *given) {
+            Some(place) => Err(changed(place + 1)),
             None => Ok(read),
         }
     }
 
-    fn parse(text: &str, header: &str, second: &str) -> Result<Self, CountsError> {
-        let changed = |line: usize| CountsError(format!("line {line} is not as it was written"));
-        let number = |key: &str| field(header, key).and_then(|value| value.parse::<u64>().ok()).ok_or(changed(1));
-        let count = |key: &str| number(key).and_then(|value| usize::try_from(value).map_err(|_| changed(1)));
-        let [recorded, sets, counted] = [count("recorded")?, count("sets")?, count("counted")?];
-        let (shots, outcomes) = (number("shots")?, count("outcomes")?);
-        if outcomes > MAX_OUTCOMES || recorded > outcomes || counted > 1 {
-            return Err(changed(1));
-        }
-        let lines: Vec<&str> = text.lines().skip(2).collect();
-        let wanted = recorded.saturating_add(sets).saturating_add(counted);
-        if lines.len() < wanted || !text.ends_with('\n') {
-            let there = format!("{wanted} lines of counts are to follow its first two, and there are {}", lines.len());
-            return fault(format!(
-                "the text is cut off: {there}{}",
-                if text.ends_with('\n') { "" } else { ", the last without its end" }
-            ));
-        }
-        if lines.len() > wanted {
-            return fault(format!("there are {} lines of counts, and by its first line {wanted}", lines.len()));
-        }
-        let mut totals = Vec::with_capacity(wanted);
-        for (line, place) in lines.iter().zip(3..) {
-            let total = field(line, "total").and_then(|total| total.parse().ok()).filter(|total| *total <= shots);
-            totals.push(total.ok_or(changed(place))?);
-        }
-        let set = |(line, place): (&&str, usize)| {
-            let list = field(line, "set").ok_or(changed(place))?;
-            let members =
-                list.split(',').filter(|_| list != "-").map(|member| member.parse().map_err(|_| changed(place)));
-            members.collect::<Result<Vec<u64>, CountsError>>()
-        };
-        let sets = lines[recorded..recorded + sets].iter().zip(recorded + 3..).map(set).collect::<Result<_, _>>()?;
-        let rest = totals.split_off(recorded);
-        totals.resize(outcomes, 0);
-        let (of_sets, counted) = rest.split_at(wanted - recorded - counted);
-        let noiseless = field(second, "noiseless").map(str::to_owned);
+    /// The counts of lines, of which the last is empty if all are whole. That the others are as they were written, the caller tests.
+    fn parse(lines: &[&str]) -> Result<Self, CountsError> {
+        let header = Header::read(lines[0]).ok_or(changed(1))?;
+        let (second, rest) = (lines[1], header.lines_of_counts(&lines[2..])?);
         let samples = samples(second).ok_or(changed(2))?;
         let sampled = samples.iter().try_fold(0_u64, |sum, sample| sum.checked_add(sample.shots()));
-        if sampled != Some(shots) {
-            return fault("the shots of its first line are not those of its parts");
+        if sampled != Some(header.shots) {
+            return fault("the shots of its first line do not match its parts");
         }
-        let counts = Counts { shots, totals, sets: of_sets.to_vec(), counted: counted.first().copied() };
+        let named = field(second, "named").map(|name| Named::of_name(name).ok_or(changed(2))).transpose()?;
         Ok(Self {
-            qubits: count("qubits")?,
-            outcomes,
-            recorded,
+            qubits: header.qubits,
+            outcomes: header.outcomes,
+            recorded: header.recorded,
             job: field(second, "job").and_then(|sum| u32::from_str_radix(sum, 16).ok()).ok_or(changed(2))?,
             draws: field(second, "draws").ok_or(changed(2))?.to_owned(),
             samples,
-            named: field(second, "named").map(|name| Named::of_name(name).ok_or(changed(2))).transpose()?,
-            noiseless,
-            sets,
-            counts,
+            named,
+            noiseless: field(second, "noiseless").map(str::to_owned),
+            sets: header.sets_of(rest)?,
+            counts: header.counts(rest)?,
         })
     }
 
@@ -278,23 +255,23 @@ impl SavedCounts {
     pub fn checked_add(&self, other: &Self) -> Result<Self, CountsError> {
         if self.draws != other.draws {
             return fault(format!(
-                "drawn by the rule '{}', and others by '{}': counts of two rules are not added",
+                "sampled by the rule of draws '{}', others by '{}': counts of different rules can't be added",
                 other.draws, self.draws
             ));
         }
         if (self.qubits, self.outcomes, self.recorded, self.job)
             != (other.qubits, other.outcomes, other.recorded, other.job)
         {
-            return fault("counts of another job");
+            return fault("these are counts of another job");
         }
         if (self.named, &self.noiseless) != (other.named, &other.noiseless) {
-            return fault("sampled by other options: named= or noiseless= differ");
+            return fault("sampled with other options: named= or noiseless= differs");
         }
         if self.sets != other.sets {
-            return fault("counts of other sets");
+            return fault("these are counts of other sets");
         }
         if self.counts.counted.is_some() != other.counts.counted.is_some() {
-            return fault("one has shots that a function of the caller's counted, and the other has not");
+            return fault("only one of the two has a line of counted shots");
         }
         if self.counts.shots.checked_add(other.counts.shots).is_none() {
             return fault("the sum has 2^64 shots or more");
@@ -321,8 +298,10 @@ impl SavedCounts {
         let Some(sample) = self.samples.iter().find(|sample| !sample.is_whole()) else {
             return Ok(());
         };
-        let is_missing = |place: &u64| !sample.places.iter().any(|places| places.contains(place));
-        let mut missing = (1..=sample.parts).filter(is_missing).map(|place| place.to_string());
+        // wide enough for the place after the last
+        let starts = [1].into_iter().chain(sample.places.iter().map(|places| u128::from(*places.end()) + 1));
+        let ends = sample.places.iter().map(|places| u128::from(*places.start()) - 1).chain([u128::from(sample.parts)]);
+        let mut missing = starts.zip(ends).flat_map(|(start, end)| start..=end).map(|place| place.to_string());
         let named: Vec<String> = missing.by_ref().take(10).collect();
         let more = if missing.next().is_some() { ", .." } else { "" };
         let (parts, seed) = (sample.parts, sample.seeds[0]);
@@ -330,37 +309,95 @@ impl SavedCounts {
     }
 }
 
-const NO_COUNTS: &str = "this is no text of counts, such as 'kundatrezo sample' writes";
+const NO_COUNTS: &str = "these are no counts as 'kundatrezo sample' writes them";
 const COUNTED: &str = "counted";
 /// What stands for noiseless bits that were lent for each shot.
 const LENT: &str = "shots";
 
-/// The first two lines.
-fn head(text: &str) -> Option<(&str, &str)> {
-    let mut lines = text.lines();
-    let first = lines.next().filter(|line| line.starts_with("ok=1 qubits="))?;
-    Some((first, lines.next().filter(|line| line.starts_with("job="))?))
+fn changed(line: usize) -> CountsError {
+    CountsError(format!("line {line} is not as 'kundatrezo sample' writes it"))
+}
+
+/// The numbers of the first line of a text.
+struct Header {
+    qubits: usize,
+    outcomes: usize,
+    shots: u64,
+    recorded: usize,
+    sets: usize,
+    /// 1 if there is a line of counted shots.
+    counted: usize,
+}
+
+impl Header {
+    fn read(line: &str) -> Option<Self> {
+        let number = |key: &str| field(line, key)?.parse::<u64>().ok();
+        let count = |key: &str| usize::try_from(number(key)?).ok();
+        let [qubits, outcomes, recorded] = [count("qubits")?, count("outcomes")?, count("recorded")?];
+        let [sets, counted] = [count("sets")?, count("counted")?];
+        let is_possible = outcomes <= MAX_OUTCOMES && recorded <= outcomes && counted <= 1;
+        is_possible.then_some(Self { qubits, outcomes, shots: number("shots")?, recorded, sets, counted })
+    }
+
+    /// The lines of counts: as many as the header says. What follows the last line end is no line.
+    fn lines_of_counts<'a, 'b>(&self, lines: &'a [&'b str]) -> Result<&'a [&'b str], CountsError> {
+        let wanted = self.recorded.saturating_add(self.sets).saturating_add(self.counted);
+        let (last, whole) = lines.split_last().ok_or(CountsError(NO_COUNTS.into()))?;
+        let (there, end) = match *last {
+            "" => (whole.len(), ""),
+            _ => (lines.len(), ", the last without its line end"),
+        };
+        if there < wanted || !end.is_empty() {
+            return fault(format!(
+                "the text is cut off: its first line says {wanted} lines of counts, and there are {there}{end}"
+            ));
+        }
+        if there > wanted {
+            return fault(format!("its first line says {wanted} lines of counts, and there are {there}"));
+        }
+        Ok(whole)
+    }
+
+    /// The sets of the lines of counts.
+    fn sets_of(&self, lines: &[&str]) -> Result<Vec<Vec<u64>>, CountsError> {
+        let set = |(line, place): (&&str, usize)| match field(line, "set") {
+            Some("-") => Ok(Vec::new()),
+            Some(list) => list.split(',').map(|member| member.parse().map_err(|_| changed(place))).collect(),
+            None => Err(changed(place)),
+        };
+        lines[self.recorded..][..self.sets].iter().zip(self.recorded + 3..).map(set).collect()
+    }
+
+    fn counts(&self, lines: &[&str]) -> Result<Counts, CountsError> {
+        let total = |(line, place): (&&str, usize)| {
+            let total = field(line, "total").and_then(|total| total.parse().ok());
+            total.filter(|total| *total <= self.shots).ok_or(changed(place))
+        };
+        let mut totals: Vec<u64> = lines.iter().zip(3..).map(total).collect::<Result<_, _>>()?;
+        let counted = if self.counted == 1 { totals.pop() } else { None };
+        let sets = totals.split_off(self.recorded);
+        totals.resize(self.outcomes, 0);
+        Ok(Counts { shots: self.shots, totals, sets, counted })
+    }
 }
 
 fn field<'a>(line: &'a str, key: &str) -> Option<&'a str> {
     line.split(' ').find_map(|field| field.strip_prefix(key)?.strip_prefix('='))
 }
 
-/// What is said of a text of an earlier version, which names neither its rule nor the number of its lines. It may be cut off, so it is not read; the sentence
-/// has the two lines with which it is.
-fn earlier(text: &str, header: &str, second: &str) -> CountsError {
-    let rest: Vec<&str> = text.lines().skip(2).collect();
-    let begin = |key: &str| rest.iter().filter(|line| line.starts_with(key)).count();
-    let header = format!("{header} recorded={} sets={} counted=0", begin("id="), begin("set="));
-    let second = second.replacen(" seed=", &format!(" draws={DRAWS} seed="), 1);
-    let lines: String = rest.iter().map(|line| format!("{line}\n")).collect();
-    match SavedCounts::parse(&format!("{header}\n{second}\n{lines}"), &header, &second) {
+/// What is said of a text of an earlier version, which names neither its rule nor the number of its lines. It may be cut off, so it is not read; the
+/// sentence has the two lines with which it is.
+fn earlier(lines: &[&str]) -> CountsError {
+    let begin = |key: &str| lines.iter().filter(|line| line.starts_with(key)).count();
+    let header = format!("{} recorded={} sets={} counted=0", lines[0], begin("id="), begin("set="));
+    let second = lines[1].replacen(" seed=", &format!(" draws={DRAWS} seed="), 1);
+    match SavedCounts::parse(&[&[header.as_str(), &second], &lines[2..]].concat()) {
         Ok(read) => {
             let text = read.text();
             let first: Vec<&str> = text.lines().take(2).collect();
             CountsError(format!(
-                "a text of an earlier version, which does not name its rule of draws or the number of its lines: it may be cut off. If it is whole, \
-                 write its first two lines as\n{}",
+                "counts of an earlier version, which name neither their rule of draws nor the number of their lines: they may be cut off. \
+                 If they are whole, replace the first two lines by\n{}",
                 first.join("\n")
             ))
         }
@@ -409,12 +446,12 @@ impl Sample {
     fn add(&mut self, other: &Self) -> Result<(), CountsError> {
         let seed = self.seeds.iter().find(|seed| other.seeds.contains(seed)).copied().unwrap_or_default();
         if (&self.seeds, self.parts, self.whole) != (&other.seeds, other.parts, other.whole) {
-            return fault(format!("seed {seed} is in both, and the parts are not those of one sample"));
+            return fault(format!("both have seed {seed}, and they are not parts of one sample"));
         }
         self.places.extend(other.places.iter().cloned());
         self.places.sort_by_key(|places| *places.start());
         if let Some(two) = self.places.windows(2).find(|two| two[0].end() >= two[1].start()) {
-            return fault(format!("part {}/{} of seed {seed} is there twice", two[1].start(), self.parts));
+            return fault(format!("part {}/{} of seed {seed} is counted twice", two[1].start(), self.parts));
         }
         let mut joined: Vec<RangeInclusive<u64>> = Vec::new();
         for places in self.places.drain(..) {
@@ -532,20 +569,23 @@ mod tests {
         let text = saved(1, (1, 1)).with_counted(7).text();
         let lines: Vec<&str> = text.split_inclusive('\n').collect();
         for count in 2..lines.len() {
-            let there = format!("10 lines of counts are to follow its first two, and there are {}", count - 2);
+            let there = format!("its first line says 10 lines of counts, and there are {}", count - 2);
             said(SavedCounts::read(&lines[..count].concat()), &there);
         }
         said(SavedCounts::read(&text[..text.len() - 1]), "cut off");
         said(SavedCounts::read(&text[..text.len() - 9]), "cut off");
-        said(SavedCounts::read(&format!("{text}id=7 total=0\n")), "11 lines of counts, and by its first line 10");
+        said(
+            SavedCounts::read(&format!("{text}id=7 total=0\n")),
+            "its first line says 10 lines of counts, and there are 11",
+        );
         for nothing in ["", "ok=1\n", "op=job qubits=1 outcomes=0 shots=1\n", lines[0], "\0\0\0"] {
-            said(SavedCounts::read(nothing), "no text of counts");
+            said(SavedCounts::read(nothing), "no counts as");
         }
         for (from, to, part) in [
             ("seed=1 ", "seed=1,2 ", ""),
             ("id=1 total=", "id=1 total=9", "line 4 is not"),
             ("set=4,5,6", "set=4,5", ""),
-            ("shots=20000", "shots=20001", "not those of its parts"),
+            ("shots=20000", "shots=20001", "do not match its parts"),
             ("part=1/1", "part=2/1", "line 2 is not"),
             ("part=1/1", "part=1/0", "line 2 is not"),
             ("qubits=5", "qubits=05", "line 1 is not"),
@@ -571,7 +611,7 @@ mod tests {
         let old = text.replace(" recorded=7 sets=2 counted=0", "").replace(" draws=xorshift", "");
         let answer = SavedCounts::read(&old).expect_err("it names no rule").to_string();
         let (sentence, lines) = answer.split_once('\n').expect("a sentence and two lines");
-        assert!(sentence.contains("does not name its rule of draws"));
+        assert!(sentence.contains("name neither their rule of draws"));
         let rest: String = old.split_inclusive('\n').skip(2).collect();
         assert_eq!(format!("{lines}\n{rest}"), text);
     }
@@ -594,9 +634,13 @@ mod tests {
         let some = some.checked_add(&saved(5, (5, 9))).expect("another part");
         assert!(some.text().contains(" seed=5 part=1-2,5/9 of=20000\n"), "{}", some.text());
         said(some.check_whole(), "of the 9 parts of seed 5 these are missing: 3, 4, 6, 7, 8, 9");
-        said(some.checked_add(&saved(5, (2, 9))), "part 2/9 of seed 5 is there twice");
-        said(some.checked_add(&saved(5, (3, 8))), "not those of one sample");
-        said(some.checked_add(&saved(5, (1, 1))), "not those of one sample");
+        let last =
+            saved(5, (u64::MAX - 1, u64::MAX)).checked_add(&saved(5, (u64::MAX, u64::MAX))).expect("another part");
+        said(last.check_whole(), "these are missing: 1, 2, 3, 4, 5, 6, 7, 8, 9, 10, ..");
+        assert_eq!(SavedCounts::read(&last.text()), Ok(last));
+        said(some.checked_add(&saved(5, (2, 9))), "part 2/9 of seed 5 is counted twice");
+        said(some.checked_add(&saved(5, (3, 8))), "not parts of one sample");
+        said(some.checked_add(&saved(5, (1, 1))), "not parts of one sample");
     }
 
     #[test]
@@ -610,7 +654,7 @@ mod tests {
         let some = both.checked_add(&part).expect("another seed");
         assert!(some.text().contains(" seed=1,2 part=1/1 of=40000 seed=3 part=1/2 of=20000\n"), "{}", some.text());
         assert_eq!(SavedCounts::read(&some.text()), Ok(some));
-        said(both.checked_add(&one), "seed 1 is in both");
+        said(both.checked_add(&one), "both have seed 1");
     }
 
     #[test]
@@ -620,13 +664,13 @@ mod tests {
         let with = |from: &str, to: &str| SavedCounts::read(&other.text().replacen(from, to, 1)).expect("a text");
         said(
             one.checked_add(&with("draws=xorshift", "draws=skips")),
-            "drawn by the rule 'skips', and others by 'xorshift'",
+            "sampled by the rule of draws 'skips', others by 'xorshift'",
         );
         said(one.checked_add(&with("job=1", "job=2")), "another job");
         said(one.checked_add(&with("\nid=0", " named=block\nid=0")), "other options");
         said(one.checked_add(&with("\nid=0", " noiseless=shots\nid=0")), "other options");
         said(one.checked_add(&with("set=4,5,6", "set=4,5")), "other sets");
-        said(one.checked_add(&other.clone().with_counted(3)), "the other has not");
+        said(one.checked_add(&other.clone().with_counted(3)), "only one of the two");
         let sum = one.clone().with_counted(4).checked_add(&other.with_counted(3)).expect("both are counted");
         assert_eq!(sum.counts().counted, Some(7));
     }

@@ -77,8 +77,8 @@ fn length(job: &[u8]) -> String {
             "a job has at most 1,048,576 bytes: write gates together, as op=c and op=m lines".into()
         }
         _ => match job.iter().position(|byte| !is_text(*byte)) {
-            Some(place) => format!("byte {} of the job is none of a text: is it the right file?", place + 1),
-            None if !job.starts_with(b"op=") => format!("{HEADER}: is it the right file?"),
+            Some(place) => format!("byte {} is not text: is this the right file?", place + 1),
+            None if !job.starts_with(b"op=") => format!("{HEADER}; is this the right file?"),
             None => "the last line has no line end: add LF".into(),
         },
     }
@@ -376,7 +376,7 @@ fn layout(line: &str) -> Option<&'static str> {
     } else if line.contains('\t') || line.contains("  ") || line.starts_with(' ') || line.ends_with(' ') {
         Some("fields have one space between, and nothing before the first or after the last")
     } else if line.bytes().any(|byte| !is_text(byte)) {
-        Some("the line has bytes that are none of a text: is it the right file?")
+        Some("the line has bytes that are not text: is this the right file?")
     } else if !line.is_ascii() {
         Some("the line has bytes that are not ASCII")
     } else {
@@ -509,7 +509,7 @@ mod tests {
             ("# a comment", "a job has no comments"),
             ("op=u  g=4 q=0", "fields have one space between"),
             ("op=z q=\u{b2}", "the line has bytes that are not ASCII"),
-            ("op=z q=\0", "the line has bytes that are none of a text: is it the right file?"),
+            ("op=z q=\0", "the line has bytes that are not text: is this the right file?"),
             ("x=0 z=-", "a line begins with op="),
             (
                 "op=n p=0.001 corr=- cond=- parity=0 d=2 q=0 size=3",
@@ -616,10 +616,10 @@ mod tests {
             ("op=z q=0\n", "the first line is the header"),
             (
                 "a text\nof another kind",
-                "the first line is the header: op=job qubits=N outcomes=N shots=N: is it the right file?",
+                "the first line is the header: op=job qubits=N outcomes=N shots=N; is this the right file?",
             ),
-            ("op=job qubits=1 outcomes=0 shots=1\n\0", "byte 36 of the job is none of a text: is it the right file?"),
-            ("\u{7f}ELF\u{2}\u{1}", "byte 1 of the job is none of a text: is it the right file?"),
+            ("op=job qubits=1 outcomes=0 shots=1\n\0", "byte 36 is not text: is this the right file?"),
+            ("\u{7f}ELF\u{2}\u{1}", "byte 1 is not text: is this the right file?"),
             ("\u{feff}op=job qubits=1 outcomes=0 shots=1\n", "the file begins with a byte order mark"),
             ("op=job qubits=0 outcomes=0 shots=1\n", "qubits= is from 1 to 256"),
             ("op=job qubits=1 outcomes=1025 shots=1\n", "outcomes= is from 0 to 1024"),

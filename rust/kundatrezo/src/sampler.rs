@@ -64,7 +64,7 @@ impl fmt::Display for NoiselessSizeError {
         let Self { words, needed, outcomes, shots } = self;
         write!(
             f,
-            "noiseless bits of {words} words: the job's header has outcomes={outcomes} and shots={shots}, which are {needed} words"
+            "noiseless bits of {words} words, but the header's outcomes={outcomes} and shots={shots} need exactly {needed}"
         )
     }
 }
@@ -344,14 +344,23 @@ impl Sampler {
     /// # Errors
     ///
     /// As [`counts`](Self::counts).
+    ///
+    /// # Panics
+    ///
+    /// Panics if there is no such part.
     pub fn sample(&self, sets: &[Vec<u64>], part: (u64, u64), threads: usize) -> Answer<SavedCounts> {
         let counts = self.counts_of(self.part(part.0.saturating_sub(1), part.1), sets, threads)?;
         Ok(self.saved(counts, sets, part))
     }
 
     /// The counts of all shots of a part, from 1, of how many, which were made by this sampler's runs, in the form in which they are saved and added.
+    ///
+    /// # Panics
+    ///
+    /// Panics if there is no such part.
     #[must_use]
     pub fn saved(&self, counts: Counts, sets: &[Vec<u64>], part: (u64, u64)) -> SavedCounts {
+        assert!((1..=part.1).contains(&part.0), "a part from 1 to the number of parts");
         SavedCounts {
             qubits: self.job.qubits,
             outcomes: self.job.outcomes,
@@ -411,8 +420,8 @@ pub fn first_named(job: &[u8]) -> Option<u64> {
     job.split(|byte| *byte == b'\n').zip(1..).find(|(line, _)| named_shot(line).is_some()).map(|(_, place)| place)
 }
 
-/// The noise lines of an accepted job that look at noiseless bits and can fall: the number of each, from 1, and the first outcome of its condition that an
-/// `op=r` line records, if there is one. The noiseless bit of that is random in every shot.
+/// The noise lines of an accepted job that look at noiseless bits and can fall: the number of each, from 1, and the first outcome of its condition that
+/// an `op=r` line records, if there is one. The noiseless bit of that is random in every shot.
 ///
 /// ```
 /// let noise = "op=n p=3fe0000000000000 corr=- cond=0 parity=1 d=1 x=0 z=- size=1\n";
@@ -584,8 +593,8 @@ op=t shot=0 id=1
         let sampler = Sampler::new(JOB.as_bytes(), 9_000, 1).expect("it is accepted");
         for words in [0, 1, 3, 128] {
             let error = sampler.clone().with_noiseless(&vec![0; words]).expect_err("another size");
-            let header = "the job's header has outcomes=2 and shots=5, which are 2 words";
-            assert_eq!(error.to_string(), format!("noiseless bits of {words} words: {header}"));
+            let header = "the header's outcomes=2 and shots=5 need exactly 2";
+            assert_eq!(error.to_string(), format!("noiseless bits of {words} words, but {header}"));
         }
         assert!(sampler.with_noiseless(&[0, 0]).is_ok());
         let most = Sampler::new(JOB.replace("shots=5", "shots=4096").as_bytes(), 9_000, 1).expect("it is accepted");

@@ -72,7 +72,8 @@ first. Where rows go to a file, counts are printed; those of parts are put toget
     "\
 Of a job with injections or flips, which stand in named shots, --named says where these are. Noiseless bits,
 at which conditions of noise look, are zero, those of a file of the job's own shots again and again (shot s of
-the whole has those of s mod the header's shots), or those of a file with bytes for each shot of the whole.",
+the whole has those of s mod the header's shots; a file of another size is refused), or those of a file with bytes
+for each shot of the whole. A note says where a condition looks at bits that are not given.",
 ];
 
 pub fn sample(arguments: &Arguments) -> Result<(), Failure> {
@@ -201,10 +202,7 @@ fn noiseless(
             let sampler = sampler.with_noiseless(&rows).map_err(|error| {
                 let (words, needed) = (error.words, error.needed);
                 let header = format!("outcomes={} and shots={}", error.outcomes, error.shots);
-                Failure::Other(format!(
-                    "{}: {words} words{more}, and for {header} there are to be {needed}",
-                    path.display()
-                ))
+                Failure::Other(format!("{}: {words} words{more}, but {header} need exactly {needed}", path.display()))
             })?;
             Ok((sampler, None))
         }
@@ -223,8 +221,8 @@ fn noiseless(
     }
 }
 
-/// Say that noise with a condition looks at noiseless bits that are not given, or at those of a random outcome, which are the same in all shots or come
-/// again.
+/// Say that noise with a condition looks at noiseless bits that are not given, or at those of a random outcome, which are the same in all shots or
+/// come again.
 fn note_conditions(arguments: &Arguments, job: &[u8]) -> Result<(), Failure> {
     let conditions = kundatrezo::conditions(job);
     let (Some((first, _)), None) = (conditions.first(), arguments.value(NOISELESS_SHOTS.name)) else {
@@ -240,7 +238,7 @@ fn note_conditions(arguments: &Arguments, job: &[u8]) -> Result<(), Failure> {
         let same = if is_given { format!("comes again every {shots} shots") } else { "is 0 in every shot".into() };
         eprintln!(
             "note: the condition of line {line} looks at outcome {outcome}, which op=r records at random, and its noiseless bit {same}: {} \
-             gives it for each",
+             gives it for each shot",
             NOISELESS_SHOTS.name
         );
     }

@@ -277,7 +277,7 @@ fn refusals_are_said_in_words() {
     }
     // a file that is no job
     let length = "refused: 1 (the job is empty, longer than 1,048,576 bytes, or has no LF at its end)";
-    assert_eq!(refused("check -", "\u{7f}ELF\0", length), "byte 1 of the job is none of a text: is it the right file?");
+    assert_eq!(refused("check -", "\u{7f}ELF\0", length), "byte 1 is not text: is this the right file?");
     assert_eq!(refused("check -", header.trim_end(), length), "the last line has no line end: add LF");
     let many = format!("faults -{}", " --group 0".repeat(17));
     let hint = refused(&many, &recorded, &format!("refused: {}", kundatrezo::Number::GROUPS));

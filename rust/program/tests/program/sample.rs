@@ -183,16 +183,16 @@ fn noiseless_bits_of_another_size_are_refused() {
     };
     assert!(text(printed(&sample(16), job)).contains("id=1 total=9000 "));
     for (bytes, said) in [
-        (0, "rows: 0 words, and for outcomes=2 and shots=10 there are to be 2\n"),
-        (8, "rows: 1 words, and for outcomes=2 and shots=10 there are to be 2\n"),
-        (24, "rows: 3 words or more, and for outcomes=2 and shots=10 there are to be 2\n"),
-        (2 * 64 * 8, "rows: 3 words or more, and for outcomes=2 and shots=10 there are to be 2\n"),
+        (0, "rows: 0 words, but outcomes=2 and shots=10 need exactly 2\n"),
+        (8, "rows: 1 words, but outcomes=2 and shots=10 need exactly 2\n"),
+        (24, "rows: 3 words or more, but outcomes=2 and shots=10 need exactly 2\n"),
+        (2 * 64 * 8, "rows: 3 words or more, but outcomes=2 and shots=10 need exactly 2\n"),
         (17, "rows: its bytes are no whole number of 64-bit words\n"),
     ] {
         fails(&sample(bytes), job, 2, said);
     }
     let endless = "sample - --shots 9000 --seed 3 --noiseless /dev/zero";
-    fails(endless, job, 2, "/dev/zero: 3 words or more, and for outcomes=2 and shots=10 there are to be 2");
+    fails(endless, job, 2, "/dev/zero: 3 words or more, but outcomes=2 and shots=10 need exactly 2");
 }
 
 /// Noise with a condition comes with a note where its noiseless bits are not given, and where those of a random outcome are no more than rows.
@@ -210,7 +210,7 @@ fn conditions_come_with_notes() {
     let no_bits = "note: line 7 has noise with a condition, and without --noiseless or --noiseless-shots all noiseless bits are 0\n";
     let random = |bit: &str| {
         let what = "the condition of line 7 looks at outcome 0, which op=r records at random";
-        format!("note: {what}, and its noiseless bit {bit}: --noiseless-shots gives it for each\n")
+        format!("note: {what}, and its noiseless bit {bit}: --noiseless-shots gives it for each shot\n")
     };
     assert_eq!(notes("", &wide()), format!("{no_bits}{}", random("is 0 in every shot")));
     let rows = format!("--noiseless {}", path("rows"));
@@ -237,36 +237,28 @@ fn what_merge_refuses() {
     };
     let lines: Vec<&str> = two.split_inclusive('\n').collect();
     for count in 2..lines.len() {
-        let said = format!(
-            "the text is cut off: 9 lines of counts are to follow its first two, and there are {}\n",
-            count - 2
-        );
+        let said = format!("the text is cut off: its first line says 9 lines of counts, and there are {}\n", count - 2);
         merge(lines[..count].concat().as_bytes(), &said);
     }
     merge(&two.as_bytes()[..two.len() - 4], "the text is cut off: ");
-    let no_counts = "this is no text of counts, such as 'kundatrezo sample' writes\n";
+    let no_counts = "these are no counts as 'kundatrezo sample' writes them\n";
     for other in [lines[0].as_bytes(), b"", b"\xff\0\xfe", b"ok=1\n", &fs::read(SYNDROME).expect("the example")] {
         merge(other, no_counts);
     }
     fails("merge /dev/zero", "", 2, no_counts);
     merge(
         two.replace("draws=xorshift", "draws=skips").as_bytes(),
-        "drawn by the rule 'skips', and others by 'xorshift': ",
+        "sampled by the rule of draws 'skips', others by 'xorshift': ",
     );
-    merge(two.replacen("total=", "total=1", 1).as_bytes(), "line 3 is not as it was written\n");
-    merge(sample(1, "").as_bytes(), "part 1/1 of seed 1 is there twice\n");
-    merge(sample(2, "--set 1").as_bytes(), "counts of other sets\n");
-    merge(sample(2, "--named block").as_bytes(), "sampled by other options: named= or noiseless= differ\n");
+    merge(two.replacen("total=", "total=1", 1).as_bytes(), "line 3 is not as 'kundatrezo sample' writes it\n");
+    merge(sample(1, "").as_bytes(), "part 1/1 of seed 1 is counted twice\n");
+    merge(sample(2, "--set 1").as_bytes(), "these are counts of other sets\n");
+    merge(sample(2, "--named block").as_bytes(), "sampled with other options: named= or noiseless= differs\n");
     // a text of an earlier version is read with the two lines that are named
     let old = two.replace(" recorded=7 sets=2 counted=0", "").replace(" draws=xorshift", "");
-    merge(old.as_bytes(), "a text of an earlier version, which does not name its rule of draws ");
-    merge(
-        old.as_bytes(),
-        &format!(
-            "a text of an earlier version, which does not name its rule of draws or the number of its lines: it may be cut off. If it is whole, write its first two lines as\n{}",
-            lines[..2].concat()
-        ),
-    );
+    let earlier = "counts of an earlier version, which name neither their rule of draws nor the number of their lines: they may be cut off";
+    let remedy = format!("If they are whole, replace the first two lines by\n{}", lines[..2].concat());
+    merge(old.as_bytes(), &format!("{earlier}. {remedy}"));
     assert!(text(printed(&format!("merge {} -", path("one")), &two)).contains(" seed=1,2 part=1/1 of=18000\n"));
 }
 
@@ -289,7 +281,7 @@ fn parts_of_several_seeds_are_merged() {
     let merged = printed(&format!("merge {}", files.join(" ")), "");
     assert_eq!(text(merged), text(printed(&format!("merge {}", whole.join(" ")), "")));
     fails(&format!("merge {}", files[1..].join(" ")), "", 2, "of the 3 parts of seed 1 these are missing: 2\n");
-    fails(&format!("merge {} {}", files.join(" "), files[0]), "", 2, "seed 1 is in both");
+    fails(&format!("merge {} {}", files.join(" "), files[0]), "", 2, "both have seed 1");
 }
 
 #[test]
@@ -349,7 +341,7 @@ fn refusals_and_wrong_arguments() {
     let far = wide().replace("corr=8300", "corr=18446744073709551000");
     let hint = "op=n p=3fb999999999999a corr=18446744073709551000 cond=- parity=0 d=1 x=1 z=- size=1\nhint: place corr";
     fails("sample - --shots 10 --seed 1", &far, 1, hint);
-    fails("merge -", "ok=1\n", 2, "this is no text of counts");
+    fails("merge -", "ok=1\n", 2, "these are no counts as");
     // the longest job, whose header has no room for more digits
     let longest =
         format!("op=job qubits=1 outcomes=0 shots=1\n{}{}", "op=u g=4 q=0\n".repeat(8), "op=z q=0\n".repeat(116_493));
