@@ -1,7 +1,7 @@
 //! Samples: the same answer for every number of threads and parts, rows, refusals, and outputs that can't be written.
 
 use crate::common::{Done, finish, folder, kundatrezo};
-use kundatrezo::{Xorshift, bit};
+use kundatrezo::{Sampler, SavedCounts, Xorshift, bit};
 use std::fs;
 use std::path::Path;
 use std::process::{Command, Stdio};
@@ -79,6 +79,19 @@ fn threads_and_parts_make_no_difference() {
             .flatten()
             .all(|file| !text(file.file_name().into_encoded_bytes()).contains("partial"))
     );
+}
+
+/// The crate writes what the program prints, and reads it.
+#[test]
+fn the_crate_has_the_same_text() {
+    let job = fs::read(SYNDROME).expect("the example");
+    let sampler = Sampler::new(&job, 50_001, 7).expect("it is accepted");
+    for part in [(1, 1), (2, 3)] {
+        let saved = sampler.sample(&[vec![0, 1, 4], vec![]], part, 2).expect("it runs");
+        let own = format!("--set 4,1,0 --set=- --part {}/{}", part.0, part.1);
+        let text = text(printed(&format!("sample {SYNDROME} --shots 50001 --seed 7 {own}"), ""));
+        assert_eq!((saved.text(), SavedCounts::read(&text)), (text, Ok(saved)));
+    }
 }
 
 /// A sample of one block is a run with the words of that block.
