@@ -16,6 +16,7 @@ mod sample;
 mod shares;
 mod shots;
 mod sizes;
+mod table;
 mod turns;
 mod words;
 

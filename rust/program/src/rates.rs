@@ -21,10 +21,14 @@ pub fn text(frames: &Frames, outcomes: usize) -> String {
     frames.totals().iter().take(outcomes).enumerate().map(line).collect()
 }
 
-/// A line of a sample, which may have many shots and small rates: of no shots nothing is known.
+/// The rate and its interval: of no shots nothing is known.
+pub fn estimate(total: u64, shots: u64) -> (f64, [f64; 2]) {
+    if shots == 0 { (0.0, [0.0, 1.0]) } else { (part(total, shots), interval(total, shots)) }
+}
+
+/// A line of a sample, which may have many shots and small rates.
 pub fn line(name: &str, total: u64, shots: u64) -> String {
-    let [low, high] = if shots == 0 { [0.0, 1.0] } else { interval(total, shots) };
-    let rate = if shots == 0 { 0.0 } else { part(total, shots) };
+    let (rate, [low, high]) = estimate(total, shots);
     format!("{name} total={total} rate={rate:.6e} low={low:.6e} high={high:.6e}\n")
 }
 
