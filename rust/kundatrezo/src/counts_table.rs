@@ -98,7 +98,7 @@ set 0,1                  1000  1.0000     0.99617 to 1.0000
 set -                       1  0.0010000  1.7655e-4 to 0.0056426
 outcome 0                   0  0          0 to 0.0038268
 outcome 1                  20  0.020000   0.012984 to 0.030690
-counted                     3  0.0030000  0.0010208 to 0.0087832
+counted                     3  0.0030000  0.0010208 to 0.0087830
 ";
         assert_eq!(sample.table(), table);
         let part = SavedCounts { samples: vec![Sample::part(5, (2, 3), 3000)], named: Some(Named::Block), ..sample };
