@@ -88,6 +88,7 @@ mod error_model;
 mod examination;
 mod float_state;
 mod frames;
+mod instructions;
 mod make;
 mod noise;
 mod refusal;
@@ -105,6 +106,9 @@ pub use draws::{Draws, Source};
 pub use error_model::{ErrorModel, Mechanism, error_model};
 pub use examination::{Examination, examine};
 pub use frames::{Frames, bit};
+pub use instructions::{
+    Circuit, Form, Gate, Header, Instruction, Noise, OutcomeCondition, PauliDistribution, SparsePauli, WeightedPauli,
+};
 pub use make::{JobParameters, make, make_job};
 pub use refusal::{Answer, Number, Refusal};
 pub use sampler::{Bench, Counts, Named, Sampler, first_named};
