@@ -7,6 +7,7 @@ mod writer;
 
 pub use forms::Form;
 pub use gates::Gate;
+pub(crate) use writer::write_job;
 
 use crate::{Answer, check};
 
@@ -205,7 +206,7 @@ impl Circuit {
     /// The text of the job. It is not checked: the engine accepts it if the circuit was read from a job and not changed.
     #[must_use]
     pub fn to_job(&self) -> Vec<u8> {
-        writer::written(self)
+        write_job(&self.header, &self.instructions)
     }
 
     /// The instructions with the numbers of their lines, by which refusals name them. The header is line 1. Noise has the number of its noise line.

@@ -1,12 +1,13 @@
 //! Writes jobs, by the templates of the forms.
 
-use super::{Circuit, Form, Header, Instruction, Noise, PauliDistribution, SparsePauli};
+use super::{Form, Header, Instruction, Noise, PauliDistribution, SparsePauli};
 use std::fmt;
 
-pub(super) fn written(circuit: &Circuit) -> Vec<u8> {
+/// The job of a header and instructions.
+pub(crate) fn write_job<'a>(header: &Header, instructions: impl IntoIterator<Item = &'a Instruction>) -> Vec<u8> {
     let mut text = String::new();
-    circuit.header.write(&mut text);
-    for instruction in &circuit.instructions {
+    header.write(&mut text);
+    for instruction in instructions {
         text.push('\n');
         instruction.write(&mut text);
     }
