@@ -43,11 +43,6 @@ impl Noise {
     }
 }
 
-/// The weight of an element line of d=4.
-pub fn weight(line: &str) -> Option<f64> {
-    binary64(field(line, "w")?)
-}
-
 /// The value of a field of a line.
 fn field<'a>(line: &'a str, key: &str) -> Option<&'a str> {
     line.split(' ').find_map(|field| field.strip_prefix(key)?.strip_prefix('='))
