@@ -122,7 +122,9 @@ def whole(number: int, name: str = "an argument", least: int = 0) -> int:
     try:
         given = operator.index(number)
     except TypeError:
-        raise TypeError(f"{name} is to be a whole number, not {number!r}") from None
+        # such as 1e6
+        remedy = f": write {number:.0f}" if isinstance(number, float) and number.is_integer() and number < 2**64 else ""
+        raise TypeError(f"{name} is to be a whole number, not {number!r}{remedy}") from None
     if not least <= given < 2**64:
         raise ValueError(f"{name} is to be from {least} to below 2^64, not {given}")
     return given

@@ -168,7 +168,11 @@ impl Arguments {
     /// All values of an option that may be given several times, in their order.
     pub fn all_parsed<T>(&self, name: &str, what: &str, parse: fn(&str) -> Option<T>) -> Result<Vec<T>, Failure> {
         let parsed = |value: &OsString| {
-            let fault = || Failure::Other(format!("the value of {name} is to be {what}, not '{}'", value.display()));
+            let fault = || {
+                let digits = value.to_str().and_then(digits).filter(|digits| parse(digits).is_some());
+                let remedy = digits.map_or_else(String::new, |digits| format!(": write {digits}"));
+                Failure::Other(format!("the value of {name} is to be {what}, not '{}'{remedy}", value.display()))
+            };
             value.to_str().and_then(parse).ok_or_else(fault)
         };
         self.values.iter().filter(|(given, _)| *given == name).map(|(_, value)| parsed(value)).collect()
@@ -187,4 +191,11 @@ impl Arguments {
     pub fn number(&self, name: &str) -> Result<Option<u64>, Failure> {
         self.parsed(name, "a number below 2^64", |text| text.parse().ok())
     }
+}
+
+/// The digits of a whole number below 2^53 that is written in another way, such as 1e6, 1_000_000 or 1,000,000.
+fn digits(text: &str) -> Option<String> {
+    let number: f64 = text.replace(['_', ','], "").parse().ok()?;
+    let is_whole = (0.0..9_007_199_254_740_992.0).contains(&number) && number.fract() == 0.0;
+    is_whole.then(|| format!("{number:.0}"))
 }

@@ -26,7 +26,7 @@ pub const OUTPUT: Flag =
 const ROOM: Flag =
     Flag { name: "--room", value: "N", text: "lend N bytes for the text; without it 1048576, the most it may have" };
 const SHOT: Flag = Flag { name: "--shot", value: "N", text: "the shot, from 0" };
-const SET: Flag = Flag { name: "--set", value: "L", text: "the outcomes, rising, with commas between; - for none" };
+const SET: Flag = Flag { name: "--set", value: "L", text: "the outcomes, with commas between; - for none" };
 const PARTS: Flag = Flag { name: "--parts", value: "N", text: "the number of parts, at most the job's shots" };
 const PREFIX: Flag =
     Flag { name: "--prefix", value: "NAME", text: "write the jobs to the files NAME0.job, NAME1.job, .." };
@@ -301,20 +301,17 @@ fn settle(arguments: &Arguments) -> Result<(), Failure> {
 
 fn walk(arguments: &Arguments) -> Result<(), Failure> {
     let shot = arguments.number(SHOT.name)?;
-    let set = arguments.parsed(SET.name, "numbers with commas between, or -", list)?;
+    let set = arguments.parsed(SET.name, "numbers with commas between, or -", outcomes)?;
     let (Some(shot), Some(set)) = (shot, set) else {
         return Err(arguments.missing(&[&SHOT, &SET]));
     };
     let (job, examined) = examined(arguments)?;
-    let count = kundatrezo::walk(&job, shot, &set).map_err(|refusal| {
-        let remedy = match (refusal.number, examined.recorded) {
-            (Number::WALK, _) if shot >= examined.shots as u64 => {
-                Some(format!("the job's shots are 0 to {}", examined.shots - 1))
-            }
-            (Number::WALK, recorded) => Some(outcomes_wanted(SET.name, recorded)),
-            _ => None,
-        };
-        Failure::refused(&refusal, &job, remedy)
+    let count = kundatrezo::walk(&job, shot, &set).map_err(|refusal| match refusal.number {
+        Number::WALK if shot >= examined.shots as u64 => {
+            Failure::refused_shot(&format!("the job's shots are 0 to {}", examined.shots - 1))
+        }
+        Number::WALK => Failure::refused_list(&outcomes_wanted(SET.name, examined.recorded)),
+        _ => Failure::refused(&refusal, &job, None),
     })?;
     print(format!("ok=1 count={count}\n"))
 }
@@ -448,8 +445,15 @@ pub fn write_out(arguments: &Arguments, bytes: &[u8]) -> Result<(), Failure> {
 pub fn outcomes_wanted(what: &str, recorded: usize) -> String {
     match recorded {
         0 => "the job records no outcome".into(),
-        some => format!("{what}: it names recorded outcomes, 0 to {}, and rises strictly", some - 1),
+        some => format!("{what}: it names recorded outcomes, 0 to {}, each once", some - 1),
     }
+}
+
+/// Outcomes with commas between, sorted: the order in which they are named plays no part. The call judges them.
+pub fn outcomes(text: &str) -> Option<Vec<u64>> {
+    let mut outcomes = list(text)?;
+    outcomes.sort_unstable();
+    Some(outcomes)
 }
 
 /// Numbers with commas between, in any order; the call judges them.

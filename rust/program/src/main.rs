@@ -6,7 +6,6 @@ mod completions;
 mod counts;
 mod faults;
 mod files;
-mod hints;
 mod load;
 mod manual;
 mod numbers;
@@ -44,8 +43,24 @@ impl Failure {
             (Number::ROOM, 1..) => format!("; the text needs {} bytes", refusal.figure),
             _ => String::new(),
         };
-        let remedy = remedy.or_else(|| hints::hint(refusal, job)).map(|text| format!("\nhint: {text}"));
+        let remedy = remedy.or_else(|| refusal.hint(job)).map(|text| format!("\nhint: {text}"));
         Self::Refused(format!("{refusal}{line}{need}{}", remedy.unwrap_or_default()))
+    }
+
+    /// The refusal by 17 of the shot of a walk.
+    fn refused_shot(remedy: &str) -> Self {
+        Self::by_cause(Number::WALK, 0, remedy)
+    }
+
+    /// The refusal by 17 of a list of outcomes, which need not be that of a walk.
+    fn refused_list(remedy: &str) -> Self {
+        Self::by_cause(Number::WALK, 1, remedy)
+    }
+
+    /// A refusal by one of the causes that a number's words have.
+    fn by_cause(number: Number, cause: usize, remedy: &str) -> Self {
+        let words = number.words().split("; ").nth(cause).unwrap_or(number.words());
+        Self::Refused(format!("refused: {} ({words})\nhint: {remedy}", number.get()))
     }
 }
 

@@ -246,21 +246,39 @@ fn refusals_are_said_in_words() {
     }
     let hint = refused("annotate - --p nan", header, "refused: 11 (p is NaN or above 1)");
     assert_eq!(hint, "the probability of --p or --p-bits is NaN");
-    let walk = format!("refused: {}", kundatrezo::Number::WALK);
-    let hint = refused("walk - --shot 0 --set 1,0", header, &walk);
+    // the one cause of the number's that it is
+    let shot = "refused: 17 (the walk's shot not below the header's shots)";
+    let list = "refused: 17 (a set or group cut short, not strictly rising, or with an outcome that is not recorded)";
+    assert_eq!(
+        kundatrezo::Number::WALK.words(),
+        format!("{}; {}", &shot[13..shot.len() - 1], &list[13..list.len() - 1])
+    );
+    let hint = refused("walk - --shot 0 --set 1,0", header, list);
     assert_eq!(hint, "the job records no outcome");
-    assert_eq!(refused("walk - --shot 1 --set -", header, &walk), "the job's shots are 0 to 0");
-    assert_eq!(refused("faults - --group 0", header, &walk), "the job records no outcome");
+    assert_eq!(refused("walk - --shot 1 --set -", header, shot), "the job's shots are 0 to 0");
+    assert_eq!(refused("faults - --group 0", header, list), "the job records no outcome");
     let recorded = format!("{header}op=r id=0 angle=0\n");
     for (arguments, what) in [
         ("walk - --shot 0 --set 1", "--set"),
         ("faults - --group 0 --group 0,0", "the group 0,0"),
-        ("dem - --detector 0 --detector 3,2", "the detector 3,2"),
+        ("dem - --detector 0 --detector 3,2", "the detector 2,3"),
         ("dem - --detector 0 --observable 1", "the observable 1"),
     ] {
-        let hint = format!("{what}: it names recorded outcomes, 0 to 0, and rises strictly");
-        assert_eq!(refused(arguments, &recorded, &walk), hint);
+        let hint = format!("{what}: it names recorded outcomes, 0 to 0, each once");
+        assert_eq!(refused(arguments, &recorded, list), hint);
     }
+    // the order in which outcomes are named plays no part
+    let two = "op=job qubits=1 outcomes=2 shots=1\nop=i shot=0 x=0 z=-\nop=o x=- z=0 id=0\nop=o x=- z=0 id=1\n";
+    assert_eq!(call("walk - --shot 0 --set 1,0", two), Done::printed("ok=1 count=0\n"));
+    let noisy = two.replace("op=i shot=0 x=0 z=-", "op=n p=3fe0000000000000 corr=- cond=- parity=0 d=1 x=0 z=- size=1");
+    for arguments in ["faults - --group", "dem - --observable 0 --detector"] {
+        let done = call(&format!("{arguments} 1,0"), &noisy);
+        assert_eq!((done.status, &done), (0, &call(&format!("{arguments} 0,1"), &noisy)));
+    }
+    // a file that is no job
+    let length = "refused: 1 (the job is empty, longer than 1,048,576 bytes, or has no LF at its end)";
+    assert_eq!(refused("check -", "\u{7f}ELF\0", length), "byte 1 is not text: is this the right file?");
+    assert_eq!(refused("check -", header.trim_end(), length), "the last line has no line end: add LF");
     let many = format!("faults -{}", " --group 0".repeat(17));
     let hint = refused(&many, &recorded, &format!("refused: {}", kundatrezo::Number::GROUPS));
     assert_eq!(hint, "each --group is a group, and a table has 1 to 16 of them");
