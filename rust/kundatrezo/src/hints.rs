@@ -1,7 +1,6 @@
 //! The likely cause of a refusal of a job, and what to do about it. The engine has judged the job; here its refused line is looked at once more, for a
 //! sentence that helps.
 
-use crate::noise::binary64;
 use crate::{MAX_BYTES, MAX_CLIFFORD_QUBITS, MAX_OUTCOMES, MAX_QUBITS, MAX_SHOTS, Number};
 
 /// Most members of a list on a line, and most elements of a distribution.
@@ -473,6 +472,12 @@ fn hexadecimal(key: &str, value: &str) -> Option<String> {
         Ok(number) => Some(format!("{wanted}: {value} is {:016x} (see 'kundatrezo bits')", number.to_bits())),
         _ => Some(wanted),
     }
+}
+
+/// The number of 16 hexadecimal digits.
+fn binary64(digits: &str) -> Option<f64> {
+    let is_word = digits.len() == 16 && digits.bytes().all(|byte| byte.is_ascii_hexdigit());
+    if is_word { u64::from_str_radix(digits, 16).ok().map(f64::from_bits) } else { None }
 }
 
 #[cfg(test)]

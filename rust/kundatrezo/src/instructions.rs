@@ -239,6 +239,15 @@ impl Circuit {
         if line < 2 { None } else { self.numbered().find(has_line).map(|(_, instruction)| instruction) }
     }
 
+    /// The noise to which a line belongs.
+    #[must_use]
+    pub fn noise_at(&self, line: usize) -> Option<&Noise> {
+        match self.at_line(line) {
+            Some(Instruction::Noise(noise)) => Some(noise),
+            _ => None,
+        }
+    }
+
     /// The noise, with the numbers of the noise lines.
     pub fn noise(&self) -> impl Iterator<Item = (usize, &Noise)> {
         self.numbered().filter_map(|(line, instruction)| match instruction {

@@ -93,7 +93,6 @@ mod frames;
 mod hints;
 mod instructions;
 mod make;
-mod noise;
 mod refusal;
 mod sampler;
 mod shares;
