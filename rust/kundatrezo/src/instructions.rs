@@ -198,7 +198,7 @@ impl Circuit {
         Ok(Self::read_accepted(job))
     }
 
-    /// Read a job that the engine has accepted.
+    /// Read a job that the engine has accepted. It panics at lines that have no form.
     pub(crate) fn read_accepted(job: &[u8]) -> Self {
         reader::read(job)
     }
@@ -232,7 +232,7 @@ impl Circuit {
         numbers.zip(&self.instructions)
     }
 
-    /// The instruction to which a line belongs; none for the header and past the last line.
+    /// The instruction to which a line belongs. The header and lines past the last one belong to no instruction.
     #[must_use]
     pub fn at_line(&self, line: usize) -> Option<&Instruction> {
         let has_line = |(first, instruction): &(usize, &Instruction)| line < first + instruction.line_count();

@@ -63,7 +63,7 @@ forms! {
 }
 
 impl Form {
-    /// What follows `op=`; none for the element lines of noise.
+    /// The text after `op=`. The element lines of noise have no `op=`.
     #[must_use]
     pub fn op(self) -> Option<&'static str> {
         self.template().strip_prefix("op=")?.split(' ').next()

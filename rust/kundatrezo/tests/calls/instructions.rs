@@ -235,8 +235,10 @@ fn noise_has_the_line_numbers_of_the_fault_table() {
         assert!(table.iter().map(|fault| fault.line).eq(lines), "{}", String::from_utf8_lossy(&job));
         compared += table.iter().count();
 
+        assert!(circuit.noise().all(|(line, noise)| circuit.noise_at(line) == Some(noise)));
         let text = String::from_utf8(job).expect("text");
         for (line, text) in (1..).zip(text.lines()) {
+            assert!(circuit.noise_at(line).is_none() || !text.starts_with("op=") || text.starts_with("op=n "));
             let found = circuit.at_line(line).map(ToString::to_string);
             assert_eq!(found.as_ref().is_some_and(|found| found.lines().any(|own| own == text)), line > 1, "{line}");
         }
@@ -267,6 +269,14 @@ fn tables_are_those_of_the_definitions() {
     let own: Vec<(u64, &str, usize)> =
         Gate::ALL.iter().map(|gate| (gate.code(), gate.name(), gate.operands())).collect();
     assert_eq!(rows, own);
+}
+
+#[test]
+fn sizes_of_distributions() {
+    let size = |qubits: usize| PauliDistribution::Depolarizing((0..qubits).collect()).size();
+    assert_eq!([1, 2, 31, 32, 40].map(size), [3, 15, (1 << 62) - 1, u64::MAX, u64::MAX]);
+    let paulis = vec![SparsePauli::default(); 5];
+    assert_eq!(PauliDistribution::Uniform(paulis).size(), 5);
 }
 
 /// Each gate is accepted with its number of qubits alone, from its edition on.
