@@ -2,7 +2,7 @@
 //! sentence that helps.
 
 use crate::instructions::depolarizing_size;
-use crate::{Form, Gate, MAX_BYTES, MAX_CLIFFORD_QUBITS, MAX_OUTCOMES, MAX_QUBITS, MAX_SHOTS, Number};
+use crate::{Circuit, Form, Gate, Header, MAX_BYTES, MAX_CLIFFORD_QUBITS, MAX_OUTCOMES, MAX_QUBITS, MAX_SHOTS, Number};
 
 /// Most members of a list on a line, and most elements of a distribution.
 const MOST_MEMBERS: usize = 31;
@@ -56,18 +56,15 @@ impl Job<'_> {
             Number::FORM => self.form(),
             Number::HEADER => Some(self.header()),
             Number::EDITION => Some("edition= is 1 or 2; without this field it is 1".into()),
-            Number::QUBIT => self.below("qubits"),
-            Number::SHOT => self.below("shots"),
+            Number::QUBIT => self.below("qubits", |header| header.qubits),
+            Number::SHOT => self.below("shots", |header| header.shots),
             Number::OPERANDS => self.operands(),
             Number::PERMUTATION => {
                 Some("s= holds each of 0 to k - 1 once, for k qubits in q=: it names places in q=, not qubits".into())
             }
             Number::CLIFFORD => Some(self.clifford()),
-            Number::NEXT_ID => Some(self.next_id()),
-            Number::NOT_RECORDED => Some(match self.recorded() {
-                0 => "no outcome is recorded before this line".into(),
-                recorded => format!("before this line outcomes 0 to {} are recorded", recorded - 1),
-            }),
+            Number::NEXT_ID => self.next_id(),
+            Number::NOT_RECORDED => self.recorded(),
             Number::PROBABILITY => Some(format!("p= is {:?} in decimal", binary64(field(self.line, "p")?)?)),
             Number::ELEMENTS => self.elements(),
             Number::NOISE => Some("settle the job first, and walk the settled job".into()),
@@ -88,29 +85,38 @@ impl Job<'_> {
         }
     }
 
+    /// The lines before the refused one, as a circuit. If that is an element line, the lines before its noise.
+    fn circuit_before(&self) -> Option<Circuit> {
+        let read = |lines: &[&str]| Circuit::read((lines.join("\n") + "\n").as_bytes()).ok();
+        read(self.before).or_else(|| read(&self.before[..self.last_op()?]))
+    }
+
+    /// The place of the last line before the refused one that is no element line.
+    fn last_op(&self) -> Option<usize> {
+        self.before.iter().rposition(|line| line.starts_with("op="))
+    }
+
     /// What a number of the header allows.
-    fn below(&self, key: &str) -> Option<String> {
-        let count = self.limit(key)?;
+    fn below(&self, key: &str, number: impl Fn(&Header) -> usize) -> Option<String> {
+        let count = number(&self.circuit_before()?.header);
         Some(format!("the header has {key}={count}: they are 0 to {}", count.checked_sub(1)?))
     }
 
-    /// A number of the header.
-    fn limit(&self, key: &str) -> Option<u64> {
-        field(self.before.first()?, key)?.parse().ok()
+    fn recorded(&self) -> Option<String> {
+        Some(match self.circuit_before()?.recorded() {
+            0 => "no outcome is recorded before this line".into(),
+            recorded => format!("before this line outcomes 0 to {} are recorded", recorded - 1),
+        })
     }
 
-    fn recorded(&self) -> usize {
-        self.before.iter().filter(|line| line.starts_with("op=o ") || line.starts_with("op=r ")).count()
-    }
-
-    fn next_id(&self) -> String {
-        let next = self.recorded();
-        match self.limit("outcomes") {
-            Some(outcomes) if outcomes <= next as u64 => {
-                format!("the header has outcomes={outcomes}, and as many are recorded before this line")
-            }
-            _ => format!("the next id is {next}: op=o and op=r lines are numbered together, from 0"),
-        }
+    fn next_id(&self) -> Option<String> {
+        let circuit = self.circuit_before()?;
+        let (outcomes, next) = (circuit.header.outcomes, circuit.recorded());
+        Some(if outcomes <= next {
+            format!("the header has outcomes={outcomes}, and as many are recorded before this line")
+        } else {
+            format!("the next id is {next}: op=o and op=r lines are numbered together, from 0")
+        })
     }
 
     fn header(&self) -> String {
@@ -197,15 +203,10 @@ impl Job<'_> {
 
     /// The kind of the noise line that wants this line for an element, which one of them this is, from 1, and how many there are.
     fn due(&self) -> Option<(&str, u64, u64)> {
-        let mut due = None;
-        for line in self.before {
-            due = match due {
-                Some((kind, place, count)) if place < count => Some((kind, place + 1, count)),
-                Some(_) => None,
-                None => wanted(line).map(|(kind, count)| (kind, 1, count)),
-            };
-        }
-        due
+        let noise = self.last_op()?;
+        let (kind, count) = wanted(self.before[noise])?;
+        let place = (self.before.len() - noise) as u64;
+        (place <= count).then_some((kind, place, count))
     }
 
     /// What is wrong with the form of the line.

@@ -239,6 +239,15 @@ impl Circuit {
         if line < 2 { None } else { self.numbered().find(has_line).map(|(_, instruction)| instruction) }
     }
 
+    /// The number of outcomes that it records: those whose ids are below this number.
+    #[must_use]
+    pub fn recorded(&self) -> usize {
+        let records = |instruction: &&Instruction| {
+            matches!(instruction, Instruction::Measure { .. } | Instruction::Allocate { .. })
+        };
+        self.instructions.iter().filter(records).count()
+    }
+
     /// The noise to which a line belongs.
     #[must_use]
     pub fn noise_at(&self, line: usize) -> Option<&Noise> {

@@ -2,8 +2,8 @@
 
 use kundatrezo::{
     Circuit, Form, Gate, Header, Instruction, JobParameters, MAX_BYTES, MAX_OUTCOMES, MAX_QUBITS, MAX_SHOTS, Noise,
-    OutcomeCondition, PauliDistribution, SparsePauli, WeightedPauli, Xorshift, check, clifford_line, fault_table, make,
-    make_job,
+    OutcomeCondition, PauliDistribution, SparsePauli, WeightedPauli, Xorshift, check, clifford_line, examine,
+    fault_table, make, make_job,
 };
 use std::collections::BTreeSet;
 use std::fs;
@@ -235,6 +235,7 @@ fn noise_has_the_line_numbers_of_the_fault_table() {
         assert!(table.iter().map(|fault| fault.line).eq(lines), "{}", String::from_utf8_lossy(&job));
         compared += table.iter().count();
 
+        assert_eq!(circuit.recorded(), examine(&job).expect("the job is accepted").recorded);
         assert!(circuit.noise().all(|(line, noise)| circuit.noise_at(line) == Some(noise)));
         let text = String::from_utf8(job).expect("text");
         for (line, text) in (1..).zip(text.lines()) {
