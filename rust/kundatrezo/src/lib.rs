@@ -93,8 +93,8 @@ mod examination;
 mod float_state;
 mod frames;
 mod hints;
+mod instructions;
 mod make;
-mod noise;
 mod output;
 mod refusal;
 mod sampler;
@@ -113,6 +113,9 @@ pub use error_model::{ErrorModel, Mechanism, error_model};
 pub use examination::{Examination, examine};
 pub use frames::{Frames, bit};
 pub use hints::distribution_size;
+pub use instructions::{
+    Circuit, Form, Gate, Header, Instruction, Noise, OutcomeCondition, PauliDistribution, SparsePauli, WeightedPauli,
+};
 pub use make::{JobParameters, make, make_job};
 pub use output::{FileId, OutputFile, WrittenFile, write_file, written_path};
 pub use refusal::{Answer, Number, Refusal};

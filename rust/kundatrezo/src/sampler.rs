@@ -1,9 +1,10 @@
 //! Any number of shots of a job, in blocks that have words of their own.
 
 use crate::counts::{DRAWS, Sample, crc32};
-use crate::noise::{Kind, Noise};
+use crate::instructions::write_job;
 use crate::{
-    Answer, Counts, Draws, Examination, Frames, MAX_SHOTS, Number, Refusal, SavedCounts, Xorshift, bit, examine,
+    Answer, Circuit, Counts, Draws, Examination, Frames, Header, Instruction, MAX_SHOTS, Noise, Number,
+    PauliDistribution, Refusal, SavedCounts, SparsePauli, Xorshift, bit, examine, size,
 };
 use std::collections::BTreeSet;
 use std::error::Error;
@@ -14,9 +15,6 @@ use std::thread;
 
 /// Most words of a list of a block, 2 GiB: no job of main-list noise needs as many.
 const MOST_WORDS: usize = 1 << 28;
-
-/// A line that has the place of an injection or a flip in blocks where that does not stand: the identity as a gate, which changes nothing.
-const NOTHING: &[u8] = b"op=p x=- z=-\n";
 
 /// In which shots of the whole the injections and flips of a job stand.
 #[derive(Debug, Clone, Copy, Default, PartialEq, Eq, Hash)]
@@ -135,6 +133,7 @@ impl Sampler {
     /// The refusal by a test of the job.
     pub fn with_named(job: &[u8], shots: u64, seed: u64, named: Named) -> Answer<Self> {
         let examined = examine(job)?;
+        let circuit = Circuit::read_accepted(job);
         let blocks = shots.div_ceil(BLOCK);
         let text = |block: u64| {
             let shots = shots_of(shots, block);
@@ -142,7 +141,7 @@ impl Sampler {
                 Named::Whole => block == 0,
                 Named::Block => shot < shots.end - shots.start,
             };
-            block_text(job, shots.end - shots.start, stands)
+            block_text(&circuit, shots.end - shots.start, stands)
         };
         Ok(Self {
             first: text(0),
@@ -156,7 +155,7 @@ impl Sampler {
             named: Some(named),
             noiseless: Vec::new(),
             noiseless_sum: None,
-            need: Need::of(job),
+            need: Need::of(&circuit),
         })
     }
 
@@ -394,30 +393,21 @@ fn gcd(a: usize, b: usize) -> usize {
     if b == 0 { a } else { gcd(b, a % b) }
 }
 
-/// An accepted job with another number of shots, at least 1, in its header, and with the injections and flips of those shots alone in which they
-/// stand. The lines keep their numbers.
-fn block_text(job: &[u8], shots: u64, stands: impl Fn(u64) -> bool) -> Vec<u8> {
-    let header = job.iter().position(|byte| *byte == b'\n').unwrap_or(job.len());
-    let digits = job[..header].iter().rposition(|byte| *byte == b'=').map_or(header, |place| place + 1);
-    let mut text = job[..digits].to_vec();
-    text.extend(shots.max(1).to_string().bytes());
-    for (place, line) in job[header..].split_inclusive(|byte| *byte == b'\n').enumerate() {
-        let kept = place == 0 || named_shot(line).is_none_or(&stands);
-        text.extend_from_slice(if kept { line } else { NOTHING });
-    }
-    text
-}
-
-/// The shot of an injection or a flip, in a job that has passed the checks.
-fn named_shot(line: &[u8]) -> Option<u64> {
-    let fields = line.strip_prefix(b"op=i shot=").or_else(|| line.strip_prefix(b"op=t shot="))?;
-    std::str::from_utf8(fields.split(|byte| *byte == b' ').next()?).ok()?.parse().ok()
+/// The job of a circuit with another number of shots, at least 1, in its header, and with the injections and flips of those shots alone in which they
+/// stand. In the place of others is the identity as a gate, which changes nothing, so that lines keep their numbers.
+fn block_text(circuit: &Circuit, shots: u64, stands: impl Fn(u64) -> bool) -> Vec<u8> {
+    let header = Header { shots: size(shots.max(1)), ..circuit.header };
+    let identity = Instruction::Pauli(SparsePauli::default());
+    let kept = |instruction: &Instruction| instruction.shot().is_none_or(|shot| stands(shot as u64));
+    let lines = circuit.instructions.iter().map(|line| if kept(line) { line } else { &identity });
+    write_job(&header, lines)
 }
 
 /// The first line of an accepted job, from 1, that stands in a shot which it names: an injection or a flip.
 #[must_use]
 pub fn first_named(job: &[u8]) -> Option<u64> {
-    job.split(|byte| *byte == b'\n').zip(1..).find(|(line, _)| named_shot(line).is_some()).map(|(_, place)| place)
+    let circuit = Circuit::read(job).ok()?;
+    circuit.numbered().find(|(_, instruction)| instruction.shot().is_some()).map(|(line, _)| line as u64)
 }
 
 /// The noise lines of an accepted job that look at noiseless bits and can fall: the number of each, from 1, and the first outcome of its condition that
@@ -430,14 +420,19 @@ pub fn first_named(job: &[u8]) -> Option<u64> {
 /// ```
 #[must_use]
 pub fn conditions(job: &[u8]) -> Vec<(u64, Option<usize>)> {
-    let text = std::str::from_utf8(job).unwrap_or_default();
-    let random_id = |line: &str| line.strip_prefix("op=r id=")?.split(' ').next()?.parse::<usize>().ok();
-    let random: BTreeSet<usize> = text.lines().filter_map(random_id).collect();
-    let condition = |(line, place): (&str, u64)| {
-        let noise = Noise::read(line).filter(|noise| noise.p > 0.0 && !noise.condition.is_empty())?;
-        Some((place, noise.condition.into_iter().find(|outcome| random.contains(outcome))))
+    let Ok(circuit) = Circuit::read(job) else {
+        return Vec::new();
     };
-    text.lines().zip(1..).filter_map(condition).collect()
+    let random_outcome = |instruction: &Instruction| match instruction {
+        Instruction::Allocate { outcome, .. } => Some(*outcome),
+        _ => None,
+    };
+    let random: BTreeSet<usize> = circuit.instructions.iter().filter_map(random_outcome).collect();
+    let condition = |(line, noise): (usize, &Noise)| {
+        let outcomes = &noise.condition.as_ref().filter(|_| noise.probability > 0.0)?.outcomes;
+        Some((line as u64, outcomes.iter().find(|outcome| random.contains(outcome)).copied()))
+    };
+    circuit.noise().filter_map(condition).collect()
 }
 
 /// How many words the noise lines of a job read, a shot on average: a guess, which the calls judge.
@@ -450,18 +445,16 @@ struct Need {
 }
 
 impl Need {
-    fn of(job: &[u8]) -> Self {
+    fn of(circuit: &Circuit) -> Self {
         let mut need = Self::default();
-        for line in job.split(|byte| *byte == b'\n').filter(|line| line.starts_with(b"op=n ")) {
-            let Some(noise) = std::str::from_utf8(line).ok().and_then(Noise::read).filter(|noise| noise.p > 0.0) else {
-                continue;
-            };
-            match noise.correlation {
-                Some(place) => need.place = need.place.max(Some(place)),
-                None if noise.kind == Kind::Single => need.mean += 1.0,
-                None => {
-                    need.mean += 1.0 + noise.p;
-                    need.variance += noise.p * (1.0 - noise.p);
+        for (_, noise) in circuit.noise().filter(|(_, noise)| noise.probability > 0.0) {
+            let p = noise.probability;
+            match (noise.correlation, &noise.distribution) {
+                (Some(place), _) => need.place = need.place.max(Some(place)),
+                (None, PauliDistribution::Single(_)) => need.mean += 1.0,
+                (None, _) => {
+                    need.mean += 1.0 + p;
+                    need.variance += p * (1.0 - p);
                 }
             }
         }
@@ -507,8 +500,8 @@ impl Bench {
 
     /// More words for the list that the refused noise line reads; whether there are any.
     fn grow(&mut self, refusal: &Refusal, text: &[u8], shots: usize) -> bool {
-        let line = refusal.line_of(text).and_then(|line| std::str::from_utf8(line).ok());
-        match line.and_then(Noise::read).and_then(|noise| noise.correlation) {
+        let circuit = Circuit::read_accepted(text);
+        match circuit.noise_at(size(refusal.line)).and_then(|noise| noise.correlation) {
             None => self.main.grow(2 * self.main.words.len() + shots),
             Some(place) => usize::try_from(place)
                 .is_ok_and(|place| place < MOST_WORDS && self.second.grow(2 * self.second.words.len() + place + shots)),
