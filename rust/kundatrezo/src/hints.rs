@@ -273,12 +273,7 @@ fn noise_form(kind: &str) -> Option<Form> {
 
 /// The size of the distribution on a noise line that has all other fields in their form: 1, 4^k - 1 over k qubits, or n. None where it has not, or where
 /// 4^k is not below 2^64.
-///
-/// ```
-/// assert_eq!(kundatrezo::distribution_size("op=n p=3fe0000000000000 corr=- cond=- parity=0 d=2 q=1,0"), Some(15));
-/// ```
-#[must_use]
-pub fn distribution_size(line: &str) -> Option<u64> {
+pub(crate) fn distribution_size(line: &str) -> Option<u64> {
     let kind = field(line, "d")?;
     let without_size: Vec<Field> = noise_form(kind)?.fields().filter(|(key, _)| *key != "size").collect();
     if fields(line, &without_size, "").is_some() {

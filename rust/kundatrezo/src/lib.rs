@@ -18,10 +18,17 @@
 //! | [`make`] | a job from a seed, which passes the tests of a job; [`make_job`] as a `Vec` |
 //! | [`by_shot`] | deltas as a row for each shot, and [`by_outcome`] the way back; [`Shots`] has memory of its own |
 //!
-//! Beside the calls, [`Sampler`] runs any number of shots of a job from a seed, by several threads, and counts, and [`SavedCounts`] is how counts are
-//! saved and added; [`split`] shares the shots of a
-//! settled job among several benches, and `^=` on [`Frames`] adds what they leave; [`clifford_line`] writes a Clifford of up to eight qubits, such as
-//! a code's encoder, as a line; [`error_model`] gives a job's noise to a decoder; [`OutputFile`] writes a file whole or not at all.
+//! Beside the calls:
+//!
+//! | item | gives |
+//! |---|---|
+//! | [`Circuit`] | a job as a list of typed instructions, which is written again to the same bytes; [`Gate`] and [`Form`] are the tables of gates and of forms of lines |
+//! | [`Sampler`] | any number of shots of a job from a seed, by several threads, and their counts; [`SavedCounts`] is how counts are saved and added |
+//! | [`split`] | the shots of a settled job as parts for several benches; `^=` on [`Frames`] adds what they leave |
+//! | [`error_model`] | a job's noise, for a decoder |
+//! | [`clifford_line`] | a Clifford of up to eight qubits, such as a code's encoder, as a line |
+//! | [`with_sizes`] | a job whose noise lines lack their sizes, with them |
+//! | [`OutputFile`] | a file that is written whole or not at all |
 //!
 //! # Rows
 //!
@@ -95,6 +102,7 @@ mod frames;
 mod hints;
 mod instructions;
 mod make;
+mod noise_sizes;
 mod output;
 mod refusal;
 mod sampler;
@@ -112,11 +120,11 @@ pub use draws::{Draws, Source};
 pub use error_model::{ErrorModel, Mechanism, error_model};
 pub use examination::{Examination, examine};
 pub use frames::{Frames, bit};
-pub use hints::distribution_size;
 pub use instructions::{
     Circuit, Form, Gate, Header, Instruction, Noise, OutcomeCondition, PauliDistribution, SparsePauli, WeightedPauli,
 };
 pub use make::{JobParameters, make, make_job};
+pub use noise_sizes::{UnknownSizeError, with_sizes};
 pub use output::{FileId, OutputFile, WrittenFile, write_file, written_path};
 pub use refusal::{Answer, Number, Refusal};
 pub use sampler::{Bench, Named, NoiselessSizeError, Sampler, conditions, first_named};
