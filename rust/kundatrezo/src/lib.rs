@@ -106,6 +106,7 @@ mod noise_sizes;
 mod output;
 mod refusal;
 mod sampler;
+mod sampler_error;
 mod shares;
 mod single_faults;
 mod split;
@@ -119,7 +120,7 @@ pub use counts::{Counts, CountsError, DRAWS, SavedCounts, wilson};
 pub use draws::{Draws, Source};
 pub use error_model::{ErrorModel, Mechanism, error_model};
 pub use examination::{Examination, examine};
-pub use frames::{Frames, bit};
+pub use frames::{FrameSizeError, Frames, bit};
 pub use instructions::{
     Circuit, Form, Gate, Header, Instruction, Noise, OutcomeCondition, PauliDistribution, SparsePauli, WeightedPauli,
 };
@@ -127,7 +128,8 @@ pub use make::{JobParameters, make, make_job};
 pub use noise_sizes::{UnknownSizeError, with_sizes};
 pub use output::{FileId, OutputFile, WrittenFile, write_file, written_path};
 pub use refusal::{Answer, Number, Refusal};
-pub use sampler::{Bench, Named, NoiselessSizeError, Sampler, conditions, first_named};
+pub use sampler::{Bench, Named, NoiselessSizeError, Sampler, conditions, first_named, named_fault};
+pub use sampler_error::SamplerError;
 pub use shares::{AccountError, Caller, MAX_CALLERS, SharedDraws};
 pub use single_faults::{FaultTable, MAX_GROUPS, SingleFault, fault_table, write_fault_table};
 pub use split::{Part, restricted, split};

@@ -1,10 +1,10 @@
 //! Any number of shots of a job, in blocks that have words of their own.
 
-use crate::counts::{DRAWS, Sample, crc32};
+use crate::counts::{DRAWS, Sample, crc32, fault};
 use crate::instructions::write_job;
 use crate::{
-    Answer, Circuit, Counts, Draws, Examination, Frames, Header, Instruction, MAX_SHOTS, Noise, Number,
-    PauliDistribution, Refusal, SavedCounts, SparsePauli, Xorshift, bit, examine, size,
+    Answer, Circuit, Counts, CountsError, Draws, Examination, Frames, Header, Instruction, MAX_SHOTS, Noise, Number,
+    PauliDistribution, Refusal, SamplerError, SavedCounts, SparsePauli, Xorshift, bit, examine, size,
 };
 use std::collections::BTreeSet;
 use std::error::Error;
@@ -91,7 +91,7 @@ impl Error for NoiselessSizeError {}
 /// let rate = |total: u64| total as f64 / counts.shots as f64;
 /// assert!((rate(counts.totals[0]) - 0.25).abs() < 0.01);
 /// assert!((rate(counts.sets[0]) - 2.0 * 0.25 * 0.75).abs() < 0.01);
-/// # Ok::<(), kundatrezo::Refusal>(())
+/// # Ok::<(), kundatrezo::SamplerError>(())
 /// ```
 #[derive(Debug, Clone)]
 pub struct Sampler {
@@ -115,15 +115,27 @@ pub struct Sampler {
 }
 
 impl Sampler {
-    /// So many shots of a job with the words of a seed. Injections and flips stand in the shots of the whole that they name; by
-    /// [`with_named`](Self::with_named) they can stand in those of each block.
+    /// A sampler of this number of shots of a job, with the words of a seed.
     ///
     /// # Errors
     ///
-    /// The refusal by a test of the job.
-    pub fn new(job: &[u8], shots: u64, seed: u64) -> Answer<Self> {
-        let sampler = Self::with_named(job, shots, seed, Named::Whole)?;
-        Ok(Self { named: sampler.named.filter(|_| first_named(job).is_some()), ..sampler })
+    /// The refusal by a test of the job, or the first line that stands in a shot which it names: [`with_named`](Self::with_named) says where these stand.
+    ///
+    /// ```
+    /// use kundatrezo::{Named, Sampler, SamplerError};
+    ///
+    /// let job = b"op=job qubits=1 outcomes=1 shots=9\nop=i shot=4 x=0 z=-\nop=o x=- z=0 id=0\n";
+    /// let error = Sampler::new(job, 100_000, 1).map(drop).unwrap_err();
+    /// assert_eq!(error, SamplerError::NamedShot { line: 2 });
+    /// let sampler = Sampler::with_named(job, 100_000, 1, Named::Whole)?;
+    /// assert_eq!(sampler.counts(&[], 1)?.totals, [1]);
+    /// # Ok::<(), kundatrezo::Refusal>(())
+    /// ```
+    pub fn new(job: &[u8], shots: u64, seed: u64) -> Result<Self, SamplerError> {
+        match first_named(job) {
+            Some(line) => Err(SamplerError::NamedShot { line }),
+            None => Ok(Self { named: None, ..Self::with_named(job, shots, seed, Named::Whole)? }),
+        }
     }
 
     /// The same, and in which shots of the whole injections and flips stand.
@@ -218,7 +230,7 @@ impl Sampler {
     #[must_use]
     pub fn text(&self, block: u64) -> &[u8] {
         match block {
-            _ if block + 1 == self.blocks() => &self.last,
+            _ if block.checked_add(1) == Some(self.blocks()) => &self.last,
             0 => &self.first,
             _ => &self.middle,
         }
@@ -234,8 +246,8 @@ impl Sampler {
         bench.noiseless.clear();
         bench.noiseless.resize(self.job.outcomes * words, 0);
         let period = self.noiseless.len() / self.job.outcomes.max(1);
-        if period > 0 {
-            let start = usize::try_from(block * (BLOCK / 64) % period as u64).unwrap_or_default();
+        if period > 0 && words > 0 {
+            let start = size(block % period as u64) * (MAX_SHOTS / 64) % period;
             for (row, given) in bench.noiseless.chunks_exact_mut(words).zip(self.noiseless.chunks_exact(period)) {
                 row.iter_mut().zip(given.iter().cycle().skip(start)).for_each(|(word, given)| *word = *given);
             }
@@ -304,7 +316,9 @@ impl Sampler {
         };
         let wanted = usize::try_from(blocks.end.saturating_sub(blocks.start)).unwrap_or(usize::MAX);
         thread::scope(|scope| {
-            let others: Vec<_> = (1..threads.min(wanted)).map(|_| scope.spawn(obey)).collect();
+            // no more than the system has
+            let spawned = |_| thread::Builder::new().spawn_scoped(scope, obey).ok();
+            let others: Vec<_> = (1..threads.min(wanted)).map_while(spawned).collect();
             let own = obey();
             let joined = others.into_iter().map(|thread| thread.join().expect("a thread ends by itself"));
             [own].into_iter().chain(joined).collect()
@@ -323,10 +337,8 @@ impl Sampler {
     fn counts_of(&self, blocks: Range<u64>, sets: &[Vec<u64>], threads: usize) -> Answer<Counts> {
         sets.iter().try_for_each(|set| self.job.test_set(set))?;
         let start = || (Bench::new(), Counts::default());
-        let made = Self::each(blocks, threads, start, |(bench, counts), block| {
-            counts.add(self.run(block, bench)?, sets);
-            Ok(())
-        })?;
+        let made =
+            Self::each(blocks, threads, start, |(bench, counts), block| counts.add(self.run(block, bench)?, sets))?;
         let mut sum = self.no_counts(sets);
         made.iter().for_each(|(_, counts)| sum += counts);
         Ok(sum)
@@ -342,37 +354,49 @@ impl Sampler {
     ///
     /// # Errors
     ///
-    /// As [`counts`](Self::counts).
-    ///
-    /// # Panics
-    ///
-    /// Panics if there is no such part.
-    pub fn sample(&self, sets: &[Vec<u64>], part: (u64, u64), threads: usize) -> Answer<SavedCounts> {
-        let counts = self.counts_of(self.part(part.0.saturating_sub(1), part.1), sets, threads)?;
-        Ok(self.saved(counts, sets, part))
+    /// As [`counts`](Self::counts), and if there is no such part.
+    pub fn sample(&self, sets: &[Vec<u64>], part: (u64, u64), threads: usize) -> Result<SavedCounts, SamplerError> {
+        part_of(part)?;
+        let counts = self.counts_of(self.part(part.0 - 1, part.1), sets, threads)?;
+        Ok(self.saved(counts, sets, part)?)
     }
 
     /// The counts of all shots of a part, from 1, of how many, which were made by this sampler's runs, in the form in which they are saved and added.
     ///
-    /// # Panics
+    /// # Errors
     ///
-    /// Panics if there is no such part.
-    #[must_use]
-    pub fn saved(&self, counts: Counts, sets: &[Vec<u64>], part: (u64, u64)) -> SavedCounts {
-        assert!((1..=part.1).contains(&part.0), "a part from 1 to the number of parts");
-        SavedCounts {
+    /// There is no such part, or the counts are not those of its shots, of the job's outcomes and of the sets.
+    pub fn saved(&self, counts: Counts, sets: &[Vec<u64>], part: (u64, u64)) -> Result<SavedCounts, CountsError> {
+        part_of(part)?;
+        let sample = Sample::part(self.seed, part, self.shots);
+        let numbers =
+            |shots: u64, outcomes: usize, sets: usize| format!("shots={shots} outcomes={outcomes} sets={sets}");
+        let given = numbers(counts.shots, counts.totals.len(), counts.sets.len());
+        let needed = numbers(sample.shots(), self.job.outcomes, sets.len());
+        if given != needed {
+            return fault(format!("counts of {given}, but part {}/{} has {needed}", part.0, part.1));
+        }
+        Ok(SavedCounts {
             qubits: self.job.qubits,
             outcomes: self.job.outcomes,
             recorded: self.job.recorded,
             job: self.sum,
             draws: DRAWS.into(),
-            samples: vec![Sample::part(self.seed, part, self.shots)],
+            samples: vec![sample],
             named: self.named,
             noiseless: self.noiseless_sum.map(|sum| format!("{sum:08x}")),
             sets: sets.to_vec(),
             counts,
-        }
+        })
     }
+}
+
+/// Whether there is a part of this number, from 1, of how many.
+fn part_of((place, parts): (u64, u64)) -> Result<(), CountsError> {
+    if (1..=parts).contains(&place) {
+        return Ok(());
+    }
+    fault(format!("there is no part {place} of {parts}: parts are numbered from 1"))
 }
 
 const BLOCK: u64 = MAX_SHOTS as u64;
@@ -408,6 +432,16 @@ fn block_text(circuit: &Circuit, shots: u64, stands: impl Fn(u64) -> bool) -> Ve
 pub fn first_named(job: &[u8]) -> Option<u64> {
     let circuit = Circuit::read(job).ok()?;
     circuit.numbered().find(|(_, instruction)| instruction.shot().is_some()).map(|(line, _)| line as u64)
+}
+
+/// Why a job with a line that stands in a shot which it names, such as [`first_named`] finds, isn't sampled unless an option says where these lines stand;
+/// `whole` and `block` are the ways to write this option.
+#[must_use]
+pub fn named_fault(line: u64, whole: &str, block: &str) -> String {
+    format!(
+        "line {line} stands in a shot that it names. With {whole} it stands in that shot of the whole sample, with {block} in that shot of each \
+         block of {MAX_SHOTS}; for a fault in every shot write noise of p = 1"
+    )
 }
 
 /// The noise lines of an accepted job that look at noiseless bits and can fall: the number of each, from 1, and the first outcome of its condition that
@@ -551,10 +585,14 @@ op=o x=- z=1 id=1
 op=t shot=0 id=1
 ";
 
+    fn sampler(job: &str, shots: u64, seed: u64) -> Sampler {
+        Sampler::with_named(job.as_bytes(), shots, seed, Named::Whole).expect("it is accepted")
+    }
+
     /// Blocks are runs of the job with other shots and the words of the block.
     #[test]
     fn blocks_are_runs() {
-        let sampler = Sampler::new(JOB.as_bytes(), 10_000, 3).expect("it is accepted");
+        let sampler = sampler(JOB, 10_000, 3);
         let sampler = sampler.with_noiseless(&[0b10110, 0]).expect("a row for each outcome");
         let mut bench = Bench::new();
         for block in [2, 0, 1] {
@@ -583,14 +621,14 @@ op=t shot=0 id=1
     /// Noiseless bits for another number of shots would be read in a wrong shape: the job has two outcomes and five shots.
     #[test]
     fn noiseless_bits_of_another_size_are_refused() {
-        let sampler = Sampler::new(JOB.as_bytes(), 9_000, 1).expect("it is accepted");
+        let sampler = sampler(JOB, 9_000, 1);
         for words in [0, 1, 3, 128] {
             let error = sampler.clone().with_noiseless(&vec![0; words]).expect_err("another size");
             let header = "the header's outcomes=2 and shots=5 need exactly 2";
             assert_eq!(error.to_string(), format!("noiseless bits of {words} words, but {header}"));
         }
         assert!(sampler.with_noiseless(&[0, 0]).is_ok());
-        let most = Sampler::new(JOB.replace("shots=5", "shots=4096").as_bytes(), 9_000, 1).expect("it is accepted");
+        let most = self::sampler(&JOB.replace("shots=5", "shots=4096"), 9_000, 1);
         assert!(most.clone().with_noiseless(&[0; 2 * 64]).is_ok() && most.with_noiseless(&[0, 0]).is_err());
     }
 
@@ -607,23 +645,41 @@ op=t shot=0 id=1
     /// Guesses that are too small are made good, and change nothing.
     #[test]
     fn more_words_are_made_where_they_are_needed() {
-        let sampler = Sampler::new(JOB.as_bytes(), 9_000, 1).expect("it is accepted");
+        let sampler = sampler(JOB, 9_000, 1);
         let starved = Sampler { need: Need::default(), ..sampler.clone() };
         assert_eq!((starved.list_words(), sampler.list_words() > 4096 + 9000 + 4096), (0, true));
         assert_eq!(starved.counts(&[vec![0, 1]], 2), sampler.counts(&[vec![0, 1]], 3));
         let far = JOB.replace("corr=9000", "corr=18446744073709551615");
-        let refusal = Sampler::new(far.as_bytes(), 5, 1).and_then(|sampler| sampler.counts(&[], 1)).unwrap_err();
+        let refusal = self::sampler(&far, 5, 1).counts(&[], 1).unwrap_err();
         assert_eq!((refusal.number, refusal.line), (Number::DRAWS, 5));
     }
 
     #[test]
     fn sets_parts_and_blocks_that_there_are_not() {
-        let sampler = Sampler::new(JOB.as_bytes(), 9_000, 1).expect("it is accepted");
+        let sampler = sampler(JOB, 9_000, 1);
         for wrong in [vec![1, 0], vec![0, 0], vec![u64::MAX]] {
             assert_eq!(sampler.counts(&[vec![0], wrong], 2).unwrap_err().number, Number::WALK);
         }
         assert!([(3, 3), (u64::MAX, 3), (0, 0)].iter().all(|(place, parts)| sampler.part(*place, *parts).is_empty()));
-        assert_eq!(sampler.run(sampler.blocks(), &mut Bench::new()).map(drop).unwrap_err().number, Number::WORDS);
+        let lent = sampler.clone().with_noiseless(&[0b10110, 0]).expect("a row for each outcome");
+        for block in [sampler.blocks(), u64::MAX - 1, u64::MAX] {
+            for sampler in [&sampler, &lent] {
+                let refusal = sampler.run(block, &mut Bench::new()).map(drop).unwrap_err();
+                assert_eq!(refusal.number, Number::WORDS, "{block}");
+            }
+        }
+    }
+
+    /// What the program refuses, the crate refuses.
+    #[test]
+    fn named_shots_are_not_guessed() {
+        let error = Sampler::new(JOB.as_bytes(), 9_000, 1).map(drop).unwrap_err();
+        assert_eq!(error, SamplerError::NamedShot { line: 4 });
+        let sentence = "line 4 stands in a shot that it names. With Named::Whole it stands in that shot of the whole sample, with \
+                        Named::Block in that shot of each block of 4096; for a fault in every shot write noise of p = 1";
+        assert_eq!(error.to_string(), sentence);
+        let error = Sampler::new(b"op=job\n", 9_000, 1).map(drop).unwrap_err();
+        assert_eq!(error.to_string(), format!("refused: {} at line 1", Number::FORM));
     }
 
     #[test]
@@ -646,7 +702,7 @@ op=t shot=0 id=1
     #[test]
     fn parts_share_the_blocks() {
         for shots in [0, 1, 4096, 4097, 1_000_000, u64::MAX] {
-            let sampler = Sampler::new(JOB.as_bytes(), shots, 1).expect("it is accepted");
+            let sampler = sampler(JOB, shots, 1);
             for parts in [1, 2, 7, 300] {
                 let shares: Vec<Range<u64>> = (0..parts).map(|place| sampler.part(place, parts)).collect();
                 assert_eq!((shares[0].start, shares[shares.len() - 1].end), (0, sampler.blocks()));
