@@ -22,8 +22,8 @@
 //!
 //! | item | gives |
 //! |---|---|
-//! | [`Circuit`] | a job as a list of typed instructions, which is written again to the same bytes; [`Gate`] and [`Form`] are the tables of gates and of forms of lines |
-//! | [`Sampler`] | any number of shots of a job from a seed, by several threads, and their counts; [`SavedCounts`] is how counts are saved and added |
+//! | [`Circuit`] | a job as a list of typed instructions, and its bytes again; [`Gate`] and [`Form`] are the tables of gates and of forms |
+//! | [`Sampler`] | any number of shots of a job from a seed, by several threads, and their counts; [`SavedCounts`] saves and adds them |
 //! | [`split`] | the shots of a settled job as parts for several benches; `^=` on [`Frames`] adds what they leave |
 //! | [`error_model`] | a job's noise, for a decoder |
 //! | [`clifford_line`] | a Clifford of up to eight qubits, such as a code's encoder, as a line |

@@ -20,8 +20,9 @@ impl fmt::Display for UnknownSizeError {
 
 impl Error for UnknownSizeError {}
 
-/// The job with `size=` at the end of each noise line that has none. The engine refuses noise lines without it, so that such a job can't be read into a
-/// [`Circuit`](crate::Circuit). Noise lines that have a size, right or wrong, and all other lines are copied. The job is not checked.
+/// The job with `size=` at the end of each noise line that has none. The engine refuses noise lines without it, so that no
+/// [`Circuit`](crate::Circuit) can be read from them. Noise lines that have a size, right or wrong, and all other lines are copied. The job is not
+/// checked.
 ///
 /// # Errors
 ///

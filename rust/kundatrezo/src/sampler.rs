@@ -119,7 +119,8 @@ impl Sampler {
     ///
     /// # Errors
     ///
-    /// The refusal by a test of the job, or the first line that stands in a shot which it names: [`with_named`](Self::with_named) says where these stand.
+    /// The refusal by a test of the job, or the first injection or flip, which stands in a shot that it names: [`with_named`](Self::with_named) says
+    /// where these stand.
     ///
     /// ```
     /// use kundatrezo::{Named, Sampler, SamplerError};

@@ -46,7 +46,7 @@ fn commands(group: Group) -> impl Iterator<Item = &'static Command> {
 /// The page, in the macros of man(7).
 pub fn page() -> String {
     let version = env!("CARGO_PKG_VERSION");
-    let usages = USAGES.map(|usage| format!(".B kundatrezo\n{}\n", text(usage))).join(".br\n");
+    let usages = USAGES.map(|usage| format!("\\fBkundatrezo\\fR {}\n", synopsis(usage))).join(".br\n");
     let options: String = PROGRAM_OPTIONS.iter().map(program_option).collect();
     let groups: String = Group::ALL.into_iter().map(section).collect();
     let [operand, status, files] = COMMON;
@@ -70,6 +70,16 @@ kundatrezo \\- a Pauli\\-frame noise engine
         text(status.trim_start_matches("Exit status: ")),
         text(files),
     )
+}
+
+/// How the program is called, with what a user replaces in italics and what is typed in bold.
+fn synopsis(usage: &str) -> String {
+    let word = |word: &str| {
+        let typed = word.trim_matches(['[', ']', '.']);
+        let font = if typed.chars().all(char::is_uppercase) { 'I' } else { 'B' };
+        text(word).replace(&text(typed), &format!("\\f{font}{}\\fR", text(typed)))
+    };
+    usage.split(' ').map(word).collect::<Vec<String>>().join(" ")
 }
 
 fn program_option(option: &ProgramOption) -> String {

@@ -1,7 +1,7 @@
 //! Which known name a mistyped one may stand for.
 
-/// The known name that is nearest to a mistyped one, if one is near: the only one that begins with it, or else one that a change of at most a third of its
-/// letters gives, the earlier of two.
+/// The known name that is nearest to a mistyped one, if one is near: the only one that begins with it, or else the one with the fewest changes, at most
+/// a third of its letters; the first of several.
 pub fn nearest<'a>(typed: &str, known: impl IntoIterator<Item = &'a str>) -> Option<&'a str> {
     let known: Vec<&str> = known.into_iter().collect();
     let begun: Vec<&str> = known.iter().copied().filter(|name| name.starts_with(typed)).collect();
