@@ -8,7 +8,7 @@ use crate::turns::Turns;
 use crate::{Failure, print, say, shots};
 use kundatrezo::{
     Bench, Counts, Examination, Frames, MAX_BYTES, MAX_OUTCOMES, MAX_SHOTS, Named, Number, Refusal, Sampler,
-    by_outcome, by_shot,
+    SamplerError, by_outcome, by_shot,
 };
 use std::ffi::OsStr;
 use std::fs::File;
@@ -90,7 +90,7 @@ pub fn sample(arguments: &Arguments) -> Result<(), Failure> {
     let whole = Whole::read(arguments, asked, &job)?;
     note_conditions(arguments, &job)?;
     let (mut output, counts) = whole.run(arguments.value(OUTPUT.name))?;
-    let text = whole.text(counts);
+    let text = whole.text(counts)?;
     match (asked.format.has_rows(), arguments.value(OUTPUT.name)) {
         (false, _) => {
             output.write(text.as_bytes())?;
@@ -189,16 +189,19 @@ fn sets(arguments: &Arguments, job: Examination) -> Result<Vec<Vec<u64>>, Failur
     given.iter().map(set).collect()
 }
 
-fn named(arguments: &Arguments, job: &[u8]) -> Result<Option<Named>, Failure> {
-    let named = arguments.parsed(NAMED.name, "'whole' or 'block'", Named::of_name)?;
-    match (named, kundatrezo::first_named(job)) {
-        (None, Some(line)) => Err(Failure::Other(format!(
-            "line {line} stands in a shot that it names. With {0} whole it stands in that shot of the whole sample, with {0} \
-             block in that shot of each block of {1}; for a fault in every shot write noise of p = 1",
-            NAMED.name, MAX_SHOTS
-        ))),
-        (named, _) => Ok(named),
-    }
+fn sampler(arguments: &Arguments, asked: Asked, job: &[u8]) -> Result<Sampler, Failure> {
+    let sampler = match arguments.parsed(NAMED.name, "'whole' or 'block'", Named::of_name)? {
+        Some(named) => Sampler::with_named(job, asked.shots, asked.seed, named).map_err(SamplerError::from),
+        None => Sampler::new(job, asked.shots, asked.seed),
+    };
+    sampler.map_err(|error| match error {
+        SamplerError::Refused(refusal) => Failure::refused(&refusal, job, None),
+        SamplerError::NamedShot { line } => {
+            let [whole, block] = ["whole", "block"].map(|value| format!("{} {value}", NAMED.name));
+            Failure::Other(kundatrezo::named_fault(line, &whole, &block))
+        }
+        other => Failure::Other(other.to_string()),
+    })
 }
 
 /// A file with noiseless bits for each shot of the whole, and its name.
@@ -296,24 +299,21 @@ impl Whole<'_> {
         if asked.format.has_rows() && sets.len() > MAX_OUTCOMES {
             return Err(Failure::Other(format!("a row has at most {MAX_OUTCOMES} sets")));
         }
-        let sampler = match named(arguments, job)? {
-            Some(named) => Sampler::with_named(job, asked.shots, asked.seed, named),
-            None => Sampler::new(job, asked.shots, asked.seed),
-        };
-        let (sampler, given) = noiseless(arguments, sampler.map_err(refused)?, examined)?;
+        let (sampler, given) = noiseless(arguments, sampler(arguments, asked, job)?, examined)?;
         Ok(Whole { asked, job, sampler, sets, given })
     }
 
     /// The counts as a table, or as the text that is merged. Those of rows in a file are printed as if rows were not asked for.
-    fn text(&self, counts: Counts) -> String {
+    fn text(&self, counts: Counts) -> Result<String, Failure> {
         let saved = self.sampler.saved(counts, &self.sets, self.asked.part);
+        let saved = saved.map_err(|error| Failure::Other(error.to_string()))?;
         let saved = if self.given.is_some() { saved.with_lent_noiseless() } else { saved };
         let is_table = match self.asked.format {
             Format::Table => true,
             Format::Counts => false,
             Format::Digits | Format::Packed => stdout().is_terminal(),
         };
-        if is_table { saved.table() } else { saved.text() }
+        Ok(if is_table { saved.table() } else { saved.text() })
     }
 
     /// Run the blocks of the part that is asked for: rows go to a file or to standard output, in their order.
@@ -364,7 +364,7 @@ impl Whole<'_> {
             }
         };
         let frames = frames.map_err(|refusal| self.refused(&refusal))?;
-        counts.add(frames, &self.sets);
+        counts.add(frames, &self.sets).map_err(|refusal| self.refused(&refusal))?;
         if !self.asked.format.has_rows() {
             return Ok(());
         }

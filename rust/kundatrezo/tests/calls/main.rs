@@ -3,6 +3,7 @@
 mod by_shot;
 mod codes;
 mod editions;
+mod instructions;
 mod make;
 mod names;
 mod output;
