@@ -9,7 +9,7 @@ A `Job` is a circuit with noise, of which `Circuit` writes the lines; `sample` g
 >>> bool(low < counts.rates[outcome] < high)
 True
 
-Each call is one of the library, which is proved; the loop of `sample`, the builder and what is made of error models are tested.
+The calls are those of the engine, which is proved, by the Rust crate. The crate's sampler and error models, and the builder here, are tested.
 """
 
 from ._circuit import GATES, Circuit, Pauli
@@ -19,17 +19,16 @@ from ._jobs import (
     MAX_GROUPS,
     MAX_OUTCOMES,
     MAX_SHOTS,
-    TEXTS,
     FaultTable,
     Job,
-    Refused,
     Rows,
     bits,
     by_outcome,
     by_shot,
     make_job,
-    words,
+    pack_bits,
 )
+from ._library import REFUSAL_TEXTS, Refused
 from ._models import Mechanism, error_model, mechanisms
 from ._sampling import sample, sample_shots
 from ._words import fill, state_of_block, state_of_seed
@@ -46,7 +45,7 @@ __all__ = [
     "MAX_GROUPS",
     "MAX_OUTCOMES",
     "MAX_SHOTS",
-    "TEXTS",
+    "REFUSAL_TEXTS",
     "Circuit",
     "Counts",
     "FaultTable",
@@ -62,10 +61,10 @@ __all__ = [
     "fill",
     "make_job",
     "mechanisms",
+    "pack_bits",
     "sample",
     "sample_shots",
     "state_of_block",
     "state_of_seed",
     "wilson",
-    "words",
 ]

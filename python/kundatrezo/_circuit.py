@@ -12,24 +12,8 @@ import numpy as np
 from ._jobs import Job
 from ._library import binary64, whole
 
-GATES = {
-    "I": 0,
-    "X": 1,
-    "Y": 2,
-    "Z": 3,
-    "Hadamard": 4,
-    "SqrtZ": 5,
-    "SqrtZInv": 6,
-    "SqrtX": 7,
-    "SqrtXInv": 8,
-    "SqrtY": 9,
-    "SqrtYInv": 10,
-    "ControlledX": 11,
-    "ControlledZ": 12,
-    "Swap": 13,
-    "PrepareBell": 14,
-    "ControlledY": 15,
-}
+_NAMES = "I X Y Z Hadamard SqrtZ SqrtZInv SqrtX SqrtXInv SqrtY SqrtYInv ControlledX ControlledZ Swap PrepareBell ControlledY"
+GATES = {name: code for code, name in enumerate(_NAMES.split())}
 """The gates with their codes. ControlledY is of the second edition."""
 
 _ALIASES = {"H": "Hadamard", "S": "SqrtZ", "Sdg": "SqrtZInv", "SX": "SqrtX", "SXdg": "SqrtXInv", "CX": "ControlledX", "CNOT": "ControlledX"}
@@ -89,9 +73,9 @@ def _outcomes(outcomes: Iterable[int]) -> str:
 
 
 def _parts(pauli: Pauli, x: str = "x", z: str = "z") -> str:
-    letters = _letters(pauli)
-    has = lambda wanted: _list(sorted(qubit for qubit, letter in letters.items() if letter in wanted))
-    return f"{x}={has('XY')} {z}={has('ZY')}"
+    letters = sorted(_letters(pauli).items())
+    x_part, z_part = (_list(qubit for qubit, letter in letters if letter in part) for part in ("XY", "ZY"))
+    return f"{x}={x_part} {z}={z_part}"
 
 
 def _bits(number: float) -> str:

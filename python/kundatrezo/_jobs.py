@@ -12,108 +12,28 @@ from warnings import warn
 import numpy as np
 import numpy.typing as npt
 
-from . import _hints
-from ._library import Answer, Lendable, Words, binary64, call, read_words, whole, written_words
-from ._words import Stream
+from ._library import Lendable, Refused, Words, binary64, call, read_words, whole, written_words
 
 MAX_BYTES = 1_048_576
 MAX_SHOTS = 4_096
 MAX_OUTCOMES = 1_024
 MAX_GROUPS = 16
-# Most words that are made for a list, 2 GiB.
-MAX_LIST = 1 << 28
-
-TEXTS = {
-    1: "the job is empty, longer than 1,048,576 bytes, or has no LF at its end",
-    2: "form of a line in the job's edition, an unknown gate code, or the job ends before its element lines",
-    3: "header missing, repeated or out of range",
-    4: "a qubit not below the header's qubits",
-    5: "number of operands, a repeated operand, or a list of more than 31",
-    6: "s is no permutation of the places",
-    7: "not a Clifford",
-    8: "id of a measurement or an allocation not the next one, or not below the header's outcomes",
-    9: "an outcome that is not recorded yet",
-    10: "a shot not below the header's shots",
-    11: "p is NaN or above 1",
-    12: "n not 1 to 64; a weight below zero or not finite; their total zero or not finite",
-    13: "lent words too few",
-    14: "a needed draw lies past its list",
-    15: "the text is longer than the lent bytes or 1,048,576",
-    16: "noise in a walk",
-    17: "the walk's shot not below the header's shots; a set or group cut short, not strictly rising, or with an outcome that is not recorded",
-    18: "annotation over more than 31 qubits",
-    19: "sizes of one correlation differ",
-    20: "control and target of a controlled Pauli anticommute",
-    21: "the size written differs from the distribution's",
-    22: "the seed is zero",
-    23: "the header's edition is neither 1 nor 2",
-    24: "no groups, more than 16, or noise with d=2 over more than 4 qubits in a table of single faults",
-    25: "the shares total more than the list, there are no callers or more than 8, or more is marked taken than a part holds",
-    26: "the caller's number is not below the number of callers",
-}
-"""What the numbers of refusals mean; docs/REFUSALS.md has examples and remedies."""
 
 
-class Refused(ValueError):
-    """A call says no: the first bad line counts, and its lowest number."""
-
-    def __init__(self, number: int, line: int = 0, line_text: str = "", figure: int = 0, hint: str = "", cause: str = "") -> None:
-        self.number = number
-        """The number, by which docs/REFUSALS.md explains it."""
-        self.line = line
-        """The line of the job, from 1; 0 where none fits."""
-        self.line_text = line_text
-        """That line."""
-        self.figure = figure
-        """With 15 from settling, the bytes that the text takes."""
-        self.hint = hint
-        """What may help, where something can be said."""
-        self.cause = cause
-        """Of the causes of a number with several the one that it is, if that is known."""
-        super().__init__(number, line, line_text, figure, hint, cause)
-
-    @property
-    def text(self) -> str:
-        """What the number means."""
-        return self.cause or TEXTS.get(self.number, "a number that this package does not know")
-
-    def __str__(self) -> str:
-        line = f" at line {self.line}: {self.line_text}" if self.line else ""
-        hint = f"\nhint: {self.hint}" if self.hint else ""
-        return f"{self.number} ({self.text}){line}{hint}"
-
-
-def test(answer: Answer, job: bytes = b"", figure: int = 0, hint: str = "") -> None:
-    """Raise what an answer refuses by, with its likely cause where the caller gives none."""
-    if answer.number:
-        part = call("line", job, answer.line)
-        line = job[part.start : part.start + part.len].decode(errors="backslashreplace")
-        raise Refused(answer.number, answer.line, line, figure, hint or _hints.hint(answer.number, answer.line, job))
-
-
-def test_job(job: Job) -> None:
+def require_job(job: Job) -> None:
     """That a job is none of the things that are easily taken for one."""
     if not isinstance(job, Job):
         remedy = "circuit.job() makes one" if callable(getattr(job, "job", None)) else "Job.read(path) reads one"
         raise TypeError(f"job is to be a Job, and not of {type(job).__name__}: {remedy}")
 
 
-def test_lists(lists: Sequence[Sequence[int]], name: str) -> None:
-    """That these are lists of outcomes, and not outcomes."""
+def outcome_lists(job: Job, what: str, lists: Sequence[Sequence[int]]) -> Words:
+    """Lists of outcomes as one list, with the length of each before it, in rising order: that in which a caller names them plays no part. `Refused` by 17
+    if one is not recorded, or named twice."""
     if any(np.ndim(list_) != 1 for list_ in lists):
-        raise TypeError(f"{name} is to be a list of lists of outcomes, such as [[4, 5]]")
-
-
-def rising(job: Job, what: str, lists: Sequence[Sequence[int]]) -> list[tuple[int, ...]]:
-    """Lists of outcomes in rising order: that in which a caller names them plays no part. `Refused` by 17 if one is not recorded, or named twice."""
-    test_lists(lists, f"{what}s")
-    found = [tuple(sorted(int(outcome) for outcome in read_words(list_))) for list_ in lists]
-    for list_ in found:
-        if any(one >= other for one, other in zip(list_, [*list_[1:], job.recorded])):
-            members = ",".join(map(str, list_))
-            recorded = f"the {what} {members}: it names recorded outcomes, 0 to {job.recorded - 1}, each once"
-            raise Refused(17, hint=recorded if job.recorded else "the job records no outcome", cause=TEXTS[17].partition("; ")[2])
-    return found
+        raise TypeError(f"{what}s is to be a list of lists of outcomes, such as [[4, 5]]")
+    parts = [part for list_ in map(read_words, lists) for part in (np.array([list_.size], dtype=np.uint64), list_)]
+    return call("outcomes", job.text, what.encode(), np.concatenate(parts) if parts else read_words(())).words
 
 
 @dataclass(frozen=True)
@@ -142,7 +62,7 @@ class Rows:
     def _shapes(job: Job) -> list[tuple[int, ...]]:
         return [(job.qubits, job.row_words), (job.qubits, job.row_words), (job.outcomes, job.row_words), (job.outcomes,)]
 
-    def test_shape(self, job: Job) -> None:
+    def require_shape(self, job: Job) -> None:
         """That these are rows for a job: in larger ones the bits of its run would stand in the wrong places. Too few words are the engine's to refuse."""
         for name, shape in zip(("x", "z", "deltas", "totals"), Rows._shapes(job)):
             given = getattr(self, name)
@@ -186,13 +106,17 @@ class Job:
         if not isinstance(text, (str, bytes, bytearray, memoryview)):
             remedy = ": Job.read(path) reads a file" if isinstance(text, os.PathLike) else ""
             raise TypeError(f"the text of a job is to be a str or bytes, and not of {type(text).__name__}{remedy}")
-        given, text = text, text.encode() if isinstance(text, str) else bytes(text)
-        found = call("examine", text)
-        is_path = isinstance(given, str) and given and "\n" not in given and not given.startswith("op=")
-        test(found.answer, text, hint="Job(text) takes the text of a job: Job.read(path) reads a file" if is_path else "")
-        object.__setattr__(self, "text", text)
-        for name in self.__slots__[1:]:
-            object.__setattr__(self, name, getattr(found, name))
+        is_path = isinstance(text, str) and text and "\n" not in text and not text.startswith("op=")
+        text = text.encode() if isinstance(text, str) else bytes(text)
+        try:
+            numbers = call("examine", text).words.tolist()
+        except Refused as refusal:
+            if not is_path:
+                raise
+            hint = "Job(text) takes the text of a job: Job.read(path) reads a file"
+            raise Refused(refusal.number, refusal.line, refusal.line_text, hint=hint) from None
+        for name, value in zip(self.__slots__, (text, *numbers)):
+            object.__setattr__(self, name, value)
 
     def __setattr__(self, name: str, value: object) -> None:
         raise AttributeError("a job does not change: make another")
@@ -254,13 +178,8 @@ class Job:
         """
         rows = Rows.of(self) if rows is None else rows
         lent = [written_words(list_) for list_ in (rows.x, rows.z, rows.deltas, rows.totals)]
-        rows.test_shape(self)
-        bits_ = self._noiseless(noiseless)
-
-        def once(main: Words, second: Words) -> None:
-            test(call("run_totals", self.text, *lent, bits_, main, second, base), self.text)
-
-        self._with_words(once, words, seed, second, second_seed, base)
+        rows.require_shape(self)
+        call("run", self.text, *lent, self._noiseless(noiseless), *_lists(words, seed, second, second_seed), base)
         object.__setattr__(rows, "shots", self.shots)
         return rows
 
@@ -275,123 +194,49 @@ class Job:
         noiseless: Optional[Lendable] = None,
     ) -> Job:
         """The job with each noise line replaced by the injections that a run with the same words makes."""
-        bits_ = self._noiseless(noiseless)
-        settled = []
-
-        def once(main: Words, second: Words) -> None:
-            room = len(self.text)
-            while True:
-                out = np.zeros(room, dtype=np.uint8)
-                said = call("settle", self.text, bits_, main, second, base, out)
-                if said.answer.number != 15 or not room < said.figure <= MAX_BYTES:
-                    break
-                room = said.figure
-            test(said.answer, self.text, said.figure)
-            settled.append(out[: said.figure].tobytes())
-
-        self._with_words(once, words, seed, second, second_seed, base)
-        return Job(settled[-1])
-
-    def _with_words(self, once, words: Lendable, seed: Optional[int], second: Lendable, second_seed: Optional[int], base: int) -> None:
-        """Make a call, with longer lists where it needs more words than were made so far."""
-        if any(number is not None and np.size(list_) for list_, number in ((words, seed), (second, second_seed))):
-            raise ValueError("a list is given, or made from a seed, not both")
-        if seed is not None and seed == second_seed:
-            raise ValueError("the words of the two lists are to differ: give another seed")
-        main_stream, second_stream = (None if number is None else Stream.of_seed(number) for number in (seed, second_seed))
-        main = read_words(words) if main_stream is None else np.empty(0, dtype=np.uint64)
-        other = read_words(second) if second_stream is None else np.empty(0, dtype=np.uint64)
-        while True:
-            try:
-                return once(main, other)
-            except Refused as refusal:
-                if refusal.number != 14:
-                    raise
-                corr = refusal.line_text.partition(" corr=")[2].partition(" ")[0]
-                place = 0 if corr == "-" else (base + int(corr)) % 2**64 + 2 * self.shots
-                list_, stream, name = (main, main_stream, "seed") if corr == "-" else (other, second_stream, "second_seed")
-                if stream is None or place > MAX_LIST:
-                    hint = f"{name}=N makes as many words as are needed"
-                    if stream is None and list_.size:
-                        hint = f"the list has {list_.size} words and this line needs more"
-                    elif place > MAX_LIST:
-                        hint = f"a list has at most {MAX_LIST} words, and place base + corr of this line lies past it"
-                    raise Refused(14, refusal.line, refusal.line_text, hint=hint) from None
-                if corr == "-":
-                    main = stream.first(max(2 * main.size, 2 * self.shots * self.text.count(b"\nop=n ")))
-                else:
-                    other = stream.first(max(2 * other.size, place))
+        return Job(call("settle", self.text, self._noiseless(noiseless), *_lists(words, seed, second, second_seed), base).text)
 
     def walk(self, shot: int, set: Sequence[int]) -> int:
         """How many of a job's injections and flips in the shot change the parity of a set of outcomes, by carrying its observable back. The job has no noise:
         settle it first."""
-        given = whole(shot, "shot")
-        said = call("walk", self.text, given, np.array(rising(self, "set", [set])[0], dtype=np.uint64))
-        if said.answer.number == 17:
-            raise Refused(17, hint=f"the job's shots are 0 to {self.shots - 1}", cause=TEXTS[17].partition("; ")[0])
-        test(said.answer, self.text)
-        return said.figure
+        return call("walk", self.text, whole(shot, "shot"), outcome_lists(self, "set", [set])[1:]).count
 
     def annotate(self, p: float) -> Job:
         """The job with depolarizing noise of probability p before each measurement and after each gate."""
-        out = np.zeros(MAX_BYTES, dtype=np.uint8)
-        said = call("annotate", self.text, binary64(p), out)
-        test(said.answer, self.text)
+        annotated = Job(call("annotate", self.text, binary64(p)).text)
         if p < 0:
             warn("p is below zero: no fault will fall", stacklevel=2)
-        return Job(out[: said.figure].tobytes())
+        return annotated
 
     def locations(self) -> int:
         """The number of fault locations: twice the qubits of the lines that `annotate` gives noise; a qubit that control and target share
         counts for both."""
-        said = call("locations", self.text)
-        test(said.answer, self.text)
-        return said.figure
+        return call("locations", self.text).count
 
     def correlation(self) -> None:
         """See that noise lines of one correlation have one size; `Refused` by 19 where they do not."""
-        test(call("correlation", self.text), self.text)
+        call("correlation", self.text)
 
     def fault_table(self, groups: Sequence[Sequence[int]]) -> FaultTable:
-        """Which groups of outcomes each possible fault flips, as the only one: a row for each element of each noise line. The engine is asked for sixteen
-        groups at a time, and where the text of a table is too long, for each half of the noise lines by itself."""
-        groups = rising(self, "group", groups)
-        try:
-            tables = [self._fault_table(groups[first : first + MAX_GROUPS]) for first in range(0, max(len(groups), 1), MAX_GROUPS)]
-        except Refused as refusal:
-            noise = [place for place, line in enumerate(self.text.split(b"\n")) if line.startswith(b"op=n ")]
-            if refusal.number != 15 or len(noise) < 2:
-                raise
-            middle = noise[len(noise) // 2]
-            halves = [self._without_noise(middle, self.lines), self._without_noise(0, middle)]
-            one, other = (half.fault_table(groups) for half in halves)
-            return FaultTable(*(np.concatenate(columns) for columns in zip(one, other)))
-        return FaultTable(tables[0].line, tables[0].element, np.concatenate([table.flips for table in tables], axis=1))
+        """Which groups of outcomes each possible fault flips, as the only one: a row for each element of each noise line. There may be any number of groups
+        and of noise lines: the crate asks the engine for several tables."""
+        rows = call("fault_table", self.text, outcome_lists(self, "group", groups)).words.reshape(-1, 2 + -(-len(groups) // 64))
+        return FaultTable(rows[:, 0].astype(np.int64), rows[:, 1].astype(np.int64), bits(rows[:, 2:], len(groups)))
 
-    def _without_noise(self, first: int, last: int) -> Job:
-        """The job without noise in some lines, which keep their numbers: what other faults do is the same."""
-        lines = self.text.splitlines()
-        for place in range(first, last):
-            if lines[place].startswith((b"op=n ", b"x=", b"w=")):
-                lines[place] = b"op=p x=- z=-"
-        return Job(b"".join(line + b"\n" for line in lines))
 
-    def _fault_table(self, groups: Sequence[Sequence[int]]) -> FaultTable:
-        out = np.zeros(MAX_BYTES, dtype=np.uint8)
-        said = call("fault_table", self.text, read_words([number for group in groups for number in (len(group), *group)]), out)
-        test(said.answer, self.text)
-        fields = [[field.partition(b"=")[2] for field in row.split()] for row in out[: said.figure].tobytes().splitlines()]
-        line, element = (np.array([int(row[place]) for row in fields], dtype=np.int64) for place in (0, 1))
-        flips = np.frombuffer(b"".join(row[2] for row in fields), dtype=np.uint8).reshape(len(fields), len(groups)) == ord("1")
-        return FaultTable(line, element, flips)
+def _lists(words: Lendable, seed: Optional[int], second: Lendable, second_seed: Optional[int]) -> list[Union[Words, int]]:
+    """The main and the second list as a call takes them: the words and the seed of each, and a bit for each list that is made from its seed."""
+    if any(number is not None and np.size(list_) for list_, number in ((words, seed), (second, second_seed))):
+        raise ValueError("a list is given, or made from a seed, not both")
+    if seed is not None and seed == second_seed:
+        raise ValueError("the words of the two lists are to differ: give another seed")
+    made = (seed is not None) + 2 * (second_seed is not None)
+    return [read_words(words), whole(seed or 0, "a seed"), read_words(second), whole(second_seed or 0, "a seed"), made]
 
 
 def make_job(qubits: int, outcomes: int, shots: int, lines: int, seed: int) -> Job:
-    """A job of so many lines after its header that the engine makes from a seed, not 0: the same on any machine."""
-    out = np.zeros(MAX_BYTES, dtype=np.uint8)
-    said = call("make", qubits, outcomes, shots, lines, seed, out)
-    test(said.answer)
-    return Job(out[: said.figure].tobytes())
+    """A job with this number of lines after its header that the engine makes from a seed, not 0: the same on any machine."""
+    return Job(call("make", qubits, outcomes, shots, lines, seed).text)
 
 
 def by_shot(deltas: Words, shots: int, *, out: Optional[Words] = None) -> Words:
@@ -412,7 +257,7 @@ def _turned(name: str, rows: Words, outcomes: int, shots: int, shape: tuple[int,
     if np.ndim(rows) == 2 and np.shape(rows)[1] > row_words:
         raise ValueError(f"these rows have {np.shape(rows)[1]} words each, but outcomes={outcomes} and shots={shots} need {row_words}")
     out = np.zeros(shape, dtype=np.uint64) if out is None else out
-    test(call(name, outcomes, shots, read_words(rows), written_words(out)))
+    call(name, outcomes, shots, read_words(rows), written_words(out))
     return out
 
 
@@ -431,7 +276,7 @@ def bits(rows: Words, count: int) -> npt.NDArray[np.bool_]:
     return np.unpackbits(packed.view(np.uint8), axis=1, count=count, bitorder="little").view(bool)
 
 
-def words(booleans: npt.ArrayLike) -> Words:
+def pack_bits(booleans: npt.ArrayLike) -> Words:
     """Booleans as rows of bits: the way back from `bits`."""
     packed = np.packbits(np.asarray(booleans, dtype=bool), axis=1, bitorder="little")
     whole = np.zeros((len(packed), -(-packed.shape[1] // 8) * 8), dtype=np.uint8)

@@ -1,7 +1,7 @@
-"""The calls of libkundatrezo.so, as include/kundatrezo.h declares them.
+"""The calls of libkundatrezo_edge.so, the C interface of the Rust crate, which rust/edge/src/lib.rs declares. The engine is called by the crate alone.
 
-What a caller owes is kept here: pointers that are not null and are aligned, lists that are as long as is said, no list that is written and overlaps another,
-and the floating-point state that programs start with. That no other thread touches a lent array while a call runs is the caller's.
+What a caller owes is kept here: pointers that are aligned, lists that are as long as is said, and no list that is written and overlaps another. That no
+other thread touches a lent array while a call runs is the caller's.
 """
 
 from __future__ import annotations
@@ -10,9 +10,9 @@ import ctypes
 import operator
 import os
 import struct
-from ctypes import c_size_t, c_uint32, c_uint64, c_void_p
+from ctypes import c_size_t, c_uint64, c_void_p
 from pathlib import Path
-from typing import Any, Callable, Sequence, Union
+from typing import Any, Callable, NamedTuple, Sequence, Union
 
 import numpy as np
 import numpy.typing as npt
@@ -24,52 +24,48 @@ Lendable = Union[Words, Sequence[int]]
 """Words that a call reads: an array of uint64 is lent as it is, anything else is copied into one."""
 
 
-class Answer(ctypes.Structure):
-    """struct kundatrezo_answer"""
-
-    _fields_ = [("number", c_uint64), ("line", c_uint64)]
+class _List(ctypes.Structure):
+    _fields_ = [("first", c_void_p), ("len", c_size_t)]
 
 
-class TextAnswer(ctypes.Structure):
-    """struct kundatrezo_text_answer, and kundatrezo_count_answer, which is laid out alike"""
-
-    _fields_ = [("answer", Answer), ("figure", c_uint64)]
-
-
-class Examination(ctypes.Structure):
-    """struct kundatrezo_examination"""
-
-    _fields_ = [("answer", Answer)] + [(name, c_uint64) for name in ("qubits", "outcomes", "shots", "recorded", "lines")]
+class _Reply(ctypes.Structure):
+    _fields_ = [("number", c_uint64), ("line", c_uint64), ("count", c_uint64)]
+    _fields_ += [("text", c_void_p), ("text_len", c_size_t), ("words", c_void_p), ("words_len", c_size_t)]
 
 
-class LinePart(ctypes.Structure):
-    """struct kundatrezo_line_part"""
-
-    _fields_ = [("start", c_size_t), ("len", c_size_t)]
-
-
-# What each call takes: lists, which are a pointer and a length, written or read, and numbers.
-_READ, _WRITTEN, _NUMBER = "read", "written", "number"
-_TYPES: dict[str, list[Any]] = {_READ: [c_void_p, c_size_t], _WRITTEN: [c_void_p, c_size_t], _NUMBER: [c_uint64]}
-_DRAWS = [_READ, _READ, _READ, _NUMBER]
-_CALLS: dict[str, tuple[Any, list[str]]] = {
-    "check": (Answer, [_READ]),
-    "examine": (Examination, [_READ]),
-    "run_totals": (Answer, [_READ, _WRITTEN, _WRITTEN, _WRITTEN, _WRITTEN, *_DRAWS]),
-    "settle": (TextAnswer, [_READ, *_DRAWS, _WRITTEN]),
-    "walk": (TextAnswer, [_READ, _NUMBER, _READ]),
-    "annotate": (TextAnswer, [_READ, _NUMBER, _WRITTEN]),
-    "locations": (TextAnswer, [_READ]),
-    "correlation": (Answer, [_READ]),
-    "line": (LinePart, [_READ, _NUMBER]),
-    "by_shot": (Answer, [_NUMBER, _NUMBER, _READ, _WRITTEN]),
-    "by_outcome": (Answer, [_NUMBER, _NUMBER, _READ, _WRITTEN]),
-    "fault_table": (TextAnswer, [_READ, _READ, _WRITTEN]),
-    "fill": (Answer, [_NUMBER, _WRITTEN]),
-    "make": (TextAnswer, [_NUMBER, _NUMBER, _NUMBER, _NUMBER, _NUMBER, _WRITTEN]),
+# The parameters of each call, in the words of the declaration.
+_CALLS = {
+    "examine": "job: Bytes",
+    "run": "job: Bytes, x: WordsMut, z: WordsMut, deltas: WordsMut, totals: WordsMut, noiseless: Words, "
+    "main: Words, seed: u64, second: Words, second_seed: u64, made: u64, base: u64",
+    "settle": "job: Bytes, noiseless: Words, main: Words, seed: u64, second: Words, second_seed: u64, made: u64, base: u64",
+    "walk": "job: Bytes, shot: u64, set: Words",
+    "annotate": "job: Bytes, p_bits: u64",
+    "locations": "job: Bytes",
+    "correlation": "job: Bytes",
+    "by_shot": "outcomes: u64, shots: u64, deltas: Words, out: WordsMut",
+    "by_outcome": "outcomes: u64, shots: u64, rows: Words, out: WordsMut",
+    "fill": "seed: u64, words: WordsMut",
+    "state_of_seed": "seed: u64",
+    "state_of_block": "seed: u64, block: u64, list: u64",
+    "make": "qubits: u64, outcomes: u64, shots: u64, lines: u64, seed: u64",
+    "outcomes": "job: Bytes, what: Bytes, lists: Words",
+    "fault_table": "job: Bytes, groups: Words",
+    "error_model": "job: Bytes, detectors: Words, observables: Words",
+    "sampling_open": "job: Bytes, shots: u64, seed: u64, named: Bytes, noiseless: Words, is_given: u64, sets: Words, place: u64, parts: u64",
+    "sampling_run": "sampling: Handle, first: u64, last: u64, noiseless: Bytes, is_given: u64, totals: WordsMut, sets: WordsMut, rows: WordsMut",
+    "sampling_text": "sampling: Handle, shots: u64, totals: Words, sets: Words, counted: Words, is_lent: u64",
+    "sampling_close": "sampling: Handle",
+    "condition_notes": "job: Bytes, is_given: u64",
+    "counts_read": "text: Bytes, job: Bytes",
+    "counts_add": "one: Bytes, other: Bytes",
+    "rates": "totals: Words, shots: u64",
+    "refusals": "",
+    "free": "reply: Reply",
 }
+_TYPES = {"Bytes": _List, "Words": _List, "WordsMut": _List, "u64": c_uint64, "Handle": c_void_p, "Reply": _Reply}
 
-PATH = Path(os.environ.get("KUNDATREZO_LIBRARY") or Path(__file__).with_name("libkundatrezo.so")).absolute()
+PATH = Path(os.environ.get("KUNDATREZO_LIBRARY") or Path(__file__).with_name("libkundatrezo_edge.so")).absolute()
 """The library's file: that beside this one, or the one that the environment variable KUNDATREZO_LIBRARY names. The path is made absolute, since a bare
 name would be looked for in the system's folders. The variable is trusted: whatever code it names is run in this process."""
 
@@ -78,45 +74,99 @@ def _loaded() -> dict[str, tuple[Callable[..., Any], list[str]]]:
     try:
         library = ctypes.CDLL(str(PATH))
     except OSError as error:
-        raise ImportError(f"{error}: the library is linked when the package is built, see python/README.md") from error
+        raise ImportError(f"{error}: cargo builds the library when the package is built, see python/README.md") from error
     # all of them before the first is called: another library, or an older one, is found here and not in the middle of the work
-    missing = [f"kundatrezo_{name}" for name in _CALLS if not hasattr(library, f"kundatrezo_{name}")]
+    missing = [f"kundatrezo_edge_{name}" for name in _CALLS if not hasattr(library, f"kundatrezo_edge_{name}")]
     if missing:
         raise ImportError(f"{PATH} lacks {', '.join(missing)}: it is another library, or older than this package")
     calls = {}
-    for name, (answer, kinds) in _CALLS.items():
-        call = getattr(library, f"kundatrezo_{name}")
-        call.restype = answer
-        call.argtypes = [kind for parameter in kinds for kind in _TYPES[parameter]]
-        calls[name] = (call, kinds)
+    for name, parameters in _CALLS.items():
+        function = getattr(library, f"kundatrezo_edge_{name}")
+        kinds = [parameter.partition(": ")[2] for parameter in parameters.split(", ")] if parameters else []
+        function.restype = None if name in ("free", "sampling_close") else _Reply
+        function.argtypes = [_TYPES[kind] for kind in kinds]
+        calls[name] = (function, kinds)
     return calls
 
 
 _calls = _loaded()
+_free = _calls["free"][0]
+close_sampling = _calls["sampling_close"][0]
 
-# An empty list has an address, too.
-_NOWHERE = np.zeros(1, dtype=np.uint64)
+
+class Refused(ValueError):
+    """A call says no: the first bad line counts, and its lowest number."""
+
+    def __init__(self, number: int, line: int = 0, line_text: str = "", bytes_needed: int = 0, hint: str = "", cause: str = "") -> None:
+        self.number = number
+        """The number, by which docs/REFUSALS.md explains it."""
+        self.line = line
+        """The line of the job, from 1; 0 where none fits."""
+        self.line_text = line_text
+        """That line."""
+        self.bytes_needed = bytes_needed
+        """With 15 from settling, the bytes that the text needs."""
+        self.hint = hint
+        """What may help, where something can be said."""
+        self.cause = cause
+        """Of the causes of a number with several the one that it is, if that is known."""
+        super().__init__(number, line, line_text, bytes_needed, hint, cause)
+
+    @property
+    def text(self) -> str:
+        """What the number means."""
+        return self.cause or REFUSAL_TEXTS.get(self.number, "a number that this package does not know")
+
+    def __str__(self) -> str:
+        line = f" at line {self.line}: {self.line_text}" if self.line else ""
+        hint = f"\nhint: {self.hint}" if self.hint else ""
+        return f"{self.number} ({self.text}){line}{hint}"
 
 
-def call(name: str, *arguments: Union[int, bytes, np.ndarray]) -> Any:
+class Given(NamedTuple):
+    """What a call gives."""
+
+    count: int
+    text: bytes
+    words: Words
+
+
+def call(name: str, *arguments: Union[int, bytes, np.ndarray]) -> Given:
     """Make a call: bytes and arrays are lent where they lie. The interpreter's lock is released meanwhile."""
     function, kinds = _calls[name]
-    lent: list[Union[int, bytes, None]] = []
-    written = []
+    lent: list[Any] = []
+    arrays: list[tuple[bool, np.ndarray]] = []
     for kind, argument in zip(kinds, arguments, strict=True):
         if isinstance(argument, np.ndarray):
-            if kind == _WRITTEN:
-                written.append(argument)
-            lent += [(argument if argument.size else _NOWHERE).ctypes.data, argument.size]
+            arrays.append((kind == "WordsMut", argument))
+            lent.append(_List(argument.ctypes.data, argument.size))
         elif isinstance(argument, bytes):
-            lent += [argument, len(argument)]
+            lent.append(_List(ctypes.cast(argument, c_void_p), len(argument)))
         else:
             lent.append(whole(argument))
-    for place, own in enumerate(written):
-        others = written[:place] + [argument for argument in arguments if isinstance(argument, np.ndarray) and argument is not own]
-        if any(own is other or np.may_share_memory(own, other) for other in others):
+    for place, (is_written, one) in enumerate(arrays):
+        if any((is_written or other_is) and np.may_share_memory(one, other) for other_is, other in arrays[place + 1 :]):
             raise ValueError("an array that a call writes overlaps another that it is lent")
-    return _in_default_state(function, lent)
+    reply = function(*lent)
+    text = ctypes.string_at(reply.text, reply.text_len) if reply.text else b""
+    words = np.empty(reply.words_len, dtype=np.uint64)
+    ctypes.memmove(words.ctypes.data, reply.words, words.nbytes)
+    _free(reply)
+    raise_if_refused(reply, text)
+    return Given(reply.count, text, words)
+
+
+def raise_if_refused(reply: _Reply, text: bytes) -> None:
+    """Raise what a reply refuses by: a refusal of the engine, a wrong argument (1000), or an error of the library itself."""
+    if reply.number > 999:
+        raise (ValueError if reply.number == 1000 else RuntimeError)(text.decode())
+    if reply.number:
+        cause, hint, line = text.split(b"\0", 2)
+        raise Refused(reply.number, reply.line, line.decode(errors="backslashreplace"), reply.count, hint.decode(errors="replace"), cause.decode())
+
+
+REFUSAL_TEXTS = {int(line.partition(" ")[0]): line.partition(" ")[2] for line in call("refusals").text.decode().splitlines()}
+"""What the numbers of refusals mean; docs/REFUSALS.md has examples and remedies."""
 
 
 def whole(number: int, name: str = "an argument", least: int = 0) -> int:
@@ -146,7 +196,7 @@ def read_words(words: Lendable) -> Words:
         return np.require(words, requirements=["C", "A"]).reshape(-1)
     given = np.asarray(words, dtype=object).reshape(-1)
     if any(isinstance(number, bool) for number in given):
-        raise TypeError("booleans are no words: kundatrezo.words makes rows of them")
+        raise TypeError("booleans are no words: kundatrezo.pack_bits makes rows of them")
     numbers = [operator.index(number) for number in given]
     if not all(0 <= number < 2**64 for number in numbers):
         raise ValueError("a word is a number from 0 to below 2^64")
@@ -158,28 +208,3 @@ def written_words(words: Words) -> Words:
     if not (isinstance(words, np.ndarray) and words.dtype == np.uint64 and words.flags.carray):
         raise ValueError("what a call writes is to be a contiguous, writable array of uint64")
     return words.reshape(-1)
-
-
-# ---- the floating-point state
-
-_libm = ctypes.CDLL("libm.so.6")
-_libm.fesetenv.argtypes = [c_void_p]
-# fenv_t of x86-64: eight words, the last of which is MXCSR
-_Environment = c_uint32 * 8
-# of MXCSR: denormals-are-zero, the six exception masks, the rounding mode, flush-to-zero
-_CONTROL, _DEFAULT = 0xFFC0, 0x1F80
-_FE_DFL_ENV = c_void_p(-1)
-
-
-def _in_default_state(function: Callable[..., Any], arguments: list[Any]) -> Any:
-    """Make a call in the floating-point state that programs start with. A library that was built with -ffast-math and is loaded in this process may have
-    set another, in which subnormal numbers are zero."""
-    before = _Environment()
-    _libm.fegetenv(before)
-    if before[7] & _CONTROL == _DEFAULT:
-        return function(*arguments)
-    _libm.fesetenv(_FE_DFL_ENV)
-    try:
-        return function(*arguments)
-    finally:
-        _libm.fesetenv(before)

@@ -1,4 +1,4 @@
-"""Which library is loaded, and what it must have."""
+"""Which library is loaded, what it must have, and what builds it."""
 
 from __future__ import annotations
 
@@ -8,6 +8,7 @@ import shutil
 import subprocess
 import sys
 
+import pytest
 from conftest import REPOSITORY
 
 from kundatrezo import _library
@@ -32,8 +33,8 @@ def test_a_relative_path_starts_from_the_current_folder(tmp_path):
 
 
 def test_all_calls_are_looked_up_first(tmp_path):
-    names = [f"kundatrezo_{name}" for name in _library._CALLS]
-    for left in [[], names[:1], names[1:]]:
+    names = [f"kundatrezo_edge_{name}" for name in _library._CALLS]
+    for left in [[], names[:1], names[1:], names[:-1]]:
         source = "".join(f"void {name}(void) {{}}\n" for name in left)
         subprocess.run(["cc", "-shared", "-x", "c", "-", "-o", tmp_path / "old.so"], input=source, text=True, check=True)
         missing = ", ".join(name for name in names if name not in left)
@@ -41,7 +42,36 @@ def test_all_calls_are_looked_up_first(tmp_path):
         assert imported(tmp_path, "./old.so") == ("", said)
 
 
-def test_every_call_is_one_of_the_header():
-    header = (REPOSITORY / "include/kundatrezo.h").read_text()
-    declared = set(re.findall(r"\bkundatrezo_(\w+)\(", header))
-    assert set(_library._CALLS) <= declared
+def test_the_calls_are_those_of_the_declaration():
+    """Names, order and types of the parameters, and which calls return a reply."""
+    source = (REPOSITORY / "rust/edge/src/lib.rs").read_text()
+    found = re.findall(r"^ *(?:pub unsafe extern \"C\" )?fn kundatrezo_edge_(\w+)\(([^)]*)\)", source, re.MULTILINE)
+    declared = {name: ", ".join(re.findall(r"\w+: \w+", parameters)) for name, parameters in found}
+    assert len(declared) == len(found) and _library._CALLS == declared
+    without_reply = re.findall(r"extern \"C\" fn kundatrezo_edge_(\w+)\([^)]*\) \{", source)
+    assert [name for name, (call, _) in _library._calls.items() if call.restype is None] == without_reply
+    for name, structure in (("Reply", _library._Reply), ("Bytes", _library._List), ("Words", _library._List), ("WordsMut", _library._List)):
+        body = re.search(rf"pub struct {name} \{{([^}}]*)\}}", (REPOSITORY / "rust/edge/src/lists.rs").read_text())[1]
+        assert re.findall(r"(\w+): ", body) == [field for field, _ in structure._fields_]
+
+
+@pytest.mark.parametrize(
+    "script, said",
+    [
+        (None, "the package is built by cargo 1.89 or later, and there is none: [Errno 2] No such file or directory: 'cargo'"),
+        ("echo cargo 1.70.0", "the package is built by cargo 1.89 or later, and this one is older: cargo 1.70.0"),
+        ("echo cargo 0.90.0", "the package is built by cargo 1.89 or later, and this one is older: cargo 0.90.0"),
+    ],
+)
+def test_the_build_says_that_it_needs_cargo(tmp_path, script, said):
+    folder = tmp_path / "python"
+    shutil.copytree(REPOSITORY / "python", folder, ignore=shutil.ignore_patterns("build", "*.egg-info", "*.so"))
+    (tmp_path / "rust").symlink_to(REPOSITORY / "rust")
+    (tmp_path / "bin").mkdir()
+    if script:
+        (tmp_path / "bin/cargo").write_text(f"#!/bin/sh\n{script}\n")
+        (tmp_path / "bin/cargo").chmod(0o755)
+    environment = {**os.environ, "PATH": f"{tmp_path / 'bin'}:/usr/bin:/bin" if script else str(tmp_path / "bin")}
+    done = subprocess.run([sys.executable, "setup.py", "-q", "build_py"], cwd=folder, env=environment, capture_output=True, text=True)
+    assert (done.returncode, done.stderr.strip().splitlines()[-1]) == (1, said)
+    assert not list((folder / "build").rglob("*.so"))

@@ -1,0 +1,149 @@
+//! Samples: a sampler with the memory of one thread.
+
+use crate::lists::{Failure, Given, Lent};
+use kundatrezo::{Bench, Counts, Frames, Named, Sampler, by_shot};
+use std::ops::Range;
+
+/// A sampler, the memory in which it runs blocks, and the sets whose parities are counted.
+#[derive(Debug)]
+pub struct Sampling {
+    job: Vec<u8>,
+    sampler: Sampler,
+    bench: Bench,
+    sets: Vec<Vec<u64>>,
+    parities: Vec<u64>,
+    part: (u64, u64),
+}
+
+/// A pointer to a sampling, which `kundatrezo_edge_sampling_open` makes.
+#[repr(transparent)]
+#[derive(Debug, Clone, Copy)]
+pub struct Handle(*mut Sampling);
+
+#[cfg(test)]
+impl Handle {
+    /// The handle that `kundatrezo_edge_sampling_open` gave.
+    pub fn of_count(count: u64) -> Self {
+        Self(count as *mut Sampling)
+    }
+}
+
+impl Lent for Handle {
+    type Used = &'static mut Sampling;
+
+    unsafe fn lent(self) -> Self::Used {
+        // SAFETY: the caller's promise
+        unsafe { &mut *self.0 }
+    }
+}
+
+/// How the Python package names what its `sample` takes.
+const NAMED: [&str; 2] = ["named='whole'", "named='block'"];
+
+/// What is sampled.
+pub struct Plan<'a> {
+    pub job: &'a [u8],
+    pub shots: u64,
+    pub seed: u64,
+    pub named: &'a [u8],
+    /// Noiseless bits of the job's own shots, if they are given.
+    pub noiseless: Option<&'a [u64]>,
+    pub sets: Vec<Vec<u64>>,
+    /// A part, from 1, of how many.
+    pub part: (u64, u64),
+}
+
+impl Sampling {
+    /// A sampling of a plan.
+    pub fn open(plan: Plan<'_>) -> Result<Self, Failure> {
+        let refused = |refusal| Failure::refused(&refusal, plan.job, None);
+        let named = std::str::from_utf8(plan.named).ok();
+        let sampler = match (named.and_then(Named::of_name), kundatrezo::first_named(plan.job)) {
+            (Some(named), _) => Sampler::with_named(plan.job, plan.shots, plan.seed, named),
+            (None, _) if !plan.named.is_empty() => return Err(Failure::fault("named is to be 'whole' or 'block'")),
+            (None, Some(line)) => return Err(Failure::fault(kundatrezo::named_fault(line, NAMED[0], NAMED[1]))),
+            (None, None) => Sampler::new(plan.job, plan.shots, plan.seed),
+        };
+        let sampler = sampler.map_err(refused)?;
+        let sampler = match plan.noiseless {
+            Some(rows) => sampler.with_noiseless(rows).map_err(Failure::fault)?,
+            None => sampler,
+        };
+        let Plan { sets, part, .. } = plan;
+        Ok(Self { job: plan.job.to_vec(), sampler, bench: Bench::new(), sets, parities: Vec::new(), part })
+    }
+
+    /// A pointer for the caller, as a number.
+    pub fn into_handle(self) -> u64 {
+        Box::into_raw(Box::new(self)) as u64
+    }
+
+    /// Drop what [`into_handle`](Self::into_handle) made.
+    ///
+    /// # Safety
+    ///
+    /// The handle is that of an open sampling, and nothing uses it any more.
+    pub unsafe fn close(handle: Handle) {
+        // SAFETY: the caller's promise
+        drop(unsafe { Box::from_raw(handle.0) });
+    }
+
+    /// The first block of the part, and the one after its last.
+    pub fn blocks(&self) -> Range<u64> {
+        self.sampler.part(self.part.0.saturating_sub(1), self.part.1)
+    }
+
+    /// Run blocks and add their counts; write the shots of the last as rows by shot if there is room for rows. Returns the shots that were run.
+    pub fn run(
+        &mut self,
+        blocks: Range<u64>,
+        packed: Option<&[u8]>,
+        [totals, sets, rows]: [&mut [u64]; 3],
+    ) -> Result<Given, Failure> {
+        let mut counts = self.sampler.no_counts(&self.sets);
+        let mut rest = packed;
+        let row_bytes = self.sampler.job().outcomes.div_ceil(8) as u64;
+        for block in blocks {
+            let Range { start, end } = self.sampler.shots_of(block);
+            let bytes = usize::try_from((end - start) * row_bytes).unwrap_or(usize::MAX);
+            let given = rest.map(|rest| rest.split_at(bytes.min(rest.len())));
+            rest = given.map(|(_, rest)| rest);
+            let ran = match given {
+                None => self.sampler.run(block, &mut self.bench),
+                Some((bytes, _)) => self.sampler.run_packed(block, bytes, &mut self.bench),
+            };
+            let hint = |refusal: &_| self.sampler.hint(refusal);
+            let frames = ran.map_err(|refusal| Failure::refused(&refusal, &self.job, hint(&refusal)))?;
+            counts.add(frames, &self.sets);
+        }
+        if !rows.is_empty() {
+            self.write_rows(rows)?;
+        }
+        add(totals, &counts.totals);
+        add(sets, &counts.sets);
+        Ok(Given::count(counts.shots))
+    }
+
+    /// The shots of the last block: a bit for each set, or for each outcome if there are no sets.
+    fn write_rows(&mut self, rows: &mut [u64]) -> Result<(), Failure> {
+        let frames: &Frames = self.bench.frames();
+        let (count, deltas) = if self.sets.is_empty() {
+            (frames.job().outcomes, frames.deltas())
+        } else {
+            frames.sums(&self.sets, &mut self.parities);
+            (self.sets.len(), self.parities.as_slice())
+        };
+        by_shot(count as u64, frames.job().shots as u64, deltas, rows)
+            .map_err(|refusal| Failure::refused(&refusal, b"", None))
+    }
+
+    /// The text of counts that were added up.
+    pub fn saved(&self, counts: Counts, is_lent: bool) -> String {
+        let saved = self.sampler.saved(counts, &self.sets, self.part);
+        if is_lent { saved.with_lent_noiseless().text() } else { saved.text() }
+    }
+}
+
+fn add(sums: &mut [u64], counts: &[u64]) {
+    sums.iter_mut().zip(counts).for_each(|(sum, count)| *sum += count);
+}
