@@ -14,57 +14,19 @@ The calls are those of the engine, which is proved, by the Rust crate. The crate
 
 from ._circuit import GATES, Circuit, Pauli
 from ._counts import DRAWS, Counts, wilson
-from ._jobs import (
-    MAX_BYTES,
-    MAX_GROUPS,
-    MAX_OUTCOMES,
-    MAX_SHOTS,
-    FaultTable,
-    Job,
-    Rows,
-    bits,
-    by_outcome,
-    by_shot,
-    make_job,
-    pack_bits,
-)
+from ._jobs import MAX_BYTES, MAX_GROUPS, MAX_OUTCOMES, MAX_SHOTS, FaultTable, Job, Mechanism, Rows, error_model, make_job, mechanisms
 from ._library import REFUSAL_TEXTS, Refused
-from ._models import Mechanism, error_model, mechanisms
 from ._sampling import sample, sample_shots
-from ._words import fill, state_of_block, state_of_seed
+from ._words import bits, by_outcome, by_shot, fill, pack_bits, state_of_block, state_of_seed
 
 # the name that users know
 Refused.__module__ = "kundatrezo"
 
 __version__ = "0.1.0"
 
+# fmt: off
 __all__ = [
-    "DRAWS",
-    "GATES",
-    "MAX_BYTES",
-    "MAX_GROUPS",
-    "MAX_OUTCOMES",
-    "MAX_SHOTS",
-    "REFUSAL_TEXTS",
-    "Circuit",
-    "Counts",
-    "FaultTable",
-    "Job",
-    "Mechanism",
-    "Pauli",
-    "Refused",
-    "Rows",
-    "bits",
-    "by_outcome",
-    "by_shot",
-    "error_model",
-    "fill",
-    "make_job",
-    "mechanisms",
-    "pack_bits",
-    "sample",
-    "sample_shots",
-    "state_of_block",
-    "state_of_seed",
-    "wilson",
+    "DRAWS", "GATES", "MAX_BYTES", "MAX_GROUPS", "MAX_OUTCOMES", "MAX_SHOTS", "REFUSAL_TEXTS", "Circuit", "Counts", "FaultTable", "Job", "Mechanism",
+    "Pauli", "Refused", "Rows", "bits", "by_outcome", "by_shot", "error_model", "fill", "make_job", "mechanisms", "pack_bits", "sample", "sample_shots",
+    "state_of_block", "state_of_seed", "wilson",
 ]

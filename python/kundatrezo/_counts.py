@@ -51,9 +51,9 @@ class Counts:
     shots: int
     """The shots that are counted."""
     totals: Words
-    """For each outcome of the header."""
+    """For each outcome of the header, as `rates` and `intervals`."""
     set_totals: Words
-    """For each set."""
+    """For each set, as `set_rates` and `set_intervals`."""
     sets: tuple[tuple[int, ...], ...]
     """The sets whose parities are counted."""
     seeds: tuple[int, ...]

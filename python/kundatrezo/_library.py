@@ -95,22 +95,20 @@ close_sampling = _calls["sampling_close"][0]
 
 
 class Refused(ValueError):
-    """A call says no: the first bad line counts, and its lowest number."""
+    """A call says no: the first bad line counts, and its lowest number.
+
+    `number` is that by which docs/REFUSALS.md explains it; `line` the line of the job, from 1, or 0 if none fits, and `line_text` that line;
+    `bytes_needed`, with 15 from settling, what the text needs; `hint` what may help, if something can be said; and `cause` of the causes of a number
+    with several the one that it is, if that is known.
+    """
 
     def __init__(self, number: int, line: int = 0, line_text: str = "", bytes_needed: int = 0, hint: str = "", cause: str = "") -> None:
-        self.number = number
-        """The number, by which docs/REFUSALS.md explains it."""
-        self.line = line
-        """The line of the job, from 1; 0 where none fits."""
-        self.line_text = line_text
-        """That line."""
-        self.bytes_needed = bytes_needed
-        """With 15 from settling, the bytes that the text needs."""
-        self.hint = hint
-        """What may help, where something can be said."""
-        self.cause = cause
-        """Of the causes of a number with several the one that it is, if that is known."""
+        self.number, self.line, self.line_text, self.bytes_needed, self.hint, self.cause = number, line, line_text, bytes_needed, hint, cause
         super().__init__(number, line, line_text, bytes_needed, hint, cause)
+
+    def with_hint(self, hint: str) -> Refused:
+        """The same with another hint."""
+        return Refused(self.number, self.line, self.line_text, self.bytes_needed, hint, self.cause)
 
     @property
     def text(self) -> str:

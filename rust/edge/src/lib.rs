@@ -159,15 +159,15 @@ calls! {
     }
 
     /// Open a sampling of a part, from 1, of a sample. `named` is empty, 'whole' or 'block'; the noiseless bits of the job's own shots are given if
-    /// `is_given` is 1. Count: its handle, which `kundatrezo_edge_sampling_close` closes. Words: the part's first block, and the one after its last.
+    /// `is_given` is 1. Count: its handle, which `kundatrezo_edge_sampling_close` closes. Words: the part's first block, the one
+    /// after its last, the shots of the whole, and the numbers of outcomes and of sets.
     fn kundatrezo_edge_sampling_open(
         job: Bytes, shots: u64, seed: u64, named: Bytes, noiseless: Words, is_given: u64, sets: Words, place: u64,
         parts: u64,
     ) {
         let (noiseless, sets) = ((is_given == 1).then_some(noiseless), list_of_lists(sets)?);
         let sampling = Sampling::open(Plan { job, shots, seed, named, noiseless, sets, part: (place, parts) })?;
-        let blocks = sampling.blocks();
-        Ok(Given { words: vec![blocks.start, blocks.end], ..Given::count(sampling.into_handle()) })
+        Ok(Given { words: sampling.numbers().to_vec(), ..Given::count(sampling.into_handle()) })
     }
 
     /// Run blocks, with noiseless bits for each shot if `is_given` is 1, and add to the totals of outcomes and of sets; write the last block's shots if

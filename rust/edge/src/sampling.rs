@@ -88,9 +88,11 @@ impl Sampling {
         drop(unsafe { Box::from_raw(handle.0) });
     }
 
-    /// The first block of the part, and the one after its last.
-    pub fn blocks(&self) -> Range<u64> {
-        self.sampler.part(self.part.0.saturating_sub(1), self.part.1)
+    /// The first block of the part, the one after its last, the shots of the whole, and the numbers of outcomes and of sets.
+    pub fn numbers(&self) -> [u64; 5] {
+        let blocks = self.sampler.part(self.part.0.saturating_sub(1), self.part.1);
+        let counts = [self.sampler.job().outcomes, self.sets.len()].map(|count| count as u64);
+        [blocks.start, blocks.end, self.sampler.shots(), counts[0], counts[1]]
     }
 
     /// Run blocks and add their counts; write the shots of the last as rows by shot if there is room for rows. Returns the shots that were run.
