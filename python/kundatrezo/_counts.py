@@ -74,16 +74,14 @@ class Counts:
     def of_text(text: str, job: Optional[Job] = None) -> Counts:
         """The counts of a text, and with their job, if it is given. A text that is cut off or was changed is a ValueError."""
         found = call("counts_read", text.encode(), b"" if job is None else job.text)
-        (shots, has_counted, counted), rest = found.words[:3].tolist(), found.words[3:]
-        lists = []
+        shots, rest, lists = int(found.words[0]), found.words[1:], []
         while rest.size:
             length = 1 + int(rest[0])
             lists.append(rest[1:length])
             rest = rest[length:]
-        totals, set_totals, seeds, *sets = lists
-        named = tuple(tuple(set_.tolist()) for set_ in sets)
-        missing = found.text.decode()
-        return Counts(text, shots, totals, set_totals, named, tuple(seeds.tolist()), missing, counted if has_counted else None, job)
+        totals, set_totals, counted, seeds, *sets = lists
+        numbers = tuple(tuple(list_.tolist()) for list_ in (seeds, *sets))
+        return Counts(text, shots, totals, set_totals, numbers[1:], numbers[0], found.text.decode(), int(counted[0]) if counted.size else None, job)
 
     def text(self) -> str:
         """The counts as they are saved: what the program's `sample` prints, so that its `merge`, `Counts.of_text` and the Rust crate read them."""

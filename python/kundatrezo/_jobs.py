@@ -6,7 +6,7 @@ import os
 from dataclasses import dataclass
 from math import prod
 from pathlib import Path
-from typing import NamedTuple, Optional, Sequence, Union
+from typing import Any, NamedTuple, Optional, Sequence, Union
 from warnings import warn
 
 import numpy as np
@@ -174,8 +174,8 @@ class Job:
         """The job with each noise line replaced by the injections that a run with the same words makes."""
         return Job(call("settle", self.text, *self._draws(words, seed, second, second_seed, noiseless), base).text)
 
-    def _draws(self, words: Lendable, seed: Seed, second: Lendable, second_seed: Seed, noiseless: Optional[Lendable]) -> list[Union[Words, int]]:
-        """What a call draws from: noiseless bits, the words and the seed of each list, and a bit for each list that is made from its seed."""
+    def _draws(self, words: Lendable, seed: Seed, second: Lendable, second_seed: Seed, noiseless: Optional[Lendable]) -> list[Any]:
+        """What a call draws from: noiseless bits, and the words of each list, or None, and its seed."""
         shape = (self.outcomes, self.row_words)
         if np.ndim(noiseless) > 1 and np.shape(noiseless) != shape:
             raise ValueError(f"noiseless bits have shape {np.shape(noiseless)}, and this job needs {shape}")
@@ -183,9 +183,9 @@ class Job:
             raise ValueError("a list is given, or made from a seed, not both")
         if seed is not None and seed == second_seed:
             raise ValueError("the words of the two lists are to differ: give another seed")
-        lists = [read_words(words), whole(seed or 0, "a seed"), read_words(second), whole(second_seed or 0, "a seed")]
-        made = (seed is not None) + 2 * (second_seed is not None)
-        return [read_words(np.zeros(shape, dtype=np.uint64) if noiseless is None else noiseless), *lists, made]
+        bits_ = read_words(np.zeros(shape, dtype=np.uint64) if noiseless is None else noiseless)
+        main, other = (read_words(list_) if number is None else None for list_, number in ((words, seed), (second, second_seed)))
+        return [bits_, main, whole(seed or 0, "a seed"), other, whole(second_seed or 0, "a seed")]
 
     def walk(self, shot: int, set: Sequence[int]) -> int:
         """How many of a job's injections and flips in the shot change the parity of a set of outcomes, by carrying its observable back. The job has no

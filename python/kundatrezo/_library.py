@@ -37,8 +37,8 @@ class _Reply(ctypes.Structure):
 _CALLS = {
     "examine": "job: Bytes",
     "run": "job: Bytes, x: WordsMut, z: WordsMut, deltas: WordsMut, totals: WordsMut, noiseless: Words, "
-    "main: Words, seed: u64, second: Words, second_seed: u64, made: u64, base: u64",
-    "settle": "job: Bytes, noiseless: Words, main: Words, seed: u64, second: Words, second_seed: u64, made: u64, base: u64",
+    "main: GivenWords, seed: u64, second: GivenWords, second_seed: u64, base: u64",
+    "settle": "job: Bytes, noiseless: Words, main: GivenWords, seed: u64, second: GivenWords, second_seed: u64, base: u64",
     "walk": "job: Bytes, shot: u64, set: Words",
     "annotate": "job: Bytes, p_bits: u64",
     "locations": "job: Bytes",
@@ -52,9 +52,9 @@ _CALLS = {
     "outcomes": "job: Bytes, what: Bytes, lists: Words",
     "fault_table": "job: Bytes, groups: Words",
     "error_model": "job: Bytes, detectors: Words, observables: Words",
-    "sampling_open": "job: Bytes, shots: u64, seed: u64, named: Bytes, noiseless: Words, is_given: u64, sets: Words, place: u64, parts: u64",
-    "sampling_run": "sampling: Handle, first: u64, last: u64, noiseless: Bytes, is_given: u64, totals: WordsMut, sets: WordsMut, rows: WordsMut",
-    "sampling_text": "sampling: Handle, shots: u64, totals: Words, sets: Words, counted: Words, is_lent: u64",
+    "sampling_open": "job: Bytes, shots: u64, seed: u64, named: Bytes, noiseless: GivenWords, sets: Words, place: u64, parts: u64",
+    "sampling_run": "sampling: Handle, first: u64, last: u64, noiseless: GivenBytes, sums: WordsMut, rows: WordsMut",
+    "sampling_text": "sampling: Handle, sums: Words, is_counted: u64, is_lent: u64",
     "sampling_close": "sampling: Handle",
     "condition_notes": "job: Bytes, is_given: u64",
     "counts_read": "text: Bytes, job: Bytes",
@@ -63,7 +63,7 @@ _CALLS = {
     "refusals": "",
     "free": "reply: Reply",
 }
-_TYPES = {"Bytes": _List, "Words": _List, "WordsMut": _List, "u64": c_uint64, "Handle": c_void_p, "Reply": _Reply}
+_TYPES = {"u64": c_uint64, "Handle": c_void_p, "Reply": _Reply}
 
 PATH = Path(os.environ.get("KUNDATREZO_LIBRARY") or Path(__file__).with_name("libkundatrezo_edge.so")).absolute()
 """The library's file: that beside this one, or the one that the environment variable KUNDATREZO_LIBRARY names. The path is made absolute, since a bare
@@ -84,7 +84,7 @@ def _loaded() -> dict[str, tuple[Callable[..., Any], list[str]]]:
         function = getattr(library, f"kundatrezo_edge_{name}")
         kinds = [parameter.partition(": ")[2] for parameter in parameters.split(", ")] if parameters else []
         function.restype = None if name in ("free", "sampling_close") else _Reply
-        function.argtypes = [_TYPES[kind] for kind in kinds]
+        function.argtypes = [_TYPES.get(kind, _List) for kind in kinds]
         calls[name] = (function, kinds)
     return calls
 
@@ -129,8 +129,8 @@ class Given(NamedTuple):
     words: Words
 
 
-def call(name: str, *arguments: Union[int, bytes, np.ndarray]) -> Given:
-    """Make a call: bytes and arrays are lent where they lie. The interpreter's lock is released meanwhile."""
+def call(name: str, *arguments: Union[int, bytes, np.ndarray, None]) -> Given:
+    """Make a call: bytes and arrays are lent where they lie; None is a list that is not given. The interpreter's lock is released meanwhile."""
     function, kinds = _calls[name]
     lent: list[Any] = []
     arrays: list[tuple[bool, np.ndarray]] = []
@@ -140,6 +140,8 @@ def call(name: str, *arguments: Union[int, bytes, np.ndarray]) -> Given:
             lent.append(_List(argument.ctypes.data, argument.size))
         elif isinstance(argument, bytes):
             lent.append(_List(ctypes.cast(argument, c_void_p), len(argument)))
+        elif argument is None:
+            lent.append(_List(None, 0))
         else:
             lent.append(whole(argument))
     for place, (is_written, one) in enumerate(arrays):

@@ -55,9 +55,7 @@ def sample(
     tasks = ((first, min(first + size, blocks.stop)) for first in blocks[::size])
     for done in _done(((plan, first, last, _slice(given, first, last), count) for first, last in tasks), executor):
         sums += done
-    counted = sums[1:2] if count is not None else sums[:0]
-    text = call("sampling_text", sampling.handle, sums[0], *sampling.totals(sums), counted, int(given is not None)).text
-    return Counts.of_text(text.decode(), job)
+    return Counts.of_text(call("sampling_text", sampling.handle, sums, int(count is not None), int(given is not None)).text.decode(), job)
 
 
 def sample_shots(
@@ -82,11 +80,11 @@ def _planned(
     shots, seed = whole(shots, "shots", least=1), whole(seed, "a seed")
     if not (isinstance(part, tuple) and len(part) == 2 and 1 <= whole(part[0], "part") <= whole(part[1], "part")):
         raise ValueError(f"part is to be (I, K), with I from 1 to K, not {part!r}")
-    rows, needed, row = read_words(() if noiseless is None else noiseless), (job.outcomes, job.row_words), ceil(job.outcomes / 8)
-    if noiseless is not None and (rows.size != needed[0] * needed[1] or (np.ndim(noiseless) > 1 and np.shape(noiseless) != needed)):
+    rows, needed, row = None if noiseless is None else read_words(noiseless), (job.outcomes, job.row_words), ceil(job.outcomes / 8)
+    if rows is not None and (rows.size != needed[0] * needed[1] or (np.ndim(noiseless) > 1 and np.shape(noiseless) != needed)):
         header = f"the header's outcomes={job.outcomes} and shots={job.shots} need exactly {needed[0] * needed[1]}, shape {needed}"
         raise ValueError(f"noiseless bits of {rows.size} words, shape {np.shape(noiseless)}, but {header}")
-    plan = (job.text, shots, seed, (named or "").encode(), rows, int(noiseless is not None), outcome_lists(job, "set", sets), *part)
+    plan = (job.text, shots, seed, (named or "").encode(), rows, outcome_lists(job, "set", sets), *part)
     if noiseless_shots is None:
         for note in call("condition_notes", job.text, int(noiseless is not None)).text.decode().splitlines():
             warn(note, stacklevel=3)
@@ -125,7 +123,7 @@ def _task(plan: _Plan, first: int, last: int, given: Optional[Bytes], count: Opt
     sampling = _Sampling(plan)
     sums = sampling.no_counts()
     if count is None:
-        sampling.run(first, last, given, sums, sums[:0])
+        sampling.run(first, last, given, sums, np.empty(0, dtype=np.uint64))
         return sums
     for block in range(first, last):
         rows = sampling.rows(block, _slice(given, block - first, block - first + 1), sums)
@@ -147,27 +145,19 @@ class _Sampling:
         opened = call("sampling_open", *plan)
         self.handle = opened.count
         finalize(self, close_sampling, self.handle)
-        first, last, self.shots, self.outcomes, self.sets = opened.words.tolist()
+        first, last, self.shots, self.width, self.sums = opened.words.tolist()
         self.blocks = range(first, last)
-        # the bits of a shot: one for each set, or for each outcome of the header if there are no sets
-        self.width = self.sets or self.outcomes
 
     def no_counts(self) -> Words:
         """Sums to add to: the shots, those that a function counts, the totals of outcomes, those of sets."""
-        return np.zeros(2 + self.outcomes + self.sets, dtype=np.uint64)
-
-    def totals(self, sums: Words) -> tuple[Words, Words]:
-        """The totals of outcomes and of sets, which calls add to."""
-        return sums[2 : 2 + self.outcomes], sums[2 + self.outcomes :]
+        return np.zeros(self.sums, dtype=np.uint64)
 
     def run(self, first: int, last: int, given: Optional[Bytes], sums: Words, rows: Words) -> None:
         """Run blocks and add their counts; write the shots of the last as rows, if there is room for them."""
-        noiseless = b"" if given is None else given.reshape(-1)
-        run = call("sampling_run", self.handle, first, last, noiseless, int(given is not None), *self.totals(sums), rows.reshape(-1))
-        sums[0] += np.uint64(run.count)
+        call("sampling_run", self.handle, first, last, None if given is None else given.reshape(-1), sums, rows.reshape(-1))
 
     def rows(self, block: int, given: Optional[Bytes], sums: Words) -> Words:
-        """Run a block and add its counts; its shots as rows."""
+        """Run a block and add its counts; its shots as rows, with a bit for each set, or for each outcome if there are no sets."""
         rows = np.zeros((min(MAX_SHOTS, self.shots - block * MAX_SHOTS), ceil(self.width / 64)), dtype=np.uint64)
         self.run(block, block + 1, given, sums, rows)
         return rows

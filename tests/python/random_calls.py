@@ -139,9 +139,8 @@ class Calls:
         job = self.job()
         text = choice_of_texts(self.random, job.text, self.damaged(job.text))
         frames, outcomes, list_ = job.qubits * job.row_words, job.outcomes * job.row_words, self.words
-        made = self.random.randrange(4)
-        main, second = list_(choice_of(self.random, 500)), list_(choice_of(self.random, 300))
-        draws = [list_(self.near(outcomes)), main, self.number(9), second, self.number(9), made, self.number(5)]
+        main, second = (self.random.choice([None, list_(choice_of(self.random, most))]) for most in (500, 300))
+        draws = [list_(self.near(outcomes)), main, self.number(9), second, self.number(9), self.number(5)]
         p = struct.unpack("<Q", struct.pack("<d", self.random.choice(PROBABILITIES)))[0]
         counts = self.number(70), self.number(70)
         needs = [rows * -(-columns // 64) if max(counts) < 5000 else 3 for rows, columns in (counts, counts[::-1])]
@@ -176,19 +175,19 @@ class Calls:
             self.make(f"kundatrezo_edge_{name}", lambda: call(name, *given))
         names = {f"sampling_{name}" for name in ("open", "run", "text", "close")} | {"free"}
         assert arguments.keys() | names == _CALLS.keys()
-        self.make("kundatrezo_edge_sampling", lambda: self.sampling(job, ids, flat))
+        self.make("kundatrezo_edge_sampling", lambda: self.sampling(job, flat))
 
-    def sampling(self, job: Job, ids: list[int], sets: np.ndarray) -> None:
+    def sampling(self, job: Job, sets: np.ndarray) -> None:
         """A sampling, with any lists, from its opening to its closing."""
         shots, list_ = self.random.choice([1, 70, 5000]), self.words
-        rows = self.random.choice([0, job.outcomes * job.row_words])
-        opened = call("sampling_open", job.text, shots, self.number(9), b"block", list_(self.near(rows)), int(rows > 0), sets, 1, 1)
+        noiseless = self.random.choice([None, list_(self.near(job.outcomes * job.row_words))])
+        opened = call("sampling_open", job.text, shots, self.number(9), b"block", noiseless, sets, 1, 1)
         try:
-            first, last = opened.words.tolist()
-            packed, is_given = bytes(self.near(shots * -(-job.outcomes // 8))), self.random.randrange(2)
-            totals = list_(self.near(job.outcomes)) >> np.uint64(8), list_(self.near(2)) >> np.uint64(8)
-            call("sampling_run", opened.count, first, last, packed, is_given, *totals, list_(self.near(shots % 4096)))
-            call("sampling_text", opened.count, shots, *totals, list_(self.near(1)), is_given)
+            first, last, _, _, length = opened.words.tolist()
+            packed = self.random.choice([None, bytes(self.near(shots * -(-job.outcomes // 8)))])
+            sums = list_(self.near(length)) >> np.uint64(8)
+            call("sampling_run", opened.count, first, last, packed, sums, list_(self.near(shots % 4096)))
+            call("sampling_text", opened.count, sums, self.random.randrange(2), packed is not None)
         finally:
             close_sampling(opened.count)
 

@@ -15,7 +15,7 @@
 mod lists;
 mod sampling;
 
-pub use lists::{Bytes, FAULT, PANIC, Reply, Words, WordsMut};
+pub use lists::{Bytes, FAULT, GivenBytes, GivenWords, PANIC, Reply, Words, WordsMut};
 pub use sampling::Handle;
 
 use kundatrezo::{
@@ -50,12 +50,12 @@ calls! {
         Ok(Given::words([found.qubits, found.outcomes, found.shots, found.recorded, found.lines].map(|number| number as u64)))
     }
 
-    /// Run a job. A list is made from its seed if `made` has its bit: 1 for the main list, 2 for the second.
+    /// Run a job. A list that isn't given is made from its seed.
     fn kundatrezo_edge_run(
-        job: Bytes, x: WordsMut, z: WordsMut, deltas: WordsMut, totals: WordsMut, noiseless: Words, main: Words,
-        seed: u64, second: Words, second_seed: u64, made: u64, base: u64,
+        job: Bytes, x: WordsMut, z: WordsMut, deltas: WordsMut, totals: WordsMut, noiseless: Words,
+        main: GivenWords, seed: u64, second: GivenWords, second_seed: u64, base: u64,
     ) {
-        drawn(job, [(main, seed), (second, second_seed)], made, base, |draws| {
+        drawn(job, [(main, seed), (second, second_seed)], base, |draws| {
             run(job, Rows::new(x, z, deltas).with_totals(totals), noiseless, draws)
         })?;
         Ok(Given::default())
@@ -63,9 +63,9 @@ calls! {
 
     /// Settle a job. Text: the settled job.
     fn kundatrezo_edge_settle(
-        job: Bytes, noiseless: Words, main: Words, seed: u64, second: Words, second_seed: u64, made: u64, base: u64,
+        job: Bytes, noiseless: Words, main: GivenWords, seed: u64, second: GivenWords, second_seed: u64, base: u64,
     ) {
-        drawn(job, [(main, seed), (second, second_seed)], made, base, |draws| settled(job, noiseless, draws)).map(Given::text)
+        drawn(job, [(main, seed), (second, second_seed)], base, |draws| settled(job, noiseless, draws)).map(Given::text)
     }
 
     /// Walk a job without noise. Count: the faults of the shot that flip the parity of the set, which is one that `kundatrezo_edge_outcomes` gave.
@@ -158,33 +158,28 @@ calls! {
         Ok(Given { words: model.mechanisms().iter().flat_map(row).collect(), ..Given::text(model.to_string()) })
     }
 
-    /// Open a sampling of a part, from 1, of a sample. `named` is empty, 'whole' or 'block'; the noiseless bits of the job's own shots are given if
-    /// `is_given` is 1. Count: its handle, which `kundatrezo_edge_sampling_close` closes. Words: the part's first block, the one
-    /// after its last, the shots of the whole, and the numbers of outcomes and of sets.
+    /// Open a sampling of a part, from 1, of a sample. `named` is empty, 'whole' or 'block'; `noiseless` has bits of the job's own shots. Count: its
+    /// handle, which `kundatrezo_edge_sampling_close` closes. Words: the part's first block, the one after its last, the shots of the whole, the bits of
+    /// a row, and the length of the sums.
     fn kundatrezo_edge_sampling_open(
-        job: Bytes, shots: u64, seed: u64, named: Bytes, noiseless: Words, is_given: u64, sets: Words, place: u64,
-        parts: u64,
+        job: Bytes, shots: u64, seed: u64, named: Bytes, noiseless: GivenWords, sets: Words, place: u64, parts: u64,
     ) {
-        let (noiseless, sets) = ((is_given == 1).then_some(noiseless), list_of_lists(sets)?);
+        let sets = list_of_lists(sets)?;
         let sampling = Sampling::open(Plan { job, shots, seed, named, noiseless, sets, part: (place, parts) })?;
         Ok(Given { words: sampling.numbers().to_vec(), ..Given::count(sampling.into_handle()) })
     }
 
-    /// Run blocks, with noiseless bits for each shot if `is_given` is 1, and add to the totals of outcomes and of sets; write the last block's shots if
-    /// there is room for rows. Count: the shots that were run.
+    /// Run blocks, with noiseless bits for each of their shots if these are given, and add to the sums: the shots, those that a function of the caller's
+    /// counts, the totals of outcomes, those of sets. Write the last block's shots if there is room for rows.
     fn kundatrezo_edge_sampling_run(
-        sampling: Handle, first: u64, last: u64, noiseless: Bytes, is_given: u64, totals: WordsMut, sets: WordsMut,
-        rows: WordsMut,
+        sampling: Handle, first: u64, last: u64, noiseless: GivenBytes, sums: WordsMut, rows: WordsMut,
     ) {
-        sampling.run(first..last, (is_given == 1).then_some(noiseless), [totals, sets, rows])
+        sampling.run(first..last, noiseless, sums, rows)
     }
 
-    /// The text of counts that were added up; `counted` has one number, or none if no function counted.
-    fn kundatrezo_edge_sampling_text(
-        sampling: Handle, shots: u64, totals: Words, sets: Words, counted: Words, is_lent: u64,
-    ) {
-        let counts = Counts { shots, totals: totals.to_vec(), sets: sets.to_vec(), counted: counted.first().copied() };
-        Ok(Given::text(sampling.saved(counts, is_lent == 1)))
+    /// The text of counts that were added up; whether a function counted shots, and whether noiseless bits were given for each shot.
+    fn kundatrezo_edge_sampling_text(sampling: Handle, sums: Words, is_counted: u64, is_lent: u64) {
+        sampling.text(sums, is_counted == 1, is_lent == 1).map(Given::text)
     }
 
     /// Notes on conditions of a job that is sampled, a line each.
@@ -192,23 +187,19 @@ calls! {
         Ok(Given::text(condition_notes(job, is_given == 1, "noiseless=", "noiseless_shots=").join("\n")))
     }
 
-    /// Read a text of counts, and test that they are counts of a job if that isn't empty. Text: which parts are missing. Words: shots, 1 if shots were
-    /// counted by a function, how many, outcomes; the totals of outcomes; the sets' number, their totals, the seeds' number, the seeds, the sets.
+    /// Read a text of counts, and test that they are counts of a job if that isn't empty. Text: which parts are missing. Words: the shots, then lists,
+    /// each with its length before it: the totals of outcomes, those of sets, the shots that a function counted, if one did, the seeds, and each set.
     fn kundatrezo_edge_counts_read(text: Bytes, job: Bytes) {
         let saved = read(text)?;
         if !job.is_empty() && !saved.is_of(job) {
             return Err(Failure::fault("these are counts of another job"));
         }
         let counts = saved.counts();
-        let mut words = vec![counts.shots, u64::from(counts.counted.is_some()), counts.counted.unwrap_or_default()];
-        let seeds: Vec<u64> = saved.seeds().collect();
-        for list in [&counts.totals, &counts.sets, &seeds] {
+        let (counted, seeds) = (counts.counted.into_iter().collect(), saved.seeds().collect());
+        let mut words = vec![counts.shots];
+        for list in [&counts.totals, &counts.sets, &counted, &seeds].into_iter().chain(saved.sets()) {
             words.push(list.len() as u64);
             words.extend(list);
-        }
-        for set in saved.sets() {
-            words.push(set.len() as u64);
-            words.extend(set);
         }
         let missing = saved.check_whole().err().map_or_else(String::new, |missing| missing.to_string());
         Ok(Given { words, ..Given::text(missing) })
@@ -259,18 +250,14 @@ pub unsafe extern "C" fn kundatrezo_edge_free(reply: Reply) {
     unsafe { reply.free() }
 }
 
-/// Make a call that draws from lists, of which those are made from a seed that `made` has a bit for.
+/// Make a call that draws from lists; one that isn't given is made from its seed.
 fn drawn<T>(
     job: &[u8],
-    lists: [(&[u64], u64); 2],
-    made: u64,
+    lists: [(Option<&[u64]>, u64); 2],
     base: u64,
     mut call: impl FnMut(kundatrezo::Draws<'_>) -> kundatrezo::Answer<T>,
 ) -> Result<T, Failure> {
-    let [main, second] = [0, 1].map(|place| match lists[place] {
-        (_, seed) if made >> place & 1 == 1 => WordSource::Seed(seed),
-        (words, _) => WordSource::Lent(words),
-    });
+    let [main, second] = lists.map(|(words, seed)| words.map_or(WordSource::Seed(seed), WordSource::Lent));
     let mut draws = GrowingDraws::new(main, second, base);
     draws.call(job, &mut call).map_err(|refusal| {
         let spent = refusal.number == Number::DRAWS;
@@ -305,6 +292,7 @@ fn bits(places: &[usize], count: usize) -> Vec<u64> {
 #[cfg(test)]
 mod tests {
     use super::*;
+    use std::ptr;
 
     const JOB: &[u8] = include_bytes!("../../../examples/syndrome.job");
 
@@ -360,25 +348,27 @@ mod tests {
     /// The counts of blocks, added up, are those of the crate's sampler, and so is their text.
     #[test]
     fn a_sampling_counts_what_the_sampler_counts() {
-        let (sets, open) = ([2, 4, 5], |shots, sets: &[u64]| unsafe {
-            kundatrezo_edge_sampling_open(bytes(JOB), shots, 3, bytes(b""), words(&[]), 0, words(sets), 2, 3)
-        });
-        let (number, _, handle, _, blocks) = taken(open(20_000, &sets));
+        let none = GivenWords(Words { first: ptr::null(), len: 0 });
+        let no_bytes = GivenBytes(Bytes { first: ptr::null(), len: 0 });
+        let sets = words(&[2, 4, 5]);
+        let opened = unsafe { kundatrezo_edge_sampling_open(bytes(JOB), 20_000, 3, bytes(b""), none, sets, 2, 3) };
+        let (number, _, handle, _, numbers) = taken(opened);
         let sampler = kundatrezo::Sampler::new(JOB, 20_000, 3).expect("it is accepted");
-        assert_eq!((number, blocks[0]..blocks[1]), (0, sampler.part(1, 3)));
+        let blocks = sampler.part(1, 3);
+        assert_eq!((number, numbers), (0, vec![blocks.start, blocks.end, 20_000, 1, 10]));
         let handle = Handle::of_count(handle);
-        let (mut totals, mut set_totals, mut shots) = ([0; 7], [0], 0);
-        for block in blocks[0]..blocks[1] {
-            let [totals, sets] = [written(&mut totals), written(&mut set_totals)];
-            let run = unsafe {
-                kundatrezo_edge_sampling_run(handle, block, block + 1, bytes(b""), 0, totals, sets, written(&mut []))
-            };
-            shots += taken(run).2;
+        let mut sums = [0; 10];
+        for block in blocks {
+            let rows = written(&mut []);
+            taken(unsafe {
+                kundatrezo_edge_sampling_run(handle, block, block + 1, no_bytes, written(&mut sums), rows)
+            });
         }
         let saved = sampler.sample(&[vec![4, 5]], (2, 3), 1).expect("it runs");
-        let (totals, set_totals) = (words(&totals), words(&set_totals));
-        let text = taken(unsafe { kundatrezo_edge_sampling_text(handle, shots, totals, set_totals, words(&[]), 0) }).3;
+        let text = taken(unsafe { kundatrezo_edge_sampling_text(handle, words(&sums), 0, 0) }).3;
         assert_eq!(text, saved.text());
+        let short = taken(unsafe { kundatrezo_edge_sampling_text(handle, words(&sums[1..]), 0, 0) });
+        assert_eq!((short.0, short.3.as_str()), (FAULT, "9 sums, and this sampling has 10"));
         unsafe { kundatrezo_edge_sampling_close(handle) };
     }
 }

@@ -35,6 +35,16 @@ pub struct WordsMut {
     pub len: usize,
 }
 
+/// Bytes that a call reads if they are given: the pointer is null if they are not.
+#[repr(transparent)]
+#[derive(Debug, Clone, Copy)]
+pub struct GivenBytes(pub Bytes);
+
+/// Words that a call reads if they are given: the pointer is null if they are not.
+#[repr(transparent)]
+#[derive(Debug, Clone, Copy)]
+pub struct GivenWords(pub Words);
+
 /// A parameter of a call, as the call uses it.
 pub trait Lent {
     /// A slice of a list, or the number itself.
@@ -69,6 +79,24 @@ lent_lists! {
     Bytes: &'static [u8], from_raw_parts;
     Words: &'static [u64], from_raw_parts;
     WordsMut: &'static mut [u64], from_raw_parts_mut;
+}
+
+macro_rules! given_lists {
+    ($($list:ident: $used:ty;)*) => {$(
+        impl Lent for $list {
+            type Used = Option<$used>;
+
+            unsafe fn lent(self) -> Self::Used {
+                // SAFETY: the caller's promise
+                (!self.0.first.is_null()).then(|| unsafe { self.0.lent() })
+            }
+        }
+    )*};
+}
+
+given_lists! {
+    GivenBytes: &'static [u8];
+    GivenWords: &'static [u64];
 }
 
 impl Lent for u64 {

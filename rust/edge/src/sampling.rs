@@ -88,20 +88,34 @@ impl Sampling {
         drop(unsafe { Box::from_raw(handle.0) });
     }
 
-    /// The first block of the part, the one after its last, the shots of the whole, and the numbers of outcomes and of sets.
+    /// The first block of the part, the one after its last, the shots of the whole, the bits of a row, and the length of the sums.
     pub fn numbers(&self) -> [u64; 5] {
         let blocks = self.sampler.part(self.part.0.saturating_sub(1), self.part.1);
-        let counts = [self.sampler.job().outcomes, self.sets.len()].map(|count| count as u64);
-        [blocks.start, blocks.end, self.sampler.shots(), counts[0], counts[1]]
+        let width = if self.sets.is_empty() { self.sampler.job().outcomes } else { self.sets.len() };
+        [blocks.start, blocks.end, self.sampler.shots(), width as u64, self.sums() as u64]
     }
 
-    /// Run blocks and add their counts; write the shots of the last as rows by shot if there is room for rows. Returns the shots that were run.
+    /// How many sums there are: the shots, those that a function counts, the totals of outcomes, those of sets.
+    fn sums(&self) -> usize {
+        2 + self.sampler.job().outcomes + self.sets.len()
+    }
+
+    fn require_sums(&self, sums: usize) -> Result<(), Failure> {
+        match self.sums() {
+            own if own == sums => Ok(()),
+            own => Err(Failure::fault(format!("{sums} sums, and this sampling has {own}"))),
+        }
+    }
+
+    /// Run blocks and add to the sums; write the shots of the last as rows by shot if there is room for rows.
     pub fn run(
         &mut self,
         blocks: Range<u64>,
         packed: Option<&[u8]>,
-        [totals, sets, rows]: [&mut [u64]; 3],
+        sums: &mut [u64],
+        rows: &mut [u64],
     ) -> Result<Given, Failure> {
+        self.require_sums(sums.len())?;
         let mut counts = self.sampler.no_counts(&self.sets);
         let mut rest = packed;
         let row_bytes = self.sampler.job().outcomes.div_ceil(8) as u64;
@@ -121,9 +135,9 @@ impl Sampling {
         if !rows.is_empty() {
             self.write_rows(rows)?;
         }
-        add(totals, &counts.totals);
-        add(sets, &counts.sets);
-        Ok(Given::count(counts.shots))
+        let own = [counts.shots, 0].into_iter().chain(counts.totals).chain(counts.sets);
+        sums.iter_mut().zip(own).for_each(|(sum, own)| *sum += own);
+        Ok(Given::default())
     }
 
     /// The shots of the last block: a bit for each set, or for each outcome if there are no sets.
@@ -140,12 +154,12 @@ impl Sampling {
     }
 
     /// The text of counts that were added up.
-    pub fn saved(&self, counts: Counts, is_lent: bool) -> String {
+    pub fn text(&self, sums: &[u64], is_counted: bool, is_lent: bool) -> Result<String, Failure> {
+        self.require_sums(sums.len())?;
+        let (totals, sets) = sums[2..].split_at(self.sampler.job().outcomes);
+        let counted = is_counted.then_some(sums[1]);
+        let counts = Counts { shots: sums[0], totals: totals.to_vec(), sets: sets.to_vec(), counted };
         let saved = self.sampler.saved(counts, &self.sets, self.part);
-        if is_lent { saved.with_lent_noiseless().text() } else { saved.text() }
+        Ok(if is_lent { saved.with_lent_noiseless().text() } else { saved.text() })
     }
-}
-
-fn add(sums: &mut [u64], counts: &[u64]) {
-    sums.iter_mut().zip(counts).for_each(|(sum, count)| *sum += count);
 }
