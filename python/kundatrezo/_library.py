@@ -9,10 +9,11 @@ from __future__ import annotations
 import ctypes
 import operator
 import os
+import re
 import struct
 from ctypes import c_size_t, c_uint64, c_void_p
 from pathlib import Path
-from typing import Any, Callable, NamedTuple, Sequence, Union
+from typing import Any, NamedTuple, Sequence, Union
 
 import numpy as np
 import numpy.typing as npt
@@ -33,65 +34,34 @@ class _Reply(ctypes.Structure):
     _fields_ += [("text", c_void_p), ("text_len", c_size_t), ("words", c_void_p), ("words_len", c_size_t)]
 
 
-# The parameters of each call, in the words of the declaration.
-_CALLS = {
-    "examine": "job: Bytes",
-    "run": "job: Bytes, x: WordsMut, z: WordsMut, deltas: WordsMut, totals: WordsMut, noiseless: Words, "
-    "main: GivenWords, seed: u64, second: GivenWords, second_seed: u64, base: u64",
-    "settle": "job: Bytes, noiseless: Words, main: GivenWords, seed: u64, second: GivenWords, second_seed: u64, base: u64",
-    "walk": "job: Bytes, shot: u64, set: Words",
-    "annotate": "job: Bytes, p_bits: u64",
-    "locations": "job: Bytes",
-    "correlation": "job: Bytes",
-    "by_shot": "outcomes: u64, shots: u64, deltas: Words, out: WordsMut",
-    "by_outcome": "outcomes: u64, shots: u64, rows: Words, out: WordsMut",
-    "fill": "seed: u64, words: WordsMut",
-    "state_of_seed": "seed: u64",
-    "state_of_block": "seed: u64, block: u64, list: u64",
-    "make": "qubits: u64, outcomes: u64, shots: u64, lines: u64, seed: u64",
-    "outcomes": "job: Bytes, what: Bytes, lists: Words",
-    "fault_table": "job: Bytes, groups: Words",
-    "error_model": "job: Bytes, detectors: Words, observables: Words",
-    "sampling_open": "job: Bytes, shots: u64, seed: u64, named: Bytes, noiseless: GivenWords, sets: Words, place: u64, parts: u64",
-    "sampling_run": "sampling: Handle, first: u64, last: u64, noiseless: GivenBytes, sums: WordsMut, rows: WordsMut",
-    "sampling_text": "sampling: Handle, sums: Words, is_counted: u64, is_lent: u64",
-    "sampling_close": "sampling: Handle",
-    "condition_notes": "job: Bytes, is_given: u64",
-    "counts_read": "text: Bytes, job: Bytes",
-    "counts_add": "one: Bytes, other: Bytes",
-    "rates": "totals: Words, shots: u64",
-    "refusals": "",
-    "free": "reply: Reply",
-}
-_TYPES = {"u64": c_uint64, "Handle": c_void_p, "Reply": _Reply}
+# The calls that the package makes. What they take, the library says.
+_NAMES = """declarations examine run settle walk annotate locations correlation by_shot by_outcome fill state_of_seed state_of_block make outcomes fault_table
+    error_model sampling_open sampling_run sampling_text sampling_close condition_notes counts_read counts_add rates refusals free""".split()
+_TYPES = {"u64": c_uint64, "Handle": c_void_p}
 
 PATH = Path(os.environ.get("KUNDATREZO_LIBRARY") or Path(__file__).with_name("libkundatrezo_edge.so")).absolute()
 """The library's file: that beside this one, or the one that the environment variable KUNDATREZO_LIBRARY names. The path is made absolute, since a bare
 name would be looked for in the system's folders. The variable is trusted: whatever code it names is run in this process."""
 
 
-def _loaded() -> dict[str, tuple[Callable[..., Any], list[str]]]:
+def _loaded() -> dict[str, Any]:
     try:
         library = ctypes.CDLL(str(PATH))
     except OSError as error:
         raise ImportError(f"{error}: cargo builds the library when the package is built, see python/README.md") from error
     # all of them before the first is called: another library, or an older one, is found here and not in the middle of the work
-    missing = [f"kundatrezo_edge_{name}" for name in _CALLS if not hasattr(library, f"kundatrezo_edge_{name}")]
+    missing = [f"kundatrezo_edge_{name}" for name in _NAMES if not hasattr(library, f"kundatrezo_edge_{name}")]
     if missing:
         raise ImportError(f"{PATH} lacks {', '.join(missing)}: it is another library, or older than this package")
-    calls = {}
-    for name, parameters in _CALLS.items():
-        function = getattr(library, f"kundatrezo_edge_{name}")
-        kinds = [parameter.partition(": ")[2] for parameter in parameters.split(", ")] if parameters else []
-        function.restype = None if name in ("free", "sampling_close") else _Reply
-        function.argtypes = [_TYPES.get(kind, _List) for kind in kinds]
-        calls[name] = (function, kinds)
-    return calls
+    functions = {name: getattr(library, f"kundatrezo_edge_{name}") for name in _NAMES}
+    for function in functions.values():
+        function.restype = _Reply
+    functions["free"].restype, functions["free"].argtypes = None, [_Reply]
+    return functions
 
 
-_calls = _loaded()
-_free = _calls["free"][0]
-close_sampling = _calls["sampling_close"][0]
+_functions = _loaded()
+_kinds: dict[str, list[str]] = {"declarations": []}
 
 
 class Refused(ValueError):
@@ -131,10 +101,9 @@ class Given(NamedTuple):
 
 def call(name: str, *arguments: Union[int, bytes, np.ndarray, None]) -> Given:
     """Make a call: bytes and arrays are lent where they lie; None is a list that is not given. The interpreter's lock is released meanwhile."""
-    function, kinds = _calls[name]
     lent: list[Any] = []
     arrays: list[tuple[bool, np.ndarray]] = []
-    for kind, argument in zip(kinds, arguments, strict=True):
+    for kind, argument in zip(_kinds[name], arguments, strict=True):
         if isinstance(argument, np.ndarray):
             arrays.append((kind == "WordsMut", argument))
             lent.append(_List(argument.ctypes.data, argument.size))
@@ -147,11 +116,11 @@ def call(name: str, *arguments: Union[int, bytes, np.ndarray, None]) -> Given:
     for place, (is_written, one) in enumerate(arrays):
         if any((is_written or other_is) and np.may_share_memory(one, other) for other_is, other in arrays[place + 1 :]):
             raise ValueError("an array that a call writes overlaps another that it is lent")
-    reply = function(*lent)
+    reply = _functions[name](*lent)
     text = ctypes.string_at(reply.text, reply.text_len) if reply.text else b""
     words = np.empty(reply.words_len, dtype=np.uint64)
     ctypes.memmove(words.ctypes.data, reply.words, words.nbytes)
-    _free(reply)
+    _functions["free"](reply)
     raise_if_refused(reply, text)
     return Given(reply.count, text, words)
 
@@ -164,6 +133,10 @@ def raise_if_refused(reply: _Reply, text: bytes) -> None:
         cause, hint, line = text.split(b"\0", 2)
         raise Refused(reply.number, reply.line, line.decode(errors="backslashreplace"), reply.count, hint.decode(errors="replace"), cause.decode())
 
+
+for name, parameters in re.findall(r"kundatrezo_edge_(\w+)\((.*)\)", call("declarations").text.decode()):
+    _kinds[name] = re.findall(r": (\w+), ", parameters)
+    _functions[name].argtypes = [_TYPES.get(kind, _List) for kind in _kinds[name]]
 
 REFUSAL_TEXTS = {int(line.partition(" ")[0]): line.partition(" ")[2] for line in call("refusals").text.decode().splitlines()}
 """What the numbers of refusals mean; docs/REFUSALS.md has examples and remedies."""

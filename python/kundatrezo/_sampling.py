@@ -1,28 +1,157 @@
-"""Any number of shots of a job, in blocks that have words of their own: the crate runs them, so that counts are those of the program's `sample`."""
+"""Any number of shots of a job, in blocks that have words of their own, and their counts. The crate runs the blocks, and reads, writes and adds counts,
+so that they are those of the program's `sample` and `merge`."""
 
 from __future__ import annotations
 
+import os
 from collections import deque
 from concurrent.futures import Executor, Future
+from dataclasses import dataclass
 from math import ceil
-from typing import Any, Callable, Iterable, Iterator, Optional
+from pathlib import Path
+from typing import Any, Callable, Iterable, Iterator, Optional, Union
 from warnings import warn
 from weakref import finalize
 
 import numpy as np
 import numpy.typing as npt
 
-from ._counts import Counts
 from ._jobs import Job, Lists, outcome_lists, require_job
-from ._library import Lendable, Words, call, close_sampling, read_words, whole
+from ._library import Lendable, Words, call, read_words, whole
 from ._words import MAX_SHOTS, bits
 
+DRAWS = "xorshift"
+"""The rule by which `sample` draws, as a text of counts names it (docs/SAMPLING.md, 'Blocks and streams')."""
+
 Bytes = npt.NDArray[np.uint8]
+Floats = npt.NDArray[np.float64]
 Count = Callable[[npt.NDArray[np.bool_]], npt.ArrayLike]
 Part = tuple[int, int]
 
 # Blocks of a task at most, and tasks that an executor is given ahead.
 _TASK, _AHEAD = 256, 64
+
+
+def wilson(totals: npt.ArrayLike, shots: int) -> tuple[Floats, Floats]:
+    """Wilson's score interval at 95 percent of the rates of totals among shots: its lower and its upper ends. Of no shots nothing is known: 0 to 1.
+
+    >>> [float(end.round(4)) for end in wilson(10, 100)]
+    [0.0552, 0.1744]
+    """
+    rates = _rates(np.asarray(totals), whole(shots, "shots"))
+    return rates[:, 1].reshape(np.shape(totals)), rates[:, 2].reshape(np.shape(totals))
+
+
+def _rates(totals: Lendable, shots: int) -> Floats:
+    """For each total among shots a row: its rate, and the two ends of its interval."""
+    return call("rates", read_words(totals), shots).words.view(np.float64).reshape(-1, 3)
+
+
+@dataclass(frozen=True, eq=False)
+class Counts:
+    """In how many shots outcomes and the parities of sets of outcomes are flipped. Counts are equal if their texts are. Those of other parts of a sample,
+    and those of other seeds, are added by `+` and `sum`.
+
+    >>> job = Job("op=job qubits=1 outcomes=1 shots=1\\nop=n p=3fe0000000000000 corr=- cond=- parity=0 d=1 x=0 z=- size=1\\nop=o x=- z=0 id=0\\n")
+    >>> parts = [sample(job, 10_000, seed=1, part=(place, 3)) for place in (1, 2, 3)]
+    >>> sum(parts) == sample(job, 10_000, seed=1) == Counts.of_text(sum(parts).text())
+    True
+    """
+
+    saved: str
+    """The text."""
+    shots: int
+    """The shots that are counted."""
+    totals: Words
+    """For each outcome of the header; `rates` are the parts of the shots that these are, `intervals` Wilson's, a row of two ends each."""
+    set_totals: Words
+    """For each set, with `set_rates` and `set_intervals`."""
+    counted: Optional[int]
+    """The shots that the caller's own function counts; None if there is no such function."""
+    seeds: tuple[int, ...]
+    """The seeds of all samples."""
+    sets: tuple[tuple[int, ...], ...]
+    """The sets whose parities are counted."""
+    missing: str
+    """What is missing of a sample of which not all parts are counted; empty if nothing is."""
+    job: Optional[Job] = None
+    """The job; None if the counts were read without it."""
+
+    @staticmethod
+    def read(path: Union[str, os.PathLike[str]], job: Optional[Job] = None) -> Counts:
+        """The counts of a file, in which `text` was saved, here, by the program or by the Rust crate."""
+        return Counts.of_text(Path(path).read_bytes().decode(errors="replace"), job)
+
+    @staticmethod
+    def of_text(text: str, job: Optional[Job] = None) -> Counts:
+        """The counts of a text, and with their job, if it is given. A text that is cut off or was changed is a ValueError."""
+        found = call("counts_read", text.encode(), b"" if job is None else job.text)
+        shots, rest, lists = int(found.words[0]), found.words[1:], []
+        while rest.size:
+            lists.append(rest[1 : 1 + int(rest[0])])
+            rest = rest[1 + int(rest[0]) :]
+        totals, set_totals, *others = lists
+        counted, seeds, *sets = (tuple(list_.tolist()) for list_ in others)
+        return Counts(text, shots, totals, set_totals, counted[0] if counted else None, seeds, tuple(sets), found.text.decode(), job)
+
+    def text(self) -> str:
+        """The counts as they are saved: what the program's `sample` prints, so that its `merge`, `Counts.of_text` and the Rust crate read them."""
+        return self.saved
+
+    @property
+    def seed(self) -> int:
+        """The seed of a sample; an error if counts of several were added."""
+        if len(self.seeds) > 1:
+            raise ValueError("these counts have several seeds: see `seeds`")
+        return self.seeds[0]
+
+    @property
+    def rates(self) -> Floats:
+        return _rates(self.totals, self.shots)[:, 0]
+
+    @property
+    def set_rates(self) -> Floats:
+        return _rates(self.set_totals, self.shots)[:, 0]
+
+    @property
+    def intervals(self) -> Floats:
+        return _rates(self.totals, self.shots)[:, 1:]
+
+    @property
+    def set_intervals(self) -> Floats:
+        return _rates(self.set_totals, self.shots)[:, 1:]
+
+    def _counted_rates(self) -> list[float]:
+        if self.counted is None:
+            raise ValueError("no function counted these shots: `sample` takes one as count=")
+        return _rates([self.counted], self.shots)[0].tolist()
+
+    @property
+    def counted_rate(self) -> float:
+        """The part of the shots that the caller's own function counts."""
+        return self._counted_rates()[0]
+
+    @property
+    def counted_interval(self) -> tuple[float, float]:
+        """Wilson's interval of that rate."""
+        _, low, high = self._counted_rates()
+        return low, high
+
+    def __eq__(self, other: object) -> bool:
+        return self.saved == other.saved if isinstance(other, Counts) else NotImplemented
+
+    def __hash__(self) -> int:
+        return hash(self.saved)
+
+    def __add__(self, other: Counts) -> Counts:
+        """The sum with counts of other shots: other parts of a sample, or samples of other seeds, of the same job and sets."""
+        if not isinstance(other, Counts):
+            return NotImplemented
+        return Counts.of_text(call("counts_add", self.saved.encode(), other.saved.encode()).text.decode(), self.job or other.job)
+
+    def __radd__(self, other: object) -> Counts:
+        # `sum` begins with 0
+        return self if isinstance(other, int) and other == 0 else NotImplemented
 
 
 def sample(
@@ -144,7 +273,7 @@ class _Sampling:
     def __init__(self, plan: _Plan) -> None:
         opened = call("sampling_open", *plan)
         self.handle = opened.count
-        finalize(self, close_sampling, self.handle)
+        finalize(self, call, "sampling_close", self.handle)
         first, last, self.shots, self.width, self.sums = opened.words.tolist()
         self.blocks = range(first, last)
 

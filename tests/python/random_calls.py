@@ -17,7 +17,7 @@ import numpy as np
 
 import kundatrezo
 from kundatrezo import Circuit, Job, Refused, Rows
-from kundatrezo._library import _CALLS, _calls, _free, _List, call, close_sampling
+from kundatrezo._library import _functions, _kinds, _List, call
 
 BORDERS = [0, 1, 63, 64, 65, 255, 256, 257, 1023, 1024, 1025, 4095, 4096, 4097, 2**32, 2**63, 2**64 - 1]
 PROBABILITIES = [0.0, -0.0, 5e-324, 0.25, 1.0, 1.0000000000000002, float("inf"), float("-inf"), float("nan")]
@@ -170,11 +170,11 @@ class Calls:
             "counts_add": [counts_text, self.damaged(counts_text)],
             "rates": [list_(self.near(3)), self.number(9)],
             "refusals": [],
+            "declarations": [],
         }
         for name, given in arguments.items():
             self.make(f"kundatrezo_edge_{name}", lambda: call(name, *given))
-        names = {f"sampling_{name}" for name in ("open", "run", "text", "close")} | {"free"}
-        assert arguments.keys() | names == _CALLS.keys()
+        assert arguments.keys() | {f"sampling_{name}" for name in ("open", "run", "text", "close")} == _kinds.keys()
         self.make("kundatrezo_edge_sampling", lambda: self.sampling(job, flat))
 
     def sampling(self, job: Job, sets: np.ndarray) -> None:
@@ -189,7 +189,7 @@ class Calls:
             call("sampling_run", opened.count, first, last, packed, sums, list_(self.near(shots % 4096)))
             call("sampling_text", opened.count, sums, self.random.randrange(2), packed is not None)
         finally:
-            close_sampling(opened.count)
+            call("sampling_close", opened.count)
 
 
 def choice_of(generator: random.Random, most: int) -> int:
@@ -204,7 +204,7 @@ def choice_of_texts(generator: random.Random, whole: bytes, damaged: bytes) -> b
 def control() -> None:
     """Lend a job that is said to be longer than it is."""
     job = np.frombuffer(b"op=job qubits=1 outcomes=0 shots=1\n" * 40, dtype=np.uint8).copy()
-    _free(_calls["examine"][0](_List(job.ctypes.data + 35 * 39, 200)))
+    _functions["free"](_functions["examine"](_List(job.ctypes.data + 35 * 39, 200)))
 
 
 def main() -> None:

@@ -40,7 +40,11 @@ macro_rules! calls {
             $(let $parameter = unsafe { $parameter.lent() };)*
             Reply::of(move || $body)
         }
-    )*};
+    )*
+
+    /// The calls with their parameters, a line each, for callers that make their table of calls from it.
+    const DECLARATIONS: &str = concat!($(stringify!($name), "(", $(stringify!($parameter), ": ", stringify!($kind), ", ",)* ")\n"),*);
+    };
 }
 
 calls! {
@@ -182,6 +186,13 @@ calls! {
         sampling.text(sums, is_counted == 1, is_lent == 1).map(Given::text)
     }
 
+    /// Close a sampling, whose handle is not used any more.
+    fn kundatrezo_edge_sampling_close(sampling: Handle) {
+        // SAFETY: the caller's promise
+        unsafe { sampling.close() };
+        Ok(Given::default())
+    }
+
     /// Notes on conditions of a job that is sampled, a line each.
     fn kundatrezo_edge_condition_notes(job: Bytes, is_given: u64) {
         Ok(Given::text(condition_notes(job, is_given == 1, "noiseless=", "noiseless_shots=").join("\n")))
@@ -221,22 +232,16 @@ calls! {
         Ok(Given::words(totals.iter().flat_map(row)))
     }
 
+    /// The calls with their parameters: a line `NAME(PARAMETER: KIND, ..)` each. This one has no parameters.
+    fn kundatrezo_edge_declarations() {
+        Ok(Given::text(DECLARATIONS))
+    }
+
     /// What the numbers of refusals mean: a line with the number and its words each.
     fn kundatrezo_edge_refusals() {
         let line = |number: &Number| format!("{} {}\n", number.get(), number.words());
         Ok(Given::text(Number::ALL.iter().map(line).collect::<String>()))
     }
-}
-
-/// Close a sampling.
-///
-/// # Safety
-///
-/// That of [every call](self#safety); nothing uses the handle any more.
-#[unsafe(no_mangle)]
-pub unsafe extern "C" fn kundatrezo_edge_sampling_close(sampling: Handle) {
-    // SAFETY: the caller's promise
-    unsafe { Sampling::close(sampling) }
 }
 
 /// Free a reply.
@@ -369,6 +374,6 @@ mod tests {
         assert_eq!(text, saved.text());
         let short = taken(unsafe { kundatrezo_edge_sampling_text(handle, words(&sums[1..]), 0, 0) });
         assert_eq!((short.0, short.3.as_str()), (FAULT, "9 sums, and this sampling has 10"));
-        unsafe { kundatrezo_edge_sampling_close(handle) };
+        taken(unsafe { kundatrezo_edge_sampling_close(handle) });
     }
 }

@@ -82,10 +82,10 @@ impl Sampling {
     ///
     /// # Safety
     ///
-    /// The handle is that of an open sampling, and nothing uses it any more.
-    pub unsafe fn close(handle: Handle) {
+    /// This is the sampling of a handle, which is not used any more.
+    pub unsafe fn close(&'static mut self) {
         // SAFETY: the caller's promise
-        drop(unsafe { Box::from_raw(handle.0) });
+        drop(unsafe { Box::from_raw(self) });
     }
 
     /// The first block of the part, the one after its last, the shots of the whole, the bits of a row, and the length of the sums.
