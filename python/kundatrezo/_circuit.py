@@ -32,11 +32,9 @@ def _numbers(numbers: Iterable[int], name: str = "qubits", each: str = "") -> li
     for number in given:
         try:
             # those of numpy and of other libraries are whole numbers, too
-            is_whole = not isinstance(number, (bool, np.bool_)) and operator.index(number) is not None
+            operator.index("" if isinstance(number, (bool, np.bool_)) else number)
         except TypeError:
-            is_whole = False
-        if not is_whole:
-            raise TypeError(f"{name} are to be whole numbers{each}, not {number!r}")
+            raise TypeError(f"{name} are to be whole numbers{each}, not {number!r}") from None
     return [whole(number, f"each of the {name}") for number in given]
 
 
@@ -108,9 +106,7 @@ class Circuit:
 
     def __init__(self) -> None:
         self._lines: list[str] = []
-        self._qubits = 1
-        self._outcomes = 0
-        self._edition = 1
+        self._qubits, self._outcomes, self._edition = 1, 0, 1
 
     def __repr__(self) -> str:
         return f"<Circuit of {len(self._lines)} lines>"
@@ -141,9 +137,8 @@ class Circuit:
 
     def clifford(self, qubits: Sequence[int], x_images: Sequence[Pauli], z_images: Sequence[Pauli]) -> Circuit:
         """Any Clifford of up to eight qubits, by the images of X and of Z on each of them, in their order. An image names qubits by their numbers."""
-        numbers = _numbers(qubits)
+        numbers, x_images, z_images = _numbers(qubits), list(x_images), list(z_images)
         k = len(numbers)
-        x_images, z_images = list(x_images), list(z_images)
         if not len(x_images) == len(z_images) == k:
             raise ValueError(f"a Clifford on {k} qubits has {k} images of X and {k} of Z, not {len(x_images)} and {len(z_images)}")
         table = 0

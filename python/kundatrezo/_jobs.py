@@ -12,11 +12,10 @@ from warnings import warn
 import numpy as np
 import numpy.typing as npt
 
-from ._library import Given, Lendable, Refused, Words, binary64, call, read_words, whole, written_words
+from ._library import Given, Lendable, Words, binary64, call, read_words, whole, written_words
 from ._words import MAX_OUTCOMES as MAX_OUTCOMES, MAX_SHOTS as MAX_SHOTS, bits
 
-MAX_BYTES = 1_048_576
-MAX_GROUPS = 16
+MAX_BYTES, MAX_GROUPS = 1_048_576, 16
 
 Lists = Sequence[Sequence[int]]
 """Lists of outcomes."""
@@ -45,9 +44,8 @@ class Rows:
     job, and a run takes only those of its own job's shape."""
 
     x: Words
-    """The X part of the frames, a row for each qubit."""
     z: Words
-    """The Z part of the frames, a row for each qubit."""
+    """The X and the Z part of the frames, a row for each qubit."""
     deltas: Words
     """A row for each outcome of the header: where a bit is 1, the outcome differs from the noiseless one."""
     totals: Words
@@ -108,15 +106,9 @@ class Job:
         if not isinstance(text, (str, bytes, bytearray, memoryview)):
             remedy = ": Job.read(path) reads a file" if isinstance(text, os.PathLike) else ""
             raise TypeError(f"the text of a job is to be a str or bytes, and not of {type(text).__name__}{remedy}")
-        is_path = isinstance(text, str) and text and "\n" not in text and not text.startswith("op=")
-        text = text.encode() if isinstance(text, str) else bytes(text)
-        try:
-            numbers = call("examine", text).words.tolist()
-        except Refused as refusal:
-            if is_path:
-                raise refusal.with_hint("Job(text) takes the text of a job: Job.read(path) reads a file") from None
-            raise
-        for name, value in zip(self.__slots__, (text, *numbers)):
+        given = text.encode() if isinstance(text, str) else bytes(text)
+        numbers = call("examine", given, isinstance(text, str)).words.tolist()
+        for name, value in zip(self.__slots__, (given, *numbers)):
             object.__setattr__(self, name, value)
 
     def __setattr__(self, name: str, value: object) -> None:

@@ -76,10 +76,6 @@ class Refused(ValueError):
         self.number, self.line, self.line_text, self.bytes_needed, self.hint, self.cause = number, line, line_text, bytes_needed, hint, cause
         super().__init__(number, line, line_text, bytes_needed, hint, cause)
 
-    def with_hint(self, hint: str) -> Refused:
-        """The same with another hint."""
-        return Refused(self.number, self.line, self.line_text, self.bytes_needed, hint, self.cause)
-
     @property
     def text(self) -> str:
         """What the number means."""

@@ -63,9 +63,15 @@ class Counts:
     shots: int
     """The shots that are counted."""
     totals: Words
-    """For each outcome of the header; `rates` are the parts of the shots that these are, `intervals` Wilson's, a row of two ends each."""
+    """For each outcome of the header the shots that flip it."""
+    rates: Floats
+    """The part of the shots that these are."""
+    intervals: Floats
+    """Wilson's interval of the rate of each outcome: a row of its two ends."""
     set_totals: Words
-    """For each set, with `set_rates` and `set_intervals`."""
+    set_rates: Floats
+    set_intervals: Floats
+    """The same for the parity of each set."""
     counted: Optional[int]
     """The shots that the caller's own function counts; None if there is no such function."""
     seeds: tuple[int, ...]
@@ -90,9 +96,9 @@ class Counts:
         while rest.size:
             lists.append(rest[1 : 1 + int(rest[0])])
             rest = rest[1 + int(rest[0]) :]
-        totals, set_totals, *others = lists
-        counted, seeds, *sets = (tuple(list_.tolist()) for list_ in others)
-        return Counts(text, shots, totals, set_totals, counted[0] if counted else None, seeds, tuple(sets), found.text.decode(), job)
+        counted, seeds, *sets = (tuple(list_.tolist()) for list_ in lists[2:])
+        of_outcomes, of_sets = ((totals, _rates(totals, shots)[:, 0], _rates(totals, shots)[:, 1:]) for totals in lists[:2])
+        return Counts(text, shots, *of_outcomes, *of_sets, counted[0] if counted else None, seeds, tuple(sets), found.text.decode(), job)
 
     def text(self) -> str:
         """The counts as they are saved: what the program's `sample` prints, so that its `merge`, `Counts.of_text` and the Rust crate read them."""
@@ -104,22 +110,6 @@ class Counts:
         if len(self.seeds) > 1:
             raise ValueError("these counts have several seeds: see `seeds`")
         return self.seeds[0]
-
-    @property
-    def rates(self) -> Floats:
-        return _rates(self.totals, self.shots)[:, 0]
-
-    @property
-    def set_rates(self) -> Floats:
-        return _rates(self.set_totals, self.shots)[:, 0]
-
-    @property
-    def intervals(self) -> Floats:
-        return _rates(self.totals, self.shots)[:, 1:]
-
-    @property
-    def set_intervals(self) -> Floats:
-        return _rates(self.set_totals, self.shots)[:, 1:]
 
     def _counted_rates(self) -> list[float]:
         if self.counted is None:
@@ -179,7 +169,7 @@ def sample(
     """
     plan, given = _planned(job, shots, seed, sets, part, named, noiseless, noiseless_shots)
     sampling = _Sampling(plan)
-    blocks, sums = sampling.blocks, sampling.no_counts()
+    blocks, sums = sampling.blocks, sampling.sums
     size = min(_TASK, max(1, ceil(len(blocks) / _AHEAD)))
     tasks = ((first, min(first + size, blocks.stop)) for first in blocks[::size])
     for done in _done(((plan, first, last, _slice(given, first, last), count) for first, last in tasks), executor):
@@ -196,7 +186,7 @@ def sample_shots(
     plan, given = _planned(job, shots, seed, sets, part, named, noiseless, noiseless_shots)
     sampling = _Sampling(plan)
     for block in sampling.blocks:
-        rows = sampling.rows(block, _slice(given, block, block + 1), sampling.no_counts())
+        rows = sampling.rows(block, _slice(given, block, block + 1))
         yield rows.view(np.uint8)[:, : ceil(sampling.width / 8)] if packed else bits(rows, sampling.width)
 
 
@@ -248,19 +238,18 @@ def _done(calls: Iterable[tuple[Any, ...]], executor: Optional[Executor]) -> Ite
 
 
 def _task(plan: _Plan, first: int, last: int, given: Optional[Bytes], count: Optional[Count]) -> Words:
-    """The counts of some blocks, as `_Sampling.no_counts` has them."""
+    """The counts of some blocks, as `_Sampling.sums` has them."""
     sampling = _Sampling(plan)
-    sums = sampling.no_counts()
     if count is None:
-        sampling.run(first, last, given, sums, np.empty(0, dtype=np.uint64))
-        return sums
+        sampling.run(first, last, given, np.empty(0, dtype=np.uint64))
+        return sampling.sums
     for block in range(first, last):
-        rows = sampling.rows(block, _slice(given, block - first, block - first + 1), sums)
+        rows = sampling.rows(block, _slice(given, block - first, block - first + 1))
         counted = np.asarray(count(bits(rows, sampling.width)))
         if counted.shape != (len(rows),):
             raise ValueError(f"count is to say for each of {len(rows)} shots whether it counts, and gives an array of shape {counted.shape}")
-        sums[1] += np.uint64(np.count_nonzero(counted))
-    return sums
+        sampling.sums[1] += np.uint64(np.count_nonzero(counted))
+    return sampling.sums
 
 
 # What is sampled: it goes to each worker, which opens a sampling by it.
@@ -274,19 +263,17 @@ class _Sampling:
         opened = call("sampling_open", *plan)
         self.handle = opened.count
         finalize(self, call, "sampling_close", self.handle)
-        first, last, self.shots, self.width, self.sums = opened.words.tolist()
+        first, last, self.shots, self.width, sums = opened.words.tolist()
         self.blocks = range(first, last)
+        # the shots, those that a function counts, the totals of outcomes, those of sets
+        self.sums = np.zeros(sums, dtype=np.uint64)
 
-    def no_counts(self) -> Words:
-        """Sums to add to: the shots, those that a function counts, the totals of outcomes, those of sets."""
-        return np.zeros(self.sums, dtype=np.uint64)
-
-    def run(self, first: int, last: int, given: Optional[Bytes], sums: Words, rows: Words) -> None:
+    def run(self, first: int, last: int, given: Optional[Bytes], rows: Words) -> None:
         """Run blocks and add their counts; write the shots of the last as rows, if there is room for them."""
-        call("sampling_run", self.handle, first, last, None if given is None else given.reshape(-1), sums, rows.reshape(-1))
+        call("sampling_run", self.handle, first, last, None if given is None else given.reshape(-1), self.sums, rows.reshape(-1))
 
-    def rows(self, block: int, given: Optional[Bytes], sums: Words) -> Words:
+    def rows(self, block: int, given: Optional[Bytes]) -> Words:
         """Run a block and add its counts; its shots as rows, with a bit for each set, or for each outcome if there are no sets."""
         rows = np.zeros((min(MAX_SHOTS, self.shots - block * MAX_SHOTS), ceil(self.width / 64)), dtype=np.uint64)
-        self.run(block, block + 1, given, sums, rows)
+        self.run(block, block + 1, given, rows)
         return rows

@@ -9,8 +9,7 @@ import numpy.typing as npt
 
 from ._library import Refused, Words, call, read_words, whole, written_words
 
-MAX_SHOTS = 4_096
-MAX_OUTCOMES = 1_024
+MAX_SHOTS, MAX_OUTCOMES = 4_096, 1_024
 
 
 def fill(seed: int, words: Union[Words, int]) -> Words:

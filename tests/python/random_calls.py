@@ -149,7 +149,7 @@ class Calls:
         lists = self.random.choice([flat, flat, flat, list_(self.near(3))])
         counts_text = kundatrezo.sample(job.with_shots(1), 70, 1, [ids], named="block").text().encode()
         arguments = {
-            "examine": [text],
+            "examine": [text, self.random.randrange(2)],
             "run": [text, *(list_(self.near(need)) for need in (frames, frames, outcomes, job.outcomes)), *draws],
             "settle": [text, *draws],
             "walk": [text, self.number(job.shots), np.array(ids, dtype=np.uint64)],
@@ -204,7 +204,7 @@ def choice_of_texts(generator: random.Random, whole: bytes, damaged: bytes) -> b
 def control() -> None:
     """Lend a job that is said to be longer than it is."""
     job = np.frombuffer(b"op=job qubits=1 outcomes=0 shots=1\n" * 40, dtype=np.uint8).copy()
-    _functions["free"](_functions["examine"](_List(job.ctypes.data + 35 * 39, 200)))
+    _functions["free"](_functions["examine"](_List(job.ctypes.data + 35 * 39, 200), 0))
 
 
 def main() -> None:

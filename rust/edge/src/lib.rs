@@ -48,9 +48,12 @@ macro_rules! calls {
 }
 
 calls! {
-    /// Check a job. Words: qubits, outcomes, shots, recorded, lines.
-    fn kundatrezo_edge_examine(job: Bytes) {
-        let found = examine(job).on(job)?;
+    /// Check a job. A text that may be a path, which isn't known to be the content of a file, has a hint of its own if it is one. Words: qubits,
+    /// outcomes, shots, recorded, lines.
+    fn kundatrezo_edge_examine(job: Bytes, may_be_path: u64) {
+        let is_path = may_be_path == 1 && !job.is_empty() && !job.contains(&b'\n') && !job.starts_with(b"op=");
+        let hint = is_path.then(|| "Job(text) takes the text of a job: Job.read(path) reads a file".to_owned());
+        let found = examine(job).map_err(|refusal| Failure::refused(&refusal, job, hint))?;
         Ok(Given::words([found.qubits, found.outcomes, found.shots, found.recorded, found.lines].map(|number| number as u64)))
     }
 
@@ -331,7 +334,7 @@ mod tests {
     fn refusals_have_their_line_and_hint() {
         let job = b"op=job qubits=1 outcomes=0 shots=1\nop=u g=H q=0\n";
         // SAFETY: slices, here and below
-        let (number, line, _, text, _) = taken(unsafe { kundatrezo_edge_examine(bytes(job)) });
+        let (number, line, _, text, _) = taken(unsafe { kundatrezo_edge_examine(bytes(job), 0) });
         assert_eq!((number, line), (2, 2));
         assert_eq!(text, "\0g= is the code of a gate: Hadamard is 4\0op=u g=H q=0");
         let sets = [2, 3, 9];
