@@ -13,10 +13,10 @@ The calls are those of the engine, which is proved, by the Rust crate. The crate
 """
 
 from ._circuit import GATES, Circuit, Pauli
-from ._jobs import MAX_BYTES, MAX_GROUPS, MAX_OUTCOMES, MAX_SHOTS, FaultTable, Job, Mechanism, Rows, error_model, make_job, mechanisms
-from ._library import REFUSAL_TEXTS, Refused
+from ._jobs import FaultTable, Job, Mechanism, Rows, error_model, make_job, mechanisms
+from ._library import MAX_BYTES, MAX_GROUPS, MAX_OUTCOMES, MAX_SHOTS, REFUSAL_TEXTS, Refused
+from ._library import bits, by_outcome, by_shot, fill, pack_bits, state_of_block, state_of_seed
 from ._sampling import DRAWS, Counts, sample, sample_shots, wilson
-from ._words import bits, by_outcome, by_shot, fill, pack_bits, state_of_block, state_of_seed
 
 # the name that users know
 Refused.__module__ = "kundatrezo"

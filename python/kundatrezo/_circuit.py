@@ -23,6 +23,9 @@ Pauli = Union[str, Mapping[int, str]]
 """A Pauli without its sign: a text such as "X0 Y1 Z2", or the letter of each qubit. The empty one is the identity."""
 
 
+_EACH = ", each an argument of its own"
+
+
 def _numbers(numbers: Iterable[int], name: str = "qubits", each: str = "") -> list[int]:
     """Numbers that a caller gives. Nothing is rounded, or read from a text."""
     try:
@@ -36,10 +39,6 @@ def _numbers(numbers: Iterable[int], name: str = "qubits", each: str = "") -> li
         except TypeError:
             raise TypeError(f"{name} are to be whole numbers{each}, not {number!r}") from None
     return [whole(number, f"each of the {name}") for number in given]
-
-
-def _qubits(arguments: tuple[int, ...]) -> list[int]:
-    return _numbers(arguments, each=", each an argument of its own")
 
 
 def _letters(pauli: Pauli) -> dict[int, str]:
@@ -63,10 +62,6 @@ def _list(numbers: Iterable[int]) -> str:
     return ",".join(map(str, numbers)) or "-"
 
 
-def _outcomes(outcomes: Iterable[int]) -> str:
-    return _list(sorted(_numbers(outcomes, "outcomes")))
-
-
 def _parts(pauli: Pauli, x: str = "x", z: str = "z") -> str:
     x_part, z_part = (_list(qubit for qubit, letter in _letters(pauli).items() if letter in part) for part in ("XY", "ZY"))
     return f"{x}={x_part} {z}={z_part}"
@@ -83,7 +78,7 @@ def _digits(number: float, most: float, what: str) -> str:
 def _noise(p: float, corr: Optional[int], cond: Iterable[int], parity: int) -> str:
     number = "-" if corr is None else whole(corr, "corr")
     digits = _digits(p, 1, "p is a probability, from 0 to 1")
-    return f"op=n p={digits} corr={number} cond={_outcomes(cond)} parity={whole(parity, 'parity')}"
+    return f"op=n p={digits} corr={number} cond={_list(sorted(_numbers(cond, 'outcomes')))} parity={whole(parity, 'parity')}"
 
 
 class Circuit:
@@ -132,7 +127,7 @@ class Circuit:
         name = _ALIASES.get(name, name)
         if name not in GATES:
             raise ValueError(f"there is no gate '{name}'; those that there are: {', '.join(GATES)}; and for short {', '.join(_ALIASES)}")
-        numbers = _qubits(qubits)
+        numbers = _numbers(qubits, each=_EACH)
         return self._add(f"op=u g={GATES[name]} q={_list(numbers)}", qubits=numbers, edition=2 if name == "ControlledY" else 1)
 
     def clifford(self, qubits: Sequence[int], x_images: Sequence[Pauli], z_images: Sequence[Pauli]) -> Circuit:
@@ -183,16 +178,17 @@ class Circuit:
 
     def conditional(self, pauli: Pauli, outcomes: Iterable[int], parity: int = 1) -> Circuit:
         """A Pauli that is applied by the parity of outcomes."""
-        return self._add(f"op=f {_parts(pauli)} id={_outcomes(outcomes)} parity={whole(parity, 'parity')}", qubits=_letters(pauli))
+        condition = f"id={_list(sorted(_numbers(outcomes, 'outcomes')))} parity={whole(parity, 'parity')}"
+        return self._add(f"op=f {_parts(pauli)} {condition}", qubits=_letters(pauli))
 
     def reset(self, *qubits: int) -> Circuit:
         """Reset qubits."""
-        numbers = _qubits(qubits)
+        numbers = _numbers(qubits, each=_EACH)
         return self._add(*(f"op=z q={qubit}" for qubit in numbers), qubits=numbers)
 
     def barrier(self, *qubits: int) -> Circuit:
         """A barrier, which does nothing."""
-        numbers = _qubits(qubits)
+        numbers = _numbers(qubits, each=_EACH)
         return self._add(f"op=b q={_list(numbers)}", qubits=numbers, edition=2)
 
     def inject(self, shot: int, pauli: Pauli) -> Circuit:
@@ -205,7 +201,7 @@ class Circuit:
 
     def depolarize(self, p: float, *qubits: int, corr: Optional[int] = None, cond: Iterable[int] = (), parity: int = 0) -> Circuit:
         """With probability p one of all Paulis on the qubits but the identity, each as likely."""
-        numbers = _qubits(qubits)
+        numbers = _numbers(qubits, each=_EACH)
         return self._add(f"{_noise(p, corr, cond, parity)} d=2 q={_list(numbers)} size={4 ** len(numbers) - 1}", qubits=numbers)
 
     def fault(self, p: float, pauli: Pauli, *, corr: Optional[int] = None, cond: Iterable[int] = (), parity: int = 0) -> Circuit:

@@ -12,26 +12,19 @@ from warnings import warn
 import numpy as np
 import numpy.typing as npt
 
-from ._library import Given, Lendable, Words, binary64, call, read_words, whole, written_words
-from ._words import MAX_OUTCOMES as MAX_OUTCOMES, MAX_SHOTS as MAX_SHOTS, bits
-
-MAX_BYTES, MAX_GROUPS = 1_048_576, 16
+from ._library import Given, Lendable, Words, binary64, bits, call, read_words, whole, written_words
 
 Lists = Sequence[Sequence[int]]
 """Lists of outcomes."""
 Seed = Optional[int]
 
 
-def require_job(job: Job) -> None:
-    """That a job is none of the things that are easily taken for one."""
+def outcome_lists(job: Job, what: str, lists: Lists) -> Words:
+    """Lists of outcomes as one list, with the length of each before it, in rising order: that in which a caller names them plays no part. `Refused`
+    by 17 if one is not recorded, or named twice. A job is none of the things that are easily taken for one."""
     if not isinstance(job, Job):
         remedy = "circuit.job() makes one" if callable(getattr(job, "job", None)) else "Job.read(path) reads one"
         raise TypeError(f"job is to be a Job, and not of {type(job).__name__}: {remedy}")
-
-
-def outcome_lists(job: Job, what: str, lists: Lists) -> Words:
-    """Lists of outcomes as one list, with the length of each before it, in rising order: that in which a caller names them plays no part. `Refused`
-    by 17 if one is not recorded, or named twice."""
     if any(np.ndim(list_) != 1 for list_ in lists):
         raise TypeError(f"{what}s is to be a list of lists of outcomes, such as [[4, 5]]")
     parts = [part for list_ in lists for part in (read_words([len(list_)]), read_words(list_))]
@@ -73,14 +66,12 @@ class Rows:
 
 
 class FaultTable(NamedTuple):
-    """The table of single faults: a row for each element of each noise line."""
+    """The table of single faults, a row for each element of each noise line: the `line` of the noise in the job, from 1, the `element` of its
+    distribution, from 0, and in `flips` a column for each group: whether this fault alone changes the sum of the group's outcomes."""
 
     line: npt.NDArray[np.int64]
-    """The line of the noise in the job, from 1."""
     element: npt.NDArray[np.int64]
-    """The element of its distribution, from 0."""
     flips: npt.NDArray[np.bool_]
-    """A column for each group: whether this fault alone changes the sum of the group's outcomes."""
 
 
 class Job:
@@ -214,16 +205,13 @@ def make_job(qubits: int, outcomes: int, shots: int, lines: int, seed: int) -> J
 
 @dataclass
 class Mechanism:
-    """A way in which a fault may fall."""
+    """A way in which a fault may fall: the noise `line` in the job, from 1, the first if several fall together; the `element` of its distribution,
+    from 0; its probability `p`, in shots in which the condition of the line, if there is one, holds; and which detectors, then observables, it `flips`."""
 
     line: int
-    """The noise line in the job, from 1; the first where several fall together."""
     element: int
-    """The element of its distribution, from 0."""
     p: float
-    """Its probability, in shots in which the condition of its noise line, if there is one, holds."""
     flips: npt.NDArray[np.bool_]
-    """Which detectors, then which observables, it flips."""
 
 
 def mechanisms(job: Job, detectors: Lists, observables: Lists = ()) -> list[Mechanism]:
@@ -244,5 +232,5 @@ def error_model(job: Job, detectors: Lists, observables: Lists = ()) -> str:
 
 
 def _model(job: Job, detectors: Lists, observables: Lists) -> Given:
-    require_job(job)
-    return call("error_model", job.text, outcome_lists(job, "detector", detectors), outcome_lists(job, "observable", observables))
+    lists = outcome_lists(job, "detector", detectors), outcome_lists(job, "observable", observables)
+    return call("error_model", job.text, *lists)

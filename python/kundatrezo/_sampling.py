@@ -16,9 +16,8 @@ from weakref import finalize
 import numpy as np
 import numpy.typing as npt
 
-from ._jobs import Job, Lists, outcome_lists, require_job
-from ._library import Lendable, Words, call, read_words, whole
-from ._words import MAX_SHOTS, bits
+from ._jobs import Job, Lists, outcome_lists
+from ._library import MAX_SHOTS, Lendable, Words, bits, call, read_words, whole
 
 DRAWS = "xorshift"
 """The rule by which `sample` draws, as a text of counts names it (docs/SAMPLING.md, 'Blocks and streams')."""
@@ -159,9 +158,8 @@ def sample(
     booleans with a row for each shot, and gives for each shot whether it counts. Processes need one that can be pickled.
 
     `part` is (I, K) for the I-th of K parts of the shots, from 1, as the program's --part: the counts of all parts, here or on other machines, add up to
-    those of the whole.
-
-    A job with injections or flips wants `named`: "whole", they stand in the shots of the whole that they name, or "block", in those of each block.
+    those of the whole. A job with injections or flips needs `named`: "whole", they stand in the shots of the whole that they name, or "block", in those
+    of each block.
 
     `noiseless` has noiseless bits for the job's own shots, in the layout of deltas, which come again: shot s has those of s mod `job.shots`.
     `noiseless_shots` has them for each shot, a row of packed bytes, eight outcomes to a byte, the lowest first. Without them all are 0; a warning says
@@ -195,7 +193,7 @@ def _planned(
 ) -> tuple[_Plan, Optional[Bytes]]:
     """What is sampled, tested, and the noiseless bits of each shot, if they are given. Says that noise with a condition looks at noiseless bits that are
     not given, or at those of a random outcome."""
-    require_job(job)
+    rising = outcome_lists(job, "set", sets)
     shots, seed = whole(shots, "shots", least=1), whole(seed, "a seed")
     if not (isinstance(part, tuple) and len(part) == 2 and 1 <= whole(part[0], "part") <= whole(part[1], "part")):
         raise ValueError(f"part is to be (I, K), with I from 1 to K, not {part!r}")
@@ -203,7 +201,7 @@ def _planned(
     if rows is not None and (rows.size != needed[0] * needed[1] or (np.ndim(noiseless) > 1 and np.shape(noiseless) != needed)):
         header = f"the header's outcomes={job.outcomes} and shots={job.shots} need exactly {needed[0] * needed[1]}, shape {needed}"
         raise ValueError(f"noiseless bits of {rows.size} words, shape {np.shape(noiseless)}, but {header}")
-    plan = (job.text, shots, seed, (named or "").encode(), rows, outcome_lists(job, "set", sets), *part)
+    plan = (job.text, shots, seed, (named or "").encode(), rows, rising, *part)
     if noiseless_shots is None:
         for note in call("condition_notes", job.text, int(noiseless is not None)).text.decode().splitlines():
             warn(note, stacklevel=3)

@@ -28,7 +28,7 @@ def test_documentation(monkeypatch):
     monkeypatch.chdir(REPOSITORY)
     for name in ["README.md", "python/README.md"]:
         assert doctest.testfile(str(REPOSITORY / name), module_relative=False).failed == 0
-    for name in ["", "._jobs", "._circuit", "._library", "._sampling", "._words"]:
+    for name in ["", "._jobs", "._circuit", "._library", "._sampling"]:
         assert doctest.testmod(importlib.import_module(f"kundatrezo{name}")).failed == 0
 
 
