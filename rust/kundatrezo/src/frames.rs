@@ -180,6 +180,22 @@ impl Frames {
         Ok(())
     }
 
+    /// For each set of outcomes the sum of its delta rows, modulo 2, one after the other in the place of what `out` held.
+    ///
+    /// # Panics
+    ///
+    /// Panics if a set has an outcome that is not below the header's outcomes.
+    pub fn sums(&self, sets: &[Vec<u64>], out: &mut Vec<u64>) {
+        let words = self.job.words_per_row();
+        out.clear();
+        out.resize(sets.len() * words, 0);
+        for (row, set) in out.chunks_exact_mut(words.max(1)).zip(sets) {
+            for id in set {
+                row.iter_mut().zip(self.delta_row(crate::size(*id))).for_each(|(word, delta)| *word ^= delta);
+            }
+        }
+    }
+
     fn row<'a>(&self, list: &'a [u64], place: usize) -> &'a [u64] {
         let words = self.job.words_per_row();
         &list[place * words..][..words]
