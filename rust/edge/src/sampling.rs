@@ -148,7 +148,9 @@ impl Sampling {
         let (count, deltas) = if self.sets.is_empty() {
             (frames.job().outcomes, frames.deltas())
         } else {
-            frames.sums(&self.sets, &mut self.parities);
+            frames
+                .sums(&self.sets, &mut self.parities)
+                .map_err(|refusal| Failure::refused(&refusal, &self.job, None))?;
             (self.sets.len(), self.parities.as_slice())
         };
         by_shot(count as u64, frames.job().shots as u64, deltas, rows)

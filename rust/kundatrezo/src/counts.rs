@@ -1,7 +1,7 @@
 //! Counts of shots, and the text by which they are saved, read again and added.
 
 use crate::sampler::part_blocks;
-use crate::{Answer, Frames, MAX_OUTCOMES, MAX_SHOTS, Named, Number, Refusal, examine, size};
+use crate::{Answer, Frames, MAX_OUTCOMES, MAX_SHOTS, Named, examine, size};
 use std::error::Error;
 use std::fmt;
 use std::ops::{AddAssign, RangeInclusive};
@@ -69,9 +69,7 @@ impl Counts {
     ///
     /// The refusal by 17 if a set has an outcome that is not below the header's outcomes. Nothing is added then.
     pub fn add(&mut self, frames: &Frames, sets: &[Vec<u64>]) -> Answer {
-        if sets.iter().flatten().any(|id| *id >= frames.job().outcomes as u64) {
-            return Err(Refusal { number: Number::WALK, line: 0, figure: 0 });
-        }
+        frames.require_outcomes(sets)?;
         let parity = |set: &Vec<u64>| {
             let word = |place: usize| set.iter().fold(0, |sum, id| sum ^ frames.delta_row(size(*id))[place]);
             (0..frames.job().words_per_row()).map(|place| u64::from(word(place).count_ones())).sum()
@@ -620,7 +618,7 @@ mod tests {
 
         let mut counts = Counts::default();
         let refusal = counts.add(&Frames::new(), &[vec![0]]).unwrap_err();
-        assert_eq!((refusal.number, counts), (Number::WALK, Counts::default()));
+        assert_eq!((refusal.number, counts), (crate::Number::WALK, Counts::default()));
     }
 
     #[test]
