@@ -12,7 +12,7 @@ from conftest import PROGRAM, REPOSITORY, jobs, program, sets_of
 from hypothesis import given, settings
 from hypothesis import strategies as st
 
-from kundatrezo import DRAWS, Circuit, Counts, Job, sample, sample_shots, words
+from kundatrezo import DRAWS, Circuit, Counts, Job, pack_bits, sample, sample_shots
 
 SYNDROME = Job.read(REPOSITORY / "examples/syndrome.job")
 SETS = [[4, 5, 6], [0], []]
@@ -184,7 +184,7 @@ def test_noiseless_bits_are_named():
     circuit = Circuit()
     circuit.measure("Z0")
     job = circuit.job(10)
-    rows = [words(np.full((1, 10), bit)) for bit in (False, True)]
+    rows = [pack_bits(np.full((1, 10), bit)) for bit in (False, True)]
     counts = [sample(job, 10, seed, noiseless=row) for seed, row in enumerate(rows)]
     assert counts[0] == sample(job, 10, 0, noiseless=rows[0]) and counts[0] != sample(job, 10, 0)
     with pytest.raises(ValueError, match="other options"):

@@ -1,7 +1,7 @@
 //! Counts of shots, and the text by which they are saved, read again and added.
 
 use crate::sampler::part_blocks;
-use crate::{Answer, Frames, MAX_OUTCOMES, MAX_SHOTS, Named, Number, Refusal, size};
+use crate::{Answer, Frames, MAX_OUTCOMES, MAX_SHOTS, Named, examine, size};
 use std::error::Error;
 use std::fmt;
 use std::ops::{AddAssign, RangeInclusive};
@@ -51,15 +51,25 @@ pub struct Counts {
 }
 
 impl Counts {
+    /// The part of the shots that a total among them is: 0 of no shots.
+    #[must_use]
+    pub fn rate(&self, total: u64) -> f64 {
+        rate(total, self.shots)
+    }
+
+    /// Wilson's interval of that rate, at 95 percent.
+    #[must_use]
+    pub fn interval(&self, total: u64) -> [f64; 2] {
+        wilson(total, self.shots)
+    }
+
     /// Add what a run left: the totals that the library has counted, and for each set the ones in the sum of its rows.
     ///
     /// # Errors
     ///
     /// The refusal by 17 if a set has an outcome that is not below the header's outcomes. Nothing is added then.
     pub fn add(&mut self, frames: &Frames, sets: &[Vec<u64>]) -> Answer {
-        if sets.iter().flatten().any(|id| *id >= frames.job().outcomes as u64) {
-            return Err(Refusal { number: Number::WALK, line: 0, figure: 0 });
-        }
+        frames.require_outcomes(sets)?;
         let parity = |set: &Vec<u64>| {
             let word = |place: usize| set.iter().fold(0, |sum, id| sum ^ frames.delta_row(size(*id))[place]);
             (0..frames.job().words_per_row()).map(|place| u64::from(word(place).count_ones())).sum()
@@ -150,6 +160,14 @@ impl SavedCounts {
         self.samples.iter().flat_map(|sample| sample.seeds.iter().copied())
     }
 
+    /// Whether these are counts of this job.
+    #[must_use]
+    pub fn is_of(&self, job: &[u8]) -> bool {
+        let numbers = (self.qubits, self.outcomes, self.recorded);
+        self.job == crc32(job.iter().copied())
+            && examine(job).is_ok_and(|job| (job.qubits, job.outcomes, job.recorded) == numbers)
+    }
+
     /// The shots that a caller's own function counts, in the place of those that the counts have.
     ///
     /// # Errors
@@ -191,7 +209,7 @@ impl SavedCounts {
             option("noiseless", self.noiseless.as_deref()),
         );
         for (name, total) in self.rows() {
-            let (rate, [low, high]) = (rate(total, shots), wilson(total, shots));
+            let (rate, [low, high]) = (self.counts.rate(total), self.counts.interval(total));
             text += &format!("{name} total={total} rate={rate:.6e} low={low:.6e} high={high:.6e}\n");
         }
         text
@@ -600,7 +618,7 @@ mod tests {
 
         let mut counts = Counts::default();
         let refusal = counts.add(&Frames::new(), &[vec![0]]).unwrap_err();
-        assert_eq!((refusal.number, counts), (Number::WALK, Counts::default()));
+        assert_eq!((refusal.number, counts), (crate::Number::WALK, Counts::default()));
     }
 
     #[test]

@@ -60,6 +60,43 @@ pub fn error_model(job: &[u8], detectors: &[Vec<u64>], observables: &[Vec<u64>])
     Ok(ErrorModel { detectors: detectors.len(), observables: observables.len(), mechanisms })
 }
 
+/// The table of single faults, as [`fault_table`] makes it, for any number of groups and of elements: the engine is asked for several tables.
+///
+/// # Errors
+///
+/// As [`error_model`].
+///
+/// ```
+/// let job = b"op=job qubits=1 outcomes=1 shots=1
+/// op=n p=3f847ae147ae147b corr=- cond=- parity=0 d=2 q=0 size=3
+/// op=o x=- z=0 id=0
+/// ";
+/// let faults = kundatrezo::single_faults(job, &vec![vec![0]; 20])?;
+/// assert_eq!((faults[2].line, faults[2].element, faults[2].flips.len()), (2, 2, 20));
+/// assert!(faults[1].flips.is_empty());
+/// # Ok::<(), kundatrezo::Refusal>(())
+/// ```
+pub fn single_faults(job: &[u8], groups: &[Vec<u64>]) -> Answer<Vec<Fault>> {
+    let circuit = Circuit::read(job)?;
+    let flips = all_flips(&circuit, groups)?;
+    let places = circuit
+        .noise()
+        .flat_map(|(line, noise)| (0..crate::size(noise.distribution.size())).map(move |element| (line, element)));
+    Ok(places.zip(flips).map(|((line, element), flips)| Fault { line, element, flips }).collect())
+}
+
+/// A possible fault, and what it flips.
+#[derive(Debug, Clone, PartialEq, Eq, Hash)]
+#[non_exhaustive]
+pub struct Fault {
+    /// The noise line's number in the job, from 1.
+    pub line: usize,
+    /// The element of its distribution, from 0.
+    pub element: usize,
+    /// The groups that it flips, rising.
+    pub flips: Vec<usize>,
+}
+
 /// The groups that each element of a circuit's noise flips, line by line. Tables are made for sixteen groups at a time. If one is too long, they are made
 /// for each half of the noise lines by itself: noise in other lines counts as absent, so that a job without it has the same rows.
 fn all_flips(circuit: &Circuit, groups: &[Vec<u64>]) -> Answer<Vec<Vec<usize>>> {
@@ -199,7 +236,7 @@ pub struct Mechanism {
     /// The correlation of its noise line.
     pub correlation: Option<u64>,
     /// The groups that it flips, rising: detectors, then observables.
-    flips: Vec<usize>,
+    pub flips: Vec<usize>,
     detectors: usize,
 }
 

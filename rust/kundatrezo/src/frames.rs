@@ -1,6 +1,6 @@
 //! Frames and deltas in memory of their own.
 
-use crate::{Answer, Examination, Rows, Source, examine, run};
+use crate::{Answer, Examination, Number, Refusal, Rows, Source, examine, run};
 use std::error::Error;
 use std::fmt;
 use std::ops::BitXorAssign;
@@ -176,6 +176,32 @@ impl Frames {
         for (id, total) in self.totals.iter_mut().enumerate() {
             let words = self.job.words_per_row();
             *total = self.deltas[id * words..][..words].iter().map(|word| u64::from(word.count_ones())).sum();
+        }
+        Ok(())
+    }
+
+    /// For each set of outcomes the sum of its delta rows, modulo 2, one after the other in the place of what `out` held.
+    ///
+    /// # Errors
+    ///
+    /// The refusal by 17 if a set has an outcome that is not below the header's outcomes.
+    pub fn sums(&self, sets: &[Vec<u64>], out: &mut Vec<u64>) -> Answer {
+        self.require_outcomes(sets)?;
+        let words = self.job.words_per_row();
+        out.clear();
+        out.resize(sets.len() * words, 0);
+        for (row, set) in out.chunks_exact_mut(words.max(1)).zip(sets) {
+            for id in set {
+                row.iter_mut().zip(self.delta_row(crate::size(*id))).for_each(|(word, delta)| *word ^= delta);
+            }
+        }
+        Ok(())
+    }
+
+    /// Refuse sets with an outcome that has no row.
+    pub(crate) fn require_outcomes(&self, sets: &[Vec<u64>]) -> Answer {
+        if sets.iter().flatten().any(|id| *id >= self.job.outcomes as u64) {
+            return Err(Refusal { number: Number::WALK, line: 0, figure: 0 });
         }
         Ok(())
     }

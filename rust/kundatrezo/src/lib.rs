@@ -99,6 +99,7 @@ mod error_model;
 mod examination;
 mod float_state;
 mod frames;
+mod growing;
 mod hints;
 mod instructions;
 mod make;
@@ -118,9 +119,10 @@ pub use by_shot::{Shots, by_outcome, by_shot};
 pub use clifford::{MAX_CLIFFORD_QUBITS, clifford_line};
 pub use counts::{Counts, CountsError, DRAWS, SavedCounts, wilson};
 pub use draws::{Draws, Source};
-pub use error_model::{ErrorModel, Mechanism, error_model};
+pub use error_model::{ErrorModel, Fault, Mechanism, error_model, single_faults};
 pub use examination::{Examination, examine};
 pub use frames::{FrameSizeError, Frames, bit};
+pub use growing::{GrowingDraws, WordSource};
 pub use instructions::{
     Circuit, Form, Gate, Header, Instruction, Noise, OutcomeCondition, PauliDistribution, SparsePauli, WeightedPauli,
 };
@@ -128,7 +130,7 @@ pub use make::{JobParameters, make, make_job};
 pub use noise_sizes::{UnknownSizeError, with_sizes};
 pub use output::{FileId, OutputFile, WrittenFile, write_file, written_path};
 pub use refusal::{Answer, Number, Refusal};
-pub use sampler::{Bench, Named, NoiselessSizeError, Sampler, conditions, first_named, named_fault};
+pub use sampler::{Bench, Named, NoiselessSizeError, Sampler, condition_notes, conditions, first_named, named_fault};
 pub use sampler_error::SamplerError;
 pub use shares::{AccountError, Caller, MAX_CALLERS, SharedDraws};
 pub use single_faults::{FaultTable, MAX_GROUPS, SingleFault, fault_table, write_fault_table};

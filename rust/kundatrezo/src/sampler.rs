@@ -3,8 +3,9 @@
 use crate::counts::{DRAWS, Sample, crc32, fault};
 use crate::instructions::write_job;
 use crate::{
-    Answer, Circuit, Counts, CountsError, Draws, Examination, Frames, Header, Instruction, MAX_SHOTS, Noise, Number,
-    PauliDistribution, Refusal, SamplerError, SavedCounts, SparsePauli, Xorshift, bit, examine, size,
+    Answer, Circuit, Counts, CountsError, Draws, Examination, Frames, Header, Instruction, MAX_BYTES, MAX_SHOTS, Noise,
+    Number, PauliDistribution, Refusal, SamplerError, SavedCounts, SparsePauli, Xorshift, bit, by_outcome, examine,
+    size,
 };
 use std::collections::BTreeSet;
 use std::error::Error;
@@ -14,7 +15,7 @@ use std::sync::atomic::{AtomicBool, AtomicU64, Ordering};
 use std::thread;
 
 /// Most words of a list of a block, 2 GiB: no job of main-list noise needs as many.
-const MOST_WORDS: usize = 1 << 28;
+pub(crate) const MOST_WORDS: usize = 1 << 28;
 
 /// In which shots of the whole the injections and flips of a job stand.
 #[derive(Debug, Clone, Copy, Default, PartialEq, Eq, Hash)]
@@ -277,6 +278,35 @@ impl Sampler {
         }
     }
 
+    /// Run a block with noiseless bits for each of its shots: a row of ceil(outcomes / 8) bytes each, with eight outcomes to a byte, the lowest first.
+    ///
+    /// # Errors
+    ///
+    /// As [`run`](Self::run), and 13 if there are too few bytes.
+    pub fn run_packed<'a>(&self, block: u64, bytes: &[u8], bench: &'a mut Bench) -> Answer<&'a Frames> {
+        let Range { start, end } = self.shots_of(block);
+        let outcomes = self.job.outcomes;
+        let word = |bytes: &[u8]| bytes.iter().rev().fold(0, |word, byte| word << 8 | u64::from(*byte));
+        let rows: Vec<u64> =
+            bytes.chunks_exact(outcomes.div_ceil(8).max(1)).flat_map(|row| row.chunks(8).map(word)).collect();
+        bench.noiseless.resize(outcomes * self.row_words(block), 0);
+        by_outcome(outcomes as u64, end - start, &rows, &mut bench.noiseless)?;
+        self.run_lent(block, bench)
+    }
+
+    /// What a user may do about the refusal of a block, if that can be said.
+    #[must_use]
+    pub fn hint(&self, refusal: &Refusal) -> Option<String> {
+        match refusal.number {
+            Number::LENGTH => {
+                Some(format!("with {MAX_SHOTS} shots in its header the job has more than {MAX_BYTES} bytes"))
+            }
+            Number::SHOT => Some(format!("the whole has {} shots", self.shots)),
+            Number::DRAWS => Some(format!("place corr of this line lies past {MOST_WORDS} words, the most of a list")),
+            _ => None,
+        }
+    }
+
     /// How many words the lists of a whole block have, as far as its noise lines tell: the memory of a [`Bench`] is mostly these.
     #[must_use]
     pub fn list_words(&self) -> usize {
@@ -445,6 +475,26 @@ pub fn named_fault(line: u64, whole: &str, block: &str) -> String {
     )
 }
 
+/// Notes on noise whose condition looks at noiseless bits that are not given, or at those of a random outcome, which are the same in all shots, or repeat
+/// if bits are given for the job's own shots. `own` and `each` name the options by which bits are given for these and for each shot.
+#[must_use]
+pub fn condition_notes(job: &[u8], is_given: bool, own: &str, each: &str) -> Vec<String> {
+    let conditions = conditions(job);
+    let first = conditions.first().filter(|_| !is_given);
+    let no_bits = first.map(|(line, _)| {
+        format!("line {line} has noise with a condition, and without {own} or {each} all noiseless bits are 0")
+    });
+    let random = conditions.iter().find_map(|(line, random)| Some((line, (*random)?))).map(|(line, outcome)| {
+        let shots = examine(job).unwrap_or_default().shots;
+        let same = if is_given { format!("comes again every {shots} shots") } else { "is 0 in every shot".into() };
+        format!(
+            "the condition of line {line} looks at outcome {outcome}, which op=r records at random, and its noiseless bit {same}: {each} \
+             gives it for each shot"
+        )
+    });
+    no_bits.into_iter().chain(random).collect()
+}
+
 /// The noise lines of an accepted job that look at noiseless bits and can fall: the number of each, from 1, and the first outcome of its condition that
 /// an `op=r` line records, if there is one. The noiseless bit of that is random in every shot.
 ///
@@ -546,13 +596,13 @@ impl Bench {
 
 /// The first words of a stream, as many as are needed.
 #[derive(Debug, Clone, Default)]
-struct List {
-    words: Vec<u64>,
+pub(crate) struct List {
+    pub(crate) words: Vec<u64>,
     stream: Option<Xorshift>,
 }
 
 impl List {
-    fn begin(&mut self, stream: Xorshift, words: usize) {
+    pub(crate) fn begin(&mut self, stream: Xorshift, words: usize) {
         self.stream = Some(stream);
         self.words.resize(words, 0);
         self.fill(0);
@@ -565,7 +615,7 @@ impl List {
     }
 
     /// Make the list longer, by the next words; whether that could be.
-    fn grow(&mut self, words: usize) -> bool {
+    pub(crate) fn grow(&mut self, words: usize) -> bool {
         let before = self.words.len();
         self.words.resize(words.clamp(before, MOST_WORDS.max(before)), 0);
         self.fill(before);

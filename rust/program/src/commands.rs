@@ -395,10 +395,8 @@ fn walk(arguments: &Arguments) -> Result<(), Failure> {
     };
     let (job, examined) = examined(arguments)?;
     let count = kundatrezo::walk(&job, shot, &set).map_err(|refusal| match refusal.number {
-        Number::WALK if shot >= examined.shots as u64 => {
-            Failure::refused_shot(&format!("the job's shots are 0 to {}", examined.shots - 1))
-        }
-        Number::WALK => Failure::refused_list(&outcomes_wanted(SET.name, examined.recorded)),
+        Number::WALK if shot >= examined.shots as u64 => Failure::refused_shot(&examined.shot_hint()),
+        Number::WALK => Failure::refused_list(&examined.outcomes_hint(SET.name)),
         _ => Failure::refused(&refusal, &job, None),
     })?;
     print(format!("ok=1 count={count}\n"))
@@ -533,14 +531,6 @@ pub fn write_out(arguments: &Arguments, bytes: &[u8]) -> Result<(), Failure> {
     match arguments.value(OUTPUT.name) {
         Some(path) => files::write(path, bytes),
         None => print(bytes),
-    }
-}
-
-/// What a list of outcomes that is refused by 17 is to be.
-pub fn outcomes_wanted(what: &str, recorded: usize) -> String {
-    match recorded {
-        0 => "the job records no outcome".into(),
-        some => format!("{what}: it names recorded outcomes, 0 to {}, each once", some - 1),
     }
 }
 

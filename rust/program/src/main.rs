@@ -60,7 +60,7 @@ impl Failure {
 
     /// A refusal by one of the causes that a number's words have.
     fn by_cause(number: Number, cause: usize, remedy: &str) -> Self {
-        let words = number.words().split("; ").nth(cause).unwrap_or(number.words());
+        let words = number.cause(cause);
         Self::Refused(format!("refused: {} ({words})\nhint: {remedy}", number.get()))
     }
 }
