@@ -132,8 +132,8 @@ def raise_if_refused(reply: _Reply, text: bytes) -> None:
         raise Refused(reply.number, reply.line, line.decode(errors="backslashreplace"), reply.count, hint.decode(errors="replace"), cause.decode())
 
 
-for name, parameters in re.findall(r"kundatrezo_edge_(\w+)\((.*)\)", call("declarations").text.decode()):
-    _kinds[name] = re.findall(r": (\w+), ", parameters)
+_kinds |= {name: re.findall(r": (\w+), ", kinds) for name, kinds in re.findall(r"edge_(\w+)\((.*)\)", call("declarations").text.decode())}
+for name in _NAMES[:-1]:
     _functions[name].argtypes = [{"u64": c_uint64, "Handle": c_void_p}.get(kind, _List) for kind in _kinds[name]]
 
 REFUSAL_TEXTS = {int(line.partition(" ")[0]): line.partition(" ")[2] for line in call("refusals").text.decode().splitlines()}

@@ -100,7 +100,8 @@ mod sampler;
 mod shares;
 mod single_faults;
 mod split;
-mod sys;
+#[doc(hidden)]
+pub mod sys;
 mod used;
 mod xorshift;
 
