@@ -19,9 +19,10 @@
 //! | [`by_shot`] | deltas as a row for each shot, and [`by_outcome`] the way back; [`Shots`] has memory of its own |
 //!
 //! Beside the calls, [`Sampler`] runs any number of shots of a job from a seed, by several threads, and counts, and [`SavedCounts`] is how counts are
-//! saved and added; [`split`] shares the shots of a
-//! settled job among several benches, and `^=` on [`Frames`] adds what they leave; [`clifford_line`] writes a Clifford of up to eight qubits, such as
-//! a code's encoder, as a line; [`error_model`] gives a job's noise to a decoder; [`OutputFile`] writes a file whole or not at all.
+//! saved and added; [`split`] shares the shots of a settled job among several benches, and `^=` on [`Frames`] adds what they leave; [`clifford_line`]
+//! writes a Clifford of up to eight qubits, such as a code's encoder, as a line; [`error_model`] gives a job's noise to a decoder, and
+//! [`single_faults`] is a table for any number of groups; [`GrowingDraws`] makes words from seeds as far as a call needs them; [`OutputFile`] writes a
+//! file whole or not at all.
 //!
 //! # Rows
 //!
