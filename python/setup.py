@@ -28,6 +28,8 @@ def archive() -> Path:
 
 def require_cargo() -> None:
     """That there is a cargo, and that it is not too old."""
+    if not (RUST / "Cargo.toml").is_file():
+        raise SystemExit(f"there is no {RUST / 'Cargo.toml'}: the package is built in the repository's folder, beside the Rust crate")
     wanted = re.search(r'^rust-version = "(\d+)\.(\d+)"', (RUST / "Cargo.toml").read_text(), re.MULTILINE).groups()
     try:
         said = subprocess.run(["cargo", "--version"], capture_output=True, text=True, check=True).stdout

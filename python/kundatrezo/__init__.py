@@ -26,6 +26,6 @@ __version__ = "0.1.0"
 # fmt: off
 __all__ = [
     "DRAWS", "GATES", "MAX_BYTES", "MAX_GROUPS", "MAX_OUTCOMES", "MAX_SHOTS", "REFUSAL_TEXTS", "Circuit", "Counts", "FaultTable", "Job", "Mechanism",
-    "Pauli", "Refused", "Rows", "bits", "by_outcome", "by_shot", "error_model", "fill", "make_job", "mechanisms", "pack_bits", "sample", "sample_shots",
-    "state_of_block", "state_of_seed", "wilson",
+    "Pauli", "Refused", "Rows", "bits", "by_outcome", "by_shot", "error_model", "fill", "make_job", "mechanisms", "pack_bits", "sample",
+    "sample_shots", "state_of_block", "state_of_seed", "wilson",
 ]

@@ -18,12 +18,10 @@ GATES = {name: code for code, name in enumerate(_NAMES.split())}
 
 _ALIASES = {"H": "Hadamard", "S": "SqrtZ", "Sdg": "SqrtZInv", "SX": "SqrtX", "SXdg": "SqrtXInv", "CX": "ControlledX", "CNOT": "ControlledX"}
 _ALIASES |= {"CZ": "ControlledZ", "CY": "ControlledY", "SWAP": "Swap"}
+_EACH = ", each an argument of its own"
 
 Pauli = Union[str, Mapping[int, str]]
 """A Pauli without its sign: a text such as "X0 Y1 Z2", or the letter of each qubit. The empty one is the identity."""
-
-
-_EACH = ", each an argument of its own"
 
 
 def _numbers(numbers: Iterable[int], name: str = "qubits", each: str = "") -> list[int]:

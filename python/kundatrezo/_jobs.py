@@ -34,17 +34,15 @@ def outcome_lists(job: Job, what: str, lists: Lists) -> Words:
 @dataclass(frozen=True)
 class Rows:
     """What a run leaves. A row has a bit for each shot: shot s is bit s mod 64 of word s // 64. `bits` makes booleans of it. Rows have the shape of a
-    job, and a run takes only those of its own job's shape."""
+    job, and a run takes only those of its own job's shape. `x` and `z` are the parts of the frames, a row for each qubit. `deltas` has a row for each
+    outcome of the header: where a bit is 1, the outcome differs from the noiseless one; and `totals`, in how many shots it differs. `shots` are those
+    of the job whose run left them, 0 before the first run."""
 
     x: Words
     z: Words
-    """The X and the Z part of the frames, a row for each qubit."""
     deltas: Words
-    """A row for each outcome of the header: where a bit is 1, the outcome differs from the noiseless one."""
     totals: Words
-    """For each outcome of the header, in how many shots it differs."""
     shots: int = 0
-    """The shots of the job whose run left them; 0 before the first run."""
 
     @staticmethod
     def of(job: Job) -> Rows:
@@ -141,9 +139,9 @@ class Job:
     ) -> Rows:  # fmt: skip
         """Run all shots, and leave frames, deltas and totals in `rows`, or in new ones.
 
-        `words` is the main list, `second` with `base` the one that correlated lines read; with `seed` and `second_seed` they are made as far as they are
-        needed, as the program's options of these names do. `noiseless` has the outcomes' noiseless bits in the layout of deltas; without it they are 0.
-        Arrays of uint64 are lent without a copy.
+        `words` is the main list, `second` with `base` the one that correlated lines read; with `seed` and `second_seed` they are made as far as they
+        are needed, as the program's options of these names do. `noiseless` has the outcomes' noiseless bits in the layout of deltas; without it they
+        are 0. Arrays of uint64 are lent without a copy.
         """
         rows = Rows.of(self) if rows is None else rows
         call("run", self.text, *rows.lent(self), *self._draws(words, seed, second, second_seed, noiseless), base)
@@ -171,8 +169,8 @@ class Job:
         return [bits_, main, whole(seed or 0, "a seed"), other, whole(second_seed or 0, "a seed")]
 
     def walk(self, shot: int, set: Sequence[int]) -> int:
-        """How many of a job's injections and flips in the shot change the parity of a set of outcomes, by carrying its observable back. The job has no
-        noise: settle it first."""
+        """How many of a job's injections and flips in the shot change the parity of a set of outcomes, by carrying its observable back. The job has
+        no noise: settle it first."""
         return call("walk", self.text, whole(shot, "shot"), outcome_lists(self, "set", [set])[1:]).count
 
     def annotate(self, p: float) -> Job:
@@ -206,7 +204,7 @@ def make_job(qubits: int, outcomes: int, shots: int, lines: int, seed: int) -> J
 @dataclass
 class Mechanism:
     """A way in which a fault may fall: the noise `line` in the job, from 1, the first if several fall together; the `element` of its distribution,
-    from 0; its probability `p`, in shots in which the condition of the line, if there is one, holds; and which detectors, then observables, it `flips`."""
+    from 0; its probability `p`, in shots in which the condition of the line, if it has one, holds; which detectors, then observables, it `flips`."""
 
     line: int
     element: int
@@ -223,11 +221,9 @@ def mechanisms(job: Job, detectors: Lists, observables: Lists = ()) -> list[Mech
 
 
 def error_model(job: Job, detectors: Lists, observables: Lists = ()) -> str:
-    """The noise of a job as a detector error model, in the text that decoders read: what the program's `dem` writes.
-
-    Errors of a model are independent, while of a noise line's elements one falls at most. Conditions are left out: p is that of shots in which they hold.
-    Lines of one correlation that do not draw alike are taken for independent. docs/FAULTS.md has more.
-    """
+    """The noise of a job as a detector error model, in the text that decoders read: what the program's `dem` writes. Errors of a model are
+    independent, while of a noise line's elements one falls at most. Conditions are left out: p is that of shots in which they hold. Lines of one
+    correlation that do not draw alike are taken for independent. docs/FAULTS.md has more."""
     return _model(job, detectors, observables).text.decode()
 
 

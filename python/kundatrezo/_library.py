@@ -1,7 +1,7 @@
 """Words, and the calls of libkundatrezo_edge.so: the C interface of the Rust crate, which rust/edge/src/lib.rs declares. The crate calls the engine.
 
-What a caller owes is kept here: pointers that are aligned, lists that are as long as is said, and no list that is written and overlaps another. That no
-other thread touches a lent array while a call runs is the caller's.
+What a caller owes is kept here: aligned pointers, lists that are as long as is said, and no written list that overlaps another. That no other thread
+touches a lent array while a call runs is the caller's.
 """
 
 from __future__ import annotations
@@ -37,13 +37,13 @@ class _Reply(ctypes.Structure):
 
 
 # The calls that the package makes. What they take, the library says.
-_NAMES = """declarations examine run settle walk annotate locations correlation by_shot by_outcome fill state_of_seed state_of_block make outcomes fault_table
-    error_model sampling_open sampling_run sampling_text sampling_close condition_notes counts_read counts_add rates refusals free""".split()
-_TYPES = {"u64": c_uint64, "Handle": c_void_p}
+_NAMES = """declarations refusals examine run settle walk annotate locations correlation by_shot by_outcome fill state_of_seed state_of_block make
+    outcomes fault_table error_model condition_notes sampling_open sampling_run sampling_text sampling_close counts_read counts_add rates
+    free""".split()
 
 PATH = Path(os.environ.get("KUNDATREZO_LIBRARY") or Path(__file__).with_name("libkundatrezo_edge.so")).absolute()
-"""The library's file: that beside this one, or the one that the environment variable KUNDATREZO_LIBRARY names. The path is made absolute, since a bare
-name would be looked for in the system's folders. The variable is trusted: whatever code it names is run in this process."""
+"""The library's file: that beside this one, or the one that KUNDATREZO_LIBRARY names. This variable is trusted: the code is run in this process. The
+path is made absolute, since a bare name would be looked for in the system's folders."""
 
 
 def _loaded() -> dict[str, Any]:
@@ -132,9 +132,9 @@ def raise_if_refused(reply: _Reply, text: bytes) -> None:
         raise Refused(reply.number, reply.line, line.decode(errors="backslashreplace"), reply.count, hint.decode(errors="replace"), cause.decode())
 
 
-for name, parameters in re.findall(r"kundatrezo_edge_(\w+)\((.*)\)", call("declarations").text.decode()):
-    _kinds[name] = re.findall(r": (\w+), ", parameters)
-    _functions[name].argtypes = [_TYPES.get(kind, _List) for kind in _kinds[name]]
+_kinds |= {name: re.findall(r": (\w+), ", kinds) for name, kinds in re.findall(r"edge_(\w+)\((.*)\)", call("declarations").text.decode())}
+for name in _NAMES[:-1]:
+    _functions[name].argtypes = [{"u64": c_uint64, "Handle": c_void_p}.get(kind, _List) for kind in _kinds[name]]
 
 REFUSAL_TEXTS = {int(line.partition(" ")[0]): line.partition(" ")[2] for line in call("refusals").text.decode().splitlines()}
 """What the numbers of refusals mean; docs/REFUSALS.md has examples and remedies."""
@@ -182,9 +182,9 @@ def written_words(words: Words) -> Words:
 
 
 def fill(seed: int, words: Union[Words, int]) -> Words:
-    """Fill a lent array, or a new one with this number of words, from a seed: Marsaglia's 64-bit xorshift, whose first state the seed is. `Refused` by 22
-    for 0. This is the program's --state. Seeds of `run` and `sample` are mixed first: `run(seed=1)` reads the words of `fill(state_of_seed(1), ..)`.
-    The streams of small seeds begin alike, and are not for a series of runs.
+    """Fill a lent array, or a new one with this number of words, from a seed: Marsaglia's 64-bit xorshift, whose first state the seed is. `Refused`
+    by 22 for 0. This is the program's --state. Seeds of `run` and `sample` are mixed first: `run(seed=1)` reads the words of
+    `fill(state_of_seed(1), ..)`. The streams of small seeds begin alike, and are not for a series of runs.
 
     >>> fill(1, 2).tolist()
     [1082269761, 1152992998833853505]

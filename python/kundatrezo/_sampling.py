@@ -1,5 +1,4 @@
-"""Any number of shots of a job, in blocks that have words of their own, and their counts. The crate runs the blocks, and reads, writes and adds counts,
-so that they are those of the program's `sample` and `merge`."""
+"""Any number of shots of a job, in blocks with words of their own, and their counts: those of the program's `sample` and `merge`, by the crate."""
 
 from __future__ import annotations
 
@@ -26,6 +25,8 @@ Bytes = npt.NDArray[np.uint8]
 Floats = npt.NDArray[np.float64]
 Count = Callable[[npt.NDArray[np.bool_]], npt.ArrayLike]
 Part = tuple[int, int]
+# What is sampled: it goes to each worker, which opens a sampling by it.
+_Plan = tuple[Any, ...]
 
 # Blocks of a task at most, and tasks that an executor is given ahead.
 _TASK, _AHEAD = 256, 64
@@ -48,8 +49,13 @@ def _rates(totals: Lendable, shots: int) -> Floats:
 
 @dataclass(frozen=True, eq=False)
 class Counts:
-    """In how many shots outcomes and the parities of sets of outcomes are flipped. Counts are equal if their texts are. Those of other parts of a sample,
-    and those of other seeds, are added by `+` and `sum`.
+    """In how many shots outcomes and the parities of sets of outcomes are flipped. Counts are equal if their texts are. Those of other parts of a
+    sample, and those of other seeds, are added by `+` and `sum`.
+
+    `totals` has for each outcome of the header the shots that flip it, among all counted `shots`, `rates` their part of these, and `intervals`
+    Wilson's interval of that, a row of its two ends; the same with `set_` is of the parity of each of the `sets`. `counted` are the shots that the
+    caller's own function counts, None if there is none. `seeds` are those of all samples. `missing` says what is missing of a sample of which not all
+    parts are counted, and is empty if nothing is. `job` is None if the counts were read without it.
 
     >>> job = Job("op=job qubits=1 outcomes=1 shots=1\\nop=n p=3fe0000000000000 corr=- cond=- parity=0 d=1 x=0 z=- size=1\\nop=o x=- z=0 id=0\\n")
     >>> parts = [sample(job, 10_000, seed=1, part=(place, 3)) for place in (1, 2, 3)]
@@ -58,29 +64,18 @@ class Counts:
     """
 
     saved: str
-    """The text."""
     shots: int
-    """The shots that are counted."""
     totals: Words
-    """For each outcome of the header the shots that flip it."""
     rates: Floats
-    """The part of the shots that these are."""
     intervals: Floats
-    """Wilson's interval of the rate of each outcome: a row of its two ends."""
     set_totals: Words
     set_rates: Floats
     set_intervals: Floats
-    """The same for the parity of each set."""
     counted: Optional[int]
-    """The shots that the caller's own function counts; None if there is no such function."""
     seeds: tuple[int, ...]
-    """The seeds of all samples."""
     sets: tuple[tuple[int, ...], ...]
-    """The sets whose parities are counted."""
     missing: str
-    """What is missing of a sample of which not all parts are counted; empty if nothing is."""
     job: Optional[Job] = None
-    """The job; None if the counts were read without it."""
 
     @staticmethod
     def read(path: Union[str, os.PathLike[str]], job: Optional[Job] = None) -> Counts:
@@ -100,7 +95,7 @@ class Counts:
         return Counts(text, shots, *of_outcomes, *of_sets, counted[0] if counted else None, seeds, tuple(sets), found.text.decode(), job)
 
     def text(self) -> str:
-        """The counts as they are saved: what the program's `sample` prints, so that its `merge`, `Counts.of_text` and the Rust crate read them."""
+        """The counts as they are saved: what the program's `sample` prints, and its `merge`, `Counts.of_text` and the Rust crate read."""
         return self.saved
 
     @property
@@ -150,20 +145,20 @@ def sample(
     """Run this number of shots, whatever the job's header has, and count in how many of them each outcome is flipped, and the parity of each set of
     outcomes.
 
-    The shots are run in blocks of 4,096, each with words of its own, made from the seed and the block's number, so that the counts are the same for every
-    executor, and the same as those of the program's `sample`. An `executor` is any of concurrent.futures, dask.distributed (`client.get_executor()`) or
+    The shots are run in blocks of 4,096, each with words of its own, made from the seed and the block's number, so that the counts are the same for
+    every executor, and those of the program's `sample`. An `executor` is any of concurrent.futures, dask.distributed (`client.get_executor()`) or
     mpi4py.futures; without one the blocks are run here, one after the other. Threads run side by side, since calls release the interpreter's lock.
 
     `count` is a function, such as a decoder, that is given the parities of the sets by shot, or all outcomes if there are no sets, as an array of
     booleans with a row for each shot, and gives for each shot whether it counts. Processes need one that can be pickled.
 
-    `part` is (I, K) for the I-th of K parts of the shots, from 1, as the program's --part: the counts of all parts, here or on other machines, add up to
-    those of the whole. A job with injections or flips needs `named`: "whole", they stand in the shots of the whole that they name, or "block", in those
-    of each block.
+    `part` is (I, K) for the I-th of K parts of the shots, from 1, as the program's --part: the counts of all parts, here or on other machines, add up
+    to those of the whole. A job with injections or flips needs `named`: "whole", they stand in the shots of the whole that they name, or "block", in
+    those of each block.
 
     `noiseless` has noiseless bits for the job's own shots, in the layout of deltas, which come again: shot s has those of s mod `job.shots`.
-    `noiseless_shots` has them for each shot, a row of packed bytes, eight outcomes to a byte, the lowest first. Without them all are 0; a warning says
-    so if noise with a condition looks at them.
+    `noiseless_shots` has them for each shot, a row of packed bytes, eight outcomes to a byte, the lowest first. Without them all are 0; a warning
+    says so if noise with a condition looks at them.
     """
     plan, given = _planned(job, shots, seed, sets, part, named, noiseless, noiseless_shots)
     sampling = _Sampling(plan)
@@ -189,10 +184,9 @@ def sample_shots(
 
 
 def _planned(
-    job: Job, shots: int, seed: int, sets: Lists, part: Part, named: Optional[str], noiseless: Optional[Lendable], noiseless_shots: Optional[Bytes]
+    job: Job, shots: int, seed: int, sets: Lists, part: Part, named: Optional[str], noiseless: Optional[Lendable], shots_bits: Optional[Bytes]
 ) -> tuple[_Plan, Optional[Bytes]]:
-    """What is sampled, tested, and the noiseless bits of each shot, if they are given. Says that noise with a condition looks at noiseless bits that are
-    not given, or at those of a random outcome."""
+    """What is sampled, tested, and the noiseless bits of each shot, if they are given. Says what conditions look at bits that are not given."""
     rising = outcome_lists(job, "set", sets)
     shots, seed = whole(shots, "shots", least=1), whole(seed, "a seed")
     if not (isinstance(part, tuple) and len(part) == 2 and 1 <= whole(part[0], "part") <= whole(part[1], "part")):
@@ -202,15 +196,15 @@ def _planned(
         header = f"the header's outcomes={job.outcomes} and shots={job.shots} need exactly {needed[0] * needed[1]}, shape {needed}"
         raise ValueError(f"noiseless bits of {rows.size} words, shape {np.shape(noiseless)}, but {header}")
     plan = (job.text, shots, seed, (named or "").encode(), rows, rising, *part)
-    if noiseless_shots is None:
+    if shots_bits is None:
         for note in call("condition_notes", job.text, int(noiseless is not None)).text.decode().splitlines():
             warn(note, stacklevel=3)
         return plan, None
     if noiseless is not None:
         raise ValueError("noiseless bits come again or are given for each shot, not both")
-    if noiseless_shots.dtype != np.uint8 or noiseless_shots.ndim != 2 or noiseless_shots.shape[1] != row or len(noiseless_shots) < shots:
+    if shots_bits.dtype != np.uint8 or shots_bits.ndim != 2 or shots_bits.shape[1] != row or len(shots_bits) < shots:
         raise ValueError(f"noiseless bits are to be {shots} rows of {row} bytes")
-    return plan, noiseless_shots[:shots]
+    return plan, shots_bits[:shots]
 
 
 def _slice(given: Optional[Bytes], first: int, last: int) -> Optional[Bytes]:
@@ -248,10 +242,6 @@ def _task(plan: _Plan, first: int, last: int, given: Optional[Bytes], count: Opt
             raise ValueError(f"count is to say for each of {len(rows)} shots whether it counts, and gives an array of shape {counted.shape}")
         sampling.sums[1] += np.uint64(np.count_nonzero(counted))
     return sampling.sums
-
-
-# What is sampled: it goes to each worker, which opens a sampling by it.
-_Plan = tuple[Any, ...]
 
 
 class _Sampling:

@@ -119,6 +119,19 @@ def test_settling_and_walks(job, data):
         assert count % 2 == deltas[set_, shot].sum() % 2
 
 
+def test_a_settled_text_that_is_too_long():
+    """The refusal says how many bytes the text needs, as the program does."""
+    circuit = Circuit()
+    for _ in range(20):
+        circuit.fault(1.0, "X0 Z5")
+    job = circuit.job(4096)
+    with pytest.raises(Refused) as refusal:
+        job.settle(seed=1)
+    done = subprocess.run([PROGRAM, "settle", "-", "--seed", "1"], input=job.text, capture_output=True)
+    assert refusal.value.number == 15 and f"; the text needs {refusal.value.bytes_needed} bytes" in done.stderr.decode()
+    assert pickle.loads(pickle.dumps(refusal.value)).bytes_needed == refusal.value.bytes_needed > 2**20
+
+
 @given(jobs())
 def test_annotation_locations_and_correlation(job):
     assert job.annotate(0.125).text == program("annotate", "-", "--p", 0.125, job=job)

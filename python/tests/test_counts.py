@@ -12,7 +12,7 @@ from conftest import PROGRAM, REPOSITORY, jobs, program, sets_of
 from hypothesis import given, settings
 from hypothesis import strategies as st
 
-from kundatrezo import DRAWS, Circuit, Counts, Job, pack_bits, sample, sample_shots
+from kundatrezo import DRAWS, Circuit, Counts, Job, pack_bits, sample, sample_shots, wilson
 
 SYNDROME = Job.read(REPOSITORY / "examples/syndrome.job")
 SETS = [[4, 5, 6], [0], []]
@@ -172,6 +172,23 @@ def test_no_function_that_counts():
     with pytest.raises(ValueError, match="several seeds"):
         (taken(1) + taken(2)).seed
     assert taken(7).seed == 7
+
+
+@pytest.mark.parametrize("shots", [1, 7, 20_000])
+def test_rates_and_intervals_are_those_of_the_program(shots):
+    """The arrays have the numbers that the program prints, and `wilson` the same ends."""
+    options = [part for set_ in SETS for part in ("--set", ",".join(map(str, set_)) or "-")]
+    counts = taken(3, shots=shots, count=odd)
+    printed = program("sample", "-", "--shots", shots, "--seed", 3, *options, job=SYNDROME).decode()
+    rows = [[part.partition("=")[2] for part in line.split()[1:]] for line in printed.splitlines()[2:]]
+    totals = np.concatenate([counts.totals, counts.set_totals])
+    rates = np.concatenate([counts.rates, counts.set_rates])
+    ends = np.concatenate([counts.intervals, counts.set_intervals])
+    numbers = [[f"{float(number):.6e}" for number in row[1:]] for row in rows]
+    assert numbers == [[f"{number:.6e}" for number in row] for row in np.column_stack([rates, ends])]
+    assert [int(row[0]) for row in rows] == totals.tolist()
+    assert (np.stack(wilson(totals, shots), axis=-1) == ends).all()
+    assert counts.counted_interval == tuple(float(end) for end in wilson(counts.counted, shots))
 
 
 def test_an_empty_part():

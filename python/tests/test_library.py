@@ -83,18 +83,20 @@ def test_calls_have_their_arguments():
     [
         (None, "the package is built by cargo 1.89 or later, and there is none: [Errno 2] No such file or directory: 'cargo'"),
         ("echo cargo 1.70.0", "the package is built by cargo 1.89 or later, and this one is older: cargo 1.70.0"),
+        ("no crate", "there is no {folder}/rust/Cargo.toml: the package is built in the repository's folder, beside the Rust crate"),
         ("echo cargo 0.90.0", "the package is built by cargo 1.89 or later, and this one is older: cargo 0.90.0"),
     ],
 )
 def test_the_build_says_that_it_needs_cargo(tmp_path, script, said):
     folder = tmp_path / "python"
     shutil.copytree(REPOSITORY / "python", folder, ignore=shutil.ignore_patterns("build", "*.egg-info", "*.so"))
-    (tmp_path / "rust").symlink_to(REPOSITORY / "rust")
+    if script != "no crate":
+        (tmp_path / "rust").symlink_to(REPOSITORY / "rust")
     (tmp_path / "bin").mkdir()
     if script:
         (tmp_path / "bin/cargo").write_text(f"#!/bin/sh\n{script}\n")
         (tmp_path / "bin/cargo").chmod(0o755)
     environment = {**os.environ, "PATH": f"{tmp_path / 'bin'}:/usr/bin:/bin" if script else str(tmp_path / "bin")}
     done = subprocess.run([sys.executable, "setup.py", "-q", "build_py"], cwd=folder, env=environment, capture_output=True, text=True)
-    assert (done.returncode, done.stderr.strip().splitlines()[-1]) == (1, said)
+    assert (done.returncode, done.stderr.strip().splitlines()[-1]) == (1, said.format(folder=tmp_path))
     assert not list((folder / "build").rglob("*.so"))

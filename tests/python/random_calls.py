@@ -147,7 +147,9 @@ class Calls:
         ids = [number for number in range(job.recorded) if self.random.random() < 0.3]
         flat = np.array([len(ids), *ids, 0], dtype=np.uint64)
         lists = self.random.choice([flat, flat, flat, list_(self.near(3))])
-        counts_text = kundatrezo.sample(job.with_shots(1), 70, 1, [ids], named="block").text().encode()
+        counted = Circuit().fault(0.25, "X0")
+        counted.measure("Z0")
+        counts_text = kundatrezo.sample(counted.job(), 70, self.number(9), [[0]], part=(1, self.random.choice([1, 3]))).text().encode()
         arguments = {
             "examine": [text, self.random.randrange(2)],
             "run": [text, *(list_(self.near(need)) for need in (frames, frames, outcomes, job.outcomes)), *draws],

@@ -1,13 +1,14 @@
 //! The C interface of the crate `kundatrezo`, by which the Python package calls it, and the engine only through it.
 //!
-//! A call takes numbers, and lists as a pointer and a length by value; it returns a [`Reply`], which `kundatrezo_edge_free` frees. A list of lists is one
-//! list of words: the length of the first, its members, the length of the next, and so on. The floating-point state of the calling thread plays no part:
-//! the crate makes each call of the engine in the default state.
+//! A call takes numbers, and lists as a pointer and a length by value; it returns a [`Reply`], which `kundatrezo_edge_free` frees. A list of lists
+//! is one list of words: the length of the first, its members, the length of the next, and so on. The floating-point state of the calling thread
+//! plays no part: the crate makes each call of the engine in the default state.
 //!
 //! # Safety
 //!
-//! Of every call: a list has as many initialised elements as its length says, is aligned, and is not null unless it is empty; what a call writes overlaps no
-//! other list, and no other thread uses it meanwhile; a handle is that of an open sampling, which no other thread uses meanwhile.
+//! Of every call: a list has as many initialised elements as its length says, is aligned, and is not null unless it is empty or may be absent; what a
+//! call writes overlaps no other list, and no other thread uses it meanwhile; a handle is that of an open sampling, which no other thread uses
+//! meanwhile.
 
 // Pointers and lengths come from C.
 #![allow(unsafe_code)]
@@ -144,7 +145,8 @@ calls! {
         Ok(given)
     }
 
-    /// The table of single faults. Words: for each fault its line, its element, and a bit for each group, the first lowest, in as many words as needed.
+    /// The table of single faults. Words: for each fault its line, its element, and a bit for each group, the first lowest, in as many words as
+    /// needed.
     fn kundatrezo_edge_fault_table(job: Bytes, groups: Words) {
         let groups = list_of_lists(groups)?;
         let faults = single_faults(job, &groups).on(job)?;
@@ -152,8 +154,8 @@ calls! {
         Ok(Given::words(faults.iter().flat_map(row)))
     }
 
-    /// The detector error model of a job. Text: the model. Words: for each mechanism its line, its element, the bits of its probability, and a bit for each
-    /// detector and then each observable.
+    /// The detector error model of a job. Text: the model. Words: for each mechanism its line, its element, the bits of its probability, and a bit
+    /// for each detector and then each observable.
     fn kundatrezo_edge_error_model(job: Bytes, detectors: Words, observables: Words) {
         let (detectors, observables) = (list_of_lists(detectors)?, list_of_lists(observables)?);
         let model = error_model(job, &detectors, &observables).on(job)?;
@@ -166,8 +168,8 @@ calls! {
     }
 
     /// Open a sampling of a part, from 1, of a sample. `named` is empty, 'whole' or 'block'; `noiseless` has bits of the job's own shots. Count: its
-    /// handle, which `kundatrezo_edge_sampling_close` closes. Words: the part's first block, the one after its last, the shots of the whole, the bits of
-    /// a row, and the length of the sums.
+    /// handle, which `kundatrezo_edge_sampling_close` closes. Words: the part's first block, the one after its last, the shots of the whole, the
+    /// bits of a row, and the length of the sums.
     fn kundatrezo_edge_sampling_open(
         job: Bytes, shots: u64, seed: u64, named: Bytes, noiseless: GivenWords, sets: Words, place: u64, parts: u64,
     ) {
@@ -176,8 +178,8 @@ calls! {
         Ok(Given { words: sampling.numbers().to_vec(), ..Given::count(sampling.into_handle()) })
     }
 
-    /// Run blocks, with noiseless bits for each of their shots if these are given, and add to the sums: the shots, those that a function of the caller's
-    /// counts, the totals of outcomes, those of sets. Write the last block's shots if there is room for rows.
+    /// Run blocks, with noiseless bits for each of their shots if these are given, and add to the sums: the shots, those that a function of the
+    /// caller's counts, the totals of outcomes, those of sets. Write the last block's shots if there is room for rows.
     fn kundatrezo_edge_sampling_run(
         sampling: Handle, first: u64, last: u64, noiseless: GivenBytes, sums: WordsMut, rows: WordsMut,
     ) {
@@ -201,8 +203,9 @@ calls! {
         Ok(Given::text(condition_notes(job, is_given == 1, "noiseless=", "noiseless_shots=").join("\n")))
     }
 
-    /// Read a text of counts, and test that they are counts of a job if that isn't empty. Text: which parts are missing. Words: the shots, then lists,
-    /// each with its length before it: the totals of outcomes, those of sets, the shots that a function counted, if one did, the seeds, and each set.
+    /// Read a text of counts, and test that they are counts of a job if that isn't empty. Text: which parts are missing. Words: the shots, then
+    /// lists, each with its length before it: the totals of outcomes, those of sets, the shots that a function counted, if one did, the seeds, and
+    /// each set.
     fn kundatrezo_edge_counts_read(text: Bytes, job: Bytes) {
         let saved = read(text)?;
         if !job.is_empty() && !saved.is_of(job) {

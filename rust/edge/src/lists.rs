@@ -109,9 +109,9 @@ impl Lent for u64 {
 
 /// What a call replies: the finished work, or why not. `kundatrezo_edge_free` frees it.
 ///
-/// With `number` 0 the call has done its work, and `count`, `text` and `words` are what it gives. With the number of a refusal `text` has three parts,
-/// with a zero byte between: the one cause, if it is known of a number with several, the hint, and the refused line. With [`FAULT`] the text says what is
-/// wrong with an argument, with [`PANIC`] what broke.
+/// With `number` 0 the call has done its work, and `count`, `text` and `words` are what it gives. With the number of a refusal `text` has three
+/// parts, with a zero byte between: the one cause, if it is known of a number with several, the hint, and the refused line. With [`FAULT`] the text
+/// says what is wrong with an argument, with [`PANIC`] what broke.
 #[repr(C)]
 #[derive(Debug)]
 pub struct Reply {

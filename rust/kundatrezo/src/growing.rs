@@ -12,8 +12,8 @@ pub enum WordSource<'a> {
     Seed(u64),
 }
 
-/// The main and the second list of a run or of settling, of which those from a seed grow until the call has enough words. The words before them stay the
-/// same, so the result is that of lists which were long enough from the start.
+/// The main and the second list of a run or of settling. Those from a seed grow until the call has enough words. The words before stay the same, so
+/// the result is that of lists which were long enough from the start.
 ///
 /// ```
 /// use kundatrezo::{Draws, GrowingDraws, WordSource, Xorshift, settled};

@@ -25,7 +25,8 @@
 //! | [`Circuit`] | a job as a list of typed instructions, and its bytes again; [`Gate`] and [`Form`] are the tables of gates and of forms |
 //! | [`Sampler`] | any number of shots of a job from a seed, by several threads, and their counts; [`SavedCounts`] saves and adds them |
 //! | [`split`] | the shots of a settled job as parts for several benches; `^=` on [`Frames`] adds what they leave |
-//! | [`error_model`] | a job's noise, for a decoder |
+//! | [`error_model`] | a job's noise, for a decoder; [`single_faults`] is a table of single faults for any number of groups |
+//! | [`GrowingDraws`] | words from seeds, as far as a call needs them |
 //! | [`clifford_line`] | a Clifford of up to eight qubits, such as a code's encoder, as a line |
 //! | [`with_sizes`] | a job whose noise lines lack their sizes, with them |
 //! | [`OutputFile`] | a file that is written whole or not at all |
@@ -111,7 +112,8 @@ mod sampler_error;
 mod shares;
 mod single_faults;
 mod split;
-mod sys;
+#[doc(hidden)]
+pub mod sys;
 mod used;
 mod xorshift;
 

@@ -278,7 +278,7 @@ impl Sampler {
         }
     }
 
-    /// Run a block with noiseless bits for each of its shots: a row of ceil(outcomes / 8) bytes each, with eight outcomes to a byte, the lowest first.
+    /// Run a block with noiseless bits for each of its shots: a row of ceil(outcomes / 8) bytes each, eight outcomes to a byte, the lowest first.
     ///
     /// # Errors
     ///
@@ -465,8 +465,8 @@ pub fn first_named(job: &[u8]) -> Option<u64> {
     circuit.numbered().find(|(_, instruction)| instruction.shot().is_some()).map(|(line, _)| line as u64)
 }
 
-/// Why a job with a line that stands in a shot which it names, such as [`first_named`] finds, isn't sampled unless an option says where these lines stand;
-/// `whole` and `block` are the ways to write this option.
+/// Why a job with a line that stands in a shot which it names, such as [`first_named`] finds, isn't sampled unless an option says where these lines
+/// stand; `whole` and `block` are the ways to write this option.
 #[must_use]
 pub fn named_fault(line: u64, whole: &str, block: &str) -> String {
     format!(
@@ -475,8 +475,8 @@ pub fn named_fault(line: u64, whole: &str, block: &str) -> String {
     )
 }
 
-/// Notes on noise whose condition looks at noiseless bits that are not given, or at those of a random outcome, which are the same in all shots, or repeat
-/// if bits are given for the job's own shots. `own` and `each` name the options by which bits are given for these and for each shot.
+/// Notes on noise whose condition looks at noiseless bits that are not given, or at those of a random outcome, which are the same in all shots, or
+/// repeat if bits are given for the job's own shots. `own` and `each` name the options by which bits are given for these and for each shot.
 #[must_use]
 pub fn condition_notes(job: &[u8], is_given: bool, own: &str, each: &str) -> Vec<String> {
     let conditions = conditions(job);

@@ -2,6 +2,7 @@
 
 mod by_shot;
 mod codes;
+mod declarations;
 mod editions;
 mod instructions;
 mod make;
