@@ -45,7 +45,7 @@ module _ {outcomes shots : ℕ} {deltas rows : List ℕ} (lent : Lent outcomes s
 abbrev pub rowOf : ℕ → List ℕ → ℕ → List ℕ
 rowOf w words r = take w (drop (r * w) words)
 
--- Lent words are below 2 ^ 64.
+-- The words of a lent list are below 2 ^ 64.
 module _ {outcomes shots : ℕ} {deltas rows : List ℕ} (lent : Lent outcomes shots deltas rows) where
   -- Going there and back restores every row whose bits past the last shot are zero, for each number of outcomes and shots, word for word.
   pub there-and-back : ((i : ℕ) → getD deltas i 0 < 2 ^ 64) → (back : List ℕ) → outcomes * wordsPerRow shots ≤ length back → (o : ℕ) → o < outcomes
