@@ -1,5 +1,6 @@
--- Definitions that theorems and laws about the tests use: the context behind some lines, and lines that are accepted in one. Assumes nothing.
-use Prim.Native.Nat.{ℕ}
+-- Definitions that theorems and laws about the tests use: the number of a line by its tests, the context after some lines, and lines that are
+-- accepted in one. Assumes nothing.
+use Prim.Native.Nat.{ℕ, _≤_, _<_}
 use mathlib.Core.Path.{_≡_}
 use mathlib.Core.Bool.{true, false, _&&_}
 use mathlib.Core.List.{List, [], _∷_}
@@ -7,8 +8,17 @@ use mathlib.Core.Option.{none}
 use lib.Dec.{ltb}
 use Rattle.job.specs.declared.Header.{Header}
 use Rattle.job.specs.Grammar.{readLine}
-use Rattle.job.specs.Checks.{Context}
+use Rattle.job.specs.Checks.{Context, Test}
 use Rattle.job.specs.Job.{accepted, isLast, nextOf, checkLines}
+use Rattle.job.specs.Sound.{Every, Any}
+
+-- the number that refuses a line by some tests
+pub data Lowest (ts : List Test) (number : ℕ) : Type 0 where
+  -- 0, and every test passes
+  passes : number ≡ 0 → Every (λ (t : Test). t .bad ≡ false) ts → Lowest ts number
+  -- or that of a test that fails, and no test that fails has a lower one
+  fails : 0 < number → Any (λ (t : Test). (t .bad ≡ true) × (t .number ≡ number)) ts → Every (λ (t : Test). t .bad ≡ true → number ≤ t .number) ts
+      → Lowest ts number
 
 -- the context behind some lines
 unfoldable pub contextAfter : Context → List (List ℕ) → Context

@@ -15,6 +15,8 @@ pub mod Tests
 pub mod Forms
 -- The one form that a line can have, by its mark.
 pub mod Dispatch
+-- A header of the second edition has no form of the first.
+pub mod Editions
 -- A line that passes is sound.
 pub mod Lines
 -- An accepted job line by line.

@@ -4,10 +4,11 @@ use native.Mathlib.Nat.{zero-add}
 use native.Mathlib.Decide.{ℕ-discrete}
 use native.Mathlib.Omega.{arith}
 use mathlib.Core.Path.{_≡_, refl, sym, ap, subst, _∙_}
-use mathlib.Core.Bool.{Bool, true}
-use mathlib.Core.List.{List, [], _∷_}
+use mathlib.Core.Bool.{Bool, true, false, true≢false, cond, not, _&&_}
+use mathlib.Core.List.{List, [], _∷_, map}
 use mathlib.Core.Option.{none, some}
-use lib.ListN.{length, getD}
+use lib.Dec.{eqb, ltb}
+use lib.ListN.{length, getD, drop}
 use Rattle.pauli.specs.Bits.{bit}
 use Rattle.pauli.specs.Gate.{Gate, gates, gateFrom, gateOf}
 use Rattle.text.specs.Bytes.{bytes, until, extend, pieces, lines}
@@ -18,17 +19,19 @@ use Rattle.text.specs.Written.{AllSmall, FitQ}
 use Rattle.job.specs.declared.Header.{Header}
 use Rattle.job.specs.Line.{Instruction, Placed, Line}
 use Rattle.job.specs.Clifford.{tableWords, tableOf, wordsOf}
-use Rattle.job.specs.Grammar.{Written, unitaryLine, forms, said, orLater, readBy, readLine}
-use Rattle.job.specs.Checks.{Context, noContext, next, Test, tests, refusalOf}
-use Rattle.job.specs.Job.{accepted, wellEnded, checkJob, gathered, Job, jobOfLines, jobOf, recordedBy, recordedIn}
+use Rattle.job.specs.Grammar.{Written, unitaryLine, Form, forms, said, orLater, readBy, readLine}
+use Rattle.job.specs.Checks.{Context, noContext, next, test, expected, isSecond, inEdition, headerFits, ownTests, tests, lowest, refusalOf}
+use Rattle.job.specs.Job.{answer, accepted, wellEnded, checkJob, gathered, Job, jobOfLines, jobOf, recordedBy, recordedIn}
 use Rattle.job.specs.Marks.{markOf, readAs, formByMark}
-use Rattle.job.specs.Contexts.{contextAfter, between}
+use Rattle.job.specs.Contexts.{Lowest, contextAfter, between}
+use Rattle.job.specs.Editions.{firstForms, checkJobBy}
 use Rattle.job.specs.Sound.{Every, LineSound, InstructionSound, SizeSaid, InstructionsSound, instructionsOf, ListSound, SaidAs, HeaderSound, FirstEdition, JobSound}
 use Rattle.job.specs.Laws.Lines.{header-sound}
 use Rattle.job.specs.Laws.Begun.{ended-parts, job-passes, Begun, job-begun}
 use Rattle.job.specs.Laws.Gather.{gathered-sound, gathered-said, sizes-said}
 use Rattle.job.specs.Laws.Recorded.{recorded-within, ids-count, after-first, recorded-after, header-after}
-use Rattle.job.specs.Laws.Tests.{tests-rise, lowest-least}
+use Rattle.job.specs.Laws.Tests.{tests-rise, lowest-is}
+use Rattle.job.specs.Laws.Editions.{second-unread, second-refused, job-by-forms}
 use Rattle.job.specs.Laws.Passes.{header-accepted}
 use Rattle.job.specs.Laws.Said.{instructions-accepted}
 use Rattle.job.specs.Laws.SaidGathered.{said-gathers}
@@ -110,10 +113,42 @@ pub edition-one-refuses : (job : List ℕ) → checkJob job .number ≡ 0 → jo
     → Every (λ (p : Placed). FirstEdition (p .instruction)) (jobOf job .instructions)
 edition-one-refuses job e one = first-editions (jobOf job .header) 0 (jobOf job .instructions) (checked-sound job e .instructions) one
 
--- The number that refuses a line is the lowest: no bad test of the line has a lower one.
-pub refusal-lowest : (c : Context) (last : Bool) (w : Written) → Every (λ (t : Test). t .bad ≡ true → refusalOf c last (some w) ≤ t .number) (tests c last w)
+-- In a job of edition 1 these forms are 2: ControlledY, a reset of several qubits and a barrier, after whatever lines.
+pub second-forms-two : (c : Context) (last : Bool) (w : Written) → isSecond w ≡ true → c .header .edition ≡ 1 → refusalOf c last (some w) ≡ 2
+unfolding refusalOf lowest
+second-forms-two c last w second one =
+    go (expected c w) (not (last && ltb 0 (next c w .due))) (inEdition c w) out (lowest (test 3 (headerFits c w) ∷ ownTests c w))
+  where
+    out : inEdition c w ≡ false
+    out = rw second (ap (λ (n : ℕ). eqb n 2) one)
+
+    go : (e d i : Bool) → i ≡ false → (later : ℕ) → cond (not (e && d && i)) 2 later ≡ 2
+    go true true true q later = absurd (true≢false q)
+    go true true false q later = refl
+    go true false i q later = refl
+    go false d i q later = refl
+
+-- An edition 1 reader that meets a job of the second edition refuses it by 2, at its first line:
+pub edition-one-reader : (job : List ℕ) → wellEnded job ≡ true → jobOf job .header .edition ≡ 2 → checkJobBy firstForms job ≡ answer 2 1
+edition-one-reader = second-refused
+
+-- by the forms of the first edition its header is no line.
+pub second-header-unread : (l : List ℕ) (h : Header) → readLine l ≡ some (Written.header h) → h .edition ≡ 2 → readBy firstForms l ≡ none
+second-header-unread = second-unread
+
+-- These forms are the whole table but for two rows, and the reader of the whole table makes the tests of a job.
+pub second-rows : map (λ (f : Form). f .template) (drop (length firstForms) forms)
+    ≡ bytes "op=job edition=N qubits=N outcomes=N shots=N" ∷ bytes "op=b q=Q" ∷ []
+unfolding firstForms forms bytes
+second-rows = refl
+
+pub checked-by-forms : (job : List ℕ) → checkJobBy forms job ≡ checkJob job
+checked-by-forms = job-by-forms
+
+-- The number of a line is 0 and each of its tests passes, or it is the lowest number of a test that fails.
+pub refusal-lowest : (c : Context) (last : Bool) (w : Written) → Lowest (tests c last w) (refusalOf c last (some w))
 unfolding refusalOf
-refusal-lowest c last w = lowest-least 0 (tests c last w) (tests-rise c last w)
+refusal-lowest c last w = lowest-is 0 (tests c last w) (tests-rise c last w)
 
 -- Behind the last line of an accepted job the tests have counted the outcomes that its instructions record.
 pub recorded-counted : (job : List ℕ) → checkJob job .number ≡ 0 → contextAfter noContext (lines job) .recorded ≡ recordedIn (jobOf job .instructions)
