@@ -1,10 +1,14 @@
-"""Builds the package: links libkundatrezo.so, which it calls, from the archive libkundatrezo.a.
+"""Builds the package: links libkundatrezo.so, which it calls, from the archive libkundatrezo.a, and builds libkundatrezo_edge.so, by which refusals
+have hints, from the Rust crate.
 
-The archive lies in the folder that the environment variable KUNDATREZO_LIB_DIR names, or in target/staticlib of the repository.
+The archive lies in the folder that the environment variable KUNDATREZO_LIB_DIR names, or in target/staticlib of the repository. The crate is that of
+the repository; without it, or without cargo, the package has no hints.
 """
 
 import os
+import shutil
 import subprocess
+import sys
 from pathlib import Path
 
 from setuptools import Distribution, setup
@@ -22,8 +26,19 @@ def archive() -> Path:
     return found
 
 
+def build_edge(folder: Path) -> None:
+    """The crate's C interface, where it can be built: the package works without it."""
+    rust = (HERE.parent / "rust").resolve()
+    command = ["cargo", "build", "--offline", "--quiet", "--release", "--package", "kundatrezo-edge", "--target-dir", str(rust / "target")]
+    try:
+        subprocess.run(command, cwd=rust, env={**os.environ, "KUNDATREZO_LIB_DIR": str(archive().parent.resolve())}, check=True)
+        shutil.copy(rust / "target/release/libkundatrezo_edge.so", folder)
+    except (OSError, subprocess.CalledProcessError) as error:
+        print(f"{error}: the package will have no hints, which cargo builds from the folder rust/ of the repository", file=sys.stderr)
+
+
 class Build(build_py):
-    """Copies the modules and links the library beside them."""
+    """Copies the modules and puts the libraries beside them."""
 
     def run(self) -> None:
         super().run()
@@ -33,6 +48,7 @@ class Build(build_py):
         # -z defs: the library asks for nothing but the C library
         command = [os.environ.get("CC", "cc"), "-shared", "-Wl,-z,defs", "-Wl,-soname,libkundatrezo.so", *whole]
         subprocess.run([*command, "-o", str(folder / "libkundatrezo.so")], check=True)
+        build_edge(folder)
 
 
 class Binary(Distribution):

@@ -12,6 +12,10 @@ import numpy as np
 import numpy.typing as npt
 
 
+# Most flipped detectors of which the best of all matchings is found.
+MOST_AT_BEST = 12
+
+
 class Matching:
     """The decoder of a detector error model, by its text, with one observable, L0. It counts for `sample`, and can be pickled."""
 
@@ -39,9 +43,17 @@ class Matching:
             self.far = np.where(shorter, way, self.far)
             self.flips = np.where(shorter, self.flips[:, middle, None] ^ self.flips[None, middle, :], self.flips)
         self.known: dict[bytes, bool] = {}
+        # shots of each call with more flipped detectors than are matched at best; threads append
+        self._greedy: list[int] = []
+
+    @property
+    def greedy_shots(self) -> int:
+        """The shots so far that were matched in part by the nearest, one after the other, which is not always the likeliest."""
+        return sum(self._greedy)
 
     def __call__(self, parities: npt.NDArray[np.bool_]) -> npt.NDArray[np.bool_]:
         """In which shots the guess is wrong, by the detectors and the observable of each."""
+        self._greedy.append(int(np.count_nonzero(parities[:, :-1].sum(axis=1) > MOST_AT_BEST)))
         seen = np.packbits(parities[:, :-1], axis=1)
         guesses = np.empty(len(seen), dtype=bool)
         for shot, key in enumerate(map(bytes, seen)):
@@ -54,7 +66,7 @@ class Matching:
     def guess(self, flipped: list[int]) -> bool:
         """Whether the likeliest errors that flip just these detectors flip the observable. Where they are many, the first are matched one by one."""
         parity = False
-        while len(flipped) > 12:
+        while len(flipped) > MOST_AT_BEST:
             one, *others = flipped
             nearest = min([*others, len(self.far) - 1], key=lambda other: self.far[one, other])
             parity ^= bool(self.flips[one, nearest])

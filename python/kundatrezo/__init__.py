@@ -13,6 +13,7 @@ Each call is one of the library, which is proved; the loop of `sample`, the buil
 """
 
 from ._circuit import GATES, Circuit, Pauli
+from ._counts import DRAWS, Counts, wilson
 from ._jobs import (
     MAX_BYTES,
     MAX_GROUPS,
@@ -30,7 +31,7 @@ from ._jobs import (
     words,
 )
 from ._models import Mechanism, error_model, mechanisms
-from ._sampling import Counts, sample, sample_shots, wilson
+from ._sampling import sample, sample_shots
 from ._words import fill, state_of_block, state_of_seed
 
 # the name that users know
@@ -39,6 +40,7 @@ Refused.__module__ = "kundatrezo"
 __version__ = "0.1.0"
 
 __all__ = [
+    "DRAWS",
     "GATES",
     "MAX_BYTES",
     "MAX_GROUPS",

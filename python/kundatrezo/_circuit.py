@@ -4,6 +4,7 @@ from __future__ import annotations
 
 import operator
 import re
+from math import inf
 from typing import Iterable, Mapping, Optional, Sequence, Union
 
 import numpy as np
@@ -95,6 +96,20 @@ def _parts(pauli: Pauli, x: str = "x", z: str = "z") -> str:
 
 def _bits(number: float) -> str:
     return f"{binary64(number):016x}"
+
+
+def _probability(p: float) -> str:
+    digits = _bits(p)
+    if not 0 <= p <= 1:
+        raise ValueError(f"p is a probability, from 0 to 1, not {p!r}")
+    return digits
+
+
+def _weight(weight: float) -> str:
+    digits = _bits(weight)
+    if not 0 <= weight < inf:
+        raise ValueError(f"a weight is a number from 0 on, not {weight!r}")
+    return digits
 
 
 class Circuit:
@@ -241,11 +256,11 @@ class Circuit:
         if weights is not None and len(weights) != n:
             raise ValueError(f"{n} Paulis have {len(weights)} weights")
         line = f"{_noise(p, corr, cond, parity)} d={3 if weights is None else 4} n={n} size={n}"
-        before = ["" if weights is None else f"w={_bits(weights[place])} " for place in range(n)]
+        before = ["" if weights is None else f"w={_weight(weights[place])} " for place in range(n)]
         elements = [f"{weight}{_parts(pauli)}" for weight, pauli in zip(before, paulis)]
         return self._add(line, *elements, qubits=[qubit for pauli in paulis for qubit in _letters(pauli)])
 
 
 def _noise(p: float, corr: Optional[int], cond: Iterable[int], parity: int) -> str:
     number = "-" if corr is None else whole(corr, "corr")
-    return f"op=n p={_bits(p)} corr={number} cond={_outcomes(cond)} parity={whole(parity, 'parity')}"
+    return f"op=n p={_probability(p)} corr={number} cond={_outcomes(cond)} parity={whole(parity, 'parity')}"

@@ -4,19 +4,24 @@ from __future__ import annotations
 
 import os
 from dataclasses import dataclass
+from math import prod
 from pathlib import Path
 from typing import NamedTuple, Optional, Sequence, Union
+from warnings import warn
 
 import numpy as np
 import numpy.typing as npt
 
-from ._library import Answer, Lendable, Words, binary64, call, read_words, written_words
+from . import _hints
+from ._library import Answer, Lendable, Words, binary64, call, read_words, whole, written_words
 from ._words import Stream
 
 MAX_BYTES = 1_048_576
 MAX_SHOTS = 4_096
 MAX_OUTCOMES = 1_024
 MAX_GROUPS = 16
+# Most words that are made for a list, 2 GiB.
+MAX_LIST = 1 << 28
 
 TEXTS = {
     1: "the job is empty, longer than 1,048,576 bytes, or has no LF at its end",
@@ -52,7 +57,7 @@ TEXTS = {
 class Refused(ValueError):
     """A call says no: the first bad line counts, and its lowest number."""
 
-    def __init__(self, number: int, line: int = 0, line_text: str = "", figure: int = 0, hint: str = "") -> None:
+    def __init__(self, number: int, line: int = 0, line_text: str = "", figure: int = 0, hint: str = "", cause: str = "") -> None:
         self.number = number
         """The number, by which docs/REFUSALS.md explains it."""
         self.line = line
@@ -63,12 +68,14 @@ class Refused(ValueError):
         """With 15 from settling, the bytes that the text takes."""
         self.hint = hint
         """What may help, where something can be said."""
-        super().__init__(number, line, line_text, figure, hint)
+        self.cause = cause
+        """Of the causes of a number with several the one that it is, if that is known."""
+        super().__init__(number, line, line_text, figure, hint, cause)
 
     @property
     def text(self) -> str:
         """What the number means."""
-        return TEXTS.get(self.number, "a number that this package does not know")
+        return self.cause or TEXTS.get(self.number, "a number that this package does not know")
 
     def __str__(self) -> str:
         line = f" at line {self.line}: {self.line_text}" if self.line else ""
@@ -77,17 +84,18 @@ class Refused(ValueError):
 
 
 def test(answer: Answer, job: bytes = b"", figure: int = 0, hint: str = "") -> None:
-    """Raise what an answer refuses by."""
+    """Raise what an answer refuses by, with its likely cause where the caller gives none."""
     if answer.number:
         part = call("line", job, answer.line)
         line = job[part.start : part.start + part.len].decode(errors="backslashreplace")
-        raise Refused(answer.number, answer.line, line, figure, hint)
+        raise Refused(answer.number, answer.line, line, figure, hint or _hints.hint(answer.number, answer.line, job))
 
 
 def test_job(job: Job) -> None:
     """That a job is none of the things that are easily taken for one."""
     if not isinstance(job, Job):
-        raise TypeError(f"job is to be a Job, and not of {type(job).__name__}: Job.read(path) reads one")
+        remedy = "circuit.job() makes one" if callable(getattr(job, "job", None)) else "Job.read(path) reads one"
+        raise TypeError(f"job is to be a Job, and not of {type(job).__name__}: {remedy}")
 
 
 def test_lists(lists: Sequence[Sequence[int]], name: str) -> None:
@@ -96,9 +104,22 @@ def test_lists(lists: Sequence[Sequence[int]], name: str) -> None:
         raise TypeError(f"{name} is to be a list of lists of outcomes, such as [[4, 5]]")
 
 
+def rising(job: Job, what: str, lists: Sequence[Sequence[int]]) -> list[tuple[int, ...]]:
+    """Lists of outcomes in rising order: that in which a caller names them plays no part. `Refused` by 17 if one is not recorded, or named twice."""
+    test_lists(lists, f"{what}s")
+    found = [tuple(sorted(int(outcome) for outcome in read_words(list_))) for list_ in lists]
+    for list_ in found:
+        if any(one >= other for one, other in zip(list_, [*list_[1:], job.recorded])):
+            members = ",".join(map(str, list_))
+            recorded = f"the {what} {members}: it names recorded outcomes, 0 to {job.recorded - 1}, each once"
+            raise Refused(17, hint=recorded if job.recorded else "the job records no outcome", cause=TEXTS[17].partition("; ")[2])
+    return found
+
+
 @dataclass(frozen=True)
 class Rows:
-    """What a run leaves. A row has a bit for each shot: shot s is bit s mod 64 of word s // 64. `bits` makes booleans of it."""
+    """What a run leaves. A row has a bit for each shot: shot s is bit s mod 64 of word s // 64. `bits` makes booleans of it. Rows have the shape of a job,
+    and a run takes only those of its own job's shape."""
 
     x: Words
     """The X part of the frames, a row for each qubit."""
@@ -108,12 +129,25 @@ class Rows:
     """A row for each outcome of the header: where a bit is 1, the outcome differs from the noiseless one."""
     totals: Words
     """For each outcome of the header, in how many shots it differs."""
+    shots: int = 0
+    """The shots of the job whose run left them; 0 before the first run."""
 
     @staticmethod
     def of(job: Job) -> Rows:
-        """Cleared rows for a job. Further runs can use them again."""
-        x, z, deltas = (np.zeros((rows, job.row_words), dtype=np.uint64) for rows in (job.qubits, job.qubits, job.outcomes))
-        return Rows(x, z, deltas, np.zeros(job.outcomes, dtype=np.uint64))
+        """Cleared rows for a job. Further runs of it, and of other jobs of the same shape, can use them again."""
+        x, z, deltas, totals = (np.zeros(shape, dtype=np.uint64) for shape in Rows._shapes(job))
+        return Rows(x, z, deltas, totals)
+
+    @staticmethod
+    def _shapes(job: Job) -> list[tuple[int, ...]]:
+        return [(job.qubits, job.row_words), (job.qubits, job.row_words), (job.outcomes, job.row_words), (job.outcomes,)]
+
+    def test_shape(self, job: Job) -> None:
+        """That these are rows for a job: in larger ones the bits of its run would stand in the wrong places. Too few words are the engine's to refuse."""
+        for name, shape in zip(("x", "z", "deltas", "totals"), Rows._shapes(job)):
+            given = getattr(self, name)
+            if given.shape != shape and given.size >= prod(shape):
+                raise ValueError(f"rows.{name} has shape {given.shape}, and this job needs {shape}: Rows.of(job) makes rows for it")
 
 
 class FaultTable(NamedTuple):
@@ -149,9 +183,13 @@ class Job:
     """The lines, that of the header included."""
 
     def __init__(self, text: Union[str, bytes]) -> None:
-        text = text.encode() if isinstance(text, str) else bytes(text)
+        if not isinstance(text, (str, bytes, bytearray, memoryview)):
+            remedy = ": Job.read(path) reads a file" if isinstance(text, os.PathLike) else ""
+            raise TypeError(f"the text of a job is to be a str or bytes, and not of {type(text).__name__}{remedy}")
+        given, text = text, text.encode() if isinstance(text, str) else bytes(text)
         found = call("examine", text)
-        test(found.answer, text)
+        is_path = isinstance(given, str) and given and "\n" not in given and not given.startswith("op=")
+        test(found.answer, text, hint="Job(text) takes the text of a job: Job.read(path) reads a file" if is_path else "")
         object.__setattr__(self, "text", text)
         for name in self.__slots__[1:]:
             object.__setattr__(self, name, getattr(found, name))
@@ -190,7 +228,12 @@ class Job:
         return Job(header[: header.rindex(b"=") + 1] + b"%d\n" % shots + rest)
 
     def _noiseless(self, noiseless: Optional[Lendable]) -> Words:
-        return np.zeros(self.outcomes * self.row_words, dtype=np.uint64) if noiseless is None else read_words(noiseless)
+        shape = (self.outcomes, self.row_words)
+        if noiseless is None:
+            return np.zeros(shape, dtype=np.uint64).reshape(-1)
+        if np.ndim(noiseless) > 1 and np.shape(noiseless) != shape:
+            raise ValueError(f"noiseless bits have shape {np.shape(noiseless)}, and this job needs {shape}")
+        return read_words(noiseless)
 
     def run(
         self,
@@ -211,12 +254,14 @@ class Job:
         """
         rows = Rows.of(self) if rows is None else rows
         lent = [written_words(list_) for list_ in (rows.x, rows.z, rows.deltas, rows.totals)]
+        rows.test_shape(self)
         bits_ = self._noiseless(noiseless)
 
         def once(main: Words, second: Words) -> None:
             test(call("run_totals", self.text, *lent, bits_, main, second, base), self.text)
 
         self._with_words(once, words, seed, second, second_seed, base)
+        object.__setattr__(rows, "shots", self.shots)
         return rows
 
     def settle(
@@ -260,40 +305,40 @@ class Job:
             try:
                 return once(main, other)
             except Refused as refusal:
-                corr = refusal.line_text.partition(" corr=")[2].partition(" ")[0]
-                stream, name = (main_stream, "seed") if corr == "-" else (second_stream, "second_seed")
                 if refusal.number != 14:
                     raise
-                if stream is None:
-                    raise Refused(14, refusal.line, refusal.line_text, hint=f"{name}=N makes as many words as are needed") from None
+                corr = refusal.line_text.partition(" corr=")[2].partition(" ")[0]
+                place = 0 if corr == "-" else (base + int(corr)) % 2**64 + 2 * self.shots
+                list_, stream, name = (main, main_stream, "seed") if corr == "-" else (other, second_stream, "second_seed")
+                if stream is None or place > MAX_LIST:
+                    hint = f"{name}=N makes as many words as are needed"
+                    if stream is None and list_.size:
+                        hint = f"the list has {list_.size} words and this line needs more"
+                    elif place > MAX_LIST:
+                        hint = f"a list has at most {MAX_LIST} words, and place base + corr of this line lies past it"
+                    raise Refused(14, refusal.line, refusal.line_text, hint=hint) from None
                 if corr == "-":
                     main = stream.first(max(2 * main.size, 2 * self.shots * self.text.count(b"\nop=n ")))
                 else:
-                    place = (base + int(corr)) % 2**64 + 2 * self.shots
-                    if place > 1 << 28:
-                        raise
                     other = stream.first(max(2 * other.size, place))
 
     def walk(self, shot: int, set: Sequence[int]) -> int:
         """How many of a job's injections and flips in the shot change the parity of a set of outcomes, by carrying its observable back. The job has no noise:
         settle it first."""
-        said = call("walk", self.text, shot, read_words(set))
-        shots = f"the job's shots are 0 to {self.shots - 1}" if shot >= self.shots else ""
-        test(said.answer, self.text, hint=(shots or self._wanted("set", set)) if said.answer.number == 17 else "")
+        given = whole(shot, "shot")
+        said = call("walk", self.text, given, np.array(rising(self, "set", [set])[0], dtype=np.uint64))
+        if said.answer.number == 17:
+            raise Refused(17, hint=f"the job's shots are 0 to {self.shots - 1}", cause=TEXTS[17].partition("; ")[0])
+        test(said.answer, self.text)
         return said.figure
-
-    def _wanted(self, what: str, *lists: Sequence[int]) -> str:
-        """What is wrong with the first of these that is no list of recorded outcomes, rising strictly; nothing where all are."""
-        rises = lambda list_: all(one < other for one, other in zip(list_, [*list_[1:], self.recorded]))
-        wrong = next((f"the {what} {','.join(map(str, list_))}" for list_ in lists if not rises(list_)), "")
-        recorded = f"it names recorded outcomes, 0 to {self.recorded - 1}, and rises strictly"
-        return wrong and (f"{wrong}: {recorded}" if self.recorded else "the job records no outcome")
 
     def annotate(self, p: float) -> Job:
         """The job with depolarizing noise of probability p before each measurement and after each gate."""
         out = np.zeros(MAX_BYTES, dtype=np.uint8)
         said = call("annotate", self.text, binary64(p), out)
         test(said.answer, self.text)
+        if p < 0:
+            warn("p is below zero: no fault will fall", stacklevel=2)
         return Job(out[: said.figure].tobytes())
 
     def locations(self) -> int:
@@ -310,7 +355,7 @@ class Job:
     def fault_table(self, groups: Sequence[Sequence[int]]) -> FaultTable:
         """Which groups of outcomes each possible fault flips, as the only one: a row for each element of each noise line. The engine is asked for sixteen
         groups at a time, and where the text of a table is too long, for each half of the noise lines by itself."""
-        test_lists(groups, "groups")
+        groups = rising(self, "group", groups)
         try:
             tables = [self._fault_table(groups[first : first + MAX_GROUPS]) for first in range(0, max(len(groups), 1), MAX_GROUPS)]
         except Refused as refusal:
@@ -334,7 +379,7 @@ class Job:
     def _fault_table(self, groups: Sequence[Sequence[int]]) -> FaultTable:
         out = np.zeros(MAX_BYTES, dtype=np.uint8)
         said = call("fault_table", self.text, read_words([number for group in groups for number in (len(group), *group)]), out)
-        test(said.answer, self.text, hint=self._wanted("group", *groups) if said.answer.number == 17 else "")
+        test(said.answer, self.text)
         fields = [[field.partition(b"=")[2] for field in row.split()] for row in out[: said.figure].tobytes().splitlines()]
         line, element = (np.array([int(row[place]) for row in fields], dtype=np.int64) for place in (0, 1))
         flips = np.frombuffer(b"".join(row[2] for row in fields), dtype=np.uint8).reshape(len(fields), len(groups)) == ord("1")
@@ -362,17 +407,28 @@ def by_outcome(rows: Words, outcomes: int, *, out: Optional[Words] = None) -> Wo
 def _turned(name: str, rows: Words, outcomes: int, shots: int, shape: tuple[int, int], out: Optional[Words]) -> Words:
     if not (0 <= outcomes <= MAX_OUTCOMES and 1 <= shots <= MAX_SHOTS):
         raise Refused(3)
+    # a row has a bit for each of the others
+    row_words = -(-(shots if name == "by_shot" else outcomes) // 64)
+    if np.ndim(rows) == 2 and np.shape(rows)[1] > row_words:
+        raise ValueError(f"these rows have {np.shape(rows)[1]} words each, but outcomes={outcomes} and shots={shots} need {row_words}")
     out = np.zeros(shape, dtype=np.uint64) if out is None else out
     test(call(name, outcomes, shots, read_words(rows), written_words(out)))
     return out
 
 
 def bits(rows: Words, count: int) -> npt.NDArray[np.bool_]:
-    """Rows of bits as booleans, `count` of them to a row."""
-    rows = np.ascontiguousarray(rows, dtype="<u8")
-    if rows.shape[1] == 0:
-        return np.zeros((len(rows), 0), dtype=bool)
-    return np.unpackbits(rows.view(np.uint8), axis=1, count=count, bitorder="little").view(bool)
+    """Rows of bits as booleans, `count` of them to a row: for the rows of a run, its job's shots."""
+    given = np.asarray(rows)
+    if given.dtype == bool:
+        raise TypeError("bits makes booleans of words, and these are booleans")
+    if given.ndim != 2:
+        raise ValueError(f"rows are to be an array with a row of words each, not of shape {given.shape}")
+    if not 0 <= (count := whole(count, "count")) <= 64 * given.shape[1]:
+        raise ValueError(f"a row of {given.shape[1]} words has {64 * given.shape[1]} bits, not {count}")
+    if given.shape[1] == 0:
+        return np.zeros((len(given), 0), dtype=bool)
+    packed = read_words(rows).astype("<u8", copy=False).reshape(given.shape)
+    return np.unpackbits(packed.view(np.uint8), axis=1, count=count, bitorder="little").view(bool)
 
 
 def words(booleans: npt.ArrayLike) -> Words:

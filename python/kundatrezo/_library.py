@@ -69,8 +69,9 @@ _CALLS: dict[str, tuple[Any, list[str]]] = {
     "make": (TextAnswer, [_NUMBER, _NUMBER, _NUMBER, _NUMBER, _NUMBER, _WRITTEN]),
 }
 
-PATH = Path(os.environ.get("KUNDATREZO_LIBRARY") or Path(__file__).with_name("libkundatrezo.so"))
-"""The library's file: that beside this one, or the one that the environment variable KUNDATREZO_LIBRARY names."""
+PATH = Path(os.environ.get("KUNDATREZO_LIBRARY") or Path(__file__).with_name("libkundatrezo.so")).absolute()
+"""The library's file: that beside this one, or the one that the environment variable KUNDATREZO_LIBRARY names. The path is made absolute, since a bare
+name would be looked for in the system's folders. The variable is trusted: whatever code it names is run in this process."""
 
 
 def _loaded() -> dict[str, tuple[Callable[..., Any], list[str]]]:
@@ -78,13 +79,16 @@ def _loaded() -> dict[str, tuple[Callable[..., Any], list[str]]]:
         library = ctypes.CDLL(str(PATH))
     except OSError as error:
         raise ImportError(f"{error}: the library is linked when the package is built, see python/README.md") from error
+    # all of them before the first is called: another library, or an older one, is found here and not in the middle of the work
+    missing = [f"kundatrezo_{name}" for name in _CALLS if not hasattr(library, f"kundatrezo_{name}")]
+    if missing:
+        raise ImportError(f"{PATH} lacks {', '.join(missing)}: it is another library, or older than this package")
     calls = {}
     for name, (answer, kinds) in _CALLS.items():
-        call = getattr(library, f"kundatrezo_{name}", None)
-        if call is not None:
-            call.restype = answer
-            call.argtypes = [kind for parameter in kinds for kind in _TYPES[parameter]]
-            calls[name] = (call, kinds)
+        call = getattr(library, f"kundatrezo_{name}")
+        call.restype = answer
+        call.argtypes = [kind for parameter in kinds for kind in _TYPES[parameter]]
+        calls[name] = (call, kinds)
     return calls
 
 
@@ -96,8 +100,6 @@ _NOWHERE = np.zeros(1, dtype=np.uint64)
 
 def call(name: str, *arguments: Union[int, bytes, np.ndarray]) -> Any:
     """Make a call: bytes and arrays are lent where they lie. The interpreter's lock is released meanwhile."""
-    if name not in _calls:
-        raise NotImplementedError(f"{PATH} has no call kundatrezo_{name}: it is older than this package")
     function, kinds = _calls[name]
     lent: list[Union[int, bytes, None]] = []
     written = []
@@ -122,7 +124,9 @@ def whole(number: int, name: str = "an argument", least: int = 0) -> int:
     try:
         given = operator.index(number)
     except TypeError:
-        raise TypeError(f"{name} is to be a whole number, not {number!r}") from None
+        # such as 1e6
+        remedy = f": write {number:.0f}" if isinstance(number, float) and number.is_integer() and number < 2**64 else ""
+        raise TypeError(f"{name} is to be a whole number, not {number!r}{remedy}") from None
     if not least <= given < 2**64:
         raise ValueError(f"{name} is to be from {least} to below 2^64, not {given}")
     return given

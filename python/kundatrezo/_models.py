@@ -10,7 +10,7 @@ from typing import Iterator, Sequence
 import numpy as np
 import numpy.typing as npt
 
-from ._jobs import Job, Refused, test_job, test_lists
+from ._jobs import Job, rising, test_job
 
 
 @dataclass
@@ -30,14 +30,7 @@ class Mechanism:
 def mechanisms(job: Job, detectors: Sequence[Sequence[int]], observables: Sequence[Sequence[int]] = ()) -> list[Mechanism]:
     """Each element of each noise line with its probability and what it flips. Lines of one correlation that draw alike have theirs in common."""
     test_job(job)
-    test_lists(detectors, "detectors")
-    test_lists(observables, "observables")
-    try:
-        table = job.fault_table([*detectors, *observables])
-    except Refused as refusal:
-        if refusal.number != 17:
-            raise
-        raise Refused(17, hint=job._wanted("detector", *detectors) or job._wanted("observable", *observables)) from None
+    table = job.fault_table([*rising(job, "detector", detectors), *rising(job, "observable", observables)])
     faults = iter(zip(table.element, table.flips))
     found: list[Mechanism] = []
     together: dict[object, int] = {}

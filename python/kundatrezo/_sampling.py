@@ -7,106 +7,23 @@ import struct
 import zlib
 from collections import deque
 from concurrent.futures import Executor, Future
-from dataclasses import dataclass, field, replace
+from dataclasses import dataclass, replace
 from math import ceil, sqrt
 from typing import Any, Callable, Iterable, Iterator, Optional, Sequence
+from warnings import warn
 
 import numpy as np
 import numpy.typing as npt
 
-from ._jobs import MAX_SHOTS, Job, Refused, Rows, bits, by_outcome, by_shot, test_job, test_lists, words
+from ._counts import LENT, Counts, Sample, part_blocks, subject_of
+from ._jobs import MAX_LIST, MAX_SHOTS, Job, Refused, Rows, bits, by_outcome, by_shot, rising, test_job, words
 from ._library import Lendable, Words, read_words, whole
 from ._words import Stream, state_of_block
 
 Bools = npt.NDArray[np.bool_]
 
-# The 97.5th percentile of the normal distribution.
-_QUANTILE = 1.959963984540054
-# Most words of a list of a block.
-_MOST_WORDS = 1 << 28
 # Blocks of a task at most, and tasks that an executor is given ahead.
 _TASK, _AHEAD = 256, 64
-
-
-def wilson(totals: npt.ArrayLike, shots: int) -> tuple[npt.NDArray[np.float64], npt.NDArray[np.float64]]:
-    """Wilson's score interval at 95 percent of the rates of totals among shots: its lower and its upper ends.
-
-    >>> [float(end.round(4)) for end in wilson(10, 100)]
-    [0.0552, 0.1744]
-    """
-    rate = np.asarray(totals, dtype=np.float64) / shots
-    square = _QUANTILE * _QUANTILE / shots
-    middle = (rate + square / 2.0) / (1.0 + square)
-    half = np.sqrt(rate * (1.0 - rate) * square + square * square / 4.0) / (1.0 + square)
-    return np.maximum(middle - half, 0.0), np.minimum(middle + half, 1.0)
-
-
-@dataclass(frozen=True)
-class Counts:
-    """In how many shots outcomes and the parities of sets of outcomes are flipped."""
-
-    job: Job
-    seed: int
-    shots: int
-    """The shots that are counted."""
-    totals: Words
-    """For each outcome of the header."""
-    sets: tuple[tuple[int, ...], ...] = ()
-    set_totals: Words = field(default_factory=lambda: np.zeros(0, dtype=np.uint64))
-    """For each set."""
-    counted: int = 0
-    """The shots that the caller's own function counts."""
-    marks: str = ""
-    """What else the sample was made of, as the program writes it."""
-
-    @property
-    def rates(self) -> npt.NDArray[np.float64]:
-        """The part of the shots in which each outcome is flipped."""
-        return self.totals / self.shots
-
-    @property
-    def set_rates(self) -> npt.NDArray[np.float64]:
-        """The part of the shots in which the parity of each set is flipped."""
-        return self.set_totals / self.shots
-
-    @property
-    def intervals(self) -> npt.NDArray[np.float64]:
-        """Wilson's interval of the rate of each outcome: a row of its two ends."""
-        return np.stack(wilson(self.totals, self.shots), axis=-1)
-
-    @property
-    def set_intervals(self) -> npt.NDArray[np.float64]:
-        """Wilson's interval of the rate of each set."""
-        return np.stack(wilson(self.set_totals, self.shots), axis=-1)
-
-    @property
-    def counted_rate(self) -> float:
-        """The part of the shots that the caller's own function counts."""
-        return self.counted / self.shots
-
-    @property
-    def counted_interval(self) -> tuple[float, float]:
-        """Wilson's interval of that rate."""
-        low, high = wilson(self.counted, self.shots)
-        return float(low), float(high)
-
-    def text(self) -> str:
-        """The counts as the program's `sample` prints them, so that its `merge` can add them to others."""
-        job = self.job
-        lines = [
-            f"ok=1 qubits={job.qubits} outcomes={job.outcomes} shots={self.shots}",
-            f"job={zlib.crc32(job.text):08x} seed={self.seed} part=1/1 of={self.shots}{self.marks}",
-        ]
-        names = [f"id={place}" for place in range(job.recorded)] + [f"set={','.join(map(str, set_)) or '-'}" for set_ in self.sets]
-        for name, total in zip(names, [*self.totals[: job.recorded], *self.set_totals]):
-            low, high = wilson(total, self.shots)
-            lines.append(f"{name} total={total} rate={_written(total / self.shots)} low={_written(float(low))} high={_written(float(high))}")
-        return "".join(f"{line}\n" for line in lines)
-
-
-def _written(number: float) -> str:
-    mantissa, exponent = f"{number:.6e}".split("e")
-    return f"{mantissa}e{int(exponent)}"
 
 
 def sample(
@@ -117,6 +34,7 @@ def sample(
     executor: Optional[Executor] = None,
     *,
     count: Optional[Callable[[Bools], npt.ArrayLike]] = None,
+    part: tuple[int, int] = (1, 1),
     named: Optional[str] = None,
     noiseless: Optional[Lendable] = None,
     noiseless_shots: Optional[npt.NDArray[np.uint8]] = None,
@@ -130,25 +48,34 @@ def sample(
     `count` is a function, such as a decoder, that is given the parities of the sets by shot, or all outcomes where there are no sets, as an array of
     booleans with a row for each shot, and gives for each shot whether it counts. Processes need one that can be pickled.
 
+    `part` is (I, K) for the I-th of K parts of the shots, from 1, as the program's --part: the counts of all parts, here or on other machines, add up to
+    those of the whole.
+
     A job with injections or flips wants `named`: "whole", they stand in the shots of the whole that they name, or "block", in those of each block.
 
     `noiseless` has noiseless bits for the job's own shots, in the layout of deltas, which come again: shot s has those of s mod `job.shots`. `noiseless_shots`
-    has them for each shot, a row of packed bytes, eight outcomes to a byte, the lowest first.
+    has them for each shot, a row of packed bytes, eight outcomes to a byte, the lowest first. Without them all are 0; a warning says so if noise with
+    a condition looks at them.
     """
-    plan = _Plan.of(job, shots, seed, sets, named, noiseless)
+    plan = _Plan.of(job, shots, seed, sets, part, named, noiseless)
     given = _given(plan, noiseless_shots)
-    size = min(_TASK, max(1, ceil(plan.blocks / _AHEAD)))
-    tasks = ((first, min(first + size, plan.blocks)) for first in range(0, plan.blocks, size))
+    _warn_of_conditions(plan, given is not None)
+    size = min(_TASK, max(1, ceil(len(plan.blocks) / _AHEAD)))
+    tasks = ((first, min(first + size, plan.blocks.stop)) for first in plan.blocks[::size])
     calls = ((plan, first, last, _slice(given, first, last), count) for first, last in tasks)
     sum_ = _Sum.of(plan)
-    for part in _done(calls, executor):
-        sum_.add(part)
-    marks = "" if named is None else f" named={named}"
-    if noiseless is not None:
-        marks += f" noiseless={zlib.crc32(read_words(noiseless)[: job.outcomes * job.row_words].astype('<u8').tobytes()):08x}"
-    elif given is not None:
-        marks += " noiseless=shots"
-    return Counts(job, plan.seed, plan.shots, sum_.totals, plan.sets, sum_.sets, sum_.counted, marks)
+    for done in _done(calls, executor):
+        sum_.add(done)
+    mark = LENT if given is not None else plan.noiseless_sum
+    return Counts(
+        subject_of(job, plan.sets, named, mark),
+        (Sample((plan.seed,), ((plan.part[0], plan.part[0]),), plan.part[1], plan.shots),),
+        sum_.shots,
+        sum_.totals,
+        sum_.sets,
+        None if count is None else sum_.counted,
+        job,
+    )
 
 
 def sample_shots(
@@ -158,16 +85,18 @@ def sample_shots(
     sets: Sequence[Sequence[int]] = (),
     *,
     packed: bool = False,
+    part: tuple[int, int] = (1, 1),
     named: Optional[str] = None,
     noiseless: Optional[Lendable] = None,
     noiseless_shots: Optional[npt.NDArray[np.uint8]] = None,
 ) -> Iterator[np.ndarray]:
-    """The shots of the same sample, block by block, as decoders read them: an array with a row for each shot, and in it a boolean for each set, or for each
-    outcome where there are no sets; `packed`, bytes that have eight of them each, the lowest first."""
-    plan = _Plan.of(job, shots, seed, sets, named, noiseless)
+    """The shots of the same sample, or of its part, block by block, as decoders read them: an array with a row for each shot, and in it a boolean for
+    each set, or for each outcome where there are no sets; `packed`, bytes that have eight of them each, the lowest first."""
+    plan = _Plan.of(job, shots, seed, sets, part, named, noiseless)
     given = _given(plan, noiseless_shots)
+    _warn_of_conditions(plan, given is not None)
     bench = _Bench(plan)
-    for block in range(plan.blocks):
+    for block in plan.blocks:
         bench.run(block, _slice(given, block, block + 1))
         rows = bench.by_shot()
         yield rows.view(np.uint8)[:, : ceil(plan.width / 8)] if packed else bits(rows, plan.width)
@@ -213,6 +142,7 @@ def _task(plan: _Plan, first: int, last: int, given: Optional[npt.NDArray[np.uin
     sum_ = _Sum.of(plan)
     for block in range(first, last):
         bench.run(block, _slice(given, block - first, block - first + 1))
+        sum_.shots += bench.job.shots
         sum_.totals += bench.rows.totals
         for place, parity in enumerate(bench.parities()):
             sum_.sets[place] += np.uint64(np.unpackbits(parity.view(np.uint8)).sum())
@@ -228,6 +158,7 @@ def _task(plan: _Plan, first: int, last: int, given: Optional[npt.NDArray[np.uin
 class _Sum:
     totals: Words
     sets: Words
+    shots: int = 0
     counted: int = 0
 
     @staticmethod
@@ -237,6 +168,7 @@ class _Sum:
     def add(self, other: _Sum) -> None:
         self.totals += other.totals
         self.sets += other.sets
+        self.shots += other.shots
         self.counted += other.counted
 
 
@@ -248,14 +180,24 @@ class _Plan:
     shots: int
     seed: int
     sets: tuple[tuple[int, ...], ...]
+    part: tuple[int, int]
     named: Optional[str]
     noiseless: Optional[Words]
 
     @staticmethod
-    def of(job: Job, shots: int, seed: int, sets: Sequence[Sequence[int]], named: Optional[str], noiseless: Optional[Lendable]) -> _Plan:
+    def of(
+        job: Job,
+        shots: int,
+        seed: int,
+        sets: Sequence[Sequence[int]],
+        part: tuple[int, int],
+        named: Optional[str],
+        noiseless: Optional[Lendable],
+    ) -> _Plan:
         test_job(job)
         shots, seed = whole(shots, "shots", least=1), whole(seed, "a seed")
-        test_lists(sets, "sets")
+        if not (isinstance(part, tuple) and len(part) == 2 and 1 <= whole(part[0], "part") <= whole(part[1], "part")):
+            raise ValueError(f"part is to be (I, K), with I from 1 to K, not {part!r}")
         if named not in (None, "whole", "block"):
             raise ValueError("named is to be 'whole' or 'block'")
         if named is None and (line := _first_named(job.text)):
@@ -263,20 +205,18 @@ class _Plan:
                 f"line {line} stands in a shot that it names. With named='whole' it stands in that shot of the whole sample, with named='block' in that "
                 f"shot of each block of {MAX_SHOTS}; for a fault in every shot write noise of p = 1"
             )
-        recording = Job(f"op=job qubits=1 outcomes={job.recorded} shots=1\n" + "".join(f"op=r id={place} angle=0\n" for place in range(job.recorded)))
-        for set_ in sets:
-            recording.walk(0, set_)
-        again = None
-        if noiseless is not None:
-            rows = read_words(noiseless)
-            if rows.size < job.outcomes * job.row_words:
-                raise Refused(13)
-            again = rows[: job.outcomes * job.row_words].reshape(job.outcomes, job.row_words)
-        return _Plan(job, shots, seed, tuple(tuple(map(int, set_)) for set_ in sets), named, again)
+        again = None if noiseless is None else _noiseless_rows(job, noiseless)
+        return _Plan(job, shots, seed, tuple(rising(job, "set", sets)), part, named, again)
 
     @property
-    def blocks(self) -> int:
-        return -(-self.shots // MAX_SHOTS)
+    def blocks(self) -> range:
+        """The blocks of the part."""
+        return part_blocks(-(-self.shots // MAX_SHOTS), *self.part)
+
+    @property
+    def noiseless_sum(self) -> Optional[str]:
+        """What says that counts had the same noiseless bits."""
+        return None if self.noiseless is None else f"{zlib.crc32(self.noiseless.astype('<u8').tobytes()):08x}"
 
     @property
     def width(self) -> int:
@@ -285,6 +225,39 @@ class _Plan:
 
     def shots_of(self, block: int) -> int:
         return min(MAX_SHOTS, self.shots - block * MAX_SHOTS)
+
+
+def _noiseless_rows(job: Job, noiseless: Lendable) -> Words:
+    """Noiseless bits for the job's own shots: those for another number of shots would be read in a wrong shape."""
+    rows, shape = read_words(noiseless), (job.outcomes, job.row_words)
+    if rows.size != shape[0] * shape[1] or (np.ndim(noiseless) > 1 and np.shape(noiseless) != shape):
+        raise ValueError(
+            f"noiseless bits of {rows.size} words, shape {np.shape(noiseless)}, but the header's outcomes={job.outcomes} and shots={job.shots} "
+            f"need exactly {shape[0] * shape[1]}, shape {shape}"
+        )
+    return rows.reshape(shape)
+
+
+_CONDITION = re.compile(rb"^op=n p=(\w+) corr=\S+ cond=(\d\S*) ", re.MULTILINE)
+_RANDOM = re.compile(rb"^op=r id=(\d+) ", re.MULTILINE)
+
+
+def _warn_of_conditions(plan: _Plan, given: bool) -> None:
+    """Say that noise with a condition looks at noiseless bits that are not given, or at those of a random outcome, which are the same in all shots or
+    come again."""
+    text = plan.job.text
+    falls = lambda found: struct.unpack(">d", bytes.fromhex(found[1].decode()))[0] > 0
+    conditions = [(text.count(b"\n", 0, found.start()) + 1, found[2].split(b",")) for found in _CONDITION.finditer(text) if falls(found)]
+    if given or not conditions:
+        return
+    if plan.noiseless is None:
+        warn(f"line {conditions[0][0]} has noise with a condition, and without noiseless= or noiseless_shots= all noiseless bits are 0", stacklevel=3)
+    random = set(_RANDOM.findall(text))
+    found = next(((line, outcome) for line, outcomes in conditions for outcome in outcomes if outcome in random), None)
+    if found:
+        same = "is 0 in every shot" if plan.noiseless is None else f"comes again every {plan.job.shots} shots"
+        what = f"the condition of line {found[0]} looks at outcome {int(found[1])}, which op=r records at random"
+        warn(f"{what}, and its noiseless bit {same}: noiseless_shots= gives it for each shot", stacklevel=3)
 
 
 _NAMED = re.compile(rb"^op=[it] shot=(\d+) .*$", re.MULTILINE)
@@ -301,7 +274,7 @@ class _Bench:
     def __init__(self, plan: _Plan) -> None:
         self.plan = plan
         self.jobs: dict[tuple[int, bool], Job] = {}
-        self.job = self.job_of(0)
+        self.job = self.job_of(plan.blocks.start)
         self.rows = Rows.of(self.job)
         self.main, self.second = Stream(1), Stream(1)
         self.need = _Need.of(plan.job.text)
@@ -339,10 +312,13 @@ class _Bench:
             except Refused as refusal:
                 # the guess was too small: the same words, and more of them
                 corr = refusal.line_text.partition(" corr=")[2].partition(" ")[0]
-                place = 0 if corr == "-" else int(corr or _MOST_WORDS)
-                longer = min(_MOST_WORDS, 2 * lengths[corr != "-"] + place + job.shots)
-                if refusal.number != 14 or place >= _MOST_WORDS or longer == lengths[corr != "-"]:
+                place = 0 if corr == "-" else int(corr or MAX_LIST)
+                longer = min(MAX_LIST, 2 * lengths[corr != "-"] + place + job.shots)
+                if refusal.number != 14:
                     raise
+                if place >= MAX_LIST or longer == lengths[corr != "-"]:
+                    hint = f"place corr of this line lies past {MAX_LIST} words, the most of a list"
+                    raise Refused(14, refusal.line, refusal.line_text, hint=hint) from None
                 lengths[corr != "-"] = longer
 
     def noiseless(self, block: int, given: Optional[npt.NDArray[np.uint8]]) -> Words:
@@ -387,7 +363,7 @@ class _Need:
         return need
 
     def main(self, shots: int) -> int:
-        return min(_MOST_WORDS, int(self.mean * shots + 8 * sqrt(self.variance * shots)) + 64) if self.mean else 0
+        return min(MAX_LIST, int(self.mean * shots + 8 * sqrt(self.variance * shots)) + 64) if self.mean else 0
 
     def second(self, shots: int) -> int:
-        return 0 if self.place is None or self.place >= _MOST_WORDS else min(_MOST_WORDS, self.place + 2 * shots + 64)
+        return 0 if self.place is None or self.place >= MAX_LIST else min(MAX_LIST, self.place + 2 * shots + 64)

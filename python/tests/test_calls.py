@@ -12,7 +12,7 @@ import subprocess
 import numpy as np
 import pytest
 from conftest import PROGRAM, REPOSITORY, circuits, jobs, program, sets_of
-from hypothesis import given
+from hypothesis import given, settings
 from hypothesis import strategies as st
 
 import kundatrezo
@@ -28,7 +28,7 @@ def test_documentation(monkeypatch):
     monkeypatch.chdir(REPOSITORY)
     for name in ["README.md", "python/README.md"]:
         assert doctest.testfile(str(REPOSITORY / name), module_relative=False).failed == 0
-    for name in ["", "._jobs", "._circuit", "._sampling", "._words"]:
+    for name in ["", "._jobs", "._circuit", "._counts", "._sampling", "._words"]:
         assert doctest.testmod(importlib.import_module(f"kundatrezo{name}")).failed == 0
 
 
@@ -38,7 +38,8 @@ def test_jobs_are_checked():
         Job(str(BELL).replace("q=0,1", "q=0,9"))
     refused = refusal.value
     assert (refused.number, refused.line, refused.line_text) == (4, 3, "op=u g=11 q=0,9")
-    assert str(refused) == "4 (a qubit not below the header's qubits) at line 3: op=u g=11 q=0,9"
+    said = "4 (a qubit not below the header's qubits) at line 3: op=u g=11 q=0,9\nhint: the header has qubits=2: they are 0 to 1"
+    assert str(refused) == said
     assert str(pickle.loads(pickle.dumps(refused))) == str(refused)
     assert pickle.loads(pickle.dumps(BELL)) == BELL and hash(BELL) == hash(Job(str(BELL)))
     with pytest.raises(AttributeError):
@@ -46,6 +47,37 @@ def test_jobs_are_checked():
     with pytest.raises(Refused) as refusal:
         Job(b"")
     assert (refusal.value.number, refusal.value.line) == (1, 0)
+
+
+@settings(max_examples=150)
+@given(jobs(), st.data())
+def test_refusals_have_the_hints_of_the_program(job, data):
+    """Any refused job is refused in the same words, its line shortened where it is long."""
+    text = bytearray(job.text)
+    pieces = [b"", b"\n", b"0", b" ", b"=", b"x=", b"\xff", b"\0", b"op=u g=H q=0\n"]
+    for _ in range(data.draw(st.integers(1, 3))):
+        place = data.draw(st.integers(0, len(text)))
+        text[place : place + data.draw(st.integers(0, 3))] = data.draw(st.sampled_from(pieces))
+    done = subprocess.run([PROGRAM, "check", "-"], input=bytes(text), capture_output=True)
+    try:
+        Job(bytes(text))
+        assert done.returncode == 0
+    except Refused as refusal:
+        hint = done.stderr.decode().partition("\nhint: ")[2]
+        assert (done.returncode, refusal.hint) == (1, hint.removesuffix("\n"))
+
+
+def test_a_path_is_no_text():
+    path = REPOSITORY / "examples/bell.job"
+    for text in (str(path), "bell.job"):
+        with pytest.raises(Refused, match=r"hint: Job\(text\) takes the text of a job: Job.read\(path\) reads a file"):
+            Job(text)
+    with pytest.raises(Refused, match="hint: the last line has no line end: add LF"):
+        Job("op=job qubits=1 outcomes=0 shots=1")
+    with pytest.raises(Refused, match="hint: byte 1 is not text: is this the right file?"):
+        Job.read(_library.PATH)
+    with pytest.raises(Refused, match="hint: settle the job first, and walk the settled job"):
+        SYNDROME.walk(0, [0])
 
 
 def test_refusals_have_the_texts_of_the_header():
@@ -128,28 +160,39 @@ def test_long_fault_tables():
 
 
 def test_fault_tables_are_refused():
-    for groups, number in (([], 24), ([[3, 1]], 17), ([[99]], 17)):
+    for groups, number in (([], 24), ([[3, 3]], 17), ([[99]], 17)):
         with pytest.raises(Refused) as refusal:
             SYNDROME.fault_table(groups)
         assert (refusal.value.number, refusal.value.line) == (number, 0)
 
 
 def test_outcomes_that_are_refused_are_named():
-    wanted = "it names recorded outcomes, 0 to 6, and rises strictly"
+    wanted = "it names recorded outcomes, 0 to 6, each once"
     settled = SYNDROME.settle(seed=1)
     for call, hint in (
         (lambda: settled.walk(0, [3, 7]), f"the set 3,7: {wanted}"),
-        (lambda: settled.walk(64, [3, 7]), "the job's shots are 0 to 63"),
+        (lambda: settled.walk(64, [3, 6]), "the job's shots are 0 to 63"),
         (lambda: kundatrezo.sample(SYNDROME, 10, 1, [[0], [3, 3]]), f"the set 3,3: {wanted}"),
-        (lambda: SYNDROME.fault_table([[0], [3, 2]]), f"the group 3,2: {wanted}"),
-        (lambda: error_model(SYNDROME, [[0], [0, 9]], [[3, 2]]), f"the detector 0,9: {wanted}"),
-        (lambda: error_model(SYNDROME, [[0]] * 20, [[6], [3, 2]]), f"the observable 3,2: {wanted}"),
+        (lambda: SYNDROME.fault_table([[0], [3, 2, 3]]), f"the group 2,3,3: {wanted}"),
+        (lambda: error_model(SYNDROME, [[0], [9, 0]], [[3, 3]]), f"the detector 0,9: {wanted}"),
+        (lambda: error_model(SYNDROME, [[0]] * 20, [[6], [3, 3]]), f"the observable 3,3: {wanted}"),
         (lambda: error_model(Circuit().job(), [], [[0]]), "the job records no outcome"),
         (lambda: Circuit().job().fault_table([[0]]), "the job records no outcome"),
     ):
         with pytest.raises(Refused) as refusal:
             call()
         assert (refusal.value.number, refusal.value.hint) == (17, hint)
+        # the one cause of the number's that it is
+        assert ("the walk's shot" in str(refusal.value)) == ("a set or group" not in str(refusal.value)) == hint.startswith("the job's shots")
+        assert str(pickle.loads(pickle.dumps(refusal.value))) == str(refusal.value)
+
+
+def test_outcomes_are_named_in_any_order():
+    settled = SYNDROME.settle(seed=1)
+    assert [settled.walk(shot, [6, 4, 5]) for shot in range(64)] == [settled.walk(shot, [4, 5, 6]) for shot in range(64)]
+    assert (SYNDROME.fault_table([[6, 4, 5]]).flips == SYNDROME.fault_table([[4, 5, 6]]).flips).all()
+    assert error_model(SYNDROME, [[3, 1]], [[6, 4, 5]]) == error_model(SYNDROME, [[1, 3]], [[4, 5, 6]])
+    assert kundatrezo.sample(SYNDROME, 100, 1, [[6, 4, 5]]) == kundatrezo.sample(SYNDROME, 100, 1, [[4, 5, 6]])
 
 
 @given(st.integers(0, 150), st.integers(1, 200), st.integers(0, 2**32))
@@ -212,6 +255,42 @@ def test_arrays_are_lent():
     assert _library.read_words(lent).ctypes.data == lent.ctypes.data
 
 
+def test_rows_have_the_shape_of_their_job():
+    """Rows of a longer job are not taken for those of a shorter one."""
+    long = SYNDROME.with_shots(4096)
+    rows = Rows.of(long)
+    assert (rows.shots, long.run(seed=1, rows=rows).shots) == (0, 4096)
+    for job in (SYNDROME, long.with_shots(4032), BELL):
+        with pytest.raises(ValueError, match=r"rows.x has shape \(5, 64\), and this job needs .*: Rows.of\(job\) makes rows for it"):
+            job.run(seed=1, rows=rows)
+    # other shots in as many words: the run says how many
+    assert long.with_shots(4095).run(seed=1, rows=rows) is rows and rows.shots == 4095
+    own = Rows.of(SYNDROME)
+    for wrong in ((rows.deltas, own.totals), (own.deltas.T.copy(), own.totals), (own.deltas, rows.x)):
+        with pytest.raises(ValueError, match="has shape"):
+            SYNDROME.run(seed=1, rows=Rows(own.x, own.z, *wrong))
+    with pytest.raises(ValueError, match=r"noiseless bits have shape \(7, 64\), and this job needs \(7, 1\)"):
+        SYNDROME.run(seed=1, noiseless=rows.deltas)
+    with pytest.raises(ValueError, match="these rows have 64 words each, but outcomes=7 and shots=64 need 1"):
+        by_shot(rows.deltas, 64)
+    with pytest.raises(ValueError, match="these rows have 2 words each, but outcomes=7 and shots=3 need 1"):
+        by_outcome(np.zeros((3, 2), dtype=np.uint64), 7)
+
+
+def test_bits_are_those_of_words():
+    deltas = SYNDROME.run(seed=1).deltas
+    assert bits(deltas, 64).sum(axis=1).tolist() == SYNDROME.run(seed=1).totals.tolist()
+    assert bits(deltas.tolist(), 64).tolist() == bits(deltas, 64).tolist()
+    with pytest.raises(ValueError, match="a row of 1 words has 64 bits, not 65"):
+        bits(deltas, 65)
+    for wrong in (bits(deltas, 64), deltas.astype(float), [[0.5]]):
+        with pytest.raises(TypeError):
+            bits(wrong, 1)
+    for wrong, count in ((deltas[0], 64), (deltas, -1), (np.zeros((3, 0), dtype=np.uint64), 1)):
+        with pytest.raises(ValueError):
+            bits(wrong, count)
+
+
 def test_arrays_that_can_not_be_lent():
     rows = Rows.of(BELL)
     wrong = [rows.x.astype(np.int64), np.zeros((2, 4), dtype=np.uint64)[:, ::4], rows.x.tolist()]
@@ -247,10 +326,13 @@ def test_what_is_no_list_of_words():
     for call, text in (
         (lambda: kundatrezo.sample("file.job", 10, 1), "job is to be a Job, and not of str"),
         (lambda: error_model("file.job", [[0]]), "job is to be a Job, and not of str"),
-        (lambda: kundatrezo.sample(SYNDROME, 1e6, 1), "shots is to be a whole number, not 1000000.0"),
+        (lambda: kundatrezo.sample(SYNDROME, 1e6, 1), "shots is to be a whole number, not 1000000.0: write 1000000$"),
+        (lambda: kundatrezo.sample(Circuit(), 10, 1), r"job is to be a Job, and not of Circuit: circuit\.job\(\) makes one"),
+        (lambda: Job(REPOSITORY / "examples/bell.job"), r"a str or bytes, and not of PosixPath: Job\.read\(path\) reads a file"),
+        (lambda: Job(5), "the text of a job is to be a str or bytes, and not of int"),
         (lambda: kundatrezo.sample(SYNDROME, 10, 1.5), "a seed is to be a whole number, not 1.5"),
         (lambda: SYNDROME.run(seed=1.5), "a seed is to be a whole number, not 1.5"),
-        (lambda: BELL.walk(0.5, [0]), "an argument is to be a whole number, not 0.5"),
+        (lambda: BELL.walk(0.5, [0]), "shot is to be a whole number, not 0.5"),
         (lambda: kundatrezo.sample(SYNDROME, 10, 1, [4, 5]), "sets is to be a list of lists of outcomes, such as"),
         (lambda: SYNDROME.fault_table([4, 5]), "groups is to be a list of lists of outcomes, such as"),
         (lambda: error_model(SYNDROME, [[4]], [5]), "observables is to be a list of lists of outcomes, such as"),
@@ -270,10 +352,16 @@ def test_words_past_the_list():
     assert str(pickle.loads(pickle.dumps(refusal.value))) == str(refusal.value)
     with pytest.raises(Refused, match="hint: second_seed=N makes"):
         Circuit().fault(0.5, "X0", corr=7).job().settle(seed=1)
-    far = Circuit().fault(0.5, "X0", corr=2**64 - 1).job()
-    with pytest.raises(Refused) as refusal:
-        far.run(second_seed=1)
-    assert (refusal.value.number, refusal.value.line) == (14, 2)
+    for corr in (300_000_000, 2**64 - 1):
+        far = Circuit().fault(0.5, "X0", corr=corr).job()
+        for call in (lambda: far.run(second_seed=1), lambda: far.settle(seed=1), lambda: kundatrezo.sample(far, 1, 1)):
+            with pytest.raises(Refused) as refusal:
+                call()
+            # what may help is no option that the call does not have, or that is given
+            assert (refusal.value.number, refusal.value.line) == (14, 2) and "seed" not in refusal.value.hint
+            assert re.search(r"place (base \+ )?corr of this line lies past", refusal.value.hint)
+    with pytest.raises(Refused, match="hint: the list has 10 words and this line needs more$"):
+        SYNDROME.run(fill(1, 10))
 
 
 def test_the_floating_point_state():
@@ -344,6 +432,11 @@ WRONG_CALLS = [
     (lambda circuit: circuit.inject(0, {9: "X", -1: "X"}), ValueError, "each of the qubits is to be from 0 to below 2^64, not -1"),
     (lambda circuit: circuit.choose(0.5, ["X9", "Q9"]), ValueError, "'Q9' is no Pauli: it is written as in 'X0 Y1 Z2'"),
     # probabilities and weights
+    (lambda circuit: circuit.fault(-0.5, "X9"), ValueError, "p is a probability, from 0 to 1, not -0.5"),
+    (lambda circuit: circuit.depolarize(1.5, 9), ValueError, "p is a probability, from 0 to 1, not 1.5"),
+    (lambda circuit: circuit.choose(float("nan"), ["X9"]), ValueError, "p is a probability, from 0 to 1, not nan"),
+    (lambda circuit: circuit.choose(0.5, ["X9", "Z9"], [1, -2.0]), ValueError, "a weight is a number from 0 on, not -2.0"),
+    (lambda circuit: circuit.choose(0.5, ["X9"], [float("inf")]), ValueError, "a weight is a number from 0 on, not inf"),
     (lambda circuit: circuit.fault("X9", 0.1), TypeError, "a probability or weight is a number, not 'X9'"),
     (lambda circuit: circuit.choose(0.5, ["X9", "Z9"], [1, None]), TypeError, "a probability or weight is a number, not None"),
     # outcomes, shots and the rest
@@ -399,3 +492,10 @@ def test_numbers_of_other_libraries():
 def test_annotation_wants_a_number():
     with pytest.raises(TypeError, match="a probability or weight is a number, not '0.1'"):
         BELL.annotate("0.1")
+
+
+def test_annotation_below_zero_is_noted():
+    with pytest.warns(UserWarning, match="p is below zero: no fault will fall"):
+        noisy = BELL.annotate(-0.5)
+    done = subprocess.run([PROGRAM, "annotate", "-", "--p=-0.5"], input=BELL.text, capture_output=True, check=True)
+    assert (done.stdout, done.stderr) == (noisy.text, b"note: p is below zero: no fault will fall\n")

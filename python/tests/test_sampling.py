@@ -3,7 +3,10 @@
 from __future__ import annotations
 
 import resource
+import subprocess
+import warnings
 from concurrent.futures import ProcessPoolExecutor, ThreadPoolExecutor
+from dataclasses import replace
 from multiprocessing import get_context
 
 import codes
@@ -11,11 +14,11 @@ import exact
 import matching
 import numpy as np
 import pytest
-from conftest import REPOSITORY, jobs, program, sets_of
+from conftest import PROGRAM, REPOSITORY, jobs, program, sets_of
 from hypothesis import given, settings
 from hypothesis import strategies as st
 
-from kundatrezo import Circuit, Job, Refused, error_model, sample, sample_shots, state_of_block, words
+from kundatrezo import Circuit, Counts, Job, Refused, error_model, sample, sample_shots, state_of_block, words
 from kundatrezo._words import Stream
 
 SYNDROME = Job.read(REPOSITORY / "examples/syndrome.job")
@@ -39,29 +42,33 @@ def counts_with(executor):
     return sample(SYNDROME, 300_001, 8, SETS, executor, count=odd)
 
 
+def same(counts, expected):
+    """That counts are those of the program, which has no function that counts, and those that are counted here."""
+    return replace(counts, counted=None).text() == expected and counts == counts_with(None)
+
+
 def test_here(expected):
-    counts = counts_with(None)
-    assert counts.text() == expected
-    assert counts.counted == counts_with(None).counted > 0
+    assert same(counts_with(None), expected) and counts_with(None).counted > 0
+    assert sample(SYNDROME, 300_001, 8, SETS).text() == expected
 
 
 def test_threads(expected):
     with ThreadPoolExecutor(3) as executor:
         counts = counts_with(executor)
-    assert counts.text() == expected and counts.counted == counts_with(None).counted
+    assert same(counts, expected)
 
 
 def test_processes(expected):
     with ProcessPoolExecutor(2, mp_context=get_context("spawn")) as executor:
         counts = counts_with(executor)
-    assert counts.text() == expected and counts.counted == counts_with(None).counted
+    assert same(counts, expected)
 
 
 def test_dask(expected):
     distributed = pytest.importorskip("distributed")
     with distributed.LocalCluster(n_workers=2, threads_per_worker=1, dashboard_address=None) as cluster, distributed.Client(cluster) as client:
         counts = counts_with(client.get_executor())
-    assert counts.text() == expected and counts.counted == counts_with(None).counted
+    assert same(counts, expected)
 
 
 def test_parts_of_the_program(expected, tmp_path):
@@ -75,9 +82,11 @@ def test_parts_of_the_program(expected, tmp_path):
     (tmp_path / "python").write_text(sample(SYNDROME, 5_000, 9, SETS).text())
     (tmp_path / "program").write_text(expected)
     merged = program("merge", tmp_path / "python", tmp_path / "program").decode()
-    assert merged.splitlines()[1].endswith("seed=9,8 part=1/1 of=305001")
+    assert merged.splitlines()[1].endswith("seed=8,9 part=1/1 of=305001")
+    assert merged == (sample(SYNDROME, 5_000, 9, SETS) + Counts.of_text(expected)).text()
 
 
+@pytest.mark.filterwarnings("ignore:.* condition")
 @settings(max_examples=25)
 @given(jobs(), st.integers(0, 9_000), st.integers(0, 2**64 - 1), st.sampled_from(["whole", "block"]), st.data())
 def test_any_job(job, more, seed, named, data):
@@ -117,12 +126,17 @@ def test_named_shots(tmp_path):
     assert (refusal.value.number, refusal.value.line) == (10, 7)
 
 
-def test_noiseless_bits(tmp_path):
+def conditional(random=False):
+    """A job whose noise looks at outcome 0, measured or random."""
     circuit = Circuit()
-    circuit.random()
+    circuit.random() if random else circuit.measure("Z0")
     circuit.fault(0.25, "X0", cond=[0], parity=1)
     circuit.measure("Z0")
-    job = circuit.job(10)
+    return circuit.job(10)
+
+
+def test_noiseless_bits(tmp_path):
+    job = conditional()
     of_ten = np.zeros((2, 10), dtype=bool)
     of_ten[0, [1, 2, 5, 9]] = True
     again = sample(job, 9_000, 1, noiseless=words(of_ten))
@@ -139,10 +153,45 @@ def test_noiseless_bits(tmp_path):
     with pytest.raises(ValueError, match="not both"):
         sample(job, 10, 1, noiseless=words(of_ten), noiseless_shots=by_shot)
     assert 0 < again.totals[1] < sample(job, 9_000, 1, noiseless=words(~np.zeros((2, 10), dtype=bool))).totals[1]
-    with pytest.raises(Refused):
-        sample(job, 10, 1, noiseless=[0])
     with pytest.raises(ValueError, match="rows of 1 bytes"):
         sample(job, 10, 1, noiseless_shots=by_shot[:9])
+
+
+@pytest.mark.parametrize("shape", [(0,), (1,), (3,), (128,), (2, 64), (1, 2), (2, 2), (3, 1), (2, 1, 1)])
+def test_noiseless_bits_of_another_size(shape):
+    """Rows for another number of shots would be read in a wrong shape."""
+    job = conditional()
+    for call in (sample, lambda *arguments, **options: next(sample_shots(*arguments, **options))):
+        with pytest.raises(ValueError, match=r"but the header's outcomes=2 and shots=10 need exactly 2, shape \(2, 1\)"):
+            call(job, 100, 1, noiseless=np.zeros(shape, dtype=np.uint64))
+
+
+def test_conditions_are_noted(tmp_path):
+    """Noise with a condition looks at noiseless bits, which are 0 unless they are given, and of a random outcome are no more than what is given."""
+    no_bits = "line 3 has noise with a condition, and without {} all noiseless bits are 0"
+    random = "the condition of line 3 looks at outcome 0, which op=r records at random, and its noiseless bit {}: {} gives it for each shot"
+    rows, shots = words(np.zeros((2, 10), dtype=bool)), np.zeros((100, 1), dtype=np.uint8)
+    (tmp_path / "rows").write_bytes(rows.tobytes())
+    (tmp_path / "shots").write_bytes(shots.tobytes())
+    for job, options, notes in (
+        (SYNDROME, {}, []),
+        (Job(str(conditional()).replace("p=3fd0000000000000", "p=0000000000000000")), {}, []),
+        (conditional(), {}, [no_bits]),
+        (conditional(), {"noiseless": rows}, []),
+        (conditional(random=True), {}, [no_bits, random.format("is 0 in every shot", "{}")]),
+        (conditional(random=True), {"noiseless": rows}, [random.format("comes again every 10 shots", "{}")]),
+        (conditional(random=True), {"noiseless_shots": shots}, []),
+    ):
+        with warnings.catch_warnings(record=True) as caught:
+            warnings.simplefilter("always")
+            sample(job, 100, 1, **options)
+        names = {no_bits: "noiseless= or noiseless_shots="}
+        assert [str(warning.message) for warning in caught] == [note.format(names.get(note, "noiseless_shots=")) for note in notes]
+        given_ = {"noiseless": ["--noiseless", tmp_path / "rows"], "noiseless_shots": ["--noiseless-shots", tmp_path / "shots"]}
+        arguments = ["sample", "-", "--shots", 100, "--seed", 1, *(argument for name in options for argument in given_[name])]
+        done = subprocess.run([PROGRAM, *map(str, arguments)], input=job.text, capture_output=True, check=True)
+        names = {no_bits: "--noiseless or --noiseless-shots"}
+        assert done.stderr.decode() == "".join(f"note: {note.format(names.get(note, '--noiseless-shots'))}\n" for note in notes)
 
 
 def test_wrong_arguments():
@@ -152,8 +201,11 @@ def test_wrong_arguments():
         with pytest.raises(ValueError):
             sample(**{"job": SYNDROME, "shots": 10, "seed": 1, **wrong})
     with pytest.raises(Refused) as refusal:
-        sample(SYNDROME, 10, 1, [[3, 1]])
+        sample(SYNDROME, 10, 1, [[3, 1, 3]])
     assert refusal.value.number == 17
+    for part in ((0, 2), (3, 2), (1,), "1/2", (1, 2, 3), None):
+        with pytest.raises(ValueError, match=r"part is to be \(I, K\), with I from 1 to K"):
+            sample(SYNDROME, 10, 1, part=part)
 
 
 # ---- the codes of the examples
@@ -221,6 +273,17 @@ def test_a_larger_distance_is_better():
         counts = sample(experiment.job, 50_000, 1, experiment.sets, count=matching.Matching(model))
         rates.append(counts.counted_interval)
     assert rates[1][1] < rates[0][0]
+
+
+def test_matching_says_where_it_is_greedy():
+    """Shots with more flipped detectors than are matched at best are counted, in any number of calls."""
+    experiment = codes.surface(5, 2, 0.03)
+    decoder = matching.Matching(error_model(experiment.job, experiment.detectors, [experiment.observable]))
+    shots = np.concatenate(list(sample_shots(experiment.job, 5_000, 1, experiment.sets)))
+    many = np.count_nonzero(shots[:, :-1].sum(axis=1) > matching.MOST_AT_BEST)
+    with ThreadPoolExecutor(3) as threads:
+        sample(experiment.job, 5_000, 1, experiment.sets, threads, count=decoder)
+    assert decoder.greedy_shots == many > 0
 
 
 def test_a_million_shots_by_the_program(tmp_path):

@@ -10,6 +10,7 @@ import ctypes
 import random
 import struct
 import sys
+import warnings
 from collections import Counter
 from typing import Callable
 
@@ -94,15 +95,17 @@ class Calls:
             self.seen[name] += 1
         except Refused as refusal:
             self.seen[f"{name} refused by {refusal.number}"] += 1
-        except (ValueError, NotImplementedError) as error:
+        except ValueError as error:
             self.seen[f"{name} {type(error).__name__}"] += 1
 
     def package(self) -> None:
         """Every function of the package on one job."""
         job, choose = self.job(), self.random.choice
         self.make("Job", lambda: Job(self.damaged(job.text)))
-        frames, outcomes = job.qubits * job.row_words, job.outcomes * job.row_words
-        rows = Rows(*(self.words(self.near(need)) for need in (frames, frames, outcomes, job.outcomes)))
+        outcomes = job.outcomes * job.row_words
+        near = choose([self.near, lambda need: need])
+        shapes = [(near(count), job.row_words) for count in (job.qubits, job.qubits, job.outcomes)]
+        rows = Rows(*(self.words(count * words).reshape(count, words) for count, words in shapes), self.words(near(job.outcomes)))
         lists = {"second": self.words(choice_of(self.random, 400)), "base": self.number(5)}
         lists["noiseless"] = choose([None, self.words(self.near(outcomes))])
         self.make("run", lambda: job.run(self.words(choice_of(self.random, 900)), rows=rows, **lists))
@@ -188,6 +191,8 @@ def main() -> None:
     if sys.argv[1:] == ["control"]:
         return control()
     count, seed = int(sys.argv[1]), int(sys.argv[2]) if len(sys.argv) > 2 else 1
+    # noise whose noiseless bits are not given is noted
+    warnings.simplefilter("ignore")
     calls = Calls(seed)
     for _ in range(count):
         calls.package()

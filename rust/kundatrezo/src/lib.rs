@@ -18,9 +18,10 @@
 //! | [`make`] | a job from a seed, which passes the tests of a job; [`make_job`] as a `Vec` |
 //! | [`by_shot`] | deltas as a row for each shot, and [`by_outcome`] the way back; [`Shots`] has memory of its own |
 //!
-//! Beside the calls, [`Sampler`] runs any number of shots of a job from a seed, by several threads, and counts; [`split`] shares the shots of a
+//! Beside the calls, [`Sampler`] runs any number of shots of a job from a seed, by several threads, and counts, and [`SavedCounts`] is how counts are
+//! saved and added; [`split`] shares the shots of a
 //! settled job among several benches, and `^=` on [`Frames`] adds what they leave; [`clifford_line`] writes a Clifford of up to eight qubits, such as
-//! a code's encoder, as a line; [`error_model`] gives a job's noise to a decoder.
+//! a code's encoder, as a line; [`error_model`] gives a job's noise to a decoder; [`OutputFile`] writes a file whole or not at all.
 //!
 //! # Rows
 //!
@@ -83,13 +84,16 @@
 
 mod by_shot;
 mod clifford;
+mod counts;
 mod draws;
 mod error_model;
 mod examination;
 mod float_state;
 mod frames;
+mod hints;
 mod make;
 mod noise;
+mod output;
 mod refusal;
 mod sampler;
 mod shares;
@@ -101,13 +105,16 @@ mod xorshift;
 
 pub use by_shot::{Shots, by_outcome, by_shot};
 pub use clifford::{MAX_CLIFFORD_QUBITS, clifford_line};
+pub use counts::{Counts, CountsError, DRAWS, SavedCounts, wilson};
 pub use draws::{Draws, Source};
 pub use error_model::{ErrorModel, Mechanism, error_model};
 pub use examination::{Examination, examine};
 pub use frames::{Frames, bit};
+pub use hints::distribution_size;
 pub use make::{JobParameters, make, make_job};
+pub use output::{FileId, OutputFile, WrittenFile, write_file, written_path};
 pub use refusal::{Answer, Number, Refusal};
-pub use sampler::{Bench, Counts, Named, Sampler, first_named};
+pub use sampler::{Bench, Named, NoiselessSizeError, Sampler, conditions, first_named};
 pub use shares::{AccountError, Caller, MAX_CALLERS, SharedDraws};
 pub use single_faults::{FaultTable, MAX_GROUPS, SingleFault, fault_table, write_fault_table};
 pub use split::{Part, restricted, split};

@@ -14,7 +14,9 @@ pub struct JobParameters {
     pub shots: u64,
     /// The lines after the header, the element lines of noise not counted.
     pub lines: u64,
-    /// The seed of the stream that chooses all else, not zero. It is used as it is, as [`fill`](crate::fill) does; small seeds make as varied jobs as others.
+    /// The seed of the stream that chooses all else, not zero. It is used as it is, as [`fill`](crate::fill) does. The first words of small seeds depend
+    /// on each other: for every seed below 2^14, bit 0 of the third word is that of the first. So with two qubits or more no job of the second edition
+    /// begins with a gate of an even code. Large random seeds have no such tie.
     pub seed: u64,
 }
 

@@ -53,6 +53,8 @@ fn field<'a>(line: &'a str, key: &str) -> Option<&'a str> {
     line.split(' ').find_map(|field| field.strip_prefix(key)?.strip_prefix('='))
 }
 
-fn binary64(digits: &str) -> Option<f64> {
-    u64::from_str_radix(digits, 16).ok().map(f64::from_bits)
+/// The number of 16 hexadecimal digits.
+pub fn binary64(digits: &str) -> Option<f64> {
+    let is_word = digits.len() == 16 && digits.bytes().all(|byte| byte.is_ascii_hexdigit());
+    if is_word { u64::from_str_radix(digits, 16).ok().map(f64::from_bits) } else { None }
 }

@@ -80,6 +80,18 @@ numbers! {
 }
 
 impl Number {
+    /// The number that a C caller has; none where this crate does not know it.
+    #[must_use]
+    pub fn new(number: u64) -> Option<Self> {
+        Self::ALL.iter().copied().find(|known| known.0 == number)
+    }
+
+    /// What a user may do about the refusal of a job by this number at this line, from 1, if that can be said: its likely cause.
+    #[must_use]
+    pub fn hint(self, line: u64, job: &[u8]) -> Option<String> {
+        crate::hints::hint(self, line, job)
+    }
+
     /// The number itself.
     #[must_use]
     pub const fn get(self) -> u64 {
@@ -122,6 +134,18 @@ impl Refusal {
     pub fn line_of<'a>(&self, job: &'a [u8]) -> Option<&'a [u8]> {
         let part = crate::sys::line(job, self.line);
         (part.start < job.len()).then(|| &job[part.start..part.start + part.len])
+    }
+
+    /// What a user may do about the refusal of this job, if that can be said: its likely cause.
+    ///
+    /// ```
+    /// let job = b"op=job qubits=1 outcomes=0 shots=1\nop=u g=H q=0\n";
+    /// let refusal = kundatrezo::check(job).unwrap_err();
+    /// assert_eq!(refusal.hint(job).as_deref(), Some("g= is the code of a gate: Hadamard is 4"));
+    /// ```
+    #[must_use]
+    pub fn hint(&self, job: &[u8]) -> Option<String> {
+        self.number.hint(self.line, job)
     }
 }
 

@@ -1,8 +1,14 @@
 //! Any number of shots of a job, in blocks that have words of their own.
 
+use crate::counts::{DRAWS, Sample, crc32};
 use crate::noise::{Kind, Noise};
-use crate::{Answer, Draws, Examination, Frames, MAX_SHOTS, Number, Refusal, Xorshift, bit, examine, size};
-use std::ops::{AddAssign, Range};
+use crate::{
+    Answer, Counts, Draws, Examination, Frames, MAX_SHOTS, Number, Refusal, SavedCounts, Xorshift, bit, examine,
+};
+use std::collections::BTreeSet;
+use std::error::Error;
+use std::fmt;
+use std::ops::Range;
 use std::sync::atomic::{AtomicBool, AtomicU64, Ordering};
 use std::thread;
 
@@ -13,7 +19,7 @@ const MOST_WORDS: usize = 1 << 28;
 const NOTHING: &[u8] = b"op=p x=- z=-\n";
 
 /// In which shots of the whole the injections and flips of a job stand.
-#[derive(Debug, Clone, Copy, Default, PartialEq, Eq)]
+#[derive(Debug, Clone, Copy, Default, PartialEq, Eq, Hash)]
 pub enum Named {
     /// In the shots that they name, counted through the whole: in the first block alone.
     #[default]
@@ -21,6 +27,49 @@ pub enum Named {
     /// In the shots that they name of each block, as far as it has them.
     Block,
 }
+
+impl Named {
+    /// How a text of counts and the program's option name it.
+    #[must_use]
+    pub const fn name(self) -> &'static str {
+        match self {
+            Self::Whole => "whole",
+            Self::Block => "block",
+        }
+    }
+
+    /// That of a name.
+    #[must_use]
+    pub fn of_name(name: &str) -> Option<Self> {
+        [Self::Whole, Self::Block].into_iter().find(|named| named.name() == name)
+    }
+}
+
+/// Noiseless bits of another size than those of a job: they are for another number of shots, or for other outcomes.
+#[derive(Debug, Clone, Copy, PartialEq, Eq)]
+#[non_exhaustive]
+pub struct NoiselessSizeError {
+    /// The words that were given.
+    pub words: usize,
+    /// The words that the job has: [`Examination::outcome_words`].
+    pub needed: usize,
+    /// The outcomes of its header.
+    pub outcomes: usize,
+    /// The shots of its header.
+    pub shots: usize,
+}
+
+impl fmt::Display for NoiselessSizeError {
+    fn fmt(&self, f: &mut fmt::Formatter<'_>) -> fmt::Result {
+        let Self { words, needed, outcomes, shots } = self;
+        write!(
+            f,
+            "noiseless bits of {words} words, but the header's outcomes={outcomes} and shots={shots} need exactly {needed}"
+        )
+    }
+}
+
+impl Error for NoiselessSizeError {}
 
 /// Any number of shots of a job, in runs of [`MAX_SHOTS`] and a last one of what is left: *blocks*. The header's number of shots is replaced.
 ///
@@ -53,10 +102,17 @@ pub struct Sampler {
     middle: Vec<u8>,
     last: Vec<u8>,
     job: Examination,
+    /// The shots of the job's own header.
+    own_shots: usize,
+    /// The CRC-32 of the job.
+    sum: u32,
     shots: u64,
     seed: u64,
+    named: Option<Named>,
     /// Noiseless bits of the job's own shots, which come again and again; none where all are zero.
     noiseless: Vec<u64>,
+    /// The CRC-32 of these, if they were given.
+    noiseless_sum: Option<u32>,
     need: Need,
 }
 
@@ -68,7 +124,8 @@ impl Sampler {
     ///
     /// The refusal by a test of the job.
     pub fn new(job: &[u8], shots: u64, seed: u64) -> Answer<Self> {
-        Self::with_named(job, shots, seed, Named::Whole)
+        let sampler = Self::with_named(job, shots, seed, Named::Whole)?;
+        Ok(Self { named: sampler.named.filter(|_| first_named(job).is_some()), ..sampler })
     }
 
     /// The same, and in which shots of the whole injections and flips stand.
@@ -92,23 +149,29 @@ impl Sampler {
             middle: text(1),
             last: text(blocks.saturating_sub(1)),
             job: Examination { shots: MAX_SHOTS, ..examined },
+            own_shots: examined.shots,
+            sum: crc32(job.iter().copied()),
             shots,
             seed,
+            named: Some(named),
             noiseless: Vec::new(),
+            noiseless_sum: None,
             need: Need::of(job),
         })
     }
 
-    /// Noiseless bits in the layout of a run, for `shots` shots, that come again and again: shot s of the whole has those of s mod `shots`. Without this all
-    /// are zero.
+    /// Noiseless bits in the layout of a run, for the shots of the job's own header, that come again and again: shot s of the whole has those of s mod
+    /// the header's shots. Without this all are zero.
     ///
-    /// # Panics
+    /// # Errors
     ///
-    /// Panics if there are fewer words than the header's outcomes need for so many shots, or no shots.
-    #[must_use]
-    pub fn with_noiseless(self, rows: &[u64], shots: usize) -> Self {
+    /// There are not just as many words as the header's outcomes have in its shots, [`Examination::outcome_words`].
+    pub fn with_noiseless(self, rows: &[u64]) -> Result<Self, NoiselessSizeError> {
+        let (shots, outcomes) = (self.own_shots, self.job.outcomes);
         let period = shots.div_ceil(64);
-        assert!(shots > 0 && rows.len() >= self.job.outcomes * period, "noiseless bits for each outcome and shot");
+        if rows.len() != outcomes * period {
+            return Err(NoiselessSizeError { words: rows.len(), needed: outcomes * period, outcomes, shots });
+        }
         // Rows that are repeated until they have whole words: each block reads 64 shots of them at a time.
         let repeated = shots * 64 / gcd(shots, 64);
         let mut noiseless = vec![0; self.job.outcomes * repeated / 64];
@@ -118,7 +181,8 @@ impl Sampler {
                 row[shot / 64] |= 1 << (shot % 64);
             }
         }
-        Self { noiseless, ..self }
+        let noiseless_sum = Some(crc32(rows.iter().flat_map(|word| word.to_le_bytes())));
+        Ok(Self { noiseless, noiseless_sum, ..self })
     }
 
     /// The numbers of the job, with those of the shots of a whole block.
@@ -148,9 +212,7 @@ impl Sampler {
     /// The blocks of a part of the whole: of `parts`, as many blocks each or one more or less, that with this place, from 0; none where there is no such part.
     #[must_use]
     pub fn part(&self, place: u64, parts: u64) -> Range<u64> {
-        let until = |place: u64| u128::from(self.blocks()) * u128::from(place.min(parts)) / u128::from(parts.max(1));
-        let number = |blocks: u128| u64::try_from(blocks).unwrap_or(self.blocks());
-        number(until(place))..number(until(place.saturating_add(1)))
+        part_blocks(self.blocks(), place, parts)
     }
 
     /// The job as a block runs it.
@@ -256,15 +318,61 @@ impl Sampler {
     ///
     /// The refusal by 17 of a set that does not rise strictly or has an outcome that is not recorded; else as [`run`](Self::run).
     pub fn counts(&self, sets: &[Vec<u64>], threads: usize) -> Answer<Counts> {
+        self.counts_of(0..self.blocks(), sets, threads)
+    }
+
+    fn counts_of(&self, blocks: Range<u64>, sets: &[Vec<u64>], threads: usize) -> Answer<Counts> {
         sets.iter().try_for_each(|set| self.job.test_set(set))?;
         let start = || (Bench::new(), Counts::default());
-        let made = Self::each(0..self.blocks(), threads, start, |(bench, counts), block| {
+        let made = Self::each(blocks, threads, start, |(bench, counts), block| {
             counts.add(self.run(block, bench)?, sets);
             Ok(())
         })?;
-        let mut sum = Counts { totals: vec![0; self.job.outcomes], sets: vec![0; sets.len()], shots: 0 };
+        let mut sum = self.no_counts(sets);
         made.iter().for_each(|(_, counts)| sum += counts);
         Ok(sum)
+    }
+
+    /// The counts of no shots, with a zero for each outcome of the header and each set.
+    #[must_use]
+    pub fn no_counts(&self, sets: &[Vec<u64>]) -> Counts {
+        Counts { totals: vec![0; self.job.outcomes], sets: vec![0; sets.len()], ..Counts::default() }
+    }
+
+    /// The counts of a part of the whole, from 1, of how many, in the form in which they are saved and added: (1, 1) is the whole.
+    ///
+    /// # Errors
+    ///
+    /// As [`counts`](Self::counts).
+    ///
+    /// # Panics
+    ///
+    /// Panics if there is no such part.
+    pub fn sample(&self, sets: &[Vec<u64>], part: (u64, u64), threads: usize) -> Answer<SavedCounts> {
+        let counts = self.counts_of(self.part(part.0.saturating_sub(1), part.1), sets, threads)?;
+        Ok(self.saved(counts, sets, part))
+    }
+
+    /// The counts of all shots of a part, from 1, of how many, which were made by this sampler's runs, in the form in which they are saved and added.
+    ///
+    /// # Panics
+    ///
+    /// Panics if there is no such part.
+    #[must_use]
+    pub fn saved(&self, counts: Counts, sets: &[Vec<u64>], part: (u64, u64)) -> SavedCounts {
+        assert!((1..=part.1).contains(&part.0), "a part from 1 to the number of parts");
+        SavedCounts {
+            qubits: self.job.qubits,
+            outcomes: self.job.outcomes,
+            recorded: self.job.recorded,
+            job: self.sum,
+            draws: DRAWS.into(),
+            samples: vec![Sample::part(self.seed, part, self.shots)],
+            named: self.named,
+            noiseless: self.noiseless_sum.map(|sum| format!("{sum:08x}")),
+            sets: sets.to_vec(),
+            counts,
+        }
     }
 }
 
@@ -273,6 +381,13 @@ const BLOCK: u64 = MAX_SHOTS as u64;
 fn shots_of(shots: u64, block: u64) -> Range<u64> {
     let start = block.saturating_mul(BLOCK).min(shots);
     start..start.saturating_add(BLOCK).min(shots)
+}
+
+/// The blocks of a part, from 0, of so many parts.
+pub(crate) fn part_blocks(blocks: u64, place: u64, parts: u64) -> Range<u64> {
+    let until = |place: u64| u128::from(blocks) * u128::from(place.min(parts)) / u128::from(parts.max(1));
+    let number = |until: u128| u64::try_from(until).unwrap_or(blocks);
+    number(until(place))..number(until(place.saturating_add(1)))
 }
 
 fn gcd(a: usize, b: usize) -> usize {
@@ -303,6 +418,26 @@ fn named_shot(line: &[u8]) -> Option<u64> {
 #[must_use]
 pub fn first_named(job: &[u8]) -> Option<u64> {
     job.split(|byte| *byte == b'\n').zip(1..).find(|(line, _)| named_shot(line).is_some()).map(|(_, place)| place)
+}
+
+/// The noise lines of an accepted job that look at noiseless bits and can fall: the number of each, from 1, and the first outcome of its condition that
+/// an `op=r` line records, if there is one. The noiseless bit of that is random in every shot.
+///
+/// ```
+/// let noise = "op=n p=3fe0000000000000 corr=- cond=0 parity=1 d=1 x=0 z=- size=1\n";
+/// let job = format!("op=job qubits=1 outcomes=1 shots=1\nop=r id=0 angle=0\n{noise}");
+/// assert_eq!(kundatrezo::conditions(job.as_bytes()), [(3, Some(0))]);
+/// ```
+#[must_use]
+pub fn conditions(job: &[u8]) -> Vec<(u64, Option<usize>)> {
+    let text = std::str::from_utf8(job).unwrap_or_default();
+    let random_id = |line: &str| line.strip_prefix("op=r id=")?.split(' ').next()?.parse::<usize>().ok();
+    let random: BTreeSet<usize> = text.lines().filter_map(random_id).collect();
+    let condition = |(line, place): (&str, u64)| {
+        let noise = Noise::read(line).filter(|noise| noise.p > 0.0 && !noise.condition.is_empty())?;
+        Some((place, noise.condition.into_iter().find(|outcome| random.contains(outcome))))
+    };
+    text.lines().zip(1..).filter_map(condition).collect()
 }
 
 /// How many words the noise lines of a job read, a shot on average: a guess, which the calls judge.
@@ -410,44 +545,6 @@ impl List {
     }
 }
 
-/// How many shots flip the outcomes of a job, and the parities of sets of them.
-#[derive(Debug, Clone, Default, PartialEq, Eq)]
-pub struct Counts {
-    /// The shots that are counted.
-    pub shots: u64,
-    /// For each outcome of the header, the shots that flip it.
-    pub totals: Vec<u64>,
-    /// For each set, the shots that flip an odd number of its outcomes.
-    pub sets: Vec<u64>,
-}
-
-impl Counts {
-    /// Add what a run left: the totals that the library has counted, and for each set the ones in the sum of its rows.
-    ///
-    /// # Panics
-    ///
-    /// Panics if a set has an outcome that is not below the header's outcomes.
-    pub fn add(&mut self, frames: &Frames, sets: &[Vec<u64>]) {
-        let parity = |set: &Vec<u64>| {
-            let word = |place: usize| set.iter().fold(0, |sum, id| sum ^ frames.delta_row(size(*id))[place]);
-            (0..frames.job().words_per_row()).map(|place| u64::from(word(place).count_ones())).sum()
-        };
-        let sets = sets.iter().map(parity).collect();
-        *self += &Self { shots: frames.job().shots as u64, totals: frames.totals().to_vec(), sets };
-    }
-}
-
-/// Counts of other shots of the same job and sets; counts without lists take the other's.
-impl AddAssign<&Counts> for Counts {
-    fn add_assign(&mut self, other: &Counts) {
-        self.shots += other.shots;
-        for (own, others) in [(&mut self.totals, &other.totals), (&mut self.sets, &other.sets)] {
-            own.resize(own.len().max(others.len()), 0);
-            own.iter_mut().zip(others).for_each(|(own, other)| *own += other);
-        }
-    }
-}
-
 #[cfg(test)]
 mod tests {
     use super::*;
@@ -464,7 +561,8 @@ op=t shot=0 id=1
     /// Blocks are runs of the job with other shots and the words of the block.
     #[test]
     fn blocks_are_runs() {
-        let sampler = Sampler::new(JOB.as_bytes(), 10_000, 3).expect("it is accepted").with_noiseless(&[0b10110, 0], 5);
+        let sampler = Sampler::new(JOB.as_bytes(), 10_000, 3).expect("it is accepted");
+        let sampler = sampler.with_noiseless(&[0b10110, 0]).expect("a row for each outcome");
         let mut bench = Bench::new();
         for block in [2, 0, 1] {
             let shots = if block == 2 { 10_000 - 2 * 4096 } else { 4096 };
@@ -486,6 +584,30 @@ op=t shot=0 id=1
             let sampled = sampler.run(block, &mut bench).expect("it runs");
             assert_eq!((sampled.deltas(), sampled.totals()), (frames.deltas(), frames.totals()), "{block}");
             assert_eq!(sampler.text(block).split(|byte| *byte == b'\n').count(), 8);
+        }
+    }
+
+    /// Noiseless bits for another number of shots would be read in a wrong shape: the job has two outcomes and five shots.
+    #[test]
+    fn noiseless_bits_of_another_size_are_refused() {
+        let sampler = Sampler::new(JOB.as_bytes(), 9_000, 1).expect("it is accepted");
+        for words in [0, 1, 3, 128] {
+            let error = sampler.clone().with_noiseless(&vec![0; words]).expect_err("another size");
+            let header = "the header's outcomes=2 and shots=5 need exactly 2";
+            assert_eq!(error.to_string(), format!("noiseless bits of {words} words, but {header}"));
+        }
+        assert!(sampler.with_noiseless(&[0, 0]).is_ok());
+        let most = Sampler::new(JOB.replace("shots=5", "shots=4096").as_bytes(), 9_000, 1).expect("it is accepted");
+        assert!(most.clone().with_noiseless(&[0; 2 * 64]).is_ok() && most.with_noiseless(&[0, 0]).is_err());
+    }
+
+    #[test]
+    fn conditions_that_can_fall() {
+        assert_eq!(conditions(JOB.as_bytes()), [(3, Some(0))]);
+        let measured = JOB.replace("op=r id=0 angle=0", "op=o x=- z=0 id=0");
+        assert_eq!(conditions(measured.as_bytes()), [(3, None)]);
+        for p in ["0000000000000000", "8000000000000000", "bfe0000000000000"] {
+            assert_eq!(conditions(JOB.replace("3fd0000000000000", p).as_bytes()), []);
         }
     }
 

@@ -3,7 +3,7 @@
 use crate::draws::sealed;
 use crate::{Answer, Rows, Source, settle, size, sys};
 use std::error::Error;
-use std::fmt;
+use std::fmt::{self, Write};
 
 /// Most callers with shares of a main list.
 pub const MAX_CALLERS: usize = 8;
@@ -140,7 +140,7 @@ impl<'a> SharedDraws<'a> {
     ///
     /// # Errors
     ///
-    /// [`AccountError`]: the text is no account, or it is that of another list.
+    /// [`AccountError`]: the text is no account, was edited, or is that of another list.
     ///
     /// ```
     /// use kundatrezo::{AccountError, SharedDraws};
@@ -148,13 +148,15 @@ impl<'a> SharedDraws<'a> {
     /// let words = [1, 2, 3, 4, 5];
     /// let draws = SharedDraws::new(&words, &[2, 1])?;
     /// let account = draws.to_string();
-    /// assert_eq!(account, "list=5 sum=a73c4fcedb1fd5a4\ncaller=0 share=2 taken=0\ncaller=1 share=1 taken=0\ncommon=2 taken=0\n");
+    /// let lines = "list=5 sum=a73c4fcedb1fd5a4\ncaller=0 share=2 taken=0\ncaller=1 share=1 taken=0\ncommon=2 taken=0\n";
+    /// assert_eq!(account, format!("{lines}seal=a5339cb1b6887c7a\n"));
     /// assert_eq!(SharedDraws::resumed(&words, &account).as_ref(), Ok(&draws));
     /// assert_eq!(SharedDraws::resumed(&[1, 2, 3, 4, 6], &account), Err(AccountError::OtherList));
+    /// assert_eq!(SharedDraws::resumed(&words, &account.replace("taken=0", "taken=1")), Err(AccountError::Edited));
     /// # Ok::<(), kundatrezo::Refusal>(())
     /// ```
     pub fn resumed(main: &'a [u64], account: &str) -> Result<Self, AccountError> {
-        let said = Account::read(account).ok_or(AccountError::Form)?;
+        let said = Account::read(account)?;
         if said.list != main.len() as u64 || said.sum != sum(main) {
             return Err(AccountError::OtherList);
         }
@@ -162,21 +164,40 @@ impl<'a> SharedDraws<'a> {
         draws.ok().filter(|draws| draws.to_string() == account).ok_or(AccountError::Form)
     }
 
-    /// How many words the list of an account has; none where the text is no account.
+    /// How many words the list of an account has; none if the text is no account, or was edited.
     #[must_use]
     pub fn length_of(account: &str) -> Option<u64> {
-        Account::read(account).map(|account| account.list)
+        Account::read(account).ok().map(|account| account.list)
+    }
+
+    /// How many words are taken of each stretch of an account and of its common part, as [`marks`](Self::marks), without the list.
+    ///
+    /// # Errors
+    ///
+    /// [`AccountError`]: the text is no account, or was edited.
+    ///
+    /// ```
+    /// use kundatrezo::SharedDraws;
+    ///
+    /// let account = SharedDraws::new(&[1, 2, 3, 4, 5], &[2, 1])?.to_string();
+    /// assert_eq!(SharedDraws::marks_of(&account), Ok(vec![0, 0, 0]));
+    /// # Ok::<(), kundatrezo::Refusal>(())
+    /// ```
+    pub fn marks_of(account: &str) -> Result<Vec<u64>, AccountError> {
+        Account::read(account).map(|account| account.marks)
     }
 }
 
-/// The account: the list's length and check sum, then each stretch and the common part with what is taken of it. [`SharedDraws::resumed`] reads it.
+/// The account: the list's length and check sum, then each stretch and the common part with what is taken of it, and last the seal, a check sum of
+/// the lines before it. [`SharedDraws::resumed`] reads it. The seal shows an edit by mistake. It is no secret: whoever wants to cheat can compute it.
 impl fmt::Display for SharedDraws<'_> {
     fn fmt(&self, f: &mut fmt::Formatter<'_>) -> fmt::Result {
-        writeln!(f, "list={} sum={:016x}", self.main.len(), sum(self.main))?;
+        let mut lines = format!("list={} sum={:016x}\n", self.main.len(), sum(self.main));
         for (caller, (share, taken)) in self.shares.iter().zip(&self.marks).enumerate() {
-            writeln!(f, "caller={caller} share={share} taken={taken}")?;
+            writeln!(lines, "caller={caller} share={share} taken={taken}")?;
         }
-        writeln!(f, "common={} taken={}", self.common(), self.marks[self.callers()])
+        writeln!(lines, "common={} taken={}", self.common(), self.marks[self.callers()])?;
+        writeln!(f, "{lines}seal={:016x}", hash(lines.bytes()))
     }
 }
 
@@ -189,7 +210,15 @@ struct Account {
 }
 
 impl Account {
-    fn read(text: &str) -> Option<Self> {
+    fn read(text: &str) -> Result<Self, AccountError> {
+        let (lines, seal) = text.rsplit_once("seal=").ok_or(AccountError::Form)?;
+        match u64::from_str_radix(seal.trim_end(), 16) {
+            Ok(seal) if seal == hash(lines.bytes()) => Self::read_lines(lines).ok_or(AccountError::Form),
+            _ => Err(AccountError::Edited),
+        }
+    }
+
+    fn read_lines(text: &str) -> Option<Self> {
         let number = |field: Option<&str>| field?.split_once('=')?.1.parse().ok();
         let mut lines = text.lines();
         let (list, sum) = lines.next()?.split_once(" sum=")?;
@@ -204,9 +233,13 @@ impl Account {
     }
 }
 
-/// A check sum of a list, by which an account knows it: the hash FNV-1a of its words, lowest byte first.
+/// A check sum of a list, by which an account knows it: that of its words, lowest byte first.
 fn sum(words: &[u64]) -> u64 {
-    let bytes = words.iter().flat_map(|word| word.to_le_bytes());
+    hash(words.iter().flat_map(|word| word.to_le_bytes()))
+}
+
+/// The hash FNV-1a.
+fn hash(bytes: impl Iterator<Item = u8>) -> u64 {
     bytes.fold(0xcbf2_9ce4_8422_2325, |sum, byte| (sum ^ u64::from(byte)).wrapping_mul(0x0100_0000_01b3))
 }
 
@@ -216,6 +249,8 @@ fn sum(words: &[u64]) -> u64 {
 pub enum AccountError {
     /// The text is no account.
     Form,
+    /// The seal is not that of the lines before it: the account was edited, or is not whole.
+    Edited,
     /// It is the account of a list of another length, or of other words.
     OtherList,
 }
@@ -224,6 +259,7 @@ impl fmt::Display for AccountError {
     fn fmt(&self, f: &mut fmt::Formatter<'_>) -> fmt::Result {
         f.write_str(match self {
             Self::Form => "the text is no account of a shared list",
+            Self::Edited => "the account was edited or is not whole: its seal does not fit",
             Self::OtherList => "the account is that of another list",
         })
     }

@@ -1,6 +1,8 @@
 //! Commands, their options, and the arguments of a call.
 
 use crate::Failure;
+use crate::files::{Names, shown};
+use crate::shares::lock_name;
 use std::ffi::{OsStr, OsString};
 use std::os::unix::ffi::OsStrExt;
 
@@ -53,10 +55,27 @@ impl Flag {
     pub fn repeats(&self) -> bool {
         self.value.ends_with("..")
     }
+
+    pub fn is_file(&self) -> bool {
+        [FILE, NEW_FILE, ACCOUNT_FILE].contains(&self.value)
+    }
 }
 
-/// The value of an option, or an operand, that names a file.
+/// The value of an option, or an operand, that names a file which is read.
 pub const FILE: &str = "FILE";
+/// The value of an option that names a file which is written.
+pub const NEW_FILE: &str = "OUTPUT";
+/// The value of an option that names the account of a shared list, which is read and written.
+pub const ACCOUNT_FILE: &str = "ACCOUNT";
+
+/// Options that a command refuses because their name would mean two things, with what to say: by the command's name and theirs.
+const AMBIGUOUS: [(&str, &str, &str); 1] = [(
+    "fill",
+    "--seed",
+    "'fill' has no --seed, which would mean two things: --state N takes N as the state itself, as kundatrezo_fill, \
+     'fill' of the Rust and Python packages and 'make' take their seed; --run-seed N mixes N first, as run, settle and \
+     sample do with theirs",
+)];
 
 impl Command {
     pub fn flags(&self) -> impl Iterator<Item = &'static Flag> {
@@ -115,8 +134,12 @@ impl Arguments {
     ) -> Result<(), String> {
         let mut parts = argument.as_bytes().splitn(2, |byte| *byte == b'=');
         let name = OsStr::from_bytes(parts.next().unwrap_or_default());
+        let ambiguous = AMBIGUOUS.iter().find(|(own, flag, _)| *own == command.name && *flag == name);
+        if let Some((_, _, text)) = ambiguous {
+            return Err((*text).into());
+        }
         let flag = command.flags().find(|flag| flag.name == name).ok_or_else(|| {
-            format!("'{}' has no option '{}' (after --, a name may begin with -)", command.name, name.display())
+            format!("'{}' has no option '{}' (after --, a name may begin with -)", command.name, shown(name))
         })?;
         let value = parts.next().map(|value| OsStr::from_bytes(value).to_owned()).or_else(|| rest.next().cloned());
         let value = value.ok_or_else(|| format!("the option {} wants a value: {}", flag.name, flag.value))?;
@@ -130,7 +153,7 @@ impl Arguments {
     /// That there are as many operands as the command takes.
     fn count(&self, command: &Command) -> Result<(), String> {
         let surplus = |place: usize, wanted: &str| match self.operands.get(place) {
-            Some(other) => Err(format!("{wanted}, and '{}' is one more", other.display())),
+            Some(other) => Err(format!("{wanted}, and '{}' is one more", shown(other))),
             None => Ok(()),
         };
         match (command.operand, self.operands.first()) {
@@ -144,6 +167,24 @@ impl Arguments {
             }
             (Operand::Word(name, words), _) => Err(format!("{name} is to be one of {}", words.join(", "))),
         }
+    }
+
+    /// The files that the command reads and writes.
+    pub fn names(&self, command: &Command) -> Names {
+        let mut names = Names::default();
+        if matches!(command.operand, Operand::Job | Operand::Values(FILE)) {
+            names.inputs.clone_from(&self.operands);
+        }
+        for (name, value) in &self.values {
+            let kind = command.flags().find(|flag| flag.name == *name).map(|flag| flag.value);
+            match kind {
+                Some(FILE) => names.inputs.push(value.clone()),
+                Some(NEW_FILE) => names.outputs.push(value.clone()),
+                Some(ACCOUNT_FILE) => names.outputs.extend([value.clone(), lock_name(value)]),
+                _ => {}
+            }
+        }
+        names
     }
 
     /// What the command is called on; a command that takes one has it.
@@ -168,7 +209,11 @@ impl Arguments {
     /// All values of an option that may be given several times, in their order.
     pub fn all_parsed<T>(&self, name: &str, what: &str, parse: fn(&str) -> Option<T>) -> Result<Vec<T>, Failure> {
         let parsed = |value: &OsString| {
-            let fault = || Failure::Other(format!("the value of {name} is to be {what}, not '{}'", value.display()));
+            let fault = || {
+                let digits = value.to_str().and_then(digits).filter(|digits| parse(digits).is_some());
+                let remedy = digits.map_or_else(String::new, |digits| format!(": write {digits}"));
+                Failure::Other(format!("the value of {name} is to be {what}, not '{}'{remedy}", shown(value)))
+            };
             value.to_str().and_then(parse).ok_or_else(fault)
         };
         self.values.iter().filter(|(given, _)| *given == name).map(|(_, value)| parsed(value)).collect()
@@ -187,4 +232,11 @@ impl Arguments {
     pub fn number(&self, name: &str) -> Result<Option<u64>, Failure> {
         self.parsed(name, "a number below 2^64", |text| text.parse().ok())
     }
+}
+
+/// The digits of a whole number below 2^53 that is written in another way, such as 1e6, 1_000_000 or 1,000,000.
+fn digits(text: &str) -> Option<String> {
+    let number: f64 = text.replace(['_', ','], "").parse().ok()?;
+    let is_whole = (0.0..9_007_199_254_740_992.0).contains(&number) && number.fract() == 0.0;
+    is_whole.then(|| format!("{number:.0}"))
 }

@@ -1,32 +1,39 @@
 //! The commands, a call of the engine each.
 
-use crate::arguments::{Arguments, Command, FILE, Flag, Operand};
+use crate::arguments::{Arguments, Command, FILE, Flag, NEW_FILE, Operand};
 use crate::completions::{self, SHELLS};
+use crate::files::{Names, Outputs, shown};
 use crate::words::{self, Lent};
-use crate::{Failure, counts, faults, files, load, manual, numbers, print, rates, sample, shares, shots, sizes};
+use crate::{Failure, counts, faults, files, load, manual, numbers, print, rates, sample, say, shares, shots, sizes};
 use kundatrezo::{Examination, Frames, MAX_BYTES, Number, Refusal, Shots, bit};
-use std::ffi::OsStr;
+use std::ffi::{OsStr, OsString};
 use std::fmt::Write;
 
-const X: Flag = Flag { name: "--x", value: FILE, text: "write the X rows of the frames to this file" };
-const Z: Flag = Flag { name: "--z", value: FILE, text: "write the Z rows of the frames to this file" };
-const DELTAS: Flag =
-    Flag { name: "--deltas", value: FILE, text: "write the rows of the deltas to this file, and do not print them" };
-const SHOTS: Flag =
-    Flag { name: "--shots", value: FILE, text: "write the deltas by shot as lines of digits, and do not print them" };
+const X: Flag = Flag { name: "--x", value: NEW_FILE, text: "write the X rows of the frames to this file" };
+const Z: Flag = Flag { name: "--z", value: NEW_FILE, text: "write the Z rows of the frames to this file" };
+const DELTAS: Flag = Flag {
+    name: "--deltas",
+    value: NEW_FILE,
+    text: "write the rows of the deltas to this file, and do not print them",
+};
+const SHOTS: Flag = Flag {
+    name: "--shots",
+    value: NEW_FILE,
+    text: "write the deltas by shot as lines of digits, and do not print them",
+};
 const PACKED: Flag =
-    Flag { name: "--packed", value: FILE, text: "write the deltas by shot as packed bytes, and do not print them" };
+    Flag { name: "--packed", value: NEW_FILE, text: "write the deltas by shot as packed bytes, and do not print them" };
 const TOTALS: Flag = Flag {
     name: "--totals",
-    value: FILE,
+    value: NEW_FILE,
     text: "write the outcomes' totals and rates to this file, and do not print the deltas",
 };
 pub const OUTPUT: Flag =
-    Flag { name: "--output", value: FILE, text: "write the text to this file; without it, to standard output" };
+    Flag { name: "--output", value: NEW_FILE, text: "write the text to this file; without it, to standard output" };
 const ROOM: Flag =
     Flag { name: "--room", value: "N", text: "lend N bytes for the text; without it 1048576, the most it may have" };
 const SHOT: Flag = Flag { name: "--shot", value: "N", text: "the shot, from 0" };
-const SET: Flag = Flag { name: "--set", value: "L", text: "the outcomes, rising, with commas between; - for none" };
+const SET: Flag = Flag { name: "--set", value: "L", text: "the outcomes, with commas between; - for none" };
 const PARTS: Flag = Flag { name: "--parts", value: "N", text: "the number of parts, at most the job's shots" };
 const PREFIX: Flag =
     Flag { name: "--prefix", value: "NAME", text: "write the jobs to the files NAME0.job, NAME1.job, .." };
@@ -69,7 +76,7 @@ and 'delta=' for each recorded outcome, with a digit for each shot, shot 0 first
             words::DETAILS,
             shares::DETAILS,
         ],
-        options: &[words::FLAGS, shares::FLAGS, &[X, Z, DELTAS, SHOTS, PACKED, TOTALS]],
+        options: &[words::FLAGS, shares::FLAGS, ROW_FILES],
         obey: run,
     },
     Command {
@@ -200,9 +207,9 @@ the injections and flips of all, each among the same lines, and twice where two 
     Command {
         name: "fill",
         operand: Operand::None,
-        summary: "words from a seed, the same on every machine",
+        summary: "words from a state or a seed, the same on every machine",
         details: &[load::WORDS],
-        options: &[words::MADE_FLAGS, &[load::OUTPUT_WORDS]],
+        options: &[words::FILL_FLAGS, &[load::OUTPUT_WORDS]],
         obey: load::write_words,
     },
     Command {
@@ -262,31 +269,41 @@ fn run(arguments: &Arguments) -> Result<(), Failure> {
         )));
     }
     let (job, examined) = examined(arguments)?;
+    let mut outputs = Outputs::create(ROW_FILES.iter().filter_map(|flag| arguments.value(flag.name)))?;
     let mut lent = Lent::read(arguments, &job, examined)?;
     let mut frames = Frames::new();
     lent.call(|noiseless, draws| frames.run(&job, noiseless, draws))?;
-    for (flag, words) in [(X, frames.x()), (Z, frames.z()), (DELTAS, frames.deltas())] {
-        if let Some(path) = arguments.value(flag.name) {
-            files::write_words(path, words)?;
-        }
-    }
     let by_shot = Shots::of_frames(&frames);
-    if let Some(path) = arguments.value(SHOTS.name) {
-        files::write(path, &shots::text(&by_shot))?;
-    }
-    if let Some(path) = arguments.value(PACKED.name) {
-        files::write(path, &shots::packed(&by_shot))?;
-    }
-    if let Some(path) = arguments.value(TOTALS.name) {
-        files::write(path, rates::text(&frames, examined.recorded).as_bytes())?;
+    for flag in ROW_FILES {
+        if let Some(path) = arguments.value(flag.name) {
+            outputs.write(path, &row_file(flag, &frames, &by_shot))?;
+        }
     }
     let written = [DELTAS, SHOTS, PACKED, TOTALS].iter().any(|flag| arguments.value(flag.name).is_some());
     let printed = if written { 0 } else { examined.recorded };
-    print(session(&frames, printed) + &lent.report()?)
+    // what can't be printed leaves no file, as the status says
+    print(session(&frames, printed) + &lent.report()?)?;
+    outputs.finish()
+}
+
+/// The files that a run writes.
+const ROW_FILES: &[Flag] = &[X, Z, DELTAS, SHOTS, PACKED, TOTALS];
+
+/// The bytes of such a file.
+fn row_file(flag: &Flag, frames: &Frames, by_shot: &Shots) -> Vec<u8> {
+    match flag.name {
+        name if name == X.name => files::bytes_of(frames.x()),
+        name if name == Z.name => files::bytes_of(frames.z()),
+        name if name == DELTAS.name => files::bytes_of(frames.deltas()),
+        name if name == SHOTS.name => shots::text(by_shot),
+        name if name == PACKED.name => shots::packed(by_shot),
+        _ => rates::text(frames, frames.job().recorded).into_bytes(),
+    }
 }
 
 fn settle(arguments: &Arguments) -> Result<(), Failure> {
     let (job, examined) = examined(arguments)?;
+    let mut outputs = Outputs::create(arguments.value(OUTPUT.name))?;
     let mut lent = Lent::read(arguments, &job, examined)?;
     let mut out = match arguments.value(ROOM.name) {
         Some(_) => room(arguments)?,
@@ -296,25 +313,26 @@ fn settle(arguments: &Arguments) -> Result<(), Failure> {
         Some(_) => kundatrezo::settle(&job, noiseless, draws, &mut out),
         None => kundatrezo::settle_into(&job, noiseless, draws, &mut out),
     })?;
-    write_out(arguments, &out[..bytes])
+    match arguments.value(OUTPUT.name) {
+        Some(path) => outputs.write(path, &out[..bytes])?,
+        None => print(&out[..bytes])?,
+    }
+    outputs.finish()
 }
 
 fn walk(arguments: &Arguments) -> Result<(), Failure> {
     let shot = arguments.number(SHOT.name)?;
-    let set = arguments.parsed(SET.name, "numbers with commas between, or -", list)?;
+    let set = arguments.parsed(SET.name, "numbers with commas between, or -", outcomes)?;
     let (Some(shot), Some(set)) = (shot, set) else {
         return Err(arguments.missing(&[&SHOT, &SET]));
     };
     let (job, examined) = examined(arguments)?;
-    let count = kundatrezo::walk(&job, shot, &set).map_err(|refusal| {
-        let remedy = match (refusal.number, examined.recorded) {
-            (Number::WALK, _) if shot >= examined.shots as u64 => {
-                Some(format!("the job's shots are 0 to {}", examined.shots - 1))
-            }
-            (Number::WALK, recorded) => Some(outcomes_wanted(SET.name, recorded)),
-            _ => None,
-        };
-        Failure::refused(&refusal, &job, remedy)
+    let count = kundatrezo::walk(&job, shot, &set).map_err(|refusal| match refusal.number {
+        Number::WALK if shot >= examined.shots as u64 => {
+            Failure::refused_shot(&format!("the job's shots are 0 to {}", examined.shots - 1))
+        }
+        Number::WALK => Failure::refused_list(&outcomes_wanted(SET.name, examined.recorded)),
+        _ => Failure::refused(&refusal, &job, None),
     })?;
     print(format!("ok=1 count={count}\n"))
 }
@@ -334,7 +352,7 @@ fn annotate(arguments: &Arguments) -> Result<(), Failure> {
     })?;
     write_out(arguments, &out[..bytes])?;
     if p < 0.0 {
-        eprintln!("note: p is below zero: no fault will fall");
+        say("note: p is below zero: no fault will fall");
     }
     Ok(())
 }
@@ -366,15 +384,22 @@ fn split(arguments: &Arguments) -> Result<(), Failure> {
             noisy.then(|| "settle the job first ('kundatrezo settle --help'), and split the settled job".into());
         Failure::refused(&refusal, &job, remedy)
     })?;
-    let mut said = String::new();
-    for (place, part) in parts.into_iter().enumerate() {
+    let path = |place: usize| {
         let mut path = prefix.to_owned();
         path.push(format!("{place}.job"));
-        files::write(&path, &part.job)?;
+        path
+    };
+    let paths: Vec<OsString> = (0..parts.len()).map(path).collect();
+    Names { inputs: vec![arguments.operand().to_owned()], outputs: paths.clone() }.test()?;
+    let mut outputs = Outputs::default();
+    let mut said = String::new();
+    for (path, part) in paths.iter().zip(parts) {
+        outputs.write(path, &part.job)?;
         let (first, last) = (part.shots.start, part.shots.end - 1);
-        writeln!(said, "job={} first={first} last={last}", path.display()).expect("a string takes all");
+        writeln!(said, "job={} first={first} last={last}", shown(path)).expect("a string takes all");
     }
-    print(said)
+    print(said)?;
+    outputs.finish()
 }
 
 fn add(arguments: &Arguments) -> Result<(), Failure> {
@@ -383,7 +408,7 @@ fn add(arguments: &Arguments) -> Result<(), Failure> {
         let rows = files::rows(path)?;
         let sum = sum.get_or_insert_with(|| vec![0; rows.len()]);
         if rows.len() != sum.len() {
-            let text = format!("{}: {} words, and the first file has {}", path.display(), rows.len(), sum.len());
+            let text = format!("{}: {} words, and the first file has {}", shown(path), rows.len(), sum.len());
             return Err(Failure::Other(text));
         }
         sum.iter_mut().zip(rows).for_each(|(word, other)| *word ^= other);
@@ -448,8 +473,15 @@ pub fn write_out(arguments: &Arguments, bytes: &[u8]) -> Result<(), Failure> {
 pub fn outcomes_wanted(what: &str, recorded: usize) -> String {
     match recorded {
         0 => "the job records no outcome".into(),
-        some => format!("{what}: it names recorded outcomes, 0 to {}, and rises strictly", some - 1),
+        some => format!("{what}: it names recorded outcomes, 0 to {}, each once", some - 1),
     }
+}
+
+/// Outcomes with commas between, sorted: the order in which they are named plays no part. The call judges them.
+pub fn outcomes(text: &str) -> Option<Vec<u64>> {
+    let mut outcomes = list(text)?;
+    outcomes.sort_unstable();
+    Some(outcomes)
 }
 
 /// Numbers with commas between, in any order; the call judges them.

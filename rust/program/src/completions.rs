@@ -37,7 +37,8 @@ fn bash() -> String {
         let words = [operands(command), &names(command)].concat().join(" ");
         writeln!(cases, "        {}) words='{words}' ;;", command.name).expect("a string takes all");
     }
-    let mut files: Vec<&str> = COMMANDS.iter().flat_map(Command::flags).filter(is_file).map(|flag| flag.name).collect();
+    let mut files: Vec<&str> =
+        COMMANDS.iter().flat_map(Command::flags).filter(|flag| flag.is_file()).map(|flag| flag.name).collect();
     files.sort_unstable();
     files.dedup();
     format!(
@@ -64,17 +65,13 @@ complete -o filenames -F _kundatrezo kundatrezo
     )
 }
 
-fn is_file(flag: &&'static Flag) -> bool {
-    flag.value == FILE
-}
-
 fn zsh() -> String {
     let mut commands = String::new();
     let mut cases = String::new();
     for command in COMMANDS {
         writeln!(commands, "        '{}:{}'", command.name, quoted(command.summary)).expect("a string takes all");
         let option = |flag: &Flag| {
-            let action = if flag.value == FILE { "_files" } else { "" };
+            let action = if flag.is_file() { "_files" } else { "" };
             let again = if flag.repeats() { "*" } else { "" };
             format!(" \\\n                '{again}{}=[{}]:{}:{action}'", flag.name, quoted(flag.text), flag.value)
         };
@@ -122,7 +119,7 @@ fn fish() -> String {
         writeln!(script, "complete -c kundatrezo -f -n __fish_use_subcommand -a {name} -d '{summary}'")
             .expect("a string takes all");
         for flag in command.flags() {
-            let (value, text) = (if flag.value == FILE { "-rF" } else { "-x" }, quoted(flag.text));
+            let (value, text) = (if flag.is_file() { "-rF" } else { "-x" }, quoted(flag.text));
             let option = flag.name.trim_start_matches('-');
             writeln!(script, "complete -c kundatrezo {is_chosen} -l {option} {value} -d '{text}'")
                 .expect("a string takes all");

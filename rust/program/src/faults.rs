@@ -1,15 +1,12 @@
 //! What each possible fault does, as a table and as a detector error model.
 
-use crate::Failure;
 use crate::arguments::{Arguments, Flag};
-use crate::commands::{examined, list, outcomes_wanted, write_out};
+use crate::commands::{examined, outcomes, outcomes_wanted, write_out};
+use crate::{Failure, say};
 use kundatrezo::{Answer, MAX_BYTES, MAX_GROUPS, Number, Refusal};
 
-const GROUP: Flag = Flag {
-    name: "--group",
-    value: "L..",
-    text: "a group of outcomes, rising, with commas between; - for an empty one",
-};
+const GROUP: Flag =
+    Flag { name: "--group", value: "L..", text: "a group of outcomes, with commas between; - for an empty one" };
 const DETECTOR: Flag =
     Flag { name: "--detector", value: "L..", text: "the outcomes whose sum is the next detector: D0, D1, .." };
 const OBSERVABLE: Flag = Flag {
@@ -55,19 +52,19 @@ pub fn model(arguments: &Arguments) -> Result<(), Failure> {
     let model = called(arguments, &named, |job| kundatrezo::error_model(job, &detectors, &observables))?;
     write_out(arguments, model.to_string().as_bytes())?;
     if model.mechanisms().iter().any(|mechanism| mechanism.has_condition) {
-        eprintln!("note: noise with a condition has the probability of shots in which it holds");
+        say("note: noise with a condition has the probability of shots in which it holds");
     }
     for correlation in model.mixed_correlations() {
-        eprintln!(
+        say(&format!(
             "note: lines with corr={correlation} differ in p, condition, kind or size, and are taken for independent"
-        );
+        ));
     }
     Ok(())
 }
 
 /// The groups that an option names, in their order.
 fn groups(arguments: &Arguments, flag: &Flag) -> Result<Vec<Vec<u64>>, Failure> {
-    arguments.all_parsed(flag.name, "numbers with commas between, or -", list)
+    arguments.all_parsed(flag.name, "numbers with commas between, or -", outcomes)
 }
 
 /// Make a call on the job with these groups, and say what to do where it refuses.
@@ -84,7 +81,6 @@ fn called<T>(
         Some(outcomes_wanted(&format!("the {what} {}", members.join(",")), examined.recorded))
     };
     let remedy = |refusal: &Refusal| match refusal.number {
-        Number::WALK => refused(),
         Number::GROUPS if refusal.line == 0 => {
             Some(format!("each {} is a group, and a table has 1 to {MAX_GROUPS} of them", GROUP.name))
         }
@@ -93,5 +89,8 @@ fn called<T>(
         }
         _ => None,
     };
-    call(&job).map_err(|refusal| Failure::refused(&refusal, &job, remedy(&refusal)))
+    call(&job).map_err(|refusal| match refused().filter(|_| refusal.number == Number::WALK) {
+        Some(remedy) => Failure::refused_list(&remedy),
+        None => Failure::refused(&refusal, &job, remedy(&refusal)),
+    })
 }

@@ -1,6 +1,6 @@
 //! A reproducible load: jobs and words from a seed.
 
-use crate::arguments::{Arguments, FILE, Flag};
+use crate::arguments::{Arguments, Flag, NEW_FILE};
 use crate::commands::{room, write_out};
 use crate::words::List;
 use crate::{Failure, files};
@@ -18,7 +18,7 @@ const PARAMETERS: [&Flag; 5] = [&QUBITS, &OUTCOMES, &SHOTS, &LINES, &SEED];
 pub const JOB_FLAGS: &[Flag] = &[QUBITS, OUTCOMES, SHOTS, LINES, SEED];
 
 pub const OUTPUT_WORDS: Flag =
-    Flag { name: "--output", value: FILE, text: "write the words to this file; without it, to standard output" };
+    Flag { name: "--output", value: NEW_FILE, text: "write the words to this file; without it, to standard output" };
 
 pub const JOB: &str = "\
 Writes a job with this header and as many lines behind it, whose kinds and values a seed chooses, by the rule of
@@ -26,8 +26,10 @@ docs/MAKING.md. The same numbers give the same job on every machine, and every m
 five are wanted. The seed is taken as it is, and not mixed as that of a run.";
 
 pub const WORDS: &str = "\
-Writes words from a seed, eight bytes each, the lowest first: those that a run makes by the same --seed or
---state and --skip. --words is wanted.";
+Writes words from a number, eight bytes each, the lowest first. With --state the number is the state of the
+xorshift itself, as for kundatrezo_fill, for 'fill' of the Rust and Python packages, and for 'make'. With
+--run-seed it is mixed first: these are the words that a run makes by --seed and the same --skip. There is no
+--seed, which would mean either. --words is wanted, and --state or --run-seed.";
 
 /// The command `make`.
 pub fn write_job(arguments: &Arguments) -> Result<(), Failure> {
@@ -57,9 +59,6 @@ pub fn write_job(arguments: &Arguments) -> Result<(), Failure> {
 
 /// The command `fill`.
 pub fn write_words(arguments: &Arguments) -> Result<(), Failure> {
-    let list = List::whole(arguments)?;
-    if !list.is_given() {
-        return Err(Failure::Other("--seed or --state is wanted".into()));
-    }
+    let list = List::filled(arguments)?;
     write_out(arguments, &files::bytes_of(&list.words))
 }

@@ -6,7 +6,6 @@ mod completions;
 mod counts;
 mod faults;
 mod files;
-mod hints;
 mod load;
 mod manual;
 mod numbers;
@@ -44,8 +43,24 @@ impl Failure {
             (Number::ROOM, 1..) => format!("; the text needs {} bytes", refusal.figure),
             _ => String::new(),
         };
-        let remedy = remedy.or_else(|| hints::hint(refusal, job)).map(|text| format!("\nhint: {text}"));
+        let remedy = remedy.or_else(|| refusal.hint(job)).map(|text| format!("\nhint: {text}"));
         Self::Refused(format!("{refusal}{line}{need}{}", remedy.unwrap_or_default()))
+    }
+
+    /// The refusal by 17 of the shot of a walk.
+    fn refused_shot(remedy: &str) -> Self {
+        Self::by_cause(Number::WALK, 0, remedy)
+    }
+
+    /// The refusal by 17 of a list of outcomes, which need not be that of a walk.
+    fn refused_list(remedy: &str) -> Self {
+        Self::by_cause(Number::WALK, 1, remedy)
+    }
+
+    /// A refusal by one of the causes that a number's words have.
+    fn by_cause(number: Number, cause: usize, remedy: &str) -> Self {
+        let words = number.words().split("; ").nth(cause).unwrap_or(number.words());
+        Self::Refused(format!("refused: {} ({words})\nhint: {remedy}", number.get()))
     }
 }
 
@@ -63,11 +78,11 @@ fn main() -> ExitCode {
     match obey(&arguments) {
         Ok(()) => ExitCode::SUCCESS,
         Err(Failure::Refused(text)) => {
-            eprintln!("{text}");
+            say(&text);
             ExitCode::from(1)
         }
         Err(Failure::Other(text)) => {
-            eprintln!("kundatrezo: {text}");
+            say(&format!("kundatrezo: {text}"));
             ExitCode::from(2)
         }
         Err(Failure::Unread) => ExitCode::from(2),
@@ -78,7 +93,7 @@ fn obey(arguments: &[OsString]) -> Result<(), Failure> {
     let Some((first, rest)) = arguments.split_first() else {
         return Err(Failure::Other(format!("a command is missing\n\n{}", whole_help().trim_end())));
     };
-    let name = first.to_string_lossy();
+    let name = files::shown(first);
     if name == "--help" || name == "-h" {
         return print(whole_help());
     }
@@ -89,10 +104,18 @@ fn obey(arguments: &[OsString]) -> Result<(), Failure> {
         Failure::Other(format!("there is no command '{name}'; 'kundatrezo --help' names those that there are"))
     })?;
     match Arguments::read(command, rest) {
-        Ok(Some(arguments)) => (command.obey)(&arguments),
+        Ok(Some(arguments)) => {
+            arguments.names(command).test()?;
+            (command.obey)(&arguments)
+        }
         Ok(None) => print(command.help()),
         Err(text) => Err(Failure::Other(format!("{text}; see 'kundatrezo {name} --help'"))),
     }
+}
+
+/// Write a line to standard error. If it can't be written, the status tells all the same.
+fn say(line: &str) {
+    _ = writeln!(io::stderr(), "{line}");
 }
 
 /// Write to standard output.
@@ -106,7 +129,7 @@ fn print(text: impl AsRef<[u8]>) -> Result<(), Failure> {
 const SUMMARY: &str = "Kundatrezo: a Pauli-frame noise engine. Calls on jobs that lie in files.";
 
 /// What all commands have in common, in paragraphs.
-const COMMON: [&str; 2] = [
+const COMMON: [&str; 3] = [
     "\
 JOB is a file, or - for standard input; docs/JOBS.md has the language of jobs. A file of words holds 64-bit
 words, eight bytes each, the lowest byte first. An option whose value is shown with .. may be given several
@@ -114,8 +137,13 @@ times, others once. What follows -- is no option.",
     "\
 Exit status: 0, the work is done; 1, the call refused, and standard error says by which number, at which
 line, and what may help (docs/REFUSALS.md has more); 2, the arguments are at fault, or a file or standard
-output can't be read or written. Unless the status is 0 no file is written, but for those that were
-written before one could not be, and for an account of shared words, which a refusal by 14 changes too.",
+output can't be read or written. Unless the status is 0 no file is changed, but for an account of shared
+words, which is written before all else, and by a refusal by 14 too.",
+    "\
+A file is written in its folder as NAME.XXXXXXXXXXXXXXXX.partial, and gets its name when all is written; until
+then the old file stays as it was. The new file has the mode of the old one. If the name is a link, the file
+that it leads to is replaced. An output that is also an input, or is named for two outputs, is refused. Pipes
+and devices are written under their names.",
 ];
 
 /// The help of the whole program.

@@ -8,7 +8,7 @@ use crate::{COMMON, SUMMARY};
 pub fn page() -> String {
     let version = env!("CARGO_PKG_VERSION");
     let commands: String = COMMANDS.iter().map(command).collect();
-    let [operand, status] = COMMON;
+    let [operand, status, files] = COMMON;
     format!(
         ".TH KUNDATREZO 1 \"\" \"kundatrezo {version}\" \"User Commands\"
 .SH NAME
@@ -28,10 +28,13 @@ kundatrezo \\- a Pauli\\-frame noise engine
 .SH COMMANDS
 {commands}.SH EXIT STATUS
 {}
+.SH FILES
+{}
 ",
         text(SUMMARY),
         text(operand),
         text(status.trim_start_matches("Exit status: ")),
+        text(files),
     )
 }
 

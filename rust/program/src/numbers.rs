@@ -1,6 +1,7 @@
 //! Probabilities and weights in decimal and by the bits of their binary64.
 
 use crate::arguments::Arguments;
+use crate::files::shown;
 use crate::{Failure, print};
 use std::ffi::OsString;
 
@@ -40,7 +41,7 @@ pub fn print_decimal(arguments: &Arguments) -> Result<(), Failure> {
 fn convert(arguments: &Arguments, what: &str, conversion: fn(&str) -> Option<String>) -> Result<(), Failure> {
     let converted = |operand: &OsString| {
         let text = operand.to_str().and_then(conversion).map(|text| format!("{text}\n"));
-        text.ok_or_else(|| Failure::Other(format!("'{}' is not {what}", operand.display())))
+        text.ok_or_else(|| Failure::Other(format!("'{}' is not {what}", shown(operand))))
     };
     print(arguments.operands().iter().map(converted).collect::<Result<String, Failure>>()?)
 }

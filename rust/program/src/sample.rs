@@ -1,12 +1,11 @@
 //! Any number of shots of a job: how often outcomes and parities are flipped, or the shots themselves in the forms that decoders read.
 
-use crate::arguments::{Arguments, FILE, Flag};
-use crate::commands::{list, outcomes_wanted};
-use crate::counts::{Sample, crc32};
-use crate::files::{self, Output};
+use crate::arguments::{Arguments, FILE, Flag, NEW_FILE};
+use crate::commands::{outcomes, outcomes_wanted};
+use crate::files::{self, Output, shown};
 use crate::progress::Progress;
 use crate::turns::Turns;
-use crate::{Failure, print, shots};
+use crate::{Failure, print, say, shots};
 use kundatrezo::{
     Bench, Counts, Examination, Frames, MAX_BYTES, MAX_OUTCOMES, MAX_SHOTS, Named, Number, Refusal, Sampler,
     by_outcome, by_shot,
@@ -18,18 +17,21 @@ use std::os::unix::fs::FileExt;
 use std::thread::available_parallelism;
 
 const SHOTS: Flag = Flag { name: "--shots", value: "N", text: "the number of shots, at least 1" };
-const SEED: Flag = Flag { name: "--seed", value: "N", text: "the seed of all words, any number" };
+const SEED: Flag = Flag { name: "--seed", value: "N", text: "the seed of all words, any number, which is mixed" };
 const SET: Flag = Flag {
     name: "--set",
     value: "L..",
-    text: "outcomes, rising, with commas between, whose parity is counted; may be given again",
+    text: "outcomes, with commas between, whose parity is counted; may be given again",
 };
 const SETS: Flag =
     Flag { name: "--sets", value: FILE, text: "read sets from this file, a line each, after those of --set" };
 const FORMAT: Flag =
     Flag { name: "--format", value: "FORM", text: "counts, which is taken without it, or shots by row: 01 or b8" };
-const OUTPUT: Flag =
-    Flag { name: "--output", value: FILE, text: "write counts or rows to this file; without it, to standard output" };
+const OUTPUT: Flag = Flag {
+    name: "--output",
+    value: NEW_FILE,
+    text: "write counts or rows to this file; without it, to standard output",
+};
 const THREADS: Flag = Flag {
     name: "--threads",
     value: "N",
@@ -73,13 +75,15 @@ first. Where rows go to a file, counts are printed; those of parts are put toget
     "\
 Of a job with injections or flips, which stand in named shots, --named says where these are. Noiseless bits,
 at which conditions of noise look, are zero, those of a file of the job's own shots again and again (shot s of
-the whole has those of s mod the header's shots), or those of a file with bytes for each shot of the whole.",
+the whole has those of s mod the header's shots; a file of another size is refused), or those of a file with bytes
+for each shot of the whole. A note says where a condition looks at bits that are not given.",
 ];
 
 pub fn sample(arguments: &Arguments) -> Result<(), Failure> {
     let asked = Asked::read(arguments)?;
     let job = files::job(arguments.operand())?;
     let whole = Whole::read(arguments, asked, &job)?;
+    note_conditions(arguments, &job)?;
     let (mut output, counts) = whole.run(arguments.value(OUTPUT.name))?;
     let text = whole.text(counts);
     match (asked.format, arguments.value(OUTPUT.name)) {
@@ -87,9 +91,10 @@ pub fn sample(arguments: &Arguments) -> Result<(), Failure> {
             output.write(text.as_bytes())?;
             output.finish()
         }
+        // what can't be printed leaves no file, as the status says
         (_, Some(_)) => {
-            output.finish()?;
-            print(text)
+            print(text)?;
+            output.finish()
         }
         (_, None) => output.finish(),
     }
@@ -141,7 +146,7 @@ fn format(text: &str) -> Option<Format> {
 }
 
 /// A part, from 1, and how many there are.
-pub fn part(text: &str) -> Option<(u64, u64)> {
+fn part(text: &str) -> Option<(u64, u64)> {
     let (place, parts) = text.split_once('/')?;
     let (place, parts) = (place.parse().ok()?, parts.parse().ok()?);
     (1..=parts).contains(&place).then_some((place, parts))
@@ -155,27 +160,21 @@ fn sets(arguments: &Arguments, job: Examination) -> Result<Vec<Vec<u64>>, Failur
     // each with where it stands, for what is said of it
     let mut given: Vec<(String, String)> = option.into_iter().map(|text| (String::new(), text)).collect();
     if let Some(path) = arguments.value(SETS.name) {
-        let place = |line: usize| format!("{}, line {}: ", path.display(), line + 1);
+        let place = |line: usize| format!("{}, line {}: ", shown(path), line + 1);
         given.extend(files::text(path)?.lines().enumerate().map(|(line, text)| (place(line), text.to_owned())));
     }
     let set = |(place, text): &(String, String)| {
         let fault = || format!("{place}a set is to be {SET_IS}, not '{}'", text.escape_default());
-        let set = list(text).ok_or_else(|| Failure::Other(fault()))?;
-        job.test_set(&set).map_err(|refusal| {
-            let remedy = outcomes_wanted(&format!("{place}the set {text}"), job.recorded);
-            Failure::refused(&refusal, &[], Some(remedy))
-        })?;
+        let set = outcomes(text).ok_or_else(|| Failure::Other(fault()))?;
+        job.test_set(&set)
+            .map_err(|_| Failure::refused_list(&outcomes_wanted(&format!("{place}the set {text}"), job.recorded)))?;
         Ok(set)
     };
     given.iter().map(set).collect()
 }
 
 fn named(arguments: &Arguments, job: &[u8]) -> Result<Option<Named>, Failure> {
-    let named = arguments.parsed(NAMED.name, "'whole' or 'block'", |text| match text {
-        "whole" => Some(Named::Whole),
-        "block" => Some(Named::Block),
-        _ => None,
-    })?;
+    let named = arguments.parsed(NAMED.name, "'whole' or 'block'", Named::of_name)?;
     match (named, kundatrezo::first_named(job)) {
         (None, Some(line)) => Err(Failure::Other(format!(
             "line {line} stands in a shot that it names. With {0} whole it stands in that shot of the whole sample, with {0} \
@@ -186,62 +185,78 @@ fn named(arguments: &Arguments, job: &[u8]) -> Result<Option<Named>, Failure> {
     }
 }
 
-/// Where the noiseless bits come from.
-enum Noiseless {
-    /// The sampler's: zeros, or rows of which this is the sum.
-    Own(Option<u32>),
-    /// Bytes for each shot of the whole.
-    Given(File, String),
-}
+/// A file with noiseless bits for each shot of the whole, and its name.
+type GivenShots = (File, String);
 
-impl Noiseless {
-    /// What says that two parts had the same.
-    fn mark(&self) -> Option<String> {
-        match self {
-            Self::Own(sum) => sum.map(|sum| format!("{sum:08x}")),
-            Self::Given(..) => Some("shots".to_owned()),
-        }
-    }
-}
-
-fn noiseless(arguments: &Arguments, sampler: Sampler, job: Examination) -> Result<(Sampler, Noiseless), Failure> {
+/// The sampler with the noiseless bits of the job's own shots, if these are given, or the file of those for each shot.
+fn noiseless(
+    arguments: &Arguments,
+    sampler: Sampler,
+    job: Examination,
+) -> Result<(Sampler, Option<GivenShots>), Failure> {
     match (arguments.value(NOISELESS.name), arguments.value(NOISELESS_SHOTS.name)) {
-        (None, None) => Ok((sampler, Noiseless::Own(None))),
+        (None, None) => Ok((sampler, None)),
         (Some(path), None) => {
             if path == "-" && arguments.operand() == "-" {
                 return Err(Failure::Other("standard input can be read for one thing only".into()));
             }
-            let rows = files::words(path, &mut files::open(path)?, job.outcome_words())?;
-            if rows.len() < job.outcome_words() {
-                let text = format!("{}: {} words, and {} are needed", path.display(), rows.len(), job.outcome_words());
-                return Err(Failure::Other(text));
-            }
-            let sum = crc32(&files::bytes_of(&rows));
-            Ok((sampler.with_noiseless(&rows, job.shots), Noiseless::Own(Some(sum))))
+            // one word more than there may be, by which a longer file is told
+            let rows = files::words(path, &mut files::open(path)?, job.outcome_words() + 1)?;
+            let more = if rows.len() > job.outcome_words() { " or more" } else { "" };
+            let sampler = sampler.with_noiseless(&rows).map_err(|error| {
+                let (words, needed) = (error.words, error.needed);
+                let header = format!("outcomes={} and shots={}", error.outcomes, error.shots);
+                Failure::Other(format!("{}: {words} words{more}, but {header} need exactly {needed}", shown(path)))
+            })?;
+            Ok((sampler, None))
         }
         (None, Some(path)) => {
             let file = files::open_file(path)?;
             let bytes = file.metadata().map_err(|error| files::fault(path, &error))?.len();
-            let needed = sampler.shots().saturating_mul(job.outcomes.div_ceil(8) as u64);
-            if bytes < needed {
-                let text = format!("{}: {bytes} bytes, and {needed} are needed", path.display());
+            let row = job.outcomes.div_ceil(8) as u64;
+            let needed = sampler.shots().saturating_mul(row);
+            if bytes < needed || bytes.checked_rem(row).is_some_and(|rest| rest > 0) {
+                let text = format!("{}: {bytes} bytes, and {needed} are needed, {row} for each shot", shown(path));
                 return Err(Failure::Other(text));
             }
-            Ok((sampler, Noiseless::Given(file, path.display().to_string())))
+            Ok((sampler, Some((file, shown(path)))))
         }
         _ => Err(Failure::Other(format!("of {}, {} one at most can be given", NOISELESS.name, NOISELESS_SHOTS.name))),
     }
+}
+
+/// Say that noise with a condition looks at noiseless bits that are not given, or at those of a random outcome, which are the same in all shots or
+/// come again.
+fn note_conditions(arguments: &Arguments, job: &[u8]) -> Result<(), Failure> {
+    let conditions = kundatrezo::conditions(job);
+    let (Some((first, _)), None) = (conditions.first(), arguments.value(NOISELESS_SHOTS.name)) else {
+        return Ok(());
+    };
+    let is_given = arguments.value(NOISELESS.name).is_some();
+    if !is_given {
+        let options = format!("{} or {}", NOISELESS.name, NOISELESS_SHOTS.name);
+        say(&format!("note: line {first} has noise with a condition, and without {options} all noiseless bits are 0"));
+    }
+    if let Some((line, outcome)) = conditions.iter().find_map(|(line, random)| Some((line, (*random)?))) {
+        let shots = kundatrezo::examine(job).map_err(|refusal| Failure::refused(&refusal, job, None))?.shots;
+        let same = if is_given { format!("comes again every {shots} shots") } else { "is 0 in every shot".into() };
+        say(&format!(
+            "note: the condition of line {line} looks at outcome {outcome}, which op=r records at random, and its noiseless bit {same}: {} \
+             gives it for each shot",
+            NOISELESS_SHOTS.name
+        ));
+    }
+    Ok(())
 }
 
 /// What is sampled.
 struct Whole<'a> {
     asked: Asked,
     job: &'a [u8],
-    examined: Examination,
     sampler: Sampler,
     sets: Vec<Vec<u64>>,
-    named: Option<Named>,
-    noiseless: Noiseless,
+    /// Where the noiseless bits come from, if they are given for each shot.
+    given: Option<GivenShots>,
 }
 
 /// Most words of all threads, where their number is not asked for: 4 GiB.
@@ -265,26 +280,18 @@ impl Whole<'_> {
         if asked.format != Format::Counts && sets.len() > MAX_OUTCOMES {
             return Err(Failure::Other(format!("a row has at most {MAX_OUTCOMES} sets")));
         }
-        let named = named(arguments, job)?;
-        let sampler = Sampler::with_named(job, asked.shots, asked.seed, named.unwrap_or_default()).map_err(refused)?;
-        let (sampler, noiseless) = noiseless(arguments, sampler, examined)?;
-        Ok(Whole { asked, job, examined, sampler, sets, named, noiseless })
+        let sampler = match named(arguments, job)? {
+            Some(named) => Sampler::with_named(job, asked.shots, asked.seed, named),
+            None => Sampler::new(job, asked.shots, asked.seed),
+        };
+        let (sampler, given) = noiseless(arguments, sampler.map_err(refused)?, examined)?;
+        Ok(Whole { asked, job, sampler, sets, given })
     }
 
     /// The text of counts.
     fn text(&self, counts: Counts) -> String {
-        let sample = Sample {
-            qubits: self.examined.qubits as u64,
-            outcomes: self.examined.outcomes as u64,
-            job: crc32(self.job),
-            seeds: vec![self.asked.seed],
-            part: self.asked.part,
-            whole: self.asked.shots,
-            named: self.named.map(|named| if named == Named::Whole { "whole" } else { "block" }.to_owned()),
-            noiseless: self.noiseless.mark(),
-            counts,
-        };
-        sample.text(self.examined.recorded, &self.sets)
+        let saved = self.sampler.saved(counts, &self.sets, self.asked.part);
+        if self.given.is_some() { saved.with_lent_noiseless().text() } else { saved.text() }
     }
 
     /// Run the blocks of the part that is asked for: rows go to a file or to standard output, in their order.
@@ -313,8 +320,7 @@ impl Whole<'_> {
             }
             other => other,
         })?;
-        let mut counts =
-            Counts { shots: 0, totals: vec![0; self.sampler.job().outcomes], sets: vec![0; self.sets.len()] };
+        let mut counts = self.sampler.no_counts(&self.sets);
         made.iter().for_each(|memory| counts += &memory.counts);
         Ok((turns.into_output(), counts))
     }
@@ -327,9 +333,9 @@ impl Whole<'_> {
 
     fn block(&self, memory: &mut Memory, block: u64, turns: &Turns) -> Result<(), Failure> {
         let Memory { bench, counts, parities, rows, bytes } = memory;
-        let frames = match &self.noiseless {
-            Noiseless::Own(_) => self.sampler.run(block, bench),
-            Noiseless::Given(file, name) => {
+        let frames = match &self.given {
+            None => self.sampler.run(block, bench),
+            Some((file, name)) => {
                 self.read_noiseless(file, block, bytes, bench)
                     .map_err(|error| Failure::Other(format!("{name}: {error}")))?;
                 self.sampler.run_lent(block, bench)

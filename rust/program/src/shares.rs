@@ -1,22 +1,27 @@
 //! A main list that several callers have shares of: its account, in a file.
 
-use crate::arguments::{Arguments, FILE, Flag};
+use crate::arguments::{ACCOUNT_FILE, Arguments, Flag};
 use crate::commands::{OUTPUT, list, write_out};
-use crate::files::Output;
+use crate::files::shown;
 use crate::words::{self, List};
 use crate::{Failure, files};
-use kundatrezo::{AccountError, Answer, Caller, MAX_CALLERS, Number, Refusal, SharedDraws};
+use kundatrezo::{AccountError, Answer, Caller, FileId, MAX_CALLERS, Number, Refusal, SharedDraws, written_path};
 use std::ffi::{OsStr, OsString};
-use std::fs::{self, File};
-use std::io::ErrorKind;
+use std::fs::{self, File, OpenOptions, Permissions, TryLockError};
+use std::io::{self, ErrorKind, Read};
+use std::os::unix::fs::{MetadataExt, PermissionsExt, fchown};
+use std::path::PathBuf;
 
 const SHARES: Flag = Flag {
     name: "--shares",
     value: "L",
     text: "the words of each caller's stretch, with commas between, caller 0 first",
 };
-const ACCOUNT: Flag =
-    Flag { name: "--account", value: FILE, text: "draw from the shared list of this account, and bring it up to date" };
+const ACCOUNT: Flag = Flag {
+    name: "--account",
+    value: ACCOUNT_FILE,
+    text: "draw from the shared list of this account, and bring it up to date",
+};
 const CALLER: Flag = Flag { name: "--caller", value: "N", text: "the caller of the account who draws, from 0" };
 
 /// Those of the command `share`, and those of a run or of settling.
@@ -27,23 +32,23 @@ pub const NEW: &str = "\
 Shares a main list among 1 to 8 callers: each has a stretch of it, in their order from its front, and the rest
 is common. Writes the list's account, of which nothing is taken yet: 'list=' and 'sum=' with the list's length
 and a check sum, then for each caller 'share=' with the length of the stretch and 'taken=' with the words taken
-of it, and the same of the common part. --shares is wanted, and --words where the words are made or the file
-has no end. An account of which words are taken is not written over.";
+of it, the same of the common part, and 'seal=' with a check sum of these lines. --shares is wanted, and --words
+if the words are made or the file has no end. An account in use is not written over.";
 
 pub const DETAILS: &str = "\
 With --account and --caller a job draws from a list that several callers share ('kundatrezo share'): words of
 the caller's own stretch first, then common ones, and none twice. The list is given as for the account, without
---words. The account is brought up to date when the job is done, and when it is refused by 14; any other
-refusal takes no word. A run's last line has 'own=' and 'common=' with the words that it took of either part,
-and 'own-left=' and 'common-left=' with those that are left; 'second=' is as without shares.";
+--words. The account is locked while the job runs, by the file ACCOUNT.lock, which stays. It is brought up to
+date when the job is done, before any other file is written, and when it is refused by 14; any other refusal
+takes no word. A run's last line has 'own=' and 'common=' with the words that it took of either part, and
+'own-left=' and 'common-left=' with those that are left; 'second=' is as without shares.";
 
 /// The command `share`: the account of a list of which nothing is taken.
 pub fn print_account(arguments: &Arguments) -> Result<(), Failure> {
     let shares = arguments.parsed(SHARES.name, "numbers with commas between", list)?;
     let shares = shares.ok_or_else(|| Failure::Other(format!("{} is wanted", SHARES.name)))?;
-    if let Some(path) = arguments.value(OUTPUT.name) {
-        test_unused(path)?;
-    }
+    let path = arguments.value(OUTPUT.name).filter(|path| FileId::of(path).is_some());
+    path.map(test_unused).transpose()?;
     let main = List::whole(arguments)?;
     if !main.is_given() {
         return Err(Failure::Other("--main, --seed or --state is wanted".into()));
@@ -53,19 +58,45 @@ pub fn print_account(arguments: &Arguments) -> Result<(), Failure> {
         let remedy = format!("1 to {MAX_CALLERS} shares, whose sum is at most the list's {words} words");
         Failure::refused(&refusal, b"", Some(remedy))
     })?;
-    write_out(arguments, draws.to_string().as_bytes())
+    // while the list was read, an account of this name may have been made and drawn from
+    let lock = path.map(Lock::of).transpose()?;
+    path.map(test_unused).transpose()?;
+    write_out(arguments, draws.to_string().as_bytes())?;
+    drop(lock);
+    Ok(())
 }
 
-/// That no account of which words are taken is written over: they would be handed out again.
+/// That no account in use is written over: its words would be handed out again. An edited one may be in use.
 fn test_unused(path: &OsStr) -> Result<(), Failure> {
-    let taken = |line: &str| line.rsplit_once(" taken=").is_some_and(|(_, words)| words != "0");
-    let in_use = |account: String| SharedDraws::length_of(&account).is_some() && account.lines().any(taken);
-    if fs::metadata(path).is_ok_and(|found| found.is_file()) && fs::read_to_string(path).is_ok_and(in_use) {
-        let text =
-            "words of this account are taken, and a new one would hand them out again; if it is to, remove this file";
-        return Err(Failure::Other(format!("{}: {text}", path.display())));
+    let mut start = Vec::new();
+    let is_account = match File::open(path) {
+        Ok(file) => file.take(5).read_to_end(&mut start).is_ok() && start == b"list=",
+        Err(_) => false,
+    };
+    if is_account && !SharedDraws::marks_of(&read_account(path)?).is_ok_and(|marks| marks.iter().all(|mark| *mark == 0))
+    {
+        let text = "words of this account are taken, or it was edited, and a new one would hand them out again; if it \
+                    is to, remove this file";
+        return Err(Failure::Other(format!("{}: {text}", shown(path))));
     }
     Ok(())
+}
+
+/// The text of an account, which is a plain file with one name.
+fn read_account(path: &OsStr) -> Result<String, Failure> {
+    // eight callers with the largest numbers have half of this
+    const MOST_BYTES: u64 = 1024;
+    let refused = |text: &str| Err(Failure::Other(format!("{}: {text}", shown(path))));
+    let found = fs::metadata(path).map_err(|error| files::fault(path, &error))?;
+    if !found.is_file() {
+        return refused("an account is a plain file, and this is none");
+    }
+    if found.nlink() > 1 {
+        return refused(
+            "the account has more than one name (hard links), and another would hand its words out again; leave it one",
+        );
+    }
+    files::text_of(path, &mut files::open_file(path)?, MOST_BYTES)
 }
 
 /// A caller of an account.
@@ -77,7 +108,8 @@ pub struct Share {
     pub report: String,
     /// The words that were available to the job.
     pub available: Vec<u64>,
-    _lock: Lock,
+    /// Until the account is brought up to date.
+    lock: Option<Lock>,
 }
 
 /// What a job leaves of the list: its account, what a run says of it, and the words that the job had.
@@ -95,22 +127,19 @@ impl Share {
             (Some(path), Some(caller)) => (path, usize::try_from(caller).unwrap_or(usize::MAX)),
             _ => return Err(Failure::Other(format!("{} and {} go together", ACCOUNT.name, CALLER.name))),
         };
-        let lock = Lock::of(path)?;
-        let account = fs::read_to_string(path).map_err(|error| files::fault(path, &error))?;
-        Ok(Some(Self {
-            path: path.to_owned(),
-            account,
-            caller,
-            report: String::new(),
-            available: Vec::new(),
-            _lock: lock,
-        }))
+        // what is no plain file gets no lock beside it
+        read_account(path)?;
+        let path = written_path(path).map_err(|error| files::fault(path, &error))?.into_os_string();
+        let lock = Lock::of(&path)?;
+        let account = read_account(&path)?;
+        Ok(Some(Self { path, account, caller, report: String::new(), available: Vec::new(), lock: Some(lock) }))
     }
 
     /// How many words the list has.
     pub fn length(&self) -> Result<usize, Failure> {
         let length = SharedDraws::length_of(&self.account).and_then(|length| usize::try_from(length).ok());
-        length.filter(|length| *length <= words::MOST).ok_or_else(|| self.fault(&AccountError::Form))
+        let fault = || self.fault(&SharedDraws::marks_of(&self.account).err().unwrap_or(AccountError::Form));
+        length.filter(|length| *length <= words::MOST).ok_or_else(fault)
     }
 
     fn fault(&self, error: &AccountError) -> Failure {
@@ -120,7 +149,7 @@ impl Share {
             }
             _ => "",
         };
-        Failure::Other(format!("{}: {error}{remedy}", self.path.display()))
+        Failure::Other(format!("{}: {error}{remedy}", shown(&self.path)))
     }
 
     /// Make a call that draws from the list, and say what it leaves. The account stays as it is until this is kept.
@@ -145,13 +174,17 @@ impl Share {
         format!("own={own} common={common} own-left={own_left} common-left={common_left}")
     }
 
-    /// Bring the account up to date.
+    /// Bring the account up to date, before anything else is written: what fails later has used words up, and handed none out twice.
     pub fn keep(&mut self, left: Left) -> Result<(), Failure> {
         if left.account != self.account {
-            let mut output = Output::create(Some(&self.path))?;
-            output.write(left.account.as_bytes())?;
-            output.finish()?;
+            if !self.lock.as_ref().is_some_and(Lock::is_held) || read_account(&self.path)? != self.account {
+                let text = "the account or its lock was changed while the job ran; nothing is written, run it again";
+                return Err(Failure::Other(format!("{}: {text}", shown(&self.path))));
+            }
+            files::write(&self.path, left.account.as_bytes())?;
         }
+        // others may draw while this job's files are written
+        self.lock = None;
         (self.report, self.available) = (left.report, left.available);
         Ok(())
     }
@@ -167,27 +200,61 @@ impl Share {
     }
 }
 
-/// That no other run draws by the same account meanwhile: a file beside it, which is removed at the end.
-struct Lock(OsString);
+/// The file whose lock a user of an account holds.
+pub fn lock_name(account: &OsStr) -> OsString {
+    // an account that is called by several names, as by a link, has one lock
+    let mut lock = written_path(account).map_or_else(|_| account.to_owned(), PathBuf::into_os_string);
+    lock.push(".lock");
+    lock
+}
+
+/// The system's lock on a file beside the account: no other process draws by the account meanwhile. The file stays, and the lock is gone with the
+/// process, however it ends.
+struct Lock {
+    path: OsString,
+    file: File,
+}
 
 impl Lock {
-    fn of(path: &OsStr) -> Result<Self, Failure> {
-        // an account that is called by several names, as by a link, has one lock
-        let mut lock = fs::canonicalize(path).map_err(|error| files::fault(path, &error))?.into_os_string();
-        lock.push(".lock");
-        match File::create_new(&lock) {
-            Ok(_) => Ok(Self(lock)),
-            Err(error) if error.kind() == ErrorKind::AlreadyExists => {
-                let text = "another run draws by this account (if none does, remove this file)";
-                Err(Failure::Other(format!("{}: {text}", lock.display())))
+    fn of(account: &OsStr) -> Result<Self, Failure> {
+        const TRIES: usize = 10;
+        let path = lock_name(account);
+        for _ in 0..TRIES {
+            let file = open_lock(&path, account).map_err(|error| files::fault(&path, &error))?;
+            file.try_lock().map_err(|error| match error {
+                TryLockError::WouldBlock => {
+                    Failure::Other(format!("{}: another run draws by this account; try again later", shown(account)))
+                }
+                TryLockError::Error(error) => files::fault(&path, &error),
+            })?;
+            let lock = Self { path: path.clone(), file };
+            // it may have been removed between opening and locking
+            if lock.is_held() {
+                return Ok(lock);
             }
-            Err(error) => Err(files::fault(&lock, &error)),
         }
+        Err(Failure::Other(format!("{}: this file can't be locked, since it is a link or is removed", shown(&path))))
+    }
+
+    /// Whether the locked file still has its name: another process locks the file of that name.
+    fn is_held(&self) -> bool {
+        let [own, named] = [self.file.metadata(), fs::symlink_metadata(&self.path)]
+            .map(|found| found.ok().as_ref().and_then(FileId::of_metadata));
+        own.is_some() && own == named
     }
 }
 
-impl Drop for Lock {
-    fn drop(&mut self) {
-        _ = fs::remove_file(&self.0);
+/// A new file has the account's mode and, if the process may set it, its owner: whoever may write the account may lock it.
+fn open_lock(path: &OsStr, account: &OsStr) -> io::Result<File> {
+    match OpenOptions::new().read(true).write(true).create_new(true).open(path) {
+        Ok(file) => {
+            if let Ok(account) = fs::metadata(account) {
+                _ = fchown(&file, Some(account.uid()), Some(account.gid()));
+                file.set_permissions(Permissions::from_mode(account.mode() & 0o666))?;
+            }
+            Ok(file)
+        }
+        Err(error) if error.kind() == ErrorKind::AlreadyExists => OpenOptions::new().read(true).write(true).open(path),
+        Err(error) => Err(error),
     }
 }

@@ -1,7 +1,7 @@
 //! The size of its distribution on each noise line, for jobs that lack it.
 
-use crate::{Failure, hints, shortened};
-use kundatrezo::MAX_BYTES;
+use crate::{Failure, shortened};
+use kundatrezo::{MAX_BYTES, distribution_size};
 
 pub const DETAILS: &str = "\
 Writes the job with 'size=' at the end of each noise line that has none: 1 with d=1, 4^k - 1 with d=2 over k
@@ -16,7 +16,7 @@ pub fn added(job: &[u8]) -> Result<Vec<u8>, Failure> {
         let text = line.strip_suffix(b"\n").unwrap_or(line);
         sized.extend_from_slice(text);
         if text.starts_with(b"op=n ") && !has_size(text) {
-            let size = std::str::from_utf8(text).ok().and_then(hints::size).ok_or_else(|| {
+            let size = std::str::from_utf8(text).ok().and_then(distribution_size).ok_or_else(|| {
                 let line = place + 1;
                 Failure::Refused(format!("the size of the noise at line {line} can't be told: {}", shortened(text)))
             })?;

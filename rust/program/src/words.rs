@@ -13,22 +13,39 @@ const MAIN: Flag = Flag {
     value: FILE,
     text: "read the words of the main list from this file, or - for standard input",
 };
-const SEED: Flag = Flag { name: "--seed", value: "N", text: "make the words of the main list from a seed, any number" };
+const SEED: Flag = Flag {
+    name: "--seed",
+    value: "N",
+    text: "make the words of the main list from a seed, any number, which is mixed",
+};
 const STATE: Flag = Flag { name: "--state", value: "N", text: "make them from a bare state of the xorshift, not 0" };
+const FILL_STATE: Flag = Flag {
+    name: "--state",
+    value: "N",
+    text: "words from this state, not 0: the seed that kundatrezo_fill and 'make' take",
+};
+const RUN_SEED: Flag =
+    Flag { name: "--run-seed", value: "N", text: "the words that a run makes by --seed N, any number, which is mixed" };
 const SKIP: Flag = Flag { name: "--skip", value: "N", text: "leave out the first N words of the main list" };
 const WORDS: Flag = Flag { name: "--words", value: "N", text: "read or make at most N words for the main list" };
 const SECOND: Flag = Flag { name: "--second", value: FILE, text: "read the words of the second list from this file" };
 const SECOND_SEED: Flag =
-    Flag { name: "--second-seed", value: "N", text: "make the words of the second list from a seed" };
+    Flag { name: "--second-seed", value: "N", text: "make the words of the second list from a seed, which is mixed" };
 const SECOND_STATE: Flag = Flag { name: "--second-state", value: "N", text: "make them from a bare state" };
+const SECOND_WORDS: Flag = Flag {
+    name: "--second-words",
+    value: "N",
+    text: "read or make at most N words for the second list; without it 33554432, 256 MiB",
+};
 const BASE: Flag = Flag { name: "--base", value: "N", text: "the base of the second list; without it 0" };
 const NOISELESS: Flag =
     Flag { name: "--noiseless", value: FILE, text: "rows of the noiseless bits of the outcomes; without it, zeros" };
 
-/// The options of a main list, of one that is made, and of all that is lent.
+/// The options of a main list, of the words that `fill` writes, and of all that is lent.
 pub const MAIN_FLAGS: &[Flag] = &[MAIN, SEED, STATE, SKIP, WORDS];
-pub const MADE_FLAGS: &[Flag] = &[SEED, STATE, SKIP, WORDS];
-pub const FLAGS: &[Flag] = &[MAIN, SEED, STATE, SKIP, WORDS, SECOND, SECOND_SEED, SECOND_STATE, BASE, NOISELESS];
+pub const FILL_FLAGS: &[Flag] = &[FILL_STATE, RUN_SEED, SKIP, WORDS];
+pub const FLAGS: &[Flag] =
+    &[MAIN, SEED, STATE, SKIP, WORDS, SECOND, SECOND_SEED, SECOND_STATE, SECOND_WORDS, BASE, NOISELESS];
 
 /// What the help says of the options above.
 pub const DETAILS: &str = "\
@@ -38,10 +55,14 @@ from place base + c on. Without --main, --seed and --state the main list is empt
 hold any random bytes, a multiple of eight, and is read no further than the job needs, so that it may be
 endless, as /dev/urandom is.
 
-With a seed the words are those of Marsaglia's 64-bit xorshift (left 13, right 7, left 17) from the state
-that SplitMix64 makes of the seed. Every seed is good, 0 and small ones too. A bare state is the state of
-the xorshift itself: from 1 the first word is 1082269761. The streams of small states begin alike; take
-seeds for a series. A list has at most 268435456 words.";
+A seed is mixed: the words are those of Marsaglia's 64-bit xorshift (left 13, right 7, left 17) from the
+state that SplitMix64 makes of the seed. Every seed is good, 0 and small ones too. 'kundatrezo fill
+--run-seed N' writes these words. A bare state is the state of the xorshift itself, as kundatrezo_fill and
+'kundatrezo make' take their seeds: from 1 the first word is 1082269761. The streams of small states begin
+alike; take seeds for a series.
+
+A list has at most 268435456 words. The second list is held from its front to the last place that the job
+reads, 8 bytes a word; a corr that asks for more than --second-words is refused by 14.";
 
 /// What the help of a run says of a series.
 pub const SERIES: &str = "\
@@ -51,6 +72,9 @@ second list, if one is given, was not read: that is a --base for the next run.";
 
 /// Most words of a list: no job of main-list noise needs as many, and they are 2 GiB.
 pub const MOST: usize = 1 << 28;
+
+/// Most words of the second list unless an option says otherwise, 256 MiB: a short job may name a far place.
+const MOST_SECOND: usize = 1 << 25;
 
 /// Where a list has its words from.
 enum Source {
@@ -69,9 +93,9 @@ pub struct List {
 }
 
 impl List {
-    /// The list that three options of a command give.
-    fn read(arguments: &Arguments, file: &Flag, seed: &'static Flag, state: &Flag) -> Result<Self, Failure> {
-        let path = arguments.value(file.name);
+    /// The list that the options of a command for a file, a seed and a state give.
+    fn read(arguments: &Arguments, file: Option<&Flag>, seed: &'static Flag, state: &Flag) -> Result<Self, Failure> {
+        let path = file.and_then(|file| arguments.value(file.name));
         let by_seed = arguments.number(seed.name)?;
         let by_state = arguments.number(state.name)?;
         let source = match (path, by_seed, by_state) {
@@ -82,7 +106,8 @@ impl List {
                 Source::Made(Xorshift::from_state(number).map_err(|refusal| Failure::refused(&refusal, b"", None))?)
             }
             _ => {
-                let names = [file.name, seed.name, state.name].join(", ");
+                let names: Vec<&str> = file.into_iter().chain([seed, state]).map(|flag| flag.name).collect();
+                let names = names.join(", ");
                 return Err(Failure::Other(format!("of {names} one at most can be given")));
             }
         };
@@ -91,25 +116,45 @@ impl List {
 
     /// The main list, as far as options give it.
     fn main(arguments: &Arguments) -> Result<Self, Failure> {
-        let mut main = Self::read(arguments, &MAIN, &SEED, &STATE)?;
-        if let Some(words) = arguments.number(WORDS.name)? {
-            main.most = usize::try_from(words).unwrap_or(MOST).min(MOST);
-        }
+        Self::first(arguments, Some(&MAIN), &SEED)
+    }
+
+    fn first(arguments: &Arguments, file: Option<&Flag>, seed: &'static Flag) -> Result<Self, Failure> {
+        let mut main = Self::read(arguments, file, seed, &STATE)?;
+        main.most = most(arguments, &WORDS, MOST)?;
         arguments.number(SKIP.name)?.map(|words| main.skip(words)).transpose()?;
         Ok(main)
     }
 
+    /// The second list, as far as options give it.
+    fn second(arguments: &Arguments) -> Result<Self, Failure> {
+        let mut second = Self::read(arguments, Some(&SECOND), &SECOND_SEED, &SECOND_STATE)?;
+        second.most = most(arguments, &SECOND_WORDS, MOST_SECOND)?;
+        Ok(second)
+    }
+
     /// The main list to its end, or as long as options say.
     pub fn whole(arguments: &Arguments) -> Result<Self, Failure> {
-        let mut main = Self::main(arguments)?;
-        if matches!(main.source, Source::Made(_)) && arguments.value(WORDS.name).is_none() {
+        Self::main(arguments)?.grown_whole(arguments)
+    }
+
+    /// The words that `fill` writes.
+    pub fn filled(arguments: &Arguments) -> Result<Self, Failure> {
+        if [FILL_STATE, RUN_SEED].iter().all(|flag| arguments.value(flag.name).is_none()) {
+            return Err(Failure::Other(format!("{} or {} is wanted", FILL_STATE.name, RUN_SEED.name)));
+        }
+        Self::first(arguments, None, &RUN_SEED)?.grown_whole(arguments)
+    }
+
+    fn grown_whole(mut self, arguments: &Arguments) -> Result<Self, Failure> {
+        if matches!(self.source, Source::Made(_)) && arguments.value(WORDS.name).is_none() {
             return Err(Failure::Other(format!("{} is wanted for words that are made", WORDS.name)));
         }
         if arguments.number(WORDS.name)?.is_some_and(|words| words > MOST as u64) {
             return Err(Failure::Other(format!("a list has at most {MOST} words")));
         }
-        main.grow(main.most)?;
-        Ok(main)
+        self.grow(self.most)?;
+        Ok(self)
     }
 
     pub fn is_given(&self) -> bool {
@@ -139,25 +184,34 @@ impl List {
                 self.words.resize(before + missing, 0);
                 made.fill(&mut self.words[before..]);
             }
-            Source::File(path, file) => self.words.extend(files::words(path, file, missing)?),
+            Source::File(path, file) => files::append_words(path, file, missing, &mut self.words)?,
         }
         Ok(self.words.len() > before)
     }
 
-    /// What to do where the list is too short.
-    fn remedy(&self, name: &str) -> String {
-        let (words, seed) = (self.words.len(), self.seed);
-        match &self.source {
-            Source::None => format!("there is no {name} list: {seed} N makes as many words as are needed"),
-            _ if words == self.most && words < MOST => format!("{} allows no more than {words} words", WORDS.name),
-            Source::File(..) => {
-                format!("the {name} list has {words} words and this line needs more: lend a longer one, or {seed} N")
+    /// What to do if the list is too short. A line that reads the second list does so from `place` on.
+    fn remedy(&self, name: &str, place: Option<u64>) -> String {
+        let (words, seed, most) = (self.words.len(), self.seed, self.most);
+        match (&self.source, place) {
+            (Source::None, _) => format!("there is no {name} list: {seed} N makes as many words as are needed"),
+            (_, Some(place)) if place >= MOST as u64 || words == MOST => {
+                format!("a list has at most {MOST} words, and this line, from place base + corr on, reads past them")
             }
-            Source::Made(_) => {
-                format!("a list has at most {MOST} words, and place base + corr of this line lies past it")
-            }
+            (_, Some(place)) if place >= most as u64 || words == most => format!(
+                "this line reads the second list from place {place} on, and the list may have {most} words ({} MiB); {} N \
+                 allows up to {MOST}, 8 bytes each",
+                (8 * most).div_ceil(1 << 20),
+                SECOND_WORDS.name
+            ),
+            (_, None) if words == most && most < MOST => format!("{} allows no more than {words} words", WORDS.name),
+            _ => format!("the {name} list has {words} words and this line needs more: lend a longer one, or {seed} N"),
         }
     }
+}
+
+/// How many words a list may have.
+fn most(arguments: &Arguments, flag: &Flag, default: usize) -> Result<usize, Failure> {
+    Ok(arguments.number(flag.name)?.map_or(default, |words| usize::try_from(words).unwrap_or(MOST).min(MOST)))
 }
 
 /// What a run or settling is lent to draw from.
@@ -186,7 +240,7 @@ impl<'a> Lent<'a> {
             None => vec![0; need],
         };
         let mut main = List::main(arguments)?;
-        let second = List::read(arguments, &SECOND, &SECOND_SEED, &SECOND_STATE)?;
+        let second = List::second(arguments)?;
         if let (Source::Made(main), Source::Made(second)) = (&main.source, &second.source)
             && main == second
         {
@@ -243,8 +297,8 @@ impl<'a> Lent<'a> {
                 self.main.grow((lines * for_line).max(2 * self.main.words.len()))
             }
             Some(correlation) => {
-                let place = self.base.wrapping_add(correlation);
-                let Some(place) = usize::try_from(place).ok().filter(|place| *place < MOST) else {
+                let place = usize::try_from(self.place(correlation)).ok();
+                let Some(place) = place.filter(|place| *place < self.second.most) else {
                     return Ok(false);
                 };
                 self.second.grow((place + for_line).max(2 * self.second.words.len()))
@@ -258,9 +312,15 @@ impl<'a> Lent<'a> {
         line.split(' ').find_map(|field| field.strip_prefix("corr="))?.parse().ok()
     }
 
+    /// The place from which a line with this correlation reads the second list.
+    fn place(&self, correlation: u64) -> u64 {
+        self.base.wrapping_add(correlation)
+    }
+
     /// What to do about a refusal by 13, 14, 15 or 26.
     fn remedy(&self, refusal: &Refusal) -> Option<String> {
-        let reads_main = refusal.number != Number::DRAWS || self.correlation(refusal).is_none();
+        let correlation = self.correlation(refusal).filter(|_| refusal.number == Number::DRAWS);
+        let reads_main = correlation.is_none();
         let of_share = self.share.as_ref().filter(|_| reads_main).and_then(|share| share.remedy(refusal));
         if of_share.is_some() {
             return of_share;
@@ -272,8 +332,8 @@ impl<'a> Lent<'a> {
                 self.noiseless.len(),
                 self.examined.outcome_words()
             )),
-            Number::DRAWS if reads_main => Some(self.main.remedy("main")),
-            Number::DRAWS => Some(self.second.remedy("second")),
+            Number::DRAWS if reads_main => Some(self.main.remedy("main", None)),
+            Number::DRAWS => Some(self.second.remedy("second", correlation.map(|own| self.place(own)))),
             _ => longer(refusal),
         }
     }

@@ -5,6 +5,7 @@ mod codes;
 mod editions;
 mod make;
 mod names;
+mod output;
 mod refusals;
 mod seeds;
 mod shares;

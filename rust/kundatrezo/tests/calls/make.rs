@@ -3,7 +3,7 @@
 use crate::single_faults::compare_with_forward_runs;
 use kundatrezo::{
     Draws, Frames, JobParameters, MAX_BYTES, MAX_OUTCOMES, MAX_QUBITS, MAX_SHOTS, Number, Xorshift, check, correlation,
-    examine, locations, make, make_job, settled, walk,
+    examine, fill, locations, make, make_job, settled, walk,
 };
 use std::collections::BTreeSet;
 
@@ -179,4 +179,26 @@ fn made_jobs_are_a_load_for_all_calls() {
         assert!(correlation(&job).is_ok() || correlation(&job).is_err_and(|refusal| refusal.number == Number::SIZES));
     }
     assert!(walked > 150);
+}
+
+/// What docs/MAKING.md says of small seeds: bit 0 of the third word is that of the first, and so no even gate code begins a job of the second edition.
+#[test]
+fn small_seeds_tie_the_third_word_to_the_first() {
+    let tied = |seed: u64| {
+        let mut words = [0; 3];
+        fill(seed, &mut words).expect("not zero");
+        (words[0] ^ words[2]) & 1 == 0
+    };
+    const FIRST_FREE: u64 = 1 << 14;
+    assert!((1..FIRST_FREE).all(tied) && !tied(FIRST_FREE));
+    // the gate code of a job of the second edition whose first line is a gate
+    let code = |seed: u64| -> Option<u64> {
+        let job = make_job(JobParameters { qubits: 2, outcomes: 0, shots: 1, lines: 1, seed }).expect("it fits");
+        let line = lines(&job)[0].strip_prefix("op=u g=").filter(|_| job.starts_with(b"op=job edition=2 "))?;
+        line.split(' ').next()?.parse().ok()
+    };
+    let small: BTreeSet<u64> = (1..FIRST_FREE).filter_map(code).collect();
+    assert_eq!(small, BTreeSet::from([1, 3, 5, 7, 9, 11, 13, 15]));
+    let large: BTreeSet<u64> = Xorshift::new(1).take(2_000).filter_map(code).collect();
+    assert_eq!(large, (0..16).collect());
 }

@@ -203,9 +203,18 @@ fn an_account_is_read_back_with_its_list_alone() {
         b"op=job qubits=1 outcomes=0 shots=3\nop=n p=3fe0000000000000 corr=- cond=- parity=0 d=1 x=0 z=- size=1\n";
     settled(job, &[], draws.caller(1)).expect("it settles");
     let account = draws.to_string();
-    assert!(account.ends_with("caller=0 share=2 taken=0\ncaller=1 share=1 taken=1\ncommon=2 taken=2\n"), "{account}");
+    let (lines, seal) = account.split_once("seal=").expect("a seal");
+    assert!(lines.ends_with("caller=0 share=2 taken=0\ncaller=1 share=1 taken=1\ncommon=2 taken=2\n"), "{account}");
+    let sealed = |lines: &str| {
+        let hash = lines
+            .bytes()
+            .fold(0xcbf2_9ce4_8422_2325_u64, |sum, byte| (sum ^ u64::from(byte)).wrapping_mul(0x0100_0000_01b3));
+        format!("{lines}seal={hash:016x}\n")
+    };
+    assert_eq!(sealed(lines), account);
     assert_eq!(SharedDraws::resumed(&words, &account), Ok(draws));
     assert_eq!(SharedDraws::length_of(&account), Some(5));
+    assert_eq!(SharedDraws::marks_of(&account), Ok(vec![0, 1, 2]));
     for other in [&[1, 2, 3, 4][..], &[1, 2, 3, 4, 5, 6], &[1, 2, 3, 5, 4], &[]] {
         assert_eq!(SharedDraws::resumed(other, &account), Err(AccountError::OtherList));
     }
@@ -221,10 +230,20 @@ fn an_account_is_read_back_with_its_list_alone() {
         ("common=2 taken=2\n", ""),
         ("sum=", "hash="),
     ];
+    // an edit shows by the seal; what is no account stays none with another seal
     for (old, new) in edits {
         let edited = account.replacen(old, new, 1);
         assert_ne!(edited, account);
+        assert_eq!(SharedDraws::resumed(&words, &edited), Err(AccountError::Edited), "{edited}");
+        let edited = sealed(&lines.replacen(old, new, 1));
         assert_eq!(SharedDraws::resumed(&words, &edited), Err(AccountError::Form), "{edited}");
     }
-    assert_eq!(SharedDraws::resumed(&words, ""), Err(AccountError::Form));
+    let fewer = account.replace("taken=1", "taken=0");
+    assert_eq!(SharedDraws::resumed(&words, &fewer), Err(AccountError::Edited));
+    assert_eq!((SharedDraws::length_of(&fewer), SharedDraws::marks_of(&fewer)), (None, Err(AccountError::Edited)));
+    for text in ["", lines, &account.replace('\n', "\r\n"), &account[..account.len() - 1], &format!("{account}\n")] {
+        assert!(SharedDraws::resumed(&words, text).is_err(), "{text:?}");
+    }
+    assert_eq!(seal.len(), 17);
+    assert_eq!(SharedDraws::resumed(&words, lines), Err(AccountError::Form));
 }

@@ -246,21 +246,39 @@ fn refusals_are_said_in_words() {
     }
     let hint = refused("annotate - --p nan", header, "refused: 11 (p is NaN or above 1)");
     assert_eq!(hint, "the probability of --p or --p-bits is NaN");
-    let walk = format!("refused: {}", kundatrezo::Number::WALK);
-    let hint = refused("walk - --shot 0 --set 1,0", header, &walk);
+    // the one cause of the number's that it is
+    let shot = "refused: 17 (the walk's shot not below the header's shots)";
+    let list = "refused: 17 (a set or group cut short, not strictly rising, or with an outcome that is not recorded)";
+    assert_eq!(
+        kundatrezo::Number::WALK.words(),
+        format!("{}; {}", &shot[13..shot.len() - 1], &list[13..list.len() - 1])
+    );
+    let hint = refused("walk - --shot 0 --set 1,0", header, list);
     assert_eq!(hint, "the job records no outcome");
-    assert_eq!(refused("walk - --shot 1 --set -", header, &walk), "the job's shots are 0 to 0");
-    assert_eq!(refused("faults - --group 0", header, &walk), "the job records no outcome");
+    assert_eq!(refused("walk - --shot 1 --set -", header, shot), "the job's shots are 0 to 0");
+    assert_eq!(refused("faults - --group 0", header, list), "the job records no outcome");
     let recorded = format!("{header}op=r id=0 angle=0\n");
     for (arguments, what) in [
         ("walk - --shot 0 --set 1", "--set"),
         ("faults - --group 0 --group 0,0", "the group 0,0"),
-        ("dem - --detector 0 --detector 3,2", "the detector 3,2"),
+        ("dem - --detector 0 --detector 3,2", "the detector 2,3"),
         ("dem - --detector 0 --observable 1", "the observable 1"),
     ] {
-        let hint = format!("{what}: it names recorded outcomes, 0 to 0, and rises strictly");
-        assert_eq!(refused(arguments, &recorded, &walk), hint);
+        let hint = format!("{what}: it names recorded outcomes, 0 to 0, each once");
+        assert_eq!(refused(arguments, &recorded, list), hint);
     }
+    // the order in which outcomes are named plays no part
+    let two = "op=job qubits=1 outcomes=2 shots=1\nop=i shot=0 x=0 z=-\nop=o x=- z=0 id=0\nop=o x=- z=0 id=1\n";
+    assert_eq!(call("walk - --shot 0 --set 1,0", two), Done::printed("ok=1 count=0\n"));
+    let noisy = two.replace("op=i shot=0 x=0 z=-", "op=n p=3fe0000000000000 corr=- cond=- parity=0 d=1 x=0 z=- size=1");
+    for arguments in ["faults - --group", "dem - --observable 0 --detector"] {
+        let done = call(&format!("{arguments} 1,0"), &noisy);
+        assert_eq!((done.status, &done), (0, &call(&format!("{arguments} 0,1"), &noisy)));
+    }
+    // a file that is no job
+    let length = "refused: 1 (the job is empty, longer than 1,048,576 bytes, or has no LF at its end)";
+    assert_eq!(refused("check -", "\u{7f}ELF\0", length), "byte 1 is not text: is this the right file?");
+    assert_eq!(refused("check -", header.trim_end(), length), "the last line has no line end: add LF");
     let many = format!("faults -{}", " --group 0".repeat(17));
     let hint = refused(&many, &recorded, &format!("refused: {}", kundatrezo::Number::GROUPS));
     assert_eq!(hint, "each --group is a group, and a table has 1 to 16 of them");
@@ -326,8 +344,10 @@ fn arguments_at_fault() {
         ("make --qubits 1 --shots 1 --lines 1 --seed 1", "--outcomes is wanted\n"),
         ("make", "--qubits, --outcomes, --shots, --lines and --seed are wanted\n"),
         ("make 5", "no argument is wanted"),
-        ("fill --seed 1", "--words is wanted for words that are made"),
-        ("fill --words 5", "--seed or --state is wanted"),
+        ("fill --run-seed 1", "--words is wanted for words that are made"),
+        ("fill --words 5", "--state or --run-seed is wanted"),
+        ("fill --words 5 --skip 1", "--state or --run-seed is wanted"),
+        ("fill --words 5 --state 1 --run-seed 1", "of --run-seed, --state one at most can be given"),
         ("run - --seed 1 --main /dev/null", "of --main, --seed, --state one at most can be given"),
         ("run - --seed 1 --state 1", "of --main, --seed, --state one at most can be given"),
         ("run - --seed 1 --second-seed 1", "the words of the two lists are to differ"),
@@ -386,6 +406,47 @@ fn numbers_are_converted_both_ways() {
     assert_eq!(call("bits 1e-3 0.5", ""), Done::printed("3f50624dd2f1a9fc\n3fe0000000000000\n"));
 }
 
+/// A short job that names a far place of the second list takes no memory for it unless an option allows it.
+#[test]
+fn memory_for_the_second_list_is_bounded() {
+    let far = |corr: u64| {
+        format!(
+            "op=job qubits=1 outcomes=0 shots=1\nop=n p=3fe0000000000000 corr={corr} cond=- parity=0 d=1 x=0 z=- size=1\n"
+        )
+    };
+    let bounded = |arguments: &str, job: &str| {
+        let script = format!("ulimit -v 150000; exec \"$0\" {arguments}");
+        finish(Command::new("sh").arg("-c").arg(script).arg(env!("CARGO_BIN_EXE_kundatrezo")), job.as_bytes())
+    };
+    for arguments in [
+        "run - --second-seed 1",
+        "settle - --second-seed 1",
+        "run - --second /dev/zero",
+        "run - --second-seed 1 --base 7",
+    ] {
+        let done = bounded(arguments, &far(268_435_000));
+        assert!(done.status == 1 && done.stderr.starts_with("refused: 14 "), "{arguments}: {done:?}");
+        let place = if arguments.ends_with('7') { 268_435_007 } else { 268_435_000 };
+        let hint = format!(
+            "\nhint: this line reads the second list from place {place} on, and the list may have 33554432 words (256 \
+             MiB); --second-words N allows up to 268435456, 8 bytes each\n"
+        );
+        assert!(done.stderr.ends_with(&hint), "{done:?}");
+    }
+    // the limit and its neighbours, lower and raised
+    let limits = [(30, 30, 1), (29, 30, 0), (33_554_432, 33_554_432, 1), (33_554_432, 33_554_434, 0)];
+    for (corr, words, status) in limits {
+        let done = call(&format!("run - --second-seed 1 --second-words {words}"), far(corr));
+        assert_eq!(done.status, status, "{corr} {words}: {done:?}");
+    }
+    // a file of no end is no text of counts, nor sets
+    for arguments in ["merge /dev/zero", "sample - --shots 9 --seed 1 --sets /dev/zero"] {
+        let done = bounded(arguments, &far(0));
+        assert!(done.status == 2 && done.stderr.starts_with("kundatrezo: /dev/zero: "), "{done:?}");
+        assert!(!done.stderr.contains("memory"), "{done:?}");
+    }
+}
+
 /// The least rooms to write in: a full device, and a pipe that nobody reads.
 #[test]
 fn output_that_cannot_be_written_fails() {
@@ -416,7 +477,7 @@ fn help_names_every_command_and_option() {
         String::from_utf8(done.stdout).expect("text")
     };
     let whole = help("--help");
-    let lists = "main seed state skip words second second-seed second-state base noiseless";
+    let lists = "main seed state skip words second second-seed second-state second-words base noiseless";
     let drawn: &[&str] = &lists.split(' ').chain(["account", "caller"]).collect::<Vec<_>>();
     let commands = [
         ("check", vec![]),
@@ -432,7 +493,7 @@ fn help_names_every_command_and_option() {
         ("split", vec!["parts", "prefix"]),
         ("add", vec!["output"]),
         ("make", vec!["qubits", "outcomes", "shots", "lines", "seed", "output", "room"]),
-        ("fill", vec!["seed", "state", "skip", "words", "output"]),
+        ("fill", vec!["state", "run-seed", "skip", "words", "output"]),
         ("sizes", vec!["output"]),
         ("bits", vec![]),
         ("decimal", vec![]),

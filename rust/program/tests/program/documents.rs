@@ -74,7 +74,8 @@ fn refusals() {
         assert!(!steps.is_empty(), "{heading}");
         for step in steps {
             assert_eq!(run(&step, &folder).status, 1, "{}", step.command);
-            assert!(step.printed.starts_with(&format!("refused: {number}")), "{}", step.printed);
+            // of several causes a refusal may name the one that it is
+            assert!(step.printed.starts_with(&format!("refused: {} (", number.get())), "{}", step.printed);
         }
     }
     assert_eq!(sections.next(), None);

@@ -19,11 +19,36 @@ fn words_are_those_of_the_call() {
     assert_eq!(call("fill --state 12 --words 50"), Done::printed(bytes_of(&words)));
     assert_eq!(call("fill --state 12 --words 20 --skip 30"), Done::printed(bytes_of(&words[30..])));
     let mixed: Vec<u64> = Xorshift::new(12).take(50).collect();
-    assert_eq!(call("fill --seed 12 --words 50"), Done::printed(bytes_of(&mixed)));
+    assert_eq!(call("fill --run-seed 12 --words 50"), Done::printed(bytes_of(&mixed)));
     let path = folder("fill").join("words");
     let name = path.to_str().expect("a path in plain text");
-    assert_eq!(call(&format!("fill --seed 12 --words 50 --output {name}")), Done::printed(""));
+    assert_eq!(call(&format!("fill --run-seed 12 --words 50 --output {name}")), Done::printed(""));
     assert_eq!(fs::read(path).ok(), Some(bytes_of(&mixed)));
+}
+
+/// A run's words by a seed are those of `fill --run-seed`; `fill --seed` would be taken for either.
+#[test]
+fn seeds_of_runs_are_mixed() {
+    let job = "op=job qubits=1 outcomes=1 shots=64\nop=n p=3fe0000000000000 corr=- cond=- parity=0 d=1 x=0 z=- size=1\n\
+         op=o x=- z=0 id=0\n";
+    let words = call("fill --run-seed 12 --words 64").stdout;
+    let path = folder("run_seed").join("words");
+    fs::write(&path, words).expect("it can be written");
+    let by_file = kundatrezo(["run", "-", "--main", path.to_str().expect("a path in plain text")], job.as_bytes());
+    assert_eq!(kundatrezo(["run", "-", "--seed", "12"], job.as_bytes()), by_file);
+    assert_ne!(kundatrezo(["run", "-", "--state", "12"], job.as_bytes()), by_file);
+    for arguments in ["fill --seed 12 --words 5", "fill --words 5 --seed=12", "fill --state 1 --seed"] {
+        let done = call(arguments);
+        assert_eq!((done.status, done.stdout.len()), (2, 0));
+        let said =
+            "kundatrezo: 'fill' has no --seed, which would mean two things: --state N takes N as the state itself, ";
+        assert!(done.stderr.starts_with(said) && done.stderr.contains("--run-seed N mixes N first"), "{}", done.stderr);
+    }
+    for command in ["run", "settle", "sample", "share"] {
+        let help = String::from_utf8(call(&format!("{command} --help")).stdout).expect("text");
+        let row = help.lines().find(|line| line.starts_with("    --seed N ")).expect("a row");
+        assert!(row.ends_with("any number, which is mixed"), "{row}");
+    }
 }
 
 #[test]

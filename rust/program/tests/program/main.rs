@@ -3,6 +3,7 @@
 mod commands;
 mod common;
 mod documents;
+mod files;
 mod jobs;
 mod load;
 mod sample;

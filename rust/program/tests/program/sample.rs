@@ -1,7 +1,7 @@
 //! Samples: the same answer for every number of threads and parts, rows, refusals, and outputs that can't be written.
 
-use crate::common::{Done, finish, folder, kundatrezo};
-use kundatrezo::{Xorshift, bit};
+use crate::common::{Done, finish, folder, kundatrezo, names};
+use kundatrezo::{Sampler, SavedCounts, Xorshift, bit};
 use std::fs;
 use std::path::Path;
 use std::process::{Command, Stdio};
@@ -27,10 +27,14 @@ fn call(arguments: &str, stdin: impl AsRef<[u8]>) -> Done {
     kundatrezo(arguments.split_whitespace(), stdin.as_ref())
 }
 
-/// What a call prints that does its work.
+/// What a call prints that does its work, with notes at most.
 fn printed(arguments: &str, stdin: impl AsRef<[u8]>) -> Vec<u8> {
     let done = call(arguments, stdin);
-    assert_eq!((done.status, done.stderr.as_str()), (0, ""), "{arguments}");
+    assert!(
+        done.status == 0 && done.stderr.lines().all(|line| line.starts_with("note: ")),
+        "{arguments}: {}",
+        done.stderr
+    );
     done.stdout
 }
 
@@ -75,6 +79,19 @@ fn threads_and_parts_make_no_difference() {
             .flatten()
             .all(|file| !text(file.file_name().into_encoded_bytes()).contains("partial"))
     );
+}
+
+/// The crate writes what the program prints, and reads it.
+#[test]
+fn the_crate_has_the_same_text() {
+    let job = fs::read(SYNDROME).expect("the example");
+    let sampler = Sampler::new(&job, 50_001, 7).expect("it is accepted");
+    for part in [(1, 1), (2, 3)] {
+        let saved = sampler.sample(&[vec![0, 1, 4], vec![]], part, 2).expect("it runs");
+        let own = format!("--set 4,1,0 --set=- --part {}/{}", part.0, part.1);
+        let text = text(printed(&format!("sample {SYNDROME} --shots 50001 --seed 7 {own}"), ""));
+        assert_eq!((saved.text(), SavedCounts::read(&text)), (text, Ok(saved)));
+    }
 }
 
 /// A sample of one block is a run with the words of that block.
@@ -161,8 +178,123 @@ fn noiseless_bits_come_again_or_are_given() {
         2,
         "81009 are needed",
     );
-    fs::write(path("rows"), [0; 8]).expect("it can be written");
-    fails(&format!("sample - --shots 9 --seed 3 --noiseless {}", path("rows")), &wide(), 2, "70 are needed");
+    fs::write(path("shots"), [0; 9 * 9000 + 1]).expect("it can be written");
+    let odd = format!("sample - --shots 9000 --seed 3 --noiseless-shots {}", path("shots"));
+    fails(&odd, &wide(), 2, "81001 bytes, and 81000 are needed, 9 for each shot");
+}
+
+/// Noiseless rows for another number of shots are told by their size: outcome 0 is 1 in no shot, and outcome 1 in all of 4,096.
+#[test]
+fn noiseless_bits_of_another_size_are_refused() {
+    let folder = folder("sample_noiseless_size");
+    let job = "op=job qubits=1 outcomes=2 shots=10\nop=o x=- z=0 id=0\n\
+               op=n p=3ff0000000000000 corr=- cond=0 parity=0 d=1 x=0 z=- size=1\nop=o x=- z=0 id=1\n";
+    let sample = |bytes: usize| {
+        let rows = folder.join("rows");
+        fs::write(&rows, vec![0; bytes]).expect("it can be written");
+        format!("sample - --shots 9000 --seed 3 --noiseless {}", rows.display())
+    };
+    assert!(text(printed(&sample(16), job)).contains("id=1 total=9000 "));
+    for (bytes, said) in [
+        (0, "rows: 0 words, but outcomes=2 and shots=10 need exactly 2\n"),
+        (8, "rows: 1 words, but outcomes=2 and shots=10 need exactly 2\n"),
+        (24, "rows: 3 words or more, but outcomes=2 and shots=10 need exactly 2\n"),
+        (2 * 64 * 8, "rows: 3 words or more, but outcomes=2 and shots=10 need exactly 2\n"),
+        (17, "rows: its bytes are no whole number of 64-bit words\n"),
+    ] {
+        fails(&sample(bytes), job, 2, said);
+    }
+    let endless = "sample - --shots 9000 --seed 3 --noiseless /dev/zero";
+    fails(endless, job, 2, "/dev/zero: 3 words or more, but outcomes=2 and shots=10 need exactly 2");
+}
+
+/// Noise with a condition comes with a note where its noiseless bits are not given, and where those of a random outcome are no more than rows.
+#[test]
+fn conditions_come_with_notes() {
+    let folder = folder("sample_notes");
+    let path = |name: &str| folder.join(name).display().to_string();
+    fs::write(path("rows"), [0; 70 * 8]).expect("it can be written");
+    fs::write(path("shots"), [0; 9 * 100]).expect("it can be written");
+    let notes = |options: &str, job: &str| {
+        let done = call(&format!("sample - --shots 100 --seed 3 {options}"), job);
+        assert_eq!(done.status, 0, "{done:?}");
+        done.stderr
+    };
+    let no_bits = "note: line 7 has noise with a condition, and without --noiseless or --noiseless-shots all noiseless bits are 0\n";
+    let random = |bit: &str| {
+        let what = "the condition of line 7 looks at outcome 0, which op=r records at random";
+        format!("note: {what}, and its noiseless bit {bit}: --noiseless-shots gives it for each shot\n")
+    };
+    assert_eq!(notes("", &wide()), format!("{no_bits}{}", random("is 0 in every shot")));
+    let rows = format!("--noiseless {}", path("rows"));
+    assert_eq!(notes(&rows, &wide()), random("comes again every 10 shots"));
+    let measured = wide().replace("op=r id=0 angle=0", "op=o x=- z=0 id=0");
+    assert_eq!([notes("", &measured), notes(&rows, &measured)], [no_bits, ""]);
+    assert_eq!(notes(&format!("--noiseless-shots {}", path("shots")), &wide()), "");
+    assert_eq!(notes("", &wide().replace("cond=0 parity=1", "cond=- parity=0")), "");
+}
+
+/// Counts are merged if they are whole and belong together.
+#[test]
+fn what_merge_refuses() {
+    let folder = folder("merge");
+    let path = |name: &str| folder.join(name).display().to_string();
+    let sample = |seed: u64, options: &str| {
+        text(printed(&format!("sample {SYNDROME} --shots 9000 --seed {seed} --set 4,5,6 --set 0 {options}"), ""))
+    };
+    let (one, two) = (sample(1, ""), sample(2, ""));
+    fs::write(path("one"), &one).expect("it can be written");
+    let merge = |other: &[u8], said: &str| {
+        fs::write(path("other"), other).expect("it can be written");
+        fails(&format!("merge {} {}", path("one"), path("other")), "", 2, &format!("{}: {said}", path("other")));
+    };
+    let lines: Vec<&str> = two.split_inclusive('\n').collect();
+    for count in 2..lines.len() {
+        let said = format!("the text is cut off: its first line says 9 lines of counts, and there are {}\n", count - 2);
+        merge(lines[..count].concat().as_bytes(), &said);
+    }
+    merge(&two.as_bytes()[..two.len() - 4], "the text is cut off: ");
+    let no_counts = "these are no counts as 'kundatrezo sample' writes them\n";
+    for other in [lines[0].as_bytes(), b"", b"\xff\0\xfe", b"ok=1\n", &fs::read(SYNDROME).expect("the example")] {
+        merge(other, no_counts);
+    }
+    fails("merge /dev/zero", "", 2, no_counts);
+    merge(
+        two.replace("draws=xorshift", "draws=skips").as_bytes(),
+        "sampled by the rule of draws 'skips', others by 'xorshift': ",
+    );
+    merge(two.replacen("total=", "total=1", 1).as_bytes(), "line 3 is not as 'kundatrezo sample' writes it\n");
+    merge(sample(1, "").as_bytes(), "part 1/1 of seed 1 is counted twice\n");
+    merge(sample(2, "--set 1").as_bytes(), "these are counts of other sets\n");
+    merge(sample(2, "--named block").as_bytes(), "sampled with other options: named= or noiseless= differs\n");
+    // a text of an earlier version is read with the two lines that are named
+    let old = two.replace(" recorded=7 sets=2 counted=0", "").replace(" draws=xorshift", "");
+    let earlier = "counts of an earlier version, which name neither their rule of draws nor the number of their lines: they may be cut off";
+    let remedy = format!("If they are whole, replace the first two lines by\n{}", lines[..2].concat());
+    merge(old.as_bytes(), &format!("{earlier}. {remedy}"));
+    assert!(text(printed(&format!("merge {} -", path("one")), &two)).contains(" seed=1,2 part=1/1 of=18000\n"));
+}
+
+/// Parts of two samples, in any order, are the two samples.
+#[test]
+fn parts_of_several_seeds_are_merged() {
+    let folder = folder("merge_seeds");
+    let path = |name: String| folder.join(name).display().to_string();
+    let mut files = Vec::new();
+    for (seed, part) in [(1, 2), (2, 1), (1, 3), (2, 2), (1, 1), (2, 3)] {
+        files.push(path(format!("{seed}.{part}")));
+        let own = format!("--seed {seed} --part {part}/3 --output {}", files[files.len() - 1]);
+        printed(&format!("sample {SYNDROME} --shots 20000 {own}"), "");
+    }
+    let whole = [1, 2].map(|seed| {
+        let file = path(seed.to_string());
+        printed(&format!("sample {SYNDROME} --shots 20000 --seed {seed} --output {file}"), "");
+        file
+    });
+    let merged = printed(&format!("merge {}", files.join(" ")), "");
+    assert_eq!(text(merged), text(printed(&format!("merge {}", whole.join(" ")), "")));
+    fails(&format!("merge {}", files[1..].join(" ")), "", 2, "of the 3 parts of seed 1 these are missing: 2\n");
+    fails(&format!("merge {} {}", files.join(" "), files[0]), "", 2, "both have seed 1");
 }
 
 #[test]
@@ -183,13 +315,29 @@ fn named_shots() {
 fn refusals_and_wrong_arguments() {
     let sample = |options: &str| format!("sample {SYNDROME} --shots 10 --seed 1 {options}");
     fails("sample - --shots 1 --seed 1", "op=job qubits=0 outcomes=0 shots=1\n", 1, "refused: 3 ");
-    fails(&sample("--set 3,1"), "", 1, "refused: 17 ");
-    fails(&sample("--set 3,7"), "", 1, "hint: the set 3,7: it names recorded outcomes, 0 to 6, and rises strictly");
+    // the order of a set plays no part, and its refusal says nothing of a walk
+    assert_eq!(printed(&sample("--set 3,1"), ""), printed(&sample("--set 1,3"), ""));
+    let list =
+        "refused: 17 (a set or group cut short, not strictly rising, or with an outcome that is not recorded)\nhint: ";
+    for set in ["3,7", "3,1,3"] {
+        let said = format!("{list}the set {set}: it names recorded outcomes, 0 to 6, each once\n");
+        fails(&sample(&format!("--set {set}")), "", 1, &said);
+    }
+    for (shots, digits) in
+        [("1e6", "1000000"), ("1_000_000", "1000000"), ("1,000", "1000"), ("2.5e3", "2500"), ("10.0", "10")]
+    {
+        let said = format!("the value of --shots is to be a number below 2^64, not '{shots}': write {digits}\n");
+        fails(&format!("sample {SYNDROME} --shots {shots} --seed 1"), "", 2, &said);
+    }
+    for shots in ["1.5", "-3", "1e99", "a", "", "nan"] {
+        let said = format!("the value of --shots is to be a number below 2^64, not '{shots}'\n");
+        fails(&format!("sample {SYNDROME} --shots={shots} --seed 1"), "", 2, &said);
+    }
     fails(&sample("--set a"), "", 2, "a set is to be numbers");
-    let sets = folder("sample_sets").join("sets").into_os_string().into_string().expect("a plain path");
+    let sets = folder("sample_refused_sets").join("sets").into_os_string().into_string().expect("a plain path");
     for (text, status, said) in [
         ("0\n\n", 2, ", line 2: a set is to be numbers with commas between, or -, not ''\n"),
-        ("-\n0\n3,7\n", 1, ", line 3: the set 3,7: it names recorded outcomes, 0 to 6, and rises strictly\n"),
+        ("-\n0\n3,7\n", 1, ", line 3: the set 3,7: it names recorded outcomes, 0 to 6, each once\n"),
     ] {
         fs::write(&sets, text).expect("it can be written");
         fails(&sample(&format!("--sets {sets}")), "", status, &format!("{sets}{said}"));
@@ -206,7 +354,7 @@ fn refusals_and_wrong_arguments() {
     let far = wide().replace("corr=8300", "corr=18446744073709551000");
     let hint = "op=n p=3fb999999999999a corr=18446744073709551000 cond=- parity=0 d=1 x=1 z=- size=1\nhint: place corr";
     fails("sample - --shots 10 --seed 1", &far, 1, hint);
-    fails("merge -", "ok=1\n", 2, "these are not the counts");
+    fails("merge -", "ok=1\n", 2, "these are no counts as");
     // the longest job, whose header has no room for more digits
     let longest =
         format!("op=job qubits=1 outcomes=0 shots=1\n{}{}", "op=u g=4 q=0\n".repeat(8), "op=z q=0\n".repeat(116_493));
@@ -235,10 +383,10 @@ fn full_disks_and_closed_pipes() {
             let done = shell(&format!("{sample}{target}"));
             assert!(done.status == 2 && done.stderr.contains("No space left"), "{format} {target}: {done:?}");
         }
-        // a file may have no more than 8 blocks of 512 bytes
+        // a file may have no bytes
         let full = shell(&format!("trap '' XFSZ; ulimit -f 0; exec {sample} --output rows"));
-        assert!(full.status == 2 && full.stderr.contains("rows.partial: "), "{full:?}");
-        assert!(!folder.join("rows").exists() && !folder.join("rows.partial").exists());
+        assert!(full.status == 2 && full.stderr.starts_with("kundatrezo: rows: "), "{full:?}");
+        assert_eq!(names(&folder), [""; 0]);
     }
     // a link stays one
     fs::write(folder.join("old"), "old").expect("it can be written");

@@ -45,8 +45,10 @@ fn bash_completes() {
     };
     let cases = [
         ("kundatrezo co", "correlation completions\n"),
-        ("kundatrezo run job --se", "--seed --second --second-seed --second-state\n"),
+        ("kundatrezo run job --se", "--seed --second --second-seed --second-state --second-words\n"),
         ("kundatrezo run job --main /dev/nul", "/dev/null\n"),
+        ("kundatrezo run job --deltas /dev/nul", "/dev/null\n"),
+        ("kundatrezo run job --account /dev/nul", "/dev/null\n"),
         ("kundatrezo check /dev/nul", "/dev/null\n"),
         ("kundatrezo add /dev/nul", "/dev/null\n"),
         ("kundatrezo siz", "sizes\n"),

@@ -45,12 +45,16 @@ fn an_older_job_gets_its_sizes() {
         assert_eq!(added(older.as_bytes()), Done::printed(job.clone()));
         assert_eq!(added(job.as_bytes()), Done::printed(job));
     }
-    // in its own place
     let path = folder("sizes").join("older.job");
     fs::write(&path, without_sizes(&every_kind())).expect("it can be written");
-    let name = path.to_str().expect("a path in plain text");
-    assert_eq!(kundatrezo(["sizes", name, "--output", name], b""), Done::printed(""));
-    assert_eq!(fs::read_to_string(path).ok(), Some(every_kind()));
+    let sized = path.with_file_name("sized.job");
+    let names = [path.as_os_str(), "--output".as_ref(), sized.as_os_str()];
+    assert_eq!(kundatrezo([["sizes".as_ref()].as_slice(), &names].concat(), b""), Done::printed(""));
+    assert_eq!(fs::read_to_string(sized).ok(), Some(every_kind()));
+    // not in its own place
+    let names = [path.as_os_str(), "--output".as_ref(), path.as_os_str()];
+    assert_eq!(kundatrezo([["sizes".as_ref()].as_slice(), &names].concat(), b"").status, 2);
+    assert_eq!(fs::read_to_string(path).ok(), Some(without_sizes(&every_kind())));
 }
 
 /// Whatever a job holds beside noise lines without a size, and also if it is no job, is copied byte by byte.

@@ -1,8 +1,8 @@
 //! The likely cause of a refusal of a job, and what to do about it. The engine has judged the job; here its refused line is looked at once more, for a
 //! sentence that helps.
 
-use crate::numbers::{binary64, bits_of};
-use kundatrezo::{MAX_BYTES, MAX_CLIFFORD_QUBITS, MAX_OUTCOMES, MAX_QUBITS, MAX_SHOTS, Number, Refusal};
+use crate::noise::binary64;
+use crate::{MAX_BYTES, MAX_CLIFFORD_QUBITS, MAX_OUTCOMES, MAX_QUBITS, MAX_SHOTS, Number};
 
 /// Most members of a list on a line, and most elements of a distribution.
 const MOST_MEMBERS: usize = 31;
@@ -56,17 +56,18 @@ fn named<T: Copy>(table: &[(&str, T)], name: &str) -> Option<T> {
     table.iter().find(|(own, _)| *own == name).map(|(_, entry)| *entry)
 }
 
-/// What a user may do about a refusal of this job, where that can be said.
-pub fn hint(refusal: &Refusal, job: &[u8]) -> Option<String> {
-    match refusal.number {
+/// What a user may do about the refusal of a job by this number at this line, from 1, if that can be said: the likely cause, for every call, in the
+/// program and in the Python package.
+pub(crate) fn hint(number: Number, line: u64, job: &[u8]) -> Option<String> {
+    match number {
         Number::LENGTH => return Some(length(job)),
         Number::SEED => return Some("zero gives no words: take any other number below 2^64".into()),
         _ => {}
     }
     let text = String::from_utf8_lossy(job);
     let lines: Vec<&str> = text.split_terminator('\n').collect();
-    let place = usize::try_from(refusal.line).ok()?.checked_sub(1)?;
-    Job { before: lines.get(..place)?, line: lines.get(place)?, is_last: place + 1 == lines.len() }.hint(refusal.number)
+    let place = usize::try_from(line).ok()?.checked_sub(1)?;
+    Job { before: lines.get(..place)?, line: lines.get(place)?, is_last: place + 1 == lines.len() }.hint(number)
 }
 
 fn length(job: &[u8]) -> String {
@@ -75,8 +76,19 @@ fn length(job: &[u8]) -> String {
         bytes if bytes > MAX_BYTES => {
             "a job has at most 1,048,576 bytes: write gates together, as op=c and op=m lines".into()
         }
-        _ => "the last line has no line end: add LF".into(),
+        _ => match job.iter().position(|byte| !is_text(*byte)) {
+            Some(place) => format!("byte {} is not text: is this the right file?", place + 1),
+            None if !job.starts_with(b"op=") => format!("{HEADER}; is this the right file?"),
+            None => "the last line has no line end: add LF".into(),
+        },
     }
+}
+
+const HEADER: &str = "the first line is the header: op=job qubits=N outcomes=N shots=N";
+
+/// Whether a byte may stand in a text, of any encoding.
+fn is_text(byte: u8) -> bool {
+    byte >= b' ' && byte != 0x7f || matches!(byte, b'\t' | b'\n' | b'\r' | 0x0c)
 }
 
 /// A job around its refused line.
@@ -106,7 +118,7 @@ impl Job<'_> {
             }),
             Number::PROBABILITY => Some(format!("p= is {:?} in decimal", binary64(field(self.line, "p")?)?)),
             Number::ELEMENTS => self.elements(),
-            Number::NOISE => Some("settle the job first ('kundatrezo settle --help'), and walk the settled job".into()),
+            Number::NOISE => Some("settle the job first, and walk the settled job".into()),
             Number::ANNOTATION => {
                 Some("put noise lines around this line by hand, and annotate the job without it".into())
             }
@@ -118,7 +130,7 @@ impl Job<'_> {
             )),
             Number::SIZE => {
                 let (distribution, _) = self.line.rsplit_once(" size=")?;
-                Some(format!("the size of this distribution is {}", size(distribution)?))
+                Some(format!("the size of this distribution is {}", distribution_size(distribution)?))
             }
             _ => None,
         }
@@ -160,10 +172,10 @@ impl Job<'_> {
         });
         match out {
             Some((key, least, most)) if self.line.starts_with("op=job ") => {
-                let more = if *key == "shots" { "; 'kundatrezo sample --shots N' runs any number" } else { "" };
+                let more = if *key == "shots" { "; a sample runs any number" } else { "" };
                 format!("{key}= is from {least} to {most}{more}")
             }
-            _ => "the first line is the header: op=job qubits=N outcomes=N shots=N".into(),
+            _ => HEADER.into(),
         }
     }
 
@@ -285,7 +297,7 @@ impl Job<'_> {
         let Some(without_size) = form_without_size(kind) else {
             return Some("a noise line is op=n p=H corr= cond= parity= d=, with d= 1, 2, 3 or 4".into());
         };
-        if let Some(size) = size(self.line) {
+        if let Some(size) = distribution_size(self.line) {
             return Some(format!(
                 "the line lacks its last field, size={size}: 'kundatrezo sizes' writes it into a job"
             ));
@@ -308,7 +320,12 @@ fn form_without_size(kind: &str) -> Option<Vec<(&'static str, &'static str)>> {
 
 /// The size of the distribution on a noise line that has all other fields in their form: 1, 4^k - 1 over k qubits, or n. None where it has not, or where
 /// 4^k is not below 2^64.
-pub fn size(line: &str) -> Option<u64> {
+///
+/// ```
+/// assert_eq!(kundatrezo::distribution_size("op=n p=3fe0000000000000 corr=- cond=- parity=0 d=2 q=1,0"), Some(15));
+/// ```
+#[must_use]
+pub fn distribution_size(line: &str) -> Option<u64> {
     let kind = field(line, "d")?;
     if fields(line, &form_without_size(kind)?, "").is_some() {
         return None;
@@ -358,6 +375,8 @@ fn layout(line: &str) -> Option<&'static str> {
         Some("a job has no comments")
     } else if line.contains('\t') || line.contains("  ") || line.starts_with(' ') || line.ends_with(' ') {
         Some("fields have one space between, and nothing before the first or after the last")
+    } else if line.bytes().any(|byte| !is_text(byte)) {
+        Some("the line has bytes that are not text: is this the right file?")
     } else if !line.is_ascii() {
         Some("the line has bytes that are not ASCII")
     } else {
@@ -451,7 +470,7 @@ fn hexadecimal(key: &str, value: &str) -> Option<String> {
     let wanted = format!("{key}= is a binary64 by its 16 hexadecimal digits, in lower case");
     match value.parse::<f64>() {
         _ if is_word(value) => None,
-        Ok(number) => Some(format!("{wanted}: {value} is {} (see 'kundatrezo bits')", bits_of(number))),
+        Ok(number) => Some(format!("{wanted}: {value} is {:016x} (see 'kundatrezo bits')", number.to_bits())),
         _ => Some(wanted),
     }
 }
@@ -461,8 +480,8 @@ mod tests {
     use super::*;
 
     fn hint_of(job: &str) -> String {
-        let refusal = kundatrezo::check(job.as_bytes()).expect_err("the job is refused");
-        hint(&refusal, job.as_bytes()).unwrap_or_default()
+        let refusal = crate::check(job.as_bytes()).expect_err("the job is refused");
+        refusal.hint(job.as_bytes()).unwrap_or_default()
     }
 
     #[test]
@@ -490,6 +509,7 @@ mod tests {
             ("# a comment", "a job has no comments"),
             ("op=u  g=4 q=0", "fields have one space between"),
             ("op=z q=\u{b2}", "the line has bytes that are not ASCII"),
+            ("op=z q=\0", "the line has bytes that are not text: is this the right file?"),
             ("x=0 z=-", "a line begins with op="),
             (
                 "op=n p=0.001 corr=- cond=- parity=0 d=2 q=0 size=3",
@@ -594,13 +614,16 @@ mod tests {
             ("", "the job is empty"),
             ("op=job qubits=1 outcomes=0 shots=1", "the last line has no line end"),
             ("op=z q=0\n", "the first line is the header"),
+            (
+                "a text\nof another kind",
+                "the first line is the header: op=job qubits=N outcomes=N shots=N; is this the right file?",
+            ),
+            ("op=job qubits=1 outcomes=0 shots=1\n\0", "byte 36 is not text: is this the right file?"),
+            ("\u{7f}ELF\u{2}\u{1}", "byte 1 is not text: is this the right file?"),
             ("\u{feff}op=job qubits=1 outcomes=0 shots=1\n", "the file begins with a byte order mark"),
             ("op=job qubits=0 outcomes=0 shots=1\n", "qubits= is from 1 to 256"),
             ("op=job qubits=1 outcomes=1025 shots=1\n", "outcomes= is from 0 to 1024"),
-            (
-                "op=job qubits=1 outcomes=0 shots=10000\n",
-                "shots= is from 1 to 4096; 'kundatrezo sample --shots N' runs any number",
-            ),
+            ("op=job qubits=1 outcomes=0 shots=10000\n", "shots= is from 1 to 4096; a sample runs any number"),
             ("op=job edition=2 qubits=1 outcomes=0 shots=0\n", "shots= is from 1 to 4096"),
             ("op=job edition=3 qubits=1 outcomes=0 shots=1\n", "edition= is 1 or 2"),
             ("op=job edition=3.1 qubits=1 outcomes=0 shots=1\n", "edition= is one number"),
@@ -624,7 +647,7 @@ mod tests {
     #[test]
     fn damaged_jobs() {
         let job = include_bytes!("../../../examples/bell.job");
-        let mut words = kundatrezo::Xorshift::new(1);
+        let mut words = crate::Xorshift::new(1);
         let mut below = |limit: usize| usize::try_from(words.next().unwrap_or(0) % limit as u64).expect("small");
         for _ in 0..20_000 {
             let mut damaged = job.to_vec();
@@ -636,8 +659,8 @@ mod tests {
                     _ => damaged.insert(place, b" =,\n0"[below(5)]),
                 }
             }
-            if let Err(refusal) = kundatrezo::check(&damaged) {
-                _ = hint(&refusal, &damaged);
+            if let Err(refusal) = crate::check(&damaged) {
+                _ = refusal.hint(&damaged);
             }
         }
     }
