@@ -1,6 +1,6 @@
 /* How often an odd number of the outcomes 4, 5 and 6 of a job is flipped, in 1,000 runs of its shots. In the repository's folder:
  *
- *     cc -Iinclude examples/rate.c target/staticlib/libkundatrezo.a -o target/rate && target/rate <examples/syndrome.job
+ *     cc -Iinclude examples/rate.c "$(./setup --library)/libkundatrezo.a" -o target/rate && target/rate <examples/syndrome.job
  */
 #include <stdio.h>
 #include <stdlib.h>

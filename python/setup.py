@@ -1,8 +1,8 @@
 """Builds the package: links libkundatrezo.so, which it calls, from the archive libkundatrezo.a, and builds libkundatrezo_edge.so, by which refusals
 have hints, from the Rust crate.
 
-The archive lies in the folder that the environment variable KUNDATREZO_LIB_DIR names, or in target/staticlib of the repository. The crate is that of
-the repository; without it, or without cargo, the package has no hints.
+The archive lies in the folder that the environment variable KUNDATREZO_LIB_DIR names, or in target/library of the repository, where ./setup puts it.
+The crate is that of the repository; without it, or without cargo, the package has no hints.
 """
 
 import os
@@ -20,9 +20,9 @@ HERE = Path(__file__).resolve().parent
 def archive() -> Path:
     """The archive that the library is linked from."""
     folder = os.environ.get("KUNDATREZO_LIB_DIR")
-    found = Path(folder) / "libkundatrezo.a" if folder else HERE.parent / "target/staticlib/libkundatrezo.a"
+    found = Path(folder) / "libkundatrezo.a" if folder else HERE.parent / "target/library/libkundatrezo.a"
     if not found.is_file():
-        raise SystemExit(f"there is no {found}: build it by 'rt staticlib kundatrezo' in the repository's folder, or name its folder by KUNDATREZO_LIB_DIR")
+        raise SystemExit(f"there is no {found}: './setup --library' in the repository's folder puts it there; KUNDATREZO_LIB_DIR names another folder")
     return found
 
 

@@ -10,7 +10,7 @@ fn main() {
     println!("cargo::rerun-if-env-changed={FOLDER}");
     let Ok(folder) = env::var(FOLDER) else {
         println!(
-            "cargo::error=set {FOLDER} to the folder of {LIBRARY}, an absolute path; in Kundatrezo's repository, tests/library builds it and prints that folder"
+            "cargo::error=set {FOLDER} to the folder of {LIBRARY}, an absolute path; in Kundatrezo's repository, './setup --library' gets it ready and prints that folder"
         );
         return;
     };

@@ -33,7 +33,7 @@ pub fn wilson(total: u64, shots: u64) -> [f64; 2] {
 
 /// The part of the shots, 0 where there are none. Both numbers are exact up to 2^53.
 #[allow(clippy::cast_precision_loss)]
-fn rate(total: u64, shots: u64) -> f64 {
+pub(crate) fn rate(total: u64, shots: u64) -> f64 {
     if shots == 0 { 0.0 } else { total as f64 / shots as f64 }
 }
 
@@ -465,15 +465,32 @@ impl Sample {
     }
 }
 
-impl fmt::Display for Sample {
-    fn fmt(&self, f: &mut fmt::Formatter<'_>) -> fmt::Result {
+impl Sample {
+    /// For a reader: the seeds, and the parts if some are missing.
+    pub(crate) fn described(&self) -> String {
         let seeds: Vec<String> = self.seeds.iter().map(u64::to_string).collect();
+        let part = if self.is_whole() {
+            String::new()
+        } else {
+            format!(" (part {}/{} of {} shots)", self.stretches(), self.parts, self.whole)
+        };
+        format!("seed {}{part}", seeds.join(", "))
+    }
+
+    /// The counted parts, as a text has them.
+    fn stretches(&self) -> String {
         let stretch = |places: &RangeInclusive<u64>| match (places.start(), places.end()) {
             (start, end) if start == end => start.to_string(),
             (start, end) => format!("{start}-{end}"),
         };
-        let places: Vec<String> = self.places.iter().map(stretch).collect();
-        write!(f, "seed={} part={}/{} of={}", seeds.join(","), places.join(","), self.parts, self.whole)
+        self.places.iter().map(stretch).collect::<Vec<String>>().join(",")
+    }
+}
+
+impl fmt::Display for Sample {
+    fn fmt(&self, f: &mut fmt::Formatter<'_>) -> fmt::Result {
+        let seeds: Vec<String> = self.seeds.iter().map(u64::to_string).collect();
+        write!(f, "seed={} part={}/{} of={}", seeds.join(","), self.stretches(), self.parts, self.whole)
     }
 }
 

@@ -79,12 +79,14 @@
 //!
 //! # Linking
 //!
-//! The build script links the library from the folder in the environment variable `KUNDATREZO_LIB_DIR`, an absolute path. The library is for x86-64
-//! Linux, keeps no state and takes no memory but the stack, so calls may be made from several threads at the same time.
+//! The build script links the library from the folder in the environment variable `KUNDATREZO_LIB_DIR`, an absolute path. In Kundatrezo's repository
+//! `./setup --library` gets the library ready and prints that folder. The library is for x86-64 Linux, keeps no state and takes no memory but the stack,
+//! so calls may be made from several threads at the same time.
 
 mod by_shot;
 mod clifford;
 mod counts;
+mod counts_table;
 mod draws;
 mod error_model;
 mod examination;

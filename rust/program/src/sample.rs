@@ -12,6 +12,7 @@ use kundatrezo::{
 };
 use std::ffi::OsStr;
 use std::fs::File;
+use std::io::{IsTerminal, stdout};
 use std::ops::Range;
 use std::os::unix::fs::FileExt;
 use std::thread::available_parallelism;
@@ -25,8 +26,11 @@ const SET: Flag = Flag {
 };
 const SETS: Flag =
     Flag { name: "--sets", value: FILE, text: "read sets from this file, a line each, after those of --set" };
-const FORMAT: Flag =
-    Flag { name: "--format", value: "FORM", text: "counts, which is taken without it, or shots by row: 01 or b8" };
+const FORMAT: Flag = Flag {
+    name: "--format",
+    value: "FORM",
+    text: "table, counts, or shots by row: 01 or b8; without it, a table at a terminal, else counts",
+};
 const OUTPUT: Flag = Flag {
     name: "--output",
     value: NEW_FILE,
@@ -63,7 +67,8 @@ pub const DETAILS: &[&str] = &[
 Runs a job in any number of shots, whatever its header has, and counts in how many of them each outcome is
 flipped, and the parity of each --set. Prints the numbers of the job and of the sample, then a line for each
 recorded outcome and each set: 'total=', 'rate=', and 'low=' and 'high=', Wilson's interval at 95 percent.
---shots and --seed are wanted.",
+--shots and --seed are wanted. At a terminal, or with --format table, the same is a table with headings, the
+sets first; 'merge' reads counts, which a pipe or a file gets.",
     "\
 The shots are run in blocks of 4096, each with words of its own, made from the seed and the block's number. So
 the same seed gives the same answer for every number of threads and parts. Give another sample of the same job
@@ -86,17 +91,17 @@ pub fn sample(arguments: &Arguments) -> Result<(), Failure> {
     note_conditions(arguments, &job)?;
     let (mut output, counts) = whole.run(arguments.value(OUTPUT.name))?;
     let text = whole.text(counts);
-    match (asked.format, arguments.value(OUTPUT.name)) {
-        (Format::Counts, _) => {
+    match (asked.format.has_rows(), arguments.value(OUTPUT.name)) {
+        (false, _) => {
             output.write(text.as_bytes())?;
             output.finish()
         }
         // what can't be printed leaves no file, as the status says
-        (_, Some(_)) => {
+        (true, Some(_)) => {
             print(text)?;
             output.finish()
         }
-        (_, None) => output.finish(),
+        (true, None) => output.finish(),
     }
 }
 
@@ -125,7 +130,11 @@ impl Asked {
         Ok(Self {
             shots,
             seed,
-            format: arguments.parsed(FORMAT.name, "counts, 01 or b8", format)?.unwrap_or(Format::Counts),
+            format: match arguments.parsed(FORMAT.name, "table, counts, 01 or b8", format)? {
+                Some(format) => format,
+                None if arguments.value(OUTPUT.name).is_none() && stdout().is_terminal() => Format::Table,
+                None => Format::Counts,
+            },
             part: arguments.parsed(PART.name, "I/K, with I from 1 to K", part)?.unwrap_or((1, 1)),
             threads,
         })
@@ -134,13 +143,20 @@ impl Asked {
 
 #[derive(Clone, Copy, PartialEq, Eq)]
 enum Format {
+    Table,
     Counts,
     Digits,
     Packed,
 }
 
+impl Format {
+    fn has_rows(self) -> bool {
+        matches!(self, Self::Digits | Self::Packed)
+    }
+}
+
 fn format(text: &str) -> Option<Format> {
-    [("counts", Format::Counts), ("01", Format::Digits), ("b8", Format::Packed)]
+    [("table", Format::Table), ("counts", Format::Counts), ("01", Format::Digits), ("b8", Format::Packed)]
         .into_iter()
         .find_map(|(name, format)| (name == text).then_some(format))
 }
@@ -277,7 +293,7 @@ impl Whole<'_> {
         let refused = |refusal: Refusal| Failure::refused(&refusal, job, None);
         let examined = kundatrezo::examine(job).map_err(refused)?;
         let sets = sets(arguments, examined)?;
-        if asked.format != Format::Counts && sets.len() > MAX_OUTCOMES {
+        if asked.format.has_rows() && sets.len() > MAX_OUTCOMES {
             return Err(Failure::Other(format!("a row has at most {MAX_OUTCOMES} sets")));
         }
         let sampler = match named(arguments, job)? {
@@ -288,10 +304,16 @@ impl Whole<'_> {
         Ok(Whole { asked, job, sampler, sets, given })
     }
 
-    /// The text of counts.
+    /// The counts as a table, or as the text that is merged. Those of rows in a file are printed as if rows were not asked for.
     fn text(&self, counts: Counts) -> String {
         let saved = self.sampler.saved(counts, &self.sets, self.asked.part);
-        if self.given.is_some() { saved.with_lent_noiseless().text() } else { saved.text() }
+        let saved = if self.given.is_some() { saved.with_lent_noiseless() } else { saved };
+        let is_table = match self.asked.format {
+            Format::Table => true,
+            Format::Counts => false,
+            Format::Digits | Format::Packed => stdout().is_terminal(),
+        };
+        if is_table { saved.table() } else { saved.text() }
     }
 
     /// Run the blocks of the part that is asked for: rows go to a file or to standard output, in their order.
@@ -303,7 +325,7 @@ impl Whole<'_> {
             _ => 0,
         };
         let turns = Turns::new(blocks.start, Output::create(path)?);
-        let progress = Progress::new(shots, format != Format::Counts && path.is_none());
+        let progress = Progress::new(shots, format.has_rows() && path.is_none());
         let made = Sampler::each(blocks, self.threads(), Memory::default, |memory, block| {
             let done = self.block(memory, block, &turns);
             match &done {
@@ -343,7 +365,7 @@ impl Whole<'_> {
         };
         let frames = frames.map_err(|refusal| self.refused(&refusal))?;
         counts.add(frames, &self.sets);
-        if self.asked.format == Format::Counts {
+        if !self.asked.format.has_rows() {
             return Ok(());
         }
         let (count, deltas) = match self.sets.as_slice() {

@@ -85,9 +85,14 @@ fn refusals() {
 fn read_me() {
     for page in ["rust/README.md", "README.md", "docs/SAMPLING.md"] {
         let folder = session_folder(&page.replace('/', "_"));
-        // the first page also has lines that build and install, which the tests do on their own
-        let is_run = |step: &Step| page != "README.md" || step.command.starts_with("kundatrezo ");
-        let steps: Vec<Step> = steps(&document(page)).into_iter().filter(is_run).collect();
+        let mut steps = steps(&document(page));
+        if page == "README.md" {
+            // the first page also has lines that build and install, which the tests do on their own
+            steps.retain(|step| step.command.contains("kundatrezo sample "));
+            // and shows what its first line prints at a terminal
+            let first = steps[0].command.strip_prefix("./").expect("the script at the root");
+            steps[0].command = first.replace('\n', " --format table\n");
+        }
         assert!(!steps.is_empty(), "{page}");
         for step in &steps {
             run(step, &folder);

@@ -345,7 +345,7 @@ fn refusals_and_wrong_arguments() {
     for part in ["0/2", "3/2", "1", "1/0", "-1/2"] {
         fails(&sample(&format!("--part {part}")), "", 2, "I/K, with I from 1 to K");
     }
-    fails(&sample("--format 02"), "", 2, "counts, 01 or b8");
+    fails(&sample("--format 02"), "", 2, "table, counts, 01 or b8");
     fails(&sample("--threads 0"), "", 2, "a number from 1");
     fails(&sample("--named here"), "", 2, "'whole' or 'block'");
     fails(&sample("--seed 2"), "", 2, "the option --seed is given twice");
@@ -377,7 +377,7 @@ fn full_disks_and_closed_pipes() {
         let mut shell = Command::new("sh");
         finish(shell.arg("-c").arg(script).arg(program).arg(SYNDROME).current_dir(&folder), b"")
     };
-    for format in ["counts", "01", "b8"] {
+    for format in ["table", "counts", "01", "b8"] {
         let sample = format!("\"$0\" sample \"$1\" --shots 100000 --seed 1 --format {format}");
         for target in [" >/dev/full", " --output /dev/full"] {
             let done = shell(&format!("{sample}{target}"));
@@ -414,15 +414,38 @@ fn memory_is_bounded() {
     assert_eq!((text(done.stdout).trim(), done.stderr.as_str()), ("205000000", ""));
 }
 
-/// On a terminal, which `script` makes where it is at hand, a line says how far the sample is.
-#[test]
-fn progress_on_a_terminal() {
+/// What a sample writes to a terminal, which `script` makes where it is at hand.
+fn on_a_terminal(options: &str) -> Option<String> {
     if !Path::new("/usr/bin/script").exists() {
-        return;
+        return None;
     }
-    let sample = format!("{} sample {SYNDROME} --shots 100000 --seed 1", env!("CARGO_BIN_EXE_kundatrezo"));
+    let sample = format!("{} sample {SYNDROME} --shots 100000 --seed 1 {options}", env!("CARGO_BIN_EXE_kundatrezo"));
     let done = finish(Command::new("/usr/bin/script").args(["-qec", &sample, "/dev/null"]), b"");
-    let said = text(done.stdout);
-    assert!(done.status == 0 && said.contains(" of 100000 shots, ") && said.contains(" left"), "{said}");
-    assert!(said.contains("ok=1 qubits=5 outcomes=7 shots=100000"), "{said}");
+    assert_eq!(done.status, 0);
+    Some(text(done.stdout).replace("\r\n", "\n"))
+}
+
+/// On a terminal a line says how far the sample is, and counts are a table, unless they are asked for; a file has counts.
+#[test]
+fn on_a_terminal_there_is_progress_and_a_table() {
+    let printed = |options: &str| text(printed(&format!("sample {SYNDROME} --shots 100000 --seed 1 {options}"), ""));
+    let folder = folder("sample_terminal");
+    let path = |name: &str| folder.join(name).display().to_string();
+    let Some(said) = on_a_terminal("--set 4,5,6") else {
+        return;
+    };
+    assert!(said.contains(" of 100000 shots, ") && said.contains(" left"), "{said}");
+    let table = printed("--set 4,5,6 --format table");
+    assert!(said.ends_with(&table), "{said}");
+    let names: Vec<&str> = table.lines().skip(1).filter_map(|line| line.split("  ").next()).collect();
+    assert_eq!(names[..3], ["outcome or set", "set 4,5,6", "outcome 0"]);
+    let counts = printed("--set 4,5,6");
+    assert!(counts.starts_with("ok=1 ") && printed("--set 4,5,6 --format counts") == counts);
+    assert!(on_a_terminal("--set 4,5,6 --format counts").is_some_and(|said| said.ends_with(&counts)));
+    assert!(on_a_terminal(&format!("--set 4,5,6 --output {}", path("counts"))).is_some());
+    assert_eq!(fs::read_to_string(path("counts")).ok(), Some(counts.clone()));
+    // counts beside rows in a file
+    let rows = format!("--set 4,5,6 --format 01 --output {}", path("rows"));
+    assert!(on_a_terminal(&rows).is_some_and(|said| said.ends_with(&table)));
+    assert_eq!(printed(&rows), counts);
 }
