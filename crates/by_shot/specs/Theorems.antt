@@ -1,4 +1,5 @@
--- Theorems. What by shot means bit by bit, and that going there and back restores the words of each row whose bits past the last are 0. Assumes nothing.
+-- Theorems. What by shot means bit by bit, and that going there and back restores the words of each row whose bits past the last shot, or outcome,
+-- are 0. Assumes nothing.
 use mathlib.Core.Path.{_≡_, sym, _∙_}
 use mathlib.Core.Bool.{true, false}
 use mathlib.Core.List.{List}
@@ -45,7 +46,7 @@ module _ {outcomes shots : ℕ} {deltas rows : List ℕ} (lent : Lent outcomes s
 abbrev pub rowOf : ℕ → List ℕ → ℕ → List ℕ
 rowOf w words r = take w (drop (r * w) words)
 
--- The words of a lent list are below 2 ^ 64.
+-- Lent words are below 2 ^ 64, which is asked of the source.
 module _ {outcomes shots : ℕ} {deltas rows : List ℕ} (lent : Lent outcomes shots deltas rows) where
   -- Going there and back restores every row whose bits past the last shot are zero, for each number of outcomes and shots, word for word.
   pub there-and-back : ((i : ℕ) → getD deltas i 0 < 2 ^ 64) → (back : List ℕ) → outcomes * wordsPerRow shots ≤ length back → (o : ℕ) → o < outcomes

@@ -46,12 +46,17 @@ pub record Among (Is : Instruction → Type 0) (all : List Instruction) : Type 0
   pub behind : List Instruction
   pub split : all ≡ before ++ instruction ∷ behind
 
+-- and this many instructions stand before it
+pub record StandsAt (place : ℕ) (Is : Instruction → Type 0) (all : List Instruction) : Type 0 where
+  pub among : Among Is all
+  pub place-is : length (among .before) ≡ place
+
 abbrev pub OfKind : LineKind → Instruction → Type 0
 OfKind kind i = kindOf i ≡ kind
 
 -- ---- what is allowed
 
--- the fewest qubits, outcomes and lines of a job in which a kind can stand
+-- the fewest qubits, outcomes and lines of a job in which a kind can stand in either edition, which the seed chooses
 pub record Needs : Type 0 where
   pub qubits : ℕ
   pub outcomes : ℕ
@@ -81,7 +86,7 @@ needsOf LineKind.measure = atLeast 1 1 1
 needsOf LineKind.allocate = atLeast 1 1 1
 needsOf LineKind.barrier = atLeast 1 0 1
 
--- a header with these numbers of qubits and outcomes, and this number of lines, allow the kind
+-- a job with these numbers of qubits, outcomes and lines may hold a line of the kind
 pub record Allowed (qubits outcomes lines : ℕ) (kind : LineKind) : Type 0 where
   pub enough-qubits : needsOf kind .qubits ≤ qubits
   pub enough-outcomes : needsOf kind .outcomes ≤ outcomes
@@ -89,7 +94,7 @@ pub record Allowed (qubits outcomes lines : ℕ) (kind : LineKind) : Type 0 wher
 
 -- ---- seeds
 
--- a seed from which the first line of every job that allows the gate has it
+-- a seed for each gate: in every job that allows it the first line has the gate
 unfoldable pub gateSeed : Gate → ℕ
 gateSeed Gate.I = 1951
 gateSeed Gate.X = 3999
@@ -108,7 +113,7 @@ gateSeed Gate.Swap = 256
 gateSeed Gate.PrepareBell = 511
 gateSeed Gate.ControlledY = 23
 
--- a seed from which the first line of every job that allows the kind is of it; t is the second line
+-- a seed for each kind: in every job that allows it the first line is of the kind (for t the second)
 unfoldable pub kindSeed : LineKind → ℕ
 kindSeed (LineKind.unitary g) = gateSeed g
 kindSeed LineKind.clifford = 3
@@ -128,3 +133,24 @@ kindSeed LineKind.flip = 17
 kindSeed LineKind.measure = 20
 kindSeed LineKind.allocate = 1
 kindSeed LineKind.barrier = 77
+
+-- how many lines stand before it: one, which records an outcome, for t
+unfoldable pub placeOf : LineKind → ℕ
+placeOf (LineKind.unitary g) = 0
+placeOf LineKind.clifford = 0
+placeOf LineKind.pauli = 0
+placeOf LineKind.exponential = 0
+placeOf LineKind.controlled = 0
+placeOf LineKind.permute = 0
+placeOf LineKind.conditional = 0
+placeOf LineKind.reset = 0
+placeOf LineKind.resetList = 0
+placeOf LineKind.inject = 0
+placeOf LineKind.single = 0
+placeOf LineKind.depolarizing = 0
+placeOf LineKind.uniform = 0
+placeOf LineKind.weighted = 0
+placeOf LineKind.flip = 1
+placeOf LineKind.measure = 0
+placeOf LineKind.allocate = 0
+placeOf LineKind.barrier = 0

@@ -15,7 +15,7 @@ use Rattle.job.specs.Sound.{instructionsOf}
 use Rattle.job.specs.Theorems.{checked-sound}
 use Rattle.job.specs.Laws.Said.{placed-list}
 use Rattle.made.specs.Made.{madeHeader, madeText, makeReply}
-use Rattle.made.specs.Kinds.{LineKind, Among, OfKind, Allowed, kindSeed}
+use Rattle.made.specs.Kinds.{LineKind, Among, StandsAt, OfKind, Allowed, kindSeed, placeOf}
 use Rattle.made.specs.Laws.Replies.{MakesTo, make-writes, make-fits, known, text-passes, text-header, text-instructions}
 use Rattle.made.specs.Laws.Come.{kind-comes}
 use Rattle.made.specs.Laws.Allowed.{list-allowed}
@@ -61,15 +61,15 @@ made-fits qubits outcomes shots lines seed out = make-fits qubits outcomes shots
 
 -- ---- every kind of line comes up
 
--- For a header in range, up to 1,000 lines and 1,048,576 lent bytes, every kind of line that the header and the number of lines allow comes up for a seed
--- that is written out: each gate, ControlledY among them, c, p, e, k, m, f, resets of one qubit and of several, i, noise with d=1 to d=4, t, o, r and b.
+-- For a header in range, up to 1,000 lines and 1,048,576 lent bytes, every kind of line that the header and the number of lines allow comes up for the
+-- seed that `kindSeed` names: each gate, ControlledY among them, c, p, e, k, m, f, resets of one qubit and of several, i, noise with d=1 to d=4, t, o, r and b.
 module _ (qubits outcomes shots lines : ℕ) (out : List ℕ) (range : inRange (headerWith 1 qubits outcomes shots) ≡ true) (few-lines : lines ≤ 1000)
     (room : 1048576 ≤ length out)
   where
-    -- from this seed the call answers 0, and a line of this kind is among those of the job that it writes
+    -- from this seed the call answers 0, and the first line of the job that it writes (for t the second) is of this kind
     pub record Comes (seed : ℕ) (kind : LineKind) : Type 0 where
       pub answered : makeReply qubits outcomes shots lines seed out .answered ≡ accepted
-      pub among : Among (OfKind kind) (instructionsOf (jobOf (writtenBy (makeReply qubits outcomes shots lines seed out)) .instructions))
+      pub stands : StandsAt (placeOf kind) (OfKind kind) (instructionsOf (jobOf (writtenBy (makeReply qubits outcomes shots lines seed out)) .instructions))
 
     pub kinds-come : (kind : LineKind) → Allowed qubits outcomes lines kind → Comes (kindSeed kind) kind
     kinds-come kind allowed =
@@ -77,9 +77,9 @@ module _ (qubits outcomes shots lines : ℕ) (out : List ℕ) (range : inRange (
         let c = kind-comes qubits outcomes shots range lines kind allowed in
         let zero = make-fits qubits outcomes shots lines seed out range (c .seeded) few-lines room in
         let w = make-writes qubits outcomes shots lines seed out (ap (λ (r : Answer). r .number) zero) in
-        record { answered = zero; among = rw (w .written) (c .among) }
+        record { answered = zero; stands = rw (w .written) (c .stands) }
 
--- Nothing more is allowed: a job that the tests accept has no line of another kind, whatever made it.
+-- `Allowed` leaves nothing out: if an accepted job has a line of a kind, whatever made it, its header and number of lines allow that kind.
 pub accepted-allowed : (job : List ℕ) → checkJob job .number ≡ 0 → (kind : LineKind) → Among (OfKind kind) (instructionsOf (jobOf job .instructions))
     → Allowed (jobOf job .header .qubits) (jobOf job .header .outcomes) (length (instructionsOf (jobOf job .instructions))) kind
 accepted-allowed job e kind a =

@@ -7,3 +7,4 @@ pub mod Spent
 pub mod Alike
 pub mod Alone
 pub mod Behaviours
+pub mod Room

@@ -2,7 +2,7 @@
 -- lost; and demand 3 job by job. Their proofs stand in Laws. Assumes nothing.
 use mathlib.Core.Path.{_≡_, refl, sym, ap, subst, _∙_}
 use mathlib.Core.Logic.{_⊎_}
-use mathlib.Core.List.{List, [], _∷_, _++_}
+use mathlib.Core.List.{List, [], _∷_, _++_, map}
 use mathlib.Core.Option.{none}
 use Prim.Native.Nat.{ℕ, _+_, _≤_, _<_}
 use native.Mathlib.Omega.{arith}
@@ -25,7 +25,7 @@ use Rattle.backward.specs.SizeTheorems.{figure-enough}
 use Rattle.backward.specs.CallTheorems.{Demand3, demand-3-calls}
 use Rattle.shares.specs.Shares.{Share, sum, stretchFrom, ownLeft, commonLeft, available, marksFit, marksAfter}
 use Rattle.shares.specs.Replies.{shared, takenBy, takesWords, tested, sharedReply, sharedRunReply, sharedSettleReply}
-use Rattle.shares.specs.Account.{times, wordsAt, availablePlaces, Passes, withMain, Call, callerOf, callsOf, replyTo, handed, handedBy, marksThrough, handedThrough, StaysOwn, TakeAlike, AllRunOrStay, nothingTaken, Within, leftInStretches, leftInCommon}
+use Rattle.shares.specs.Account.{times, wordsAt, availablePlaces, Passes, withMain, Call, callerOf, roomEmptied, written, jobIn, callsOf, replyTo, handed, handedBy, marksThrough, handedThrough, StaysOwn, TakeAlike, AllRunOrStay, nothingTaken, Within, leftInStretches, leftInCommon}
 use Rattle.shares.specs.Laws.Places.{marked, marked-once, marked-behind, marked-none, left-none}
 use Rattle.shares.specs.Laws.Words.{map-take, available-words, taken-left}
 use Rattle.shares.specs.Laws.Moves.{takes-zero, takes-none, takes-by, kept, moves}
@@ -33,6 +33,7 @@ use Rattle.shares.specs.Laws.Sequences.{nothing-taken, through-within, t
 use Rattle.shares.specs.Laws.Alike.{SettlesAlike, run-alike}
 use Rattle.shares.specs.Laws.Alone.{call-same, agree-through, alike-through}
 use Rattle.shares.specs.Laws.Behaviours.{both-same}
+use Rattle.shares.specs.Laws.Room.{both-written}
 use Rattle.shares.specs.Laws.Spent.{run-passed, run-settles, settling-passed, short-passed, settling-settles}
 
 -- ---- the plain call on the words available
@@ -166,26 +167,33 @@ module _ (main shares start : List ℕ) (caller : ℕ) where
   abbrev after : List Call → List ℕ
   after calls = marksThrough main shares calls start
 
-  -- A caller whose job stays within the own stretch gets the same reply, deltas included, for every behaviour of the others. Take two sequences of
-  -- calls from the same start, list and shares, in which the caller's own calls are the same: jobs, bases, bits and lent room. If a further call of
-  -- the caller stays within the own stretch after both, its whole reply is the same after both.
-  pub own-alone-both : (ks ls : List Call) → callsOf caller ks ≡ callsOf caller ls → (last : Call) → callerOf last ≡ caller
+  -- A caller whose job stays within the own stretch gets the same deltas for every behaviour of the others. Take two sequences of calls from the
+  -- same start, list and shares, in which the caller's own calls are the same: jobs, bases, bits and lent room. The contents of the room may differ.
+  -- If a further call of the caller stays within the own stretch after both, its answer, its figure and all that it writes are the same after both.
+  pub own-alone-both : (ks ls : List Call) → map roomEmptied (callsOf caller ks) ≡ map roomEmptied (callsOf caller ls)
+      → (last also : Call) → callerOf last ≡ caller → roomEmptied last ≡ roomEmptied also
+      → StaysOwn main shares last (after ks) → StaysOwn main shares also (after ls)
+      → written (jobIn last) (replyTo main shares last (after ks)) ≡ written (jobIn also) (replyTo main shares also (after ls))
+  own-alone-both = both-written main shares start caller
+
+  -- If the lent room holds the same too, the whole reply is the same.
+  pub own-alone-whole : (ks ls : List Call) → callsOf caller ks ≡ callsOf caller ls → (last : Call) → callerOf last ≡ caller
       → StaysOwn main shares last (after ks) → StaysOwn main shares last (after ls)
       → replyTo main shares last (after ks) ≡ replyTo main shares last (after ls)
-  own-alone-both = both-same main shares start caller
+  own-alone-whole = both-same main shares start caller
 
-  -- What carries over from one behaviour to another: a last call that stays within the own stretch if no one else calls.
+  -- What carries over from one behaviour to another. Take a last call that stays within the own stretch if no one else calls.
   module _ (w : Within main shares start) (below : caller < length shares) (calls : List Call) where
     abbrev alone : List ℕ
     alone = after (callsOf caller calls)
 
-    -- It has the same reply among the calls of others if each earlier call of the caller takes its words in both cases or in neither,
+    -- Among the calls of others it gets the same reply if each earlier call of the caller takes its words in both cases or in neither.
     pub own-alone : TakeAlike main shares caller calls start start → (last : Call) → callerOf last ≡ caller → StaysOwn main shares last alone
         → replyTo main shares last alone ≡ replyTo main shares last (after calls)
     own-alone alike =
         call-same main shares caller (agree-through main shares caller start start record { within = w; also = w; own = refl } below calls alike)
 
-    -- as it does if each of them stays within the own stretch too, or is a run.
+    -- This holds if each earlier call is a run or stays within the own stretch.
     pub own-alone-always : AllRunOrStay main shares (callsOf caller calls) start → (last : Call) → callerOf last ≡ caller
         → StaysOwn main shares last alone → replyTo main shares last alone ≡ replyTo main shares last (after calls)
     own-alone-always kept = own-alone (alike-through main shares caller start start record { within = w; also = w; own = refl } below calls kept)

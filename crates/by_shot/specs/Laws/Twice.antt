@@ -64,7 +64,7 @@ twice rows columns source old old′ r hr past c hc = go (decLt c columns)
 
 -- ---- the words of a row
 
--- Words below 2 ^ 64 in the same row and place, whose bits are the same, are the same.
+-- Two words below 2 ^ 64 at one place of a row are equal if the rows' bits are.
 same-word : (w : ℕ) (l m : List ℕ) (r j : ℕ) → j < w → getD l (r * w + j) 0 < 2 ^ 64 → getD m (r * w + j) 0 < 2 ^ 64
     → ((c : ℕ) → c / 64 < w → bitIn w l r c ≡ bitIn w m r c) → getD l (r * w + j) 0 ≡ getD m (r * w + j) 0
 same-word w l m r j hj fit-l fit-m same =
@@ -82,7 +82,7 @@ over-fits rows columns source old i h =
     let t = transposed rows columns source in
     rw (List·getD-append t (drop (length t) old) 0 i (rw (length-transposed rows columns source) h)) (pack-fits columns rows _ i)
 
--- The words of a row without bits past the last column come back.
+-- A row whose bits past the last column are 0 comes back word for word.
 pub row-twice : (rows columns : ℕ) (source old old′ : List ℕ) → rows * wordsPerRow columns ≤ length source → ((i : ℕ) → getD source i 0 < 2 ^ 64)
     → (r : ℕ) → r < rows → ((c : ℕ) → columns ≤ c → c / 64 < wordsPerRow columns → bitIn (wordsPerRow columns) source r c ≡ false)
     → let w = wordsPerRow columns in

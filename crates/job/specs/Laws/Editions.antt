@@ -1,14 +1,15 @@
--- A header of the second edition has no form of the first: laws. Assumes nothing.
+-- A header with the field `edition` has no form of the first edition: laws. Assumes nothing.
 use Prim.Native.Nat.{ℕ, suc}
 use native.Mathlib.Omega.{arith}
-use mathlib.Core.Path.{_≡_, refl, sym, ap, _∙_}
+use mathlib.Core.Path.{_≡_, refl, sym, ap, subst, _∙_}
 use mathlib.Core.Bool.{Bool, true, false, true≢false, cond, not, _&&_}
 use mathlib.Core.List.{List, [], _∷_, _++_}
 use mathlib.Core.Option.{Option, none, some}
 use lib.Dec.{eqb, leb}
 use lib.ListN.{length, drop, take-append-drop}
 use Rattle.pauli.specs.Gate.{Gate}
-use Rattle.text.specs.Bytes.{bytes, lines}
+use Rattle.text.specs.Bytes.{bytes, behind, lines}
+use Rattle.text.specs.Laws.Places.{literals}
 use Rattle.text.specs.Template.{Value, valuesOf, numberAt, listAt}
 use Rattle.job.specs.declared.Header.{Header}
 use Rattle.job.specs.declared.Answer.{Answer}
@@ -16,8 +17,37 @@ use Rattle.job.specs.Clifford.{maxCliffordQubits, tableWords}
 use Rattle.job.specs.Grammar.{Kind, Written, isOne, unitaryLine, cliffordLine, noiseLine, Form, forms, said, orLater, readBy, readLine}
 use Rattle.job.specs.Checks.{Context, noContext, refusalOf}
 use Rattle.job.specs.Job.{answer, wellEnded, isLast, nextOf, checkLines, checkJob, headerOf, jobOfLines, jobOf}
-use Rattle.job.specs.Editions.{firstForms, checkLinesBy, checkJobBy}
+use Rattle.job.specs.Marks.{markOf}
+use Rattle.job.specs.Editions.{firstForms, editionTemplate, checkLinesBy, checkJobBy}
 use Rattle.job.specs.Sound.{Every}
+use Rattle.job.specs.Laws.Dispatch.{hasMark, mark-same, without, marked, no-form}
+
+-- ---- the field
+
+edition-marked : hasMark editionTemplate ≡ true
+unfolding hasMark behind literals bytes
+edition-marked = refl
+
+first-marked : marked firstForms ≡ true
+unfolding marked without hasMark markOf behind literals firstForms forms bytes
+first-marked = refl
+
+-- no form of the first edition has the mark of such a header
+first-without : without (markOf editionTemplate) firstForms ≡ true
+unfolding without markOf behind firstForms forms bytes
+first-without = refl
+
+pub field-unread : (l : List ℕ) (v : List Value) → valuesOf editionTemplate l ≡ some v → readBy firstForms l ≡ none
+field-unread l v e =
+    no-form firstForms l first-marked
+    (subst (λ (k : ℕ). without k firstForms ≡ true) (sym (mark-same editionTemplate l v edition-marked e)) first-without)
+
+pub field-refused : (job text : List ℕ) (rest : List (List ℕ)) (v : List Value) → wellEnded job ≡ true → lines job ≡ text ∷ rest
+    → valuesOf editionTemplate text ≡ some v → checkJobBy firstForms job ≡ answer 2 1
+unfolding checkJobBy checkLinesBy refusalOf
+field-refused job text rest v ended split e = rw (ended, split, field-unread text v e) refl
+
+-- ---- the edition
 
 -- a line that says a header of the second edition
 isSecondHeader : Option Written → Bool
@@ -93,7 +123,7 @@ read-later (f ∷ fs) gs l n e =
     go none q later e = unfold orLater in later e
     go (some w) q later e = unfold orLater in absurd (true≢false (sym e ∙ q))
 
-pub second-unread : (l : List ℕ) (h : Header) → readLine l ≡ some (Written.header h) → h .edition ≡ 2 → readBy firstForms l ≡ none
+second-unread : (l : List ℕ) (h : Header) → readLine l ≡ some (Written.header h) → h .edition ≡ 2 → readBy firstForms l ≡ none
 unfolding readLine firstForms isSecondHeader
 second-unread l h reads two =
     read-later firstForms (drop 19 forms) l none-second

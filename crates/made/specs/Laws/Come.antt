@@ -20,7 +20,7 @@ use Rattle.job.specs.Sound.{instructionsOf, HeaderSound}
 use Rattle.made.specs.Choice.{Chosen, Choice, given, _>>=_, pick, stretch}
 use Rattle.made.specs.Making
 use Rattle.made.specs.Made.{madeTexts, madeHeader, madeText}
-use Rattle.made.specs.Kinds.{LineKind, lineKind, kindOf, Among, OfKind, needsOf, Allowed, gateSeed, kindSeed}
+use Rattle.made.specs.Kinds.{LineKind, lineKind, kindOf, StandsAt, OfKind, needsOf, Allowed, gateSeed, kindSeed, placeOf}
 use Rattle.made.specs.Laws.Choice.{Always, cyclic-length}
 use Rattle.made.specs.Laws.Lines as lines
 use Rattle.made.specs.Laws.Operands as operands
@@ -43,7 +43,7 @@ module _ (qubits outcomes shots : ℕ) (range : inRange (headerWith 1 qubits out
 
   -- what the first instruction is
   first-comes : {Is : Instruction → Type 0} (seed : ℕ) → 1 ≤ total → (c : Chosen Making.Made) → Making.instruction (headerOn seed) 0 (step seed) ≡ c
-      → Makes (headerOn seed) 0 Is (c .value) → Among Is (madeInstructions qubits outcomes shots total seed)
+      → Makes (headerOn seed) 0 Is (c .value) → StandsAt 0 Is (madeInstructions qubits outcomes shots total seed)
   unfolding madeTexts made-more
   first-comes {Is = Is} seed some-lines c e a =
       let n = total - 1 in
@@ -52,14 +52,17 @@ module _ (qubits outcomes shots : ℕ) (range : inRange (headerWith 1 qubits out
       let i = Making.instruction h 0 (step seed) in
       let m : Makes h 0 Is (i .value) = rw e a in
       let k : MadeKnown h 0 (suc n) (madeTexts h (suc n) 0 (step seed)) = made-more m (made-known h (fits seed) n (i .value .recorded) (i .state) (m .within)) in
-      let found : Among Is (madeInstructions qubits outcomes shots (suc n) seed) =
-      record { before = []; instruction = m .instruction; is = m .is; behind = _; split = text-instructions qubits outcomes shots seed range (suc n) k } in
+      let found : StandsAt 0 Is (madeInstructions qubits outcomes shots (suc n) seed) =
+      record {
+        among = record { before = []; instruction = m .instruction; is = m .is; behind = _; split = text-instructions qubits outcomes shots seed range (suc n) k };
+        place-is = refl;
+      } in
       rw all at found
 
   -- what the second is
   second-comes : {Is Js : Instruction → Type 0} (seed : ℕ) → 2 ≤ total → (c d : Chosen Making.Made) → Making.instruction (headerOn seed) 0 (step seed) ≡ c
       → Making.instruction (headerOn seed) (c .value .recorded) (c .state) ≡ d → Makes (headerOn seed) 0 Is (c .value)
-      → Makes (headerOn seed) (c .value .recorded) Js (d .value) → Among Js (madeInstructions qubits outcomes shots total seed)
+      → Makes (headerOn seed) (c .value .recorded) Js (d .value) → StandsAt 1 Js (madeInstructions qubits outcomes shots total seed)
   unfolding madeTexts made-more
   second-comes {Is = Is} {Js = Js} seed two-lines c d e f a b =
       let n = total - 2 in
@@ -71,8 +74,12 @@ module _ (qubits outcomes shots : ℕ) (range : inRange (headerWith 1 qubits out
       let l : Makes h (i .value .recorded) Js (j .value) = rw (e, f) b in
       let k : MadeKnown h 0 (suc (suc n)) (madeTexts h (suc (suc n)) 0 (step seed)) =
       made-more m (made-more l (made-known h (fits seed) n (j .value .recorded) (j .state) (l .within))) in
-      let found : Among Js (madeInstructions qubits outcomes shots (suc (suc n)) seed) =
-      record { before = m .instruction ∷ []; instruction = l .instruction; is = l .is; behind = _; split = text-instructions qubits outcomes shots seed range (suc (suc n)) k } in
+      let found : StandsAt 1 Js (madeInstructions qubits outcomes shots (suc (suc n)) seed) =
+      record {
+        among =
+            record { before = m .instruction ∷ []; instruction = l .instruction; is = l .is; behind = _; split = text-instructions qubits outcomes shots seed range (suc (suc n)) k };
+        place-is = refl;
+      } in
       rw all at found
 
   -- opens what chooses the kind of a line
@@ -80,20 +87,20 @@ module _ (qubits outcomes shots : ℕ) (range : inRange (headerWith 1 qubits out
   unfolding Making.instruction Making.ring Making.firstStanding _>>=_ pick left right step madeHeader
   choosing = tt
 
-  -- the seed is none that is refused, and the kind comes up
-  pub record KindComes (seed : ℕ) (kind : LineKind) : Type 0 where
+  -- the seed is none that is refused, and the kind comes up at this place
+  pub record ComesAt (place seed : ℕ) (kind : LineKind) : Type 0 where
     pub seeded : seed ≡ 0 → ⊥
-    pub among : Among (OfKind kind) (madeInstructions qubits outcomes shots total seed)
+    pub stands : StandsAt place (OfKind kind) (madeInstructions qubits outcomes shots total seed)
 
   -- the second word chooses the kind of the first line
   by-word : 1 ≤ total → (seed : ℕ) (kind : LineKind) (made : Header → Choice Making.Made) → (seed ≡ 0 → ⊥)
       → Making.instruction (headerOn seed) 0 (step seed) ≡ made (headerOn seed) (step (step seed))
-      → Makes (headerOn seed) 0 (OfKind kind) (made (headerOn seed) (step (step seed)) .value) → KindComes seed kind
-  by-word some-lines seed kind made seeded e a = record { seeded = seeded; among = first-comes seed some-lines (made (headerOn seed) (step (step seed))) e a }
+      → Makes (headerOn seed) 0 (OfKind kind) (made (headerOn seed) (step (step seed)) .value) → ComesAt 0 seed kind
+  by-word some-lines seed kind made seeded e a = record { seeded = seeded; stands = first-comes seed some-lines (made (headerOn seed) (step (step seed))) e a }
 
   plain : 1 ≤ total → (seed : ℕ) (kind : LineKind) (made : Header → Choice Making.Made) → (seed ≡ 0 → ⊥)
       → Making.instruction (headerOn seed) 0 (step seed) ≡ made (headerOn seed) (step (step seed)) → Always (Makes (headerOn seed) 0 (OfKind kind)) (made (headerOn seed))
-      → KindComes seed kind
+      → ComesAt 0 seed kind
   plain some-lines seed kind made seeded e a = by-word some-lines seed kind made seeded e (a .from (step (step seed)))
 
   -- ---- gates
@@ -101,7 +108,7 @@ module _ (qubits outcomes shots : ℕ) (range : inRange (headerWith 1 qubits out
   -- the third word chooses the code, on one qubit and on more
   by-code : 1 ≤ total → (seed : ℕ) (g : Gate) → (seed ≡ 0 → ⊥) → Making.instruction (headerOn seed) 0 (step seed) ≡ Making.unitary (headerOn seed) 0 (step (step seed))
       → (eqb qubits 1 ≡ true → gateOf (step (step (step seed)) % Making.gateCodes (headerOn seed) 0) ≡ some g)
-      → (eqb qubits 1 ≡ false → gateOf (step (step (step seed)) % Making.gateCodes (headerOn seed) 0) ≡ some g) → KindComes seed (LineKind.unitary g)
+      → (eqb qubits 1 ≡ false → gateOf (step (step (step seed)) % Making.gateCodes (headerOn seed) 0) ≡ some g) → ComesAt 0 seed (LineKind.unitary g)
   by-code some-lines seed g seeded e one more =
       by-word some-lines seed _ (λ h. Making.unitary h 0) seeded e
       (makes-as (λ i is. is g (go (eqb qubits 1) refl)) (operands.unitary-makes (headerOn seed) (fits seed) 0 (omega arith) (step (step seed))))
@@ -110,7 +117,7 @@ module _ (qubits outcomes shots : ℕ) (range : inRange (headerWith 1 qubits out
       go true f = one f
       go false f = more f
 
-  gate-comes : 1 ≤ total → (g : Gate) → operandsOf g ≤ qubits → KindComes (gateSeed g) (LineKind.unitary g)
+  gate-comes : 1 ≤ total → (g : Gate) → operandsOf g ≤ qubits → ComesAt 0 (gateSeed g) (LineKind.unitary g)
   unfolding gateSeed operandsOf choosing Making.gateCodes gateOf gates gateFrom
   gate-comes some-lines Gate.I few = by-code some-lines 1951 Gate.I (λ z. omega arith) refl (λ f. rw f) (λ f. rw f)
   gate-comes some-lines Gate.X few = by-code some-lines 3999 Gate.X (λ z. omega arith) refl (λ f. rw f) (λ f. rw f)
@@ -132,7 +139,7 @@ module _ (qubits outcomes shots : ℕ) (range : inRange (headerWith 1 qubits out
   -- ---- resets
 
   by-reset : 1 ≤ total → (seed : ℕ) (kind : LineKind) → (seed ≡ 0 → ⊥) → Making.instruction (headerOn seed) 0 (step seed) ≡ Making.reset (headerOn seed) 0 (step (step seed))
-      → lineKind (Line.reset (Making.resetQubits (headerOn seed) 0 (step (step seed)) .value)) ≡ kind → KindComes seed kind
+      → lineKind (Line.reset (Making.resetQubits (headerOn seed) 0 (step (step seed)) .value)) ≡ kind → ComesAt 0 seed kind
   unfolding kindOf
   by-reset some-lines seed kind seeded e k =
       by-word some-lines seed kind (λ h. Making.reset h 0) seeded e
@@ -147,18 +154,18 @@ module _ (qubits outcomes shots : ℕ) (range : inRange (headerWith 1 qubits out
       let more : 0 < k = ltb-true 0 k (same-at (λ (j : ℕ). ltb 0 (word % j)) (λ (j : ℕ). true) 2 7 refl (min qubits 8) (omega arith) (omega arith)) in
       omega (arith, cyclic-length (suc k) qubits (step word % qubits))
 
-  reset-list-comes : 1 ≤ total → 2 ≤ qubits → KindComes 5 LineKind.resetList
+  reset-list-comes : 1 ≤ total → 2 ≤ qubits → ComesAt 0 5 LineKind.resetList
   unfolding choosing lineKind
   reset-list-comes some-lines two = by-reset some-lines 5 _ (λ z. omega arith) refl (rw (lt-ltb 1 _ (several two)))
 
-  reset-comes : 1 ≤ total → KindComes 26 LineKind.reset
+  reset-comes : 1 ≤ total → ComesAt 0 26 LineKind.reset
   unfolding choosing lineKind Making.resetQubits given
   reset-comes some-lines = by-reset some-lines 26 _ (λ z. omega arith) refl refl
 
   -- ---- every kind
 
-  pub kind-comes : (kind : LineKind) → Allowed qubits outcomes total kind → KindComes (kindSeed kind) kind
-  unfolding kindSeed needsOf choosing Making.allocate given
+  pub kind-comes : (kind : LineKind) → Allowed qubits outcomes total kind → ComesAt (placeOf kind) (kindSeed kind) kind
+  unfolding kindSeed placeOf needsOf choosing Making.allocate given
   kind-comes (LineKind.unitary g) a = gate-comes (a .enough-lines) g (a .enough-qubits)
   kind-comes LineKind.clifford a = plain (a .enough-lines) 3 _ (λ h. Making.clifford h 0) (λ z. omega arith) refl (tables.clifford-makes (headerOn 3) (fits 3) 0 (omega arith))
   kind-comes LineKind.pauli a = plain (a .enough-lines) 11 _ (λ h. Making.pauliLine h 0 "op=p x=L z=L") (λ z. omega arith) refl (lines.pauli-makes (headerOn 11) (fits 11) 0 (omega arith))
@@ -188,7 +195,7 @@ module _ (qubits outcomes shots : ℕ) (range : inRange (headerWith 1 qubits out
       let s = step (step 17) in
       record {
         seeded = λ z. omega arith;
-        among =
+        stands =
             second-comes 17 (a .enough-lines) (Making.allocate h 0 s) (Making.flip h 1 (step (step s))) (rw (lt-ltb 0 outcomes (a .enough-outcomes))) refl
             (lines.allocate-makes h (fits 17) 0 (omega arith) (a .enough-outcomes) .from s) (lines.flip-makes h (fits 17) 1 (a .enough-outcomes) (omega arith) .from (step (step s)));
       }
