@@ -133,7 +133,7 @@ edition-one-reader = field-refused
 pub edition-field-unread : (l : List ℕ) (v : List Value) → valuesOf editionTemplate l ≡ some v → readBy firstForms l ≡ none
 edition-field-unread = field-unread
 
--- So an edition 1 reader refuses a job of the second edition, which the field alone can make.
+-- An edition 1 reader refuses a job of the second edition by 2, at line 1.
 pub second-edition-refused : (job : List ℕ) → wellEnded job ≡ true → jobOf job .header .edition ≡ 2 → checkJobBy firstForms job ≡ answer 2 1
 second-edition-refused = second-refused
 
