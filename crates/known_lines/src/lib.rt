@@ -114,7 +114,9 @@ fn read_known_gate(line: &[u8], fields: &mut [u64])
 {
     let g = read_gate(line);
     set_number(&mut *fields, GATE, g.code);
-    set_few(fields, OPERANDS, g.count, g.first, g.second);
+    let first = g.first;
+    let second = g.second;
+    set_few(fields, OPERANDS, g.count, first.0 as u64, second.0 as u64);
 }
 
 // The fewest bytes of a gate line, `op=u g=0 q=0`, and of `x=- z=-`, with which an element line ends. None of them is an LF.
