@@ -44,9 +44,10 @@ int main(void)
     uint64_t *main_words = lent(main_len), *second_words = lent(0);
     uint64_t seed = 0x9e3779b97f4a7c15u, odd = 0;
     for (int run = 0; answer.number == 0 && run < RUNS; run++) {
-        kundatrezo_fill(seed, main_words, main_len);
+        answer = kundatrezo_fill(seed, main_words, main_len);
         seed = main_words[main_len - 1]; /* the stream goes on from the last word */
-        answer = kundatrezo_run(job, job_len, x, frame, z, frame, deltas, outcome, noiseless, outcome, main_words, main_len, second_words, 0, 0);
+        if (answer.number == 0)
+            answer = kundatrezo_run(job, job_len, x, frame, z, frame, deltas, outcome, noiseless, outcome, main_words, main_len, second_words, 0, 0);
         for (size_t word = 0; word < row; word++)
             odd += ones(deltas[4 * row + word] ^ deltas[5 * row + word] ^ deltas[6 * row + word]);
     }

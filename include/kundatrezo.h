@@ -10,9 +10,12 @@
  *
  * - Pointers are not null, not even that of an empty list, as data() of an empty std::vector may be: lend any aligned address with length 0.
  * - Pointers to uint64_t are aligned to 8 bytes.
- * - The memory is as long as is said, and initialised, that which a call writes included.
+ * - The memory is as long as is said. What a call reads is initialised: the job, words, sets, rows and, though they are written too, marks. What it only
+ *   writes (x, z, deltas and totals of a run, words of fill, out) need not be.
  * - What a call writes overlaps with no other list of the call. Lists that it only reads may overlap.
- * - While a call runs, no other thread writes what it reads, or touches what it writes. Calls on memory of their own may run at the same time.
+ * - While a call runs, nothing else writes what it reads, or touches what it writes: no other thread, and no other process through shared memory or a mapped
+ *   file. A call tests a job and then reads it again, relying on the tests: a job that changes in between can make it write out of bounds. Copy a job that
+ *   others can change into memory of your own, and lend the copy. Calls on memory of their own may run at the same time.
  * - The stack has room: see KUNDATREZO_RUN_STACK and those beside it.
  * - The floating-point state is the one that a program starts with: round to nearest, subnormal numbers on, no trap. With subnormals off, as in a program
  *   linked with -ffast-math, or another rounding, probabilities and weights are read wrongly and rates are wrong. kundatrezo_float_state_ok tests it.
@@ -23,9 +26,20 @@
 #ifndef KUNDATREZO_H
 #define KUNDATREZO_H
 
+#if !defined(__x86_64__) || !defined(__linux__) || defined(__ILP32__)
+#error "libkundatrezo.a is compiled for x86-64 Linux with 64-bit pointers; there is none for this target"
+#endif
+
 #include <stddef.h>
 #include <stdint.h>
 #include <xmmintrin.h>
+
+/* Before a call whose answer tells whether its results are there: the compiler warns where it is not looked at. */
+#if defined(__GNUC__)
+#define KUNDATREZO_ANSWERED __attribute__((warn_unused_result))
+#else
+#define KUNDATREZO_ANSWERED
+#endif
 
 #ifdef __cplusplus
 extern "C" {
@@ -164,7 +178,9 @@ static inline int kundatrezo_float_state_ok(void)
     return (_mm_getcsr() & 0xffc0u) == 0x1f80u;
 }
 
-/* The bytes of stack that a call takes at most, those of memcpy and memset and of binding them included. The tests measure them. */
+/* The bytes of stack that a call takes at most, those of memcpy and memset and of binding them included. The tests measure them. They are for the call
+ * alone: a thread whose whole stack has this size has less for the call, since the thread's own data and guard page lie there, too. One page more,
+ * KUNDATREZO_RUN_STACK + 4096 for a thread that only runs jobs, is enough (and at least PTHREAD_STACK_MIN, which the system asks for). */
 #define KUNDATREZO_RUN_STACK 69632    /* with totals and with a share, too */
 #define KUNDATREZO_SETTLE_STACK 45056 /* with a share, too */
 #define KUNDATREZO_CORRELATION_STACK 98304
@@ -177,21 +193,23 @@ static inline int kundatrezo_float_state_ok(void)
 /* The words that x and z of a run need, each. */
 static inline size_t kundatrezo_frame_words(struct kundatrezo_examination job)
 {
-    return (size_t)(job.qubits * KUNDATREZO_ROW_WORDS(job.shots));
+    return job.qubits * KUNDATREZO_ROW_WORDS(job.shots);
 }
 
 /* The words that deltas and noiseless need, each. */
 static inline size_t kundatrezo_outcome_words(struct kundatrezo_examination job)
 {
-    return (size_t)(job.outcomes * KUNDATREZO_ROW_WORDS(job.shots));
+    return job.outcomes * KUNDATREZO_ROW_WORDS(job.shots);
 }
 
 /* ---- the calls */
 
 /* The tests of a job: number 0 if the job is accepted, else the first bad line and its lowest number. Nothing is written. */
+KUNDATREZO_ANSWERED
 struct kundatrezo_answer kundatrezo_check(const uint8_t *job, size_t job_len);
 
 /* The same tests, and of an accepted job the numbers that a caller needs to lend memory for it. Nothing is written. */
+KUNDATREZO_ANSWERED
 struct kundatrezo_examination kundatrezo_examine(const uint8_t *job, size_t job_len);
 
 /* A run of all shots from cleared frames.
@@ -204,6 +222,7 @@ struct kundatrezo_examination kundatrezo_examine(const uint8_t *job, size_t job_
  *
  * x, z and deltas are written: the words that the header needs hold the frames and deltas at the end, their bits past the last shot 0; words beyond them
  * stay. Bits of noiseless past the last shot are not looked at. A refusal writes nothing, but for KUNDATREZO_DRAWS, which leaves the needed words 0. */
+KUNDATREZO_ANSWERED
 struct kundatrezo_answer kundatrezo_run(const uint8_t *job, size_t job_len, uint64_t *x, size_t x_len, uint64_t *z, size_t z_len, uint64_t *deltas,
                                         size_t deltas_len, const uint64_t *noiseless, size_t noiseless_len, const uint64_t *main_words,
                                         size_t main_len, const uint64_t *second, size_t second_len, uint64_t base);
@@ -211,6 +230,7 @@ struct kundatrezo_answer kundatrezo_run(const uint8_t *job, size_t job_len, uint
 /* The same run, which also counts for each outcome the shots in which it is flipped: totals has a number for each outcome of the header, and becomes the ones
  * in its row of deltas; that of an outcome which no line records is 0. Numbers beyond the header's outcomes stay. A list that is shorter than the outcomes is
  * refused by KUNDATREZO_WORDS, and KUNDATREZO_DRAWS leaves the numbers of the header's outcomes 0. */
+KUNDATREZO_ANSWERED
 struct kundatrezo_answer kundatrezo_run_totals(const uint8_t *job, size_t job_len, uint64_t *x, size_t x_len, uint64_t *z, size_t z_len, uint64_t *deltas,
                                                size_t deltas_len, uint64_t *totals, size_t totals_len, const uint64_t *noiseless, size_t noiseless_len,
                                                const uint64_t *main_words, size_t main_len, const uint64_t *second, size_t second_len,
@@ -219,6 +239,7 @@ struct kundatrezo_answer kundatrezo_run_totals(const uint8_t *job, size_t job_le
 /* Settling: the job with each noise line, with its element lines, replaced by the injections that a run with the same words draws. Bytes of out
  * beyond the text stay, and a refusal writes nothing; the figure of KUNDATREZO_ROOM is exactly the bytes that the text takes, which may be more than
  * KUNDATREZO_MAX_BYTES; with as many lent, and the same draws, a second call succeeds where it is not. */
+KUNDATREZO_ANSWERED
 struct kundatrezo_text_answer kundatrezo_settle(const uint8_t *job, size_t job_len, const uint64_t *noiseless, size_t noiseless_len,
                                                 const uint64_t *main_words, size_t main_len, const uint64_t *second, size_t second_len,
                                                 uint64_t base, uint8_t *out, size_t out_len);
@@ -235,6 +256,9 @@ struct kundatrezo_text_answer kundatrezo_settle(const uint8_t *job, size_t job_l
  * the job took stay taken, and the caller's mark and that of the common part are written. A job that is refused by any other number takes none, and marks stay;
  * so do numbers of marks behind those of the callers and the common part.
  *
+ * How many words a run takes of a list: one caller with no stretch, shares {0} and marks {0, 0}, has the whole list as its common part, and the call leaves in
+ * marks[1] how many words were taken from its front. The next run goes on there, with the marks as they are. A line with a corr takes none of this list.
+ *
  * So no word is handed out twice, and a caller whose jobs stay within the own stretch gets the same whatever the others do. This is so for the same list and
  * shares, and for calls that are made one after the other: no two calls may be lent the same marks at the same time.
  *
@@ -243,6 +267,7 @@ struct kundatrezo_text_answer kundatrezo_settle(const uint8_t *job, size_t job_l
 
 /* The run of kundatrezo_run_totals, with the words that are available to the caller in the place of main_words. What is lent, written and refused is as there,
  * but for the marks. */
+KUNDATREZO_ANSWERED
 struct kundatrezo_answer kundatrezo_run_shared(const uint8_t *job, size_t job_len, uint64_t *x, size_t x_len, uint64_t *z, size_t z_len, uint64_t *deltas,
                                                size_t deltas_len, uint64_t *totals, size_t totals_len, const uint64_t *noiseless, size_t noiseless_len,
                                                const uint64_t *main_words, size_t main_len, const uint64_t *second, size_t second_len, uint64_t base,
@@ -250,6 +275,7 @@ struct kundatrezo_answer kundatrezo_run_shared(const uint8_t *job, size_t job_le
 
 /* Settling with the words that are available to the caller, which it takes as a run does: to settle a job and then run it takes words twice, so run the settled
  * text. KUNDATREZO_ROOM takes none, so that a second call with as many bytes as its figure says draws the same. */
+KUNDATREZO_ANSWERED
 struct kundatrezo_text_answer kundatrezo_settle_shared(const uint8_t *job, size_t job_len, const uint64_t *noiseless, size_t noiseless_len,
                                                        const uint64_t *main_words, size_t main_len, const uint64_t *second, size_t second_len,
                                                        uint64_t base, const uint64_t *shares, size_t shares_len, uint64_t *marks, size_t marks_len,
@@ -259,6 +285,7 @@ struct kundatrezo_text_answer kundatrezo_settle_shared(const uint8_t *job, size_
 
 /* The walk: how many of the job's injections and flips in the shot flip the sum of the outcomes in the set. The job has no noise (settle it first);
  * the set's outcomes rise strictly and are recorded by the job. Nothing is written. */
+KUNDATREZO_ANSWERED
 struct kundatrezo_count_answer kundatrezo_walk(const uint8_t *job, size_t job_len, uint64_t shot, const uint64_t *set, size_t set_len);
 
 /* Annotation: the job with a depolarizing noise line before each measurement and after each gate (u, c, p, e, k, m lines). p_bits is the
@@ -266,10 +293,12 @@ struct kundatrezo_count_answer kundatrezo_walk(const uint8_t *job, size_t job_le
  * and a refusal writes nothing. A qubit that control and target of a k line share stands in its noise line once, with the control's; size= is that of
  * the list as it stands there.
  * KUNDATREZO_ANNOTATION names the first line whose noise line would have more than KUNDATREZO_MAX_MEMBERS. */
+KUNDATREZO_ANSWERED
 struct kundatrezo_text_answer kundatrezo_annotate(const uint8_t *job, size_t job_len, uint64_t p_bits, uint8_t *out, size_t out_len);
 
 /* How many fault locations the job has: twice the qubits of the lines to which annotation adds noise, summed. A qubit that control and target of a k line
  * share counts for both. It counts also where annotation refuses by KUNDATREZO_ANNOTATION or KUNDATREZO_ROOM. Nothing is written. */
+KUNDATREZO_ANSWERED
 struct kundatrezo_count_answer kundatrezo_locations(const uint8_t *job, size_t job_len);
 
 /* The table of single faults: what each possible fault does to groups of outcomes. For each noise line, in the job's order, and each element of its
@@ -287,12 +316,14 @@ struct kundatrezo_count_answer kundatrezo_locations(const uint8_t *job, size_t j
  * is. After that KUNDATREZO_GROUPS refuses no groups or more than KUNDATREZO_MAX_GROUPS, with line 0, and then the first noise line with d=2 over more than
  * KUNDATREZO_MAX_FAULT_QUBITS qubits.
  *
- * Bytes of out beyond the table stay, and a refusal writes nothing. The figure of KUNDATREZO_ROOM is 0: lend KUNDATREZO_MAX_BYTES, more than which no table
- * has. */
+ * Bytes of out beyond the table stay, and a refusal writes nothing. The figure of KUNDATREZO_ROOM is 0: lend KUNDATREZO_MAX_BYTES, more than which no
+ * accepted table has. */
+KUNDATREZO_ANSWERED
 struct kundatrezo_text_answer kundatrezo_fault_table(const uint8_t *job, size_t job_len, const uint64_t *groups, size_t groups_len, uint8_t *out,
                                                      size_t out_len);
 
 /* The correlation check: whether noise lines of one correlation all have one size, as their field size= says it. Nothing is written. */
+KUNDATREZO_ANSWERED
 struct kundatrezo_answer kundatrezo_correlation(const uint8_t *job, size_t job_len);
 
 /* ---- a reproducible load
@@ -304,6 +335,7 @@ struct kundatrezo_answer kundatrezo_correlation(const uint8_t *job, size_t job_l
  * word is the seed by which a further call goes on. A seed of 0 is refused by KUNDATREZO_SEED, also for an empty list, and nothing is written.
  *
  * The streams of small seeds begin alike: for a series of runs take one stream and go on in it, or seeds that are random themselves. */
+KUNDATREZO_ANSWERED
 struct kundatrezo_answer kundatrezo_fill(uint64_t seed, uint64_t *words, size_t words_len);
 
 /* A job made from the same stream, by the rule of docs/MAKING.md: a header with these numbers, of an edition that the stream chooses, and as many lines behind
@@ -311,6 +343,7 @@ struct kundatrezo_answer kundatrezo_fill(uint64_t seed, uint64_t *words, size_t 
  * KUNDATREZO_MAX_BYTES lent, every kind of line that these numbers allow comes up for some seed. Numbers that a header may not hold are refused by
  * KUNDATREZO_HEADER with line 0, then a seed of 0 by KUNDATREZO_SEED, then a text that does not fit by KUNDATREZO_ROOM, whose figure is 0. Up to 1,000 lines
  * always fit KUNDATREZO_MAX_BYTES. Bytes of out beyond the text stay, and a refusal writes nothing. */
+KUNDATREZO_ANSWERED
 struct kundatrezo_text_answer kundatrezo_make(uint64_t qubits, uint64_t outcomes, uint64_t shots, uint64_t lines, uint64_t seed, uint8_t *out,
                                               size_t out_len);
 
@@ -330,10 +363,12 @@ struct kundatrezo_line_part kundatrezo_line(const uint8_t *job, size_t job_len, 
  * KUNDATREZO_ROW_WORDS(outcomes) words for each shot, in order: bit o % 64 of word o / 64 is outcome o, and bits past the last outcome are 0. Bits of deltas
  * past the last shot go nowhere. Counts that a header may not hold are refused by KUNDATREZO_HEADER, and fewer words than that on either side by
  * KUNDATREZO_WORDS, each with line 0. A refusal writes nothing, and words of out beyond the rows stay. */
+KUNDATREZO_ANSWERED
 struct kundatrezo_answer kundatrezo_by_shot(uint64_t outcomes, uint64_t shots, const uint64_t *deltas, size_t deltas_len, uint64_t *out, size_t out_len);
 
 /* The way back: rows by shot become deltas, whose bits past the last shot are 0. Bits of rows past the last outcome go nowhere. The words needed on each side,
  * and what is refused, are as for kundatrezo_by_shot. */
+KUNDATREZO_ANSWERED
 struct kundatrezo_answer kundatrezo_by_outcome(uint64_t outcomes, uint64_t shots, const uint64_t *rows, size_t rows_len, uint64_t *out, size_t out_len);
 
 #ifdef __cplusplus

@@ -287,6 +287,108 @@ static void shared(void)
 #undef SETTLE
 }
 
+/* Each list of the calls that take many of one type in its own part and of its own length, so that two that change places are seen. The main list brings X on
+ * qubit 1 in shot 1, the second one, read from base + 1 on, Z on qubit 0 in shot 64: so x, z, deltas and totals all differ. The base is not the caller's
+ * number. A row has two words. */
+static const char told[] = "op=job qubits=2 outcomes=1 shots=65\n"
+                           "op=n p=3fe0000000000000 corr=- cond=- parity=0 d=1 x=1 z=- size=1\n"
+                           "op=n p=3fe0000000000000 corr=1 cond=- parity=0 d=1 x=- z=0 size=1\n"
+                           "op=o x=- z=1 id=0\n";
+
+#define TOLD (const uint8_t *)told, sizeof told - 1
+#define TOLD_SHOTS 65
+#define TOLD_BASE 2
+
+static const uint64_t told_shares[3] = {3, 2, 1}; /* of the words before the common ones */
+static uint64_t told_main[5 + TOLD_SHOTS], told_second[TOLD_BASE + 1 + TOLD_SHOTS], told_noiseless[2];
+
+/* Words that bring the fault of `shot` alone, from a position on. */
+static void fill_told(uint64_t *words, size_t length, size_t from, size_t shot)
+{
+    for (size_t i = 0; i < length; i++)
+        words[i] = UINT64_MAX;
+    words[from + shot] = 0;
+}
+
+static void expect_told(const char *call, struct kundatrezo_answer got, const uint64_t x[4], const uint64_t z[4], const uint64_t deltas[2])
+{
+    static const uint64_t x_told[4] = {0, 0, 2, 0}, z_told[4] = {0, 1, 0, 0}, deltas_told[2] = {2, 0};
+    int same = memcmp(x, x_told, sizeof x_told) == 0 && memcmp(z, z_told, sizeof z_told) == 0 && memcmp(deltas, deltas_told, sizeof deltas_told) == 0;
+    expect_figure(call, 0, 0, 1, got, (uint64_t)same);
+}
+
+static void expect_told_text(const char *call, struct kundatrezo_text_answer got, const uint8_t *out)
+{
+    static const char settled[] = "op=job qubits=2 outcomes=1 shots=65\nop=i shot=1 x=1 z=-\nop=i shot=64 x=- z=0\nop=o x=- z=1 id=0\n";
+    expect_figure(call, 0, 0, sizeof settled - 1, got.answer, got.figure);
+    expect_figure(call, 0, 0, 0, got.answer, (uint64_t)(memcmp(out, settled, sizeof settled - 1) != 0));
+}
+
+static void lists_apart(void)
+{
+    uint64_t x[4], z[4], deltas[2], totals[1];
+    uint8_t out[200];
+    fill_told(told_second, TOLD_BASE + 1 + TOLD_SHOTS, TOLD_BASE + 1, 64);
+    fill_told(told_main, TOLD_SHOTS, 0, 1);
+    struct kundatrezo_answer got = kundatrezo_run(TOLD, x, 4, z, 4, deltas, 2, told_noiseless, 2, told_main, TOLD_SHOTS, told_second,
+                                                  TOLD_BASE + 1 + TOLD_SHOTS, TOLD_BASE);
+    expect_told("run, each list", got, x, z, deltas);
+    got = kundatrezo_run_totals(TOLD, x, 4, z, 4, deltas, 2, totals, 1, told_noiseless, 2, told_main, TOLD_SHOTS, told_second, TOLD_BASE + 1 + TOLD_SHOTS,
+                                TOLD_BASE);
+    expect_told("run with totals, each list", got, x, z, deltas);
+    expect_figure("run with totals, each list", 0, 0, 1, got, totals[0]);
+    struct kundatrezo_text_answer text = kundatrezo_settle(TOLD, told_noiseless, 2, told_main, TOLD_SHOTS, told_second, TOLD_BASE + 1 + TOLD_SHOTS,
+                                                           TOLD_BASE, out, sizeof out);
+    expect_told_text("settle, each list", text, out);
+}
+
+/* The second of three callers has one of its two words left, which brings no fault; its other words are common ones, of which the first brings one. */
+static void lists_apart_shared(void)
+{
+    uint64_t x[4], z[4], deltas[2], totals[1], marks[4] = {0, 1, 0, 0};
+    uint8_t out[200];
+    size_t main_len = 6 + TOLD_SHOTS - 1;
+    fill_told(told_main, main_len, 5, 1);
+    struct kundatrezo_answer got = kundatrezo_run_shared(TOLD, x, 4, z, 4, deltas, 2, totals, 1, told_noiseless, 2, told_main, main_len, told_second,
+                                                         TOLD_BASE + 1 + TOLD_SHOTS, TOLD_BASE, told_shares, 3, marks, 4, 1);
+    expect_told("run with a share, each list", got, x, z, deltas);
+    expect_figure("run with a share, each list", 0, 0, 1, got, totals[0]);
+    expect_figure("marks of a run with a share", 0, 0, 264, got, 100 * marks[1] + 1000 * (marks[0] + marks[2]) + marks[3]);
+    marks[1] = 1;
+    marks[3] = 0;
+    struct kundatrezo_text_answer text = kundatrezo_settle_shared(TOLD, told_noiseless, 2, told_main, main_len, told_second, TOLD_BASE + 1 + TOLD_SHOTS,
+                                                                  TOLD_BASE, told_shares, 3, marks, 4, 1, out, sizeof out);
+    expect_told_text("settle with a share, each list", text, out);
+}
+
+/* One outcome in 65 shots, flipped in the last one: two words by outcome, 65 by shot. */
+static void by_shot_and_back(void)
+{
+    static const uint64_t deltas[2] = {0, 1};
+    uint64_t rows[65] = {0}, back[2] = {7, 7};
+    struct kundatrezo_answer got = kundatrezo_by_shot(1, 65, deltas, 2, rows, 65);
+    expect_figure("by shot", 0, 0, 1, got, rows[64]);
+    expect_figure("by shot", 0, 0, 0, got, rows[0] | rows[1]);
+    got = kundatrezo_by_outcome(1, 65, rows, 65, back, 2);
+    expect_figure("by outcome", 0, 0, 1, got, back[1]);
+    expect_figure("by outcome", 0, 0, 0, got, back[0]);
+}
+
+/* How many words a run takes of a list: one caller with no stretch, and the next run goes on there. */
+static void words_taken(void)
+{
+    static const char job[] = "op=job qubits=1 outcomes=0 shots=2\nop=n p=3fe0000000000000 corr=- cond=- parity=0 d=1 x=0 z=- size=1\n";
+    static const uint64_t words[5] = {0, UINT64_MAX, 0, 0, UINT64_MAX}, shares[1] = {0};
+    uint64_t x[1], z[1], none[1], marks[2] = {0, 0};
+    for (uint64_t run = 0; run < 2; run++) {
+        struct kundatrezo_answer got = kundatrezo_run_shared((const uint8_t *)job, sizeof job - 1, x, 1, z, 1, none, 0, none, 0, none, 0, words, 5, none, 0, 0,
+                                                             shares, 1, marks, 2, 0);
+        expect_figure("words that a run takes", 0, 0, 2 * run + 2, got, marks[1]);
+        expect_figure("a run that goes on in a list", 0, 0, run == 0 ? 1 : 3, got, x[0]);
+        expect_figure("the mark of a caller with no stretch", 0, 0, 0, got, marks[0]);
+    }
+}
+
 static void annotate(void)
 {
     static const char measured[] = "op=job qubits=1 outcomes=1 shots=1\nop=o x=- z=0 id=0\n";
@@ -447,6 +549,10 @@ int main(void)
     encode();
     settle();
     shared();
+    lists_apart();
+    lists_apart_shared();
+    by_shot_and_back();
+    words_taken();
     walk();
     annotate();
     annotate_shared();

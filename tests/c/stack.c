@@ -1,6 +1,8 @@
 /* The stack that each call takes, against what the header states. A call runs on a stack that was painted before, in a process of its own, so that it also
  * binds the memcpy and memset that it uses. The jobs have every form of line, so that each part of a call runs. */
 #define _XOPEN_SOURCE 700
+#include <limits.h>
+#include <pthread.h>
 #include <stdio.h>
 #include <sys/wait.h>
 #include <ucontext.h>
@@ -60,25 +62,28 @@ static const char plain[] = PLAIN, noisy[] = PLAIN WIDE NOISE, narrow[] = PLAIN 
 static uint8_t out[KUNDATREZO_MAX_BYTES];
 static uint64_t x[200], z[200], deltas[40], totals[4], noiseless[40], main_words[5000], second[5000], set[] = {0, 2};
 
+/* what the calls answer, for which nobody asks here */
+static uint64_t refusals;
+
 static void no_call(void) {}
 
-static void check(void) { kundatrezo_check(NOISY); }
+static void check(void) { refusals += kundatrezo_check(NOISY).number; }
 
-static void examine(void) { kundatrezo_examine(NOISY); }
+static void examine(void) { refusals += kundatrezo_examine(NOISY).answer.number; }
 
 static void run(void)
 {
-    kundatrezo_run(NOISY, x, 200, z, 200, deltas, 40, noiseless, 40, main_words, 5000, second, 5000, 0);
+    refusals += kundatrezo_run(NOISY, x, 200, z, 200, deltas, 40, noiseless, 40, main_words, 5000, second, 5000, 0).number;
 }
 
 static void run_totals(void)
 {
-    kundatrezo_run_totals(NOISY, x, 200, z, 200, deltas, 40, totals, 4, noiseless, 40, main_words, 5000, second, 5000, 0);
+    refusals += kundatrezo_run_totals(NOISY, x, 200, z, 200, deltas, 40, totals, 4, noiseless, 40, main_words, 5000, second, 5000, 0).number;
 }
 
 static void settle(void)
 {
-    kundatrezo_settle(NOISY, noiseless, 40, main_words, 5000, second, 5000, 0, out, sizeof out);
+    refusals += kundatrezo_settle(NOISY, noiseless, 40, main_words, 5000, second, 5000, 0, out, sizeof out).answer.number;
 }
 
 static const uint64_t shares[] = {10, 100, 50};
@@ -86,24 +91,24 @@ static uint64_t marks[4];
 
 static void run_shared(void)
 {
-    kundatrezo_run_shared(NOISY, x, 200, z, 200, deltas, 40, totals, 4, noiseless, 40, main_words, 5000, second, 5000, 0, shares, 3, marks, 4, 1);
+    refusals += kundatrezo_run_shared(NOISY, x, 200, z, 200, deltas, 40, totals, 4, noiseless, 40, main_words, 5000, second, 5000, 0, shares, 3, marks, 4, 1).number;
 }
 
 static void settle_shared(void)
 {
-    kundatrezo_settle_shared(NOISY, noiseless, 40, main_words, 5000, second, 5000, 0, shares, 3, marks, 4, 1, out, sizeof out);
+    refusals += kundatrezo_settle_shared(NOISY, noiseless, 40, main_words, 5000, second, 5000, 0, shares, 3, marks, 4, 1, out, sizeof out).answer.number;
 }
 
-static void walk(void) { kundatrezo_walk(WITHOUT_NOISE, 129, set, 2); }
+static void walk(void) { refusals += kundatrezo_walk(WITHOUT_NOISE, 129, set, 2).answer.number; }
 
-static void annotate(void) { kundatrezo_annotate(NOISY, 0x3fe0000000000000, out, sizeof out); }
+static void annotate(void) { refusals += kundatrezo_annotate(NOISY, 0x3fe0000000000000, out, sizeof out).answer.number; }
 
-static void locations(void) { kundatrezo_locations(NOISY); }
+static void locations(void) { refusals += kundatrezo_locations(NOISY).answer.number; }
 
 /* sixteen groups */
 static uint64_t groups[] = {1, 0, 1, 1, 1, 2, 1, 3, 2, 0, 1, 2, 1, 2, 2, 2, 3, 3, 0, 1, 2, 3, 1, 2, 3, 4, 0, 1, 2, 3, 0, 1, 0, 1, 1, 1, 2, 1, 3, 2, 0, 3};
 
-static void fault_table(void) { kundatrezo_fault_table(WITH_NARROW_NOISE, groups, sizeof groups / sizeof *groups, out, sizeof out); }
+static void fault_table(void) { refusals += kundatrezo_fault_table(WITH_NARROW_NOISE, groups, sizeof groups / sizeof *groups, out, sizeof out).answer.number; }
 
 /* more bytes than the small table of the correlation check is for */
 static uint8_t long_job[20000];
@@ -116,17 +121,17 @@ static void add_to_long_job(const char *text)
         *place++ = (uint8_t)*text++;
 }
 
-static void correlation(void) { kundatrezo_correlation(long_job, long_job_len); }
+static void correlation(void) { refusals += kundatrezo_correlation(long_job, long_job_len).number; }
 
 static void line(void) { kundatrezo_line(NOISY, 20); }
 
-static void fill(void) { kundatrezo_fill(1, main_words, 5000); }
+static void fill(void) { refusals += kundatrezo_fill(1, main_words, 5000).number; }
 
-static void make(void) { kundatrezo_make(256, 1024, 4096, 1000, 1, out, sizeof out); }
+static void make(void) { refusals += kundatrezo_make(256, 1024, 4096, 1000, 1, out, sizeof out).answer.number; }
 
-static void by_shot(void) { kundatrezo_by_shot(130, 129, main_words, 390, second, 387); }
+static void by_shot(void) { refusals += kundatrezo_by_shot(130, 129, main_words, 390, second, 387).number; }
 
-static void by_outcome(void) { kundatrezo_by_outcome(130, 129, main_words, 387, second, 390); }
+static void by_outcome(void) { refusals += kundatrezo_by_outcome(130, 129, main_words, 387, second, 390).number; }
 
 static unsigned char stack[1 << 18];
 static ucontext_t here, there;
@@ -172,12 +177,30 @@ static const struct {
     {"by_outcome", by_outcome, KUNDATREZO_OTHER_STACK},
 };
 
-/* 1 where the call takes more than is stated */
+static void *in_a_thread(void *call)
+{
+    ((void (**)(void))call)[0]();
+    return NULL;
+}
+
+/* 1 if the call ran in a thread whose stack has the stated size and a page. A stack that is too small ends the process. */
+static int runs_in_a_thread(size_t i)
+{
+    pthread_attr_t attributes;
+    pthread_t thread;
+    size_t size = calls[i].stated + 4096 < PTHREAD_STACK_MIN ? PTHREAD_STACK_MIN : calls[i].stated + 4096;
+    void (*call[1])(void) = {calls[i].call};
+    return pthread_attr_init(&attributes) == 0 && pthread_attr_setstacksize(&attributes, size) == 0 &&
+           pthread_create(&thread, &attributes, in_a_thread, call) == 0 && pthread_join(thread, NULL) == 0;
+}
+
+/* 1 where the call takes more than is stated, or does not run in a thread with that and a page */
 static int exceeds(size_t i)
 {
     size_t bytes = taken(calls[i].call) - taken(no_call);
     printf("stack: %s takes %zu of %zu bytes\n", calls[i].name, bytes, calls[i].stated);
-    return bytes > calls[i].stated;
+    fflush(stdout);
+    return bytes > calls[i].stated || !runs_in_a_thread(i);
 }
 
 static int exceeds_in_a_process(size_t i)

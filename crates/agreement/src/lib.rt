@@ -71,10 +71,10 @@ pub fn agree<'a>(
     second: &'a [u64],
     base: u64,
     out: &mut [u8],
-    shot: u64,
+    shot: Shot,
     set: &[u64],
 ) -> Agreement
-    ensures { λ r. ⌜ (agreeReply (now (job .entry)) (record { x = now (x .entry); z = now (z .entry); deltas = now (deltas .entry); totals = now (totals .entry); source = record { noiseless = now (noiseless .entry); main = now (main .entry); second = now (second .entry); base = base } }) (now (out .entry)) shot (now (set .entry)) ≡ record { agreement = r; x = now (x .exit); z = now (z .exit); deltas = now (deltas .exit); totals = now (totals .exit); out = now (out .exit) }) × (r .answer .number ≡ 0 → r .agrees ≡ true) ⌝ }
+    ensures { λ r. ⌜ (agreeReply (now (job .entry)) (record { x = now (x .entry); z = now (z .entry); deltas = now (deltas .entry); totals = now (totals .entry); source = record { noiseless = now (noiseless .entry); main = now (main .entry); second = now (second .entry); base = base } }) (now (out .entry)) (shot .0) (now (set .entry)) ≡ record { agreement = r; x = now (x .exit); z = now (z .exit); deltas = now (deltas .exit); totals = now (totals .exit); out = now (out .exit) }) × (r .answer .number ≡ 0 → r .agrees ≡ true) ⌝ }
 {
     let ran = run(
         job,
@@ -101,7 +101,7 @@ pub fn agree<'a>(
     if answer.number != 0 {
         return refused(Call::Walk, answer, figure);
     }
-    let sum = delta_sum(deltas, row_words(job), Shot(shot as usize), set);
+    let sum = delta_sum(deltas, row_words(job), shot, set);
     let count = walked.count;
     Agreement {
         call: Call::Walk,

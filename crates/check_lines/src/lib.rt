@@ -5,6 +5,7 @@ ghost use mathlib.Core.Bool.{_&&_};
 ghost use mathlib.Core.List.{List, [], _∷_};
 ghost use mathlib.Core.Option.{some};
 ghost use Prim.Native.Nat.{ℕ, _+_, _^_, _≤_, _<_};
+ghost use lib.Dec.{ltb};
 ghost use Rattle.text.specs.Template.{Value, listAt};
 ghost use Rattle.template.specs.Values.{Whole};
 ghost use Rattle.template.specs.Fields.{Held};
@@ -28,6 +29,8 @@ use check_values::lists::pauli_number;
 use check_values::lists::short;
 use check_values::lists::slot_distinct;
 use job::refusals;
+use pauli::OutcomeId;
+use pauli::Shot;
 use reader::Form;
 use reader::slots::FLIPPED;
 use reader::slots::GATE;
@@ -158,13 +161,14 @@ pub fn permute_number(c: Context, f: &[u64]) -> u64
 }
 
 // 8: an outcome that is not the next one, or not below the header's number of them.
-pub fn id_number(c: Context, id: u64) -> u64
-    ensures { λ r. ⌜ r ≡ lowest (idTest (contextOf c) id ∷ []) ⌝ }
+fn id_number(c: Context, id: OutcomeId) -> u64
+    ensures { λ r. ⌜ r ≡ lowest (idTest (contextOf c) (id .0) ∷ []) ⌝ }
 {
-    if id != c.recorded {
+    let n = id.0 as u64;
+    if n != c.recorded {
         return refusals::NEXT_ID;
     }
-    if c.header.outcomes <= id {
+    if c.header.outcomes <= n {
         return refusals::NEXT_ID;
     }
     0
@@ -178,7 +182,14 @@ pub fn measure_number(c: Context, f: &[u64]) -> u64
     if refusal != 0 {
         return refusal;
     }
-    id_number(c, number(f, ID))
+    id_number(c, OutcomeId(number(f, ID) as usize))
+}
+
+pub fn allocate_number(c: Context, f: &[u64]) -> u64
+    requires { ⌜ Whole (now f) ⌝ }
+    ensures { λ r. ⌜ ((vs : List Value) (w : Written) → Said form.Allocate (now (f .entry)) vs w → r ≡ lowest (ownTests (contextOf c) w)) ⌝ }
+{
+    id_number(c, OutcomeId(number(f, ID) as usize))
 }
 
 pub fn conditional_number(c: Context, f: &[u64]) -> u64
@@ -197,6 +208,20 @@ pub fn conditional_number(c: Context, f: &[u64]) -> u64
     0
 }
 
+// Whether an outcome is recorded before the line.
+fn is_recorded(c: Context, id: OutcomeId) -> bool
+    ensures { λ r. ⌜ r ≡ ltb (id .0) (c .recorded) ⌝ }
+{
+    (id.0 as u64) < c.recorded
+}
+
+// Whether the job has a shot.
+fn has_shot(c: Context, shot: Shot) -> bool
+    ensures { λ r. ⌜ r ≡ ltb (shot .0) (c .header .shots) ⌝ }
+{
+    (shot.0 as u64) < c.header.shots
+}
+
 pub fn inject_number(c: Context, f: &[u64]) -> u64
     requires { ⌜ Whole (now f) ⌝ }
     ensures { λ r. ⌜ ((vs : List Value) (w : Written) → Said form.Inject (now (f .entry)) vs w → r ≡ lowest (ownTests (contextOf c) w)) ⌝ }
@@ -205,7 +230,7 @@ pub fn inject_number(c: Context, f: &[u64]) -> u64
     if refusal != 0 {
         return refusal;
     }
-    if c.header.shots <= number(f, SHOT) {
+    if !has_shot(c, Shot(number(f, SHOT) as usize)) {
         return refusals::SHOT;
     }
     0
@@ -215,10 +240,10 @@ pub fn flip_number(c: Context, f: &[u64]) -> u64
     requires { ⌜ Whole (now f) ⌝ }
     ensures { λ r. ⌜ ((vs : List Value) (w : Written) → Said form.Flip (now (f .entry)) vs w → r ≡ lowest (ownTests (contextOf c) w)) ⌝ }
 {
-    if c.recorded <= number(f, FLIPPED) {
+    if !is_recorded(c, OutcomeId(number(f, FLIPPED) as usize)) {
         return refusals::NOT_RECORDED;
     }
-    if c.header.shots <= number(f, SHOT) {
+    if !has_shot(c, Shot(number(f, SHOT) as usize)) {
         return refusals::SHOT;
     }
     0

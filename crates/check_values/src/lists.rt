@@ -15,6 +15,8 @@ ghost use Rattle.check_values.specs.Marks.{Unmarked, MarksOf};
 use job::limits::MAX_MEMBERS;
 use job::limits::MAX_QUBITS;
 use job::refusals;
+use pauli::QubitId;
+use pauli::qubit_at;
 use template::values::count;
 use template::values::largest;
 use template::values::list;
@@ -113,37 +115,38 @@ pub fn slot_distinct(f: &[u64], slot: usize) -> bool
     distinct(list(f, slot))
 }
 
-// Marks a number, if it has a mark.
-fn mark(marks: &mut [bool], n: usize)
-    ensures { λ _. ⌜ now (marks .exit) ≡ set (now (marks .entry)) n true ⌝ }
+// Marks a qubit, if it has a mark.
+fn mark(marks: &mut [bool], qubit: QubitId)
+    ensures { λ _. ⌜ now (marks .exit) ≡ set (now (marks .entry)) (qubit .0) true ⌝ }
 {
+    let n = qubit.0;
     if n < marks.len() {
         marks[n] = true;
     }
 }
 
-// Marks the members.
+// Marks the qubits of a list.
 fn mark_all(marks: &mut [bool], members: &[u64])
     requires { ⌜ Unmarked (now marks) ⌝ }
     ensures { λ _. ⌜ MarksOf (now (marks .exit)) (now (members .entry)) ⌝ }
 {
     let mut i = 0;
     while i < members.len() {
-        mark(marks, members[i] as usize);
+        mark(marks, qubit_at(members, i));
         i += 1;
     }
 }
 
-// Whether n is among the members, by its mark; one that has none is looked for.
-fn is_marked(marks: &[bool], members: &[u64], n: u64) -> bool
+// Whether a qubit is among the members, by its mark; one that has none is looked for.
+fn is_marked(marks: &[bool], members: &[u64], qubit: QubitId) -> bool
     requires { ⌜ MarksOf (now marks) (now members) ⌝ }
-    ensures { λ r. ⌜ r ≡ among (now (members .entry)) n ⌝ }
+    ensures { λ r. ⌜ r ≡ among (now (members .entry)) (qubit .0) ⌝ }
 {
-    let k = n as usize;
-    if k < marks.len() {
-        return marks[k];
+    let n = qubit.0;
+    if n < marks.len() {
+        return marks[n];
     }
-    contains(members, n)
+    contains(members, n as u64)
 }
 
 // Whether two rising lists have an odd number of members in common. Every qubit of a job has a mark, so that no member is looked for and no turn
@@ -156,7 +159,7 @@ pub fn overlap_is_odd(a: &[u64], b: &[u64]) -> bool
     let mut odd = false;
     let mut i = 0;
     while i < a.len() {
-        odd = odd != is_marked(&marks, b, a[i]);
+        odd = odd != is_marked(&marks, b, qubit_at(a, i));
         i += 1;
     }
     odd

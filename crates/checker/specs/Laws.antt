@@ -3,3 +3,5 @@
 pub mod Contexts
 -- A job line by line.
 pub mod Job
+-- A pass over a job's lines.
+pub mod Passing

@@ -10,6 +10,7 @@ ghost use Rattle.job.specs.Grammar.{Written};
 ghost use Rattle.job.specs.Checks.{lowest, ownTests, expected as Checks·expected, next as Checks·next, refusalOf};
 ghost use Rattle.reader.specs.Parsed.{isUnread, Said};
 ghost use Rattle.check_values.specs.Contexts.{contextOf};
+use check_lines::allocate_number;
 use check_lines::clifford_number;
 use check_lines::conditional_number;
 use check_lines::controlled_number;
@@ -24,7 +25,6 @@ use check_lines::flip_number;
 use check_lines::header::edition_number;
 use check_lines::header::header_after;
 use check_lines::header::header_fits;
-use check_lines::id_number;
 use check_lines::inject_number;
 use check_lines::measure_number;
 use check_lines::noise_lines::depolarizing_number;
@@ -39,7 +39,6 @@ use check_values::lists::pauli_number;
 use job::refusals;
 use reader::Form;
 use reader::slots::EDITION;
-use reader::slots::ID;
 use reader::slots::PAULI_END;
 use reader::slots::X;
 use template::values::number;
@@ -59,7 +58,7 @@ fn own_number(c: Context, form: Form, f: &[u64]) -> u64
         Form::Controlled => controlled_number(c, f),
         Form::Permute => permute_number(c, f),
         Form::Measure => measure_number(c, f),
-        Form::Allocate => id_number(c, number(f, ID)),
+        Form::Allocate => allocate_number(c, f),
         Form::Conditional => conditional_number(c, f),
         Form::Reset => operands_number(f, c.header.qubits),
         Form::Inject => inject_number(c, f),

@@ -3,7 +3,9 @@ use faults::elements::element_x;
 use faults::elements::element_z;
 use noise::PauliDistribution;
 use noise::PauliFault;
+use pauli::QubitId;
 use pauli::Shot;
+use pauli::qubit_at;
 use rows::Shape;
 use shots::NextFault;
 use shots::next_fault;
@@ -24,15 +26,15 @@ ghost use Rattle.execution.specs.Injected.{ListedHeld, ElementReady, Ele
 
 // ---- The elements of d=2
 
-// Adds 1 to a bit of a row, if asked to.
-fn flip_if(rows: &mut [u64], width: usize, row: usize, shot: Shot, on: bool)
-    requires { ⌜ (row * width + width ≤ length (now rows)) × (shot .0 < 64 * width) ⌝ }
-    ensures { λ _. ⌜ now (rows .exit) ≡ cond on (flipped width (shot .0) row (now (rows .entry))) (now (rows .entry)) ⌝ }
+// Adds 1 to a qubit's bit in one shot, if asked to.
+fn flip_if(rows: &mut [u64], width: usize, qubit: QubitId, shot: Shot, on: bool)
+    requires { ⌜ (qubit .0 * width + width ≤ length (now rows)) × (shot .0 < 64 * width) ⌝ }
+    ensures { λ _. ⌜ now (rows .exit) ≡ cond on (flipped width (shot .0) (qubit .0) (now (rows .entry))) (now (rows .entry)) ⌝ }
 {
     if !on {
         return;
     }
-    row_loops::flip_bit(rows, width, row, shot.0);
+    row_loops::flip_bit(rows, width, qubit.0, shot);
 }
 
 // Adds 1, in one shot, to the rows of the qubits whose bit is set in `bits`, which has two for each qubit; the lower one is looked at.
@@ -43,7 +45,7 @@ fn flip_selected(rows: &mut [u64], width: usize, qubits: &[u64], bits: u64, shot
     let mut left = bits;
     let mut i = 0;
     while i < qubits.len() {
-        let q = qubits[i] as usize;
+        let q = qubit_at(qubits, i);
         flip_if(rows, width, q, shot, left % 2 == 1);
         left = left / 4;
         i += 1;

@@ -1,4 +1,4 @@
--- A fault as a test of whole numbers, and words gone over by it. Definitions. Assumes nothing.
+-- A fault as a test of whole numbers, and words gone over. Definitions. Assumes nothing.
 use Prim.Native.Nat.{ℕ, _+_, _-_, _*_, _/_, _^_, _<_, _≤_, min}
 use mathlib.Core.Path.{_≡_}
 use mathlib.Core.Bool.{true, false, cond}
@@ -18,23 +18,24 @@ thresholdOf nan = 0
 thresholdOf (inf s) = cond s 0 (2 ^ 53)
 thresholdOf (fin s m e) = cond s 0 (min (ceiling (m * up e * 2 ^ 53) (down e)) (2 ^ 53))
 
--- ---- words gone over, where t is the threshold of p
+-- ---- words gone over
 
 -- n words from a position on bring no fault
-pub record Quiet (t : ℕ) (words : List ℕ) (at n : ℕ) : Type 0 where
-  pub none : (p : Float) → t ≡ thresholdOf p → (j : ℕ) → j < n → falls (getD words (at + j) 0) p ≡ false
+pub record Quiet (p : Float) (words : List ℕ) (at n : ℕ) : Type 0 where
+  pub none : (j : ℕ) → j < n → falls (getD words (at + j) 0) p ≡ false
 
--- of n words the first r are passed over, none of which brings a fault
+-- of n words the first r are passed over: for every p with threshold t, none of them brings a fault
 pub record Passed (t : ℕ) (words : List ℕ) (at n r : ℕ) : Type 0 where
   pub within : r ≤ n
-  pub quiet : Quiet t words at r
+  pub quiet : (p : Float) → t ≡ thresholdOf p → Quiet p words at r
 
--- and the word behind them, if they are not all n, brings one
-pub record Stopped (t : ℕ) (words : List ℕ) (at n r : ℕ) : Type 0 where
-  pub passed : Passed t words at n r
-  pub falling : r < n → (p : Float) → t ≡ thresholdOf p → falls (getD words (at + r) 0) p ≡ true
+-- of n words the first r bring no fault, and the word after them, if they are not all n, brings one
+pub record Stopped (p : Float) (words : List ℕ) (at n r : ℕ) : Type 0 where
+  pub within : r ≤ n
+  pub quiet : Quiet p words at r
+  pub falling : r < n → falls (getD words (at + r) 0) p ≡ true
 
 -- the words, at most so many, that are skipped before the next fault
-pub record Skipped (t : ℕ) (words : List ℕ) (at most r : ℕ) : Type 0 where
+pub record Skipped (p : Float) (words : List ℕ) (at most r : ℕ) : Type 0 where
   pub within : (r ≤ most) × (r ≤ length words - at)
-  pub is : (p : Float) → t ≡ thresholdOf p → r ≡ skipOf p most (drop at words)
+  pub is : r ≡ skipOf p most (drop at words)

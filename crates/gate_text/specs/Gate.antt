@@ -20,8 +20,8 @@ pub record ListThere (line : List ℕ) (from : ℕ) : Type 0 where
 
 -- its first two members, 0 where there is none, and how many it has, where they are no more
 pub record OperandsRead (line : List ℕ) (from : ℕ) (r : Operands) : Type 0 where
-  pub first : (qs : List ℕ) → listQ (drop from line) ≡ some qs → r .first ≡ getD qs 0 0
-  pub second : (qs : List ℕ) → listQ (drop from line) ≡ some qs → r .second ≡ getD qs 1 0
+  pub first : (qs : List ℕ) → listQ (drop from line) ≡ some qs → r .first .0 ≡ getD qs 0 0
+  pub second : (qs : List ℕ) → listQ (drop from line) ≡ some qs → r .second .0 ≡ getD qs 1 0
   pub count : (qs : List ℕ) → listQ (drop from line) ≡ some qs → length qs ≤ 2 → r .count ≡ length qs
 
 -- ---- the line
@@ -43,6 +43,6 @@ pub record GateLine (line : List ℕ) : Type 0 where
 -- its values
 pub record GateRead (line : List ℕ) (r : Gate) : Type 0 where
   pub code : (vs : List Value) → valuesOf gateTemplate line ≡ some vs → r .code ≡ numberAt 0 vs
-  pub first : (vs : List Value) → valuesOf gateTemplate line ≡ some vs → r .first ≡ getD (listAt 0 vs) 0 0
-  pub second : (vs : List Value) → valuesOf gateTemplate line ≡ some vs → r .second ≡ getD (listAt 0 vs) 1 0
+  pub first : (vs : List Value) → valuesOf gateTemplate line ≡ some vs → r .first .0 ≡ getD (listAt 0 vs) 0 0
+  pub second : (vs : List Value) → valuesOf gateTemplate line ≡ some vs → r .second .0 ≡ getD (listAt 0 vs) 1 0
   pub count : (vs : List Value) → valuesOf gateTemplate line ≡ some vs → length (listAt 0 vs) ≤ 2 → r .count ≡ length (listAt 0 vs)

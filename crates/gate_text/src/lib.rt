@@ -4,6 +4,7 @@ ghost use mathlib.Core.Path.{_≡_};
 ghost use mathlib.Core.Bool.{true};
 ghost use Rattle.gate_text.specs.Gate.{ListThere, OperandsRead, GateBytes, GateLine, GateRead};
 use numbers::known::read_digits;
+use pauli::QubitId;
 
 // Where the letter of an operation stands, behind `op=`, and where it ends.
 const LETTER: usize = 3;
@@ -25,8 +26,8 @@ pub fn is_gate(line: &[u8]) -> bool
 
 // The first two members of a list, the second 0 where there is none, and how many of the two there are.
 struct Operands {
-    first: u64,
-    second: u64,
+    first: QubitId,
+    second: QubitId,
     count: u64,
 }
 
@@ -38,15 +39,15 @@ fn read_operands(line: &[u8], from: usize) -> Operands
     let first = read_digits(line, from);
     if first.behind == line.len() {
         return Operands {
-            first: first.value,
-            second: 0,
+            first: QubitId(first.value as usize),
+            second: QubitId(0),
             count: 1,
         };
     }
     let second = read_digits(line, first.behind + 1);
     Operands {
-        first: first.value,
-        second: second.value,
+        first: QubitId(first.value as usize),
+        second: QubitId(second.value as usize),
         count: 2,
     }
 }
@@ -54,8 +55,8 @@ fn read_operands(line: &[u8], from: usize) -> Operands
 // What a gate line says: the gate's code and its first two operands, the second 0 where there is none, and how many of the two there are.
 pub struct Gate {
     pub code: u64,
-    pub first: u64,
-    pub second: u64,
+    pub first: QubitId,
+    pub second: QubitId,
     pub count: u64,
 }
 
@@ -70,10 +71,12 @@ pub fn read_gate(line: &[u8]) -> Gate
 {
     let code = read_digits(line, CODE);
     let operands = read_operands(line, code.behind + Q_KEY);
+    let first = operands.first;
+    let second = operands.second;
     Gate {
         code: code.value,
-        first: operands.first,
-        second: operands.second,
+        first,
+        second,
         count: operands.count,
     }
 }

@@ -15,6 +15,8 @@ pub mod Tests
 pub mod Forms
 -- The one form that a line can have, by its mark.
 pub mod Dispatch
+-- A header with the field `edition` has no form of the first edition.
+pub mod Editions
 -- A line that passes is sound.
 pub mod Lines
 -- An accepted job line by line.
@@ -25,6 +27,8 @@ pub mod Begun
 pub mod Gather
 -- The outcomes that instructions record.
 pub mod Recorded
+-- A line of the second edition in a job of the first.
+pub mod Second
 -- Accepted lines instruction by instruction.
 pub mod Instructions
 -- The numbers of a job's tests are none of the calls' own.

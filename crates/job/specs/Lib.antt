@@ -9,11 +9,13 @@ pub mod Checks
 pub mod Job
 pub mod Reply
 pub mod InRange
--- What an accepted job is known for, and what a line by its form alone; and, for theorems, the marks of lines and the contexts between lines.
+-- What an accepted job is known for, and what a line by its form alone; and, for theorems, the marks of lines, the contexts between lines, and a
+-- reader of the first edition.
 pub mod Sound
 pub mod Fits
 pub mod Marks
 pub mod Contexts
+pub mod Editions
 -- Laws of these definitions.
 pub mod Laws
 -- What a reader wants to know of the tests.

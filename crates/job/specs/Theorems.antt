@@ -5,9 +5,10 @@ use native.Mathlib.Decide.{ℕ-discrete}
 use native.Mathlib.Omega.{arith}
 use mathlib.Core.Path.{_≡_, refl, sym, ap, subst, _∙_}
 use mathlib.Core.Bool.{Bool, true}
-use mathlib.Core.List.{List, [], _∷_}
+use mathlib.Core.Logic.{_⊎_}
+use mathlib.Core.List.{List, [], _∷_, _++_, map}
 use mathlib.Core.Option.{none, some}
-use lib.ListN.{length, getD}
+use lib.ListN.{length, getD, drop}
 use Rattle.pauli.specs.Bits.{bit}
 use Rattle.pauli.specs.Gate.{Gate, gates, gateFrom, gateOf}
 use Rattle.text.specs.Bytes.{bytes, until, extend, pieces, lines}
@@ -18,17 +19,20 @@ use Rattle.text.specs.Written.{AllSmall, FitQ}
 use Rattle.job.specs.declared.Header.{Header}
 use Rattle.job.specs.Line.{Instruction, Placed, Line}
 use Rattle.job.specs.Clifford.{tableWords, tableOf, wordsOf}
-use Rattle.job.specs.Grammar.{Written, unitaryLine, forms, said, orLater, readBy, readLine}
-use Rattle.job.specs.Checks.{Context, noContext, next, Test, tests, refusalOf}
-use Rattle.job.specs.Job.{accepted, wellEnded, checkJob, gathered, Job, jobOfLines, jobOf, recordedBy, recordedIn}
+use Rattle.job.specs.Grammar.{Written, unitaryLine, Form, forms, said, orLater, readBy, readLine}
+use Rattle.job.specs.Checks.{Context, noContext, next, isSecond, tests, refusalOf}
+use Rattle.job.specs.Job.{answer, accepted, wellEnded, checkJob, gathered, Job, jobOfLines, jobOf, recordedBy, recordedIn}
 use Rattle.job.specs.Marks.{markOf, readAs, formByMark}
-use Rattle.job.specs.Contexts.{contextAfter, between}
+use Rattle.job.specs.Contexts.{Lowest, RefusedAt, contextAfter, between}
+use Rattle.job.specs.Editions.{firstForms, editionTemplate, checkJobBy}
 use Rattle.job.specs.Sound.{Every, LineSound, InstructionSound, SizeSaid, InstructionsSound, instructionsOf, ListSound, SaidAs, HeaderSound, FirstEdition, JobSound}
 use Rattle.job.specs.Laws.Lines.{header-sound}
 use Rattle.job.specs.Laws.Begun.{ended-parts, job-passes, Begun, job-begun}
 use Rattle.job.specs.Laws.Gather.{gathered-sound, gathered-said, sizes-said}
 use Rattle.job.specs.Laws.Recorded.{recorded-within, ids-count, after-first, recorded-after, header-after}
-use Rattle.job.specs.Laws.Tests.{tests-rise, lowest-least}
+use Rattle.job.specs.Laws.Tests.{tests-rise, lowest-is}
+use Rattle.job.specs.Laws.Editions.{field-unread, field-refused, second-refused, job-by-forms}
+use Rattle.job.specs.Laws.Second.{second-two, job-refused}
 use Rattle.job.specs.Laws.Passes.{header-accepted}
 use Rattle.job.specs.Laws.Said.{instructions-accepted}
 use Rattle.job.specs.Laws.SaidGathered.{said-gathers}
@@ -110,10 +114,43 @@ pub edition-one-refuses : (job : List ℕ) → checkJob job .number ≡ 0 → jo
     → Every (λ (p : Placed). FirstEdition (p .instruction)) (jobOf job .instructions)
 edition-one-refuses job e one = first-editions (jobOf job .header) 0 (jobOf job .instructions) (checked-sound job e .instructions) one
 
--- The number that refuses a line is the lowest: no bad test of the line has a lower one.
-pub refusal-lowest : (c : Context) (last : Bool) (w : Written) → Every (λ (t : Test). t .bad ≡ true → refusalOf c last (some w) ≤ t .number) (tests c last w)
+-- In a job of edition 1, ControlledY, a reset of several qubits and a barrier are refused by 2, whatever lines come before.
+pub second-forms-two : (c : Context) (last : Bool) (w : Written) → isSecond w ≡ true → c .header .edition ≡ 1 → refusalOf c last (some w) ≡ 2
+second-forms-two = second-two
+
+-- So a job of edition 1 with a line of these forms is refused by 2 at that line, or at a line before it.
+pub second-line-refused : (job : List ℕ) (before : List (List ℕ)) (l : List ℕ) (after : List (List ℕ)) (w : Written) → wellEnded job ≡ true
+    → jobOf job .header .edition ≡ 1 → lines job ≡ before ++ l ∷ after → readLine l ≡ some w → isSecond w ≡ true
+    → (checkJob job ≡ answer 2 (1 + length before)) ⊎ RefusedAt 1 (length before) (checkJob job)
+second-line-refused job before l after w ended one split reads second = job-refused l after w reads second job before ended one split
+
+-- An edition 1 reader refuses every job whose header has the field `edition`, whatever its number, by 2, at line 1.
+pub edition-one-reader : (job text : List ℕ) (rest : List (List ℕ)) (v : List Value) → wellEnded job ≡ true → lines job ≡ text ∷ rest
+    → valuesOf editionTemplate text ≡ some v → checkJobBy firstForms job ≡ answer 2 1
+edition-one-reader = field-refused
+
+-- The forms of the first edition read such a header as no line.
+pub edition-field-unread : (l : List ℕ) (v : List Value) → valuesOf editionTemplate l ≡ some v → readBy firstForms l ≡ none
+edition-field-unread = field-unread
+
+-- An edition 1 reader refuses a job of the second edition by 2, at line 1.
+pub second-edition-refused : (job : List ℕ) → wellEnded job ≡ true → jobOf job .header .edition ≡ 2 → checkJobBy firstForms job ≡ answer 2 1
+second-edition-refused = second-refused
+
+-- The first edition's forms are the table without these two rows.
+pub second-rows : map (λ (f : Form). f .template) (drop (length firstForms) forms)
+    ≡ editionTemplate ∷ bytes "op=b q=Q" ∷ []
+unfolding firstForms forms bytes
+second-rows = refl
+
+-- With the whole table the reader makes the tests of a job.
+pub checked-by-forms : (job : List ℕ) → checkJobBy forms job ≡ checkJob job
+checked-by-forms = job-by-forms
+
+-- A line that has a form gets 0 if all its tests pass, else the lowest number of a test that fails.
+pub refusal-lowest : (c : Context) (last : Bool) (w : Written) → Lowest (tests c last w) (refusalOf c last (some w))
 unfolding refusalOf
-refusal-lowest c last w = lowest-least 0 (tests c last w) (tests-rise c last w)
+refusal-lowest c last w = lowest-is 0 (tests c last w) (tests-rise c last w)
 
 -- Behind the last line of an accepted job the tests have counted the outcomes that its instructions record.
 pub recorded-counted : (job : List ℕ) → checkJob job .number ≡ 0 → contextAfter noContext (lines job) .recorded ≡ recordedIn (jobOf job .instructions)

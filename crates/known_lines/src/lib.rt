@@ -15,7 +15,7 @@ ghost use Rattle.known_lines.specs.Lists.{ListsThere, ListsPut};
 use gate_text::is_gate;
 use gate_text::read_gate;
 use instructions::LineRead;
-use line_reader::line_at;
+use line_reader::line_from;
 use numbers::known::known_hex;
 use reader::Form;
 use reader::LETTER;
@@ -114,7 +114,9 @@ fn read_known_gate(line: &[u8], fields: &mut [u64])
 {
     let g = read_gate(line);
     set_number(&mut *fields, GATE, g.code);
-    set_few(fields, OPERANDS, g.count, g.first, g.second);
+    let first = g.first;
+    let second = g.second;
+    set_few(fields, OPERANDS, g.count, first.0 as u64, second.0 as u64);
 }
 
 // The fewest bytes of a gate line, `op=u g=0 q=0`, and of `x=- z=-`, with which an element line ends. None of them is an LF.
@@ -129,22 +131,22 @@ fn other_line<'a>(job: &'a [u8], at: usize) -> &'a [u8]
 {
     let first = job[at];
     if first == b'x' {
-        return line_at(job, at, ELEMENT_BYTES);
+        return line_from(job, at, ELEMENT_BYTES);
     }
     if first == b'w' {
-        return line_at(job, at, PAULI_START + ELEMENT_BYTES);
+        return line_from(job, at, PAULI_START + ELEMENT_BYTES);
     }
-    line_at(job, at, 0)
+    line_from(job, at, 0)
 }
 
-// Reads the line of an accepted job that begins at a place, as next_line does. A gate line is told by its first bytes, before its end is looked for:
+// Reads the line of an accepted job that begins at a place. A gate line is told by its first bytes, before its end is looked for:
 // every line of such a job has four or more.
 pub fn next_known(job: &[u8], at: usize, fields: &mut [u64]) -> LineRead
     requires { ⌜ KnownAt (now job) at × Whole (now fields) ⌝ }
     ensures { λ r. ⌜ NextLine (now (job .entry)) at r (now (fields .exit)) ⌝ }
 {
     if is_gate(&job[at..]) {
-        let gate = line_at(job, at, GATE_BYTES);
+        let gate = line_from(job, at, GATE_BYTES);
         let end = at + gate.len();
         read_known_gate(gate, fields);
         return LineRead {

@@ -24,6 +24,7 @@ use job::Answer;
 use job::CountReply;
 use job::limits::MAX_OUTCOMES;
 use line_reader::LinePart;
+use pauli::Shot;
 use writer::TextAnswer;
 
 // The tests of a job.
@@ -170,7 +171,7 @@ pub extern "C" fn kundatrezo_settle_shared<'a>(
 pub extern "C" fn kundatrezo_walk(job: &[u8], shot: u64, set: &[u64]) -> CountReply
     ensures { λ r. ⌜ r ≡ walkReply (now (job .entry)) shot (now (set .entry)) ⌝ }
 {
-    walker::walk(job, shot, set)
+    walker::walk(job, Shot(shot as usize), set)
 }
 
 // The job with depolarizing noise, whose probability has the bits p.

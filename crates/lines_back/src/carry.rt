@@ -9,7 +9,7 @@ ghost use lib.ListN.{length, getD};
 ghost use Rattle.pauli.specs.Bits.{Bits, _△_, given, members, bit};
 ghost use Rattle.pauli.specs.Pauli.{_∗_ as _times_, when, anticommutes as Pauli·anticommutes, cleared};
 ghost use Rattle.pauli.specs.Gate.{gateOf, conjugatedBack};
-ghost use Rattle.pauli.specs.Code.{byGate};
+ghost use Rattle.pauli.specs.Code.{byGate, operandCount};
 ghost use Rattle.pauli.specs.Fixed.{inSet, asPauli};
 ghost use Rattle.job.specs.Line.{pauliOf};
 ghost use Rattle.job.specs.Checks.{allBelow, distinct, isPermutation};
@@ -20,25 +20,17 @@ ghost use Rattle.backward.specs.Walk.{cliffordBack, permuteBack};
 ghost use Rattle.lines_back.specs.Packed.{Packed, inWords};
 use pauli::OutcomeId;
 use pauli::Pauli;
-use pauli::QubitId;
+use pauli::qubit_at;
 
 // ---- Gates
 
-// The operand at place i, and 0 where there is none: a gate on one qubit does not look at its second.
-fn operand(qubits: &[u64], i: usize) -> QubitId
-    ensures { λ r. ⌜ r .0 ≡ getD (now (qubits .entry)) i 0 ⌝ }
-{
-    if qubits.len() <= i {
-        return QubitId(0);
-    }
-    QubitId(qubits[i] as usize)
-}
-
+// The last operand is the second of two; a gate on one qubit does not look at it.
 pub fn unitary_back(b: Pauli, gate: u64, qubits: &[u64]) -> Pauli
-    requires { ⌜ allBelow 256 (now qubits) ≡ true ⌝ }
+    requires { ⌜ (gate ≤ 15) × (length (now qubits) ≡ operandCount (gateOf gate)) × (allBelow 256 (now qubits) ≡ true) ⌝ }
     ensures { λ r. ⌜ asPauli r ≡ byGate conjugatedBack (gateOf gate) (getD (now (qubits .entry)) 0 0) (getD (now (qubits .entry)) 1 0) (asPauli b) ⌝ }
 {
-    b.conjugate_back(gate, operand(qubits, 0), operand(qubits, 1))
+    let last = qubits.len() - 1;
+    b.conjugate_back(gate, qubit_at(qubits, 0), qubit_at(qubits, last))
 }
 
 // ---- Exponentials and controlled Paulis
@@ -94,7 +86,7 @@ fn parts_at(set: [u64; 4], qubits: &[u64]) -> u64
     let mut w: u64 = 0;
     let mut i = 0;
     while i < qubits.len() {
-        w = with_bit(w, i, pauli::has_qubit(set, QubitId(qubits[i] as usize)));
+        w = with_bit(w, i, pauli::has_qubit(set, qubit_at(qubits, i)));
         i += 1;
     }
     w
@@ -108,7 +100,7 @@ fn add_parts(b: Pauli, qubits: &[u64], x: u64, z: u64) -> Pauli
     let mut r = b;
     let mut i = 0;
     while i < qubits.len() {
-        let q = QubitId(qubits[i] as usize);
+        let q = qubit_at(qubits, i);
         r = r.add_at(q, (x >> i) % 2 == 1, (z >> i) % 2 == 1);
         i += 1;
     }
@@ -193,7 +185,7 @@ pub fn reset_back(b: Pauli, qubits: &[u64]) -> Pauli
     let mut r = b;
     let mut i = 0;
     while i < qubits.len() {
-        r = r.clear_qubit(QubitId(qubits[i] as usize));
+        r = r.clear_qubit(qubit_at(qubits, i));
         i += 1;
     }
     r

@@ -14,7 +14,8 @@ pub mod Noise
 pub mod Jobs
 -- The text and the call.
 pub mod Replies
--- Kinds of lines come up.
+-- Kinds of lines come up, and no others are allowed.
 pub mod Come
+pub mod Allowed
 -- Choices by the words that they take, for code.
 pub mod Words

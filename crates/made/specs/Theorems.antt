@@ -3,23 +3,22 @@
 use mathlib.Core.Path.{_≡_, ap, _∙_}
 use mathlib.Core.Bool.{true}
 use mathlib.Core.List.{List}
-use Prim.Native.Nat.{ℕ, suc, _-_, _≤_}
-use native.Mathlib.Omega.{arith}
+use Prim.Native.Nat.{ℕ, _≤_}
 use lib.ListN.{length}
 use Rattle.job.specs.declared.Header.{Header}
 use Rattle.job.specs.declared.Answer.{Answer}
-use Rattle.job.specs.Line.{Instruction}
 use Rattle.job.specs.Grammar.{headerWith}
 use Rattle.job.specs.Checks.{inRange}
 use Rattle.job.specs.Job.{accepted, checkJob, jobOf}
 use Rattle.job.specs.Reply.{writtenText, writtenBy}
-use Rattle.job.specs.Sound.{Every, instructionsOf}
-use Rattle.job.specs.Laws.Lists.{every-map}
+use Rattle.job.specs.Sound.{instructionsOf}
+use Rattle.job.specs.Theorems.{checked-sound}
+use Rattle.job.specs.Laws.Said.{placed-list}
 use Rattle.made.specs.Made.{madeHeader, madeText, makeReply}
-use Rattle.made.specs.Kinds.{LineKind, Among, OfKind, SeveralReset, KindSeed, kindSeeds}
+use Rattle.made.specs.Kinds.{LineKind, Among, StandsAt, OfKind, Allowed, kindSeed, placeOf}
 use Rattle.made.specs.Laws.Replies.{MakesTo, make-writes, make-fits, known, text-passes, text-header, text-instructions}
-use Rattle.made.specs.Laws.Come.{madeInstructions, KindComes, plain-kinds}
-use Rattle.made.specs.Laws.Come as come
+use Rattle.made.specs.Laws.Come.{kind-comes}
+use Rattle.made.specs.Laws.Allowed.{list-allowed}
 
 -- Where the call answers 0, whatever its numbers and its seed are:
 module _ (qubits outcomes shots lines seed : ℕ) (out : List ℕ) (done : makeReply qubits outcomes shots lines seed out .answered .number ≡ 0) where
@@ -62,43 +61,27 @@ made-fits qubits outcomes shots lines seed out = make-fits qubits outcomes shots
 
 -- ---- every kind of line comes up
 
--- For a header in range, 1 to 1,000 lines and 1,048,576 lent bytes:
-module _ (qubits outcomes shots lines : ℕ) (out : List ℕ) (range : inRange (headerWith 1 qubits outcomes shots) ≡ true) (some-lines : 1 ≤ lines) (few-lines : lines ≤ 1000)
+-- For a header in range, up to 1,000 lines and 1,048,576 lent bytes, every kind of line that the header and the number of lines allow comes up for the
+-- seed that `kindSeed` names: each gate, ControlledY among them, c, p, e, k, m, f, resets of one qubit and of several, i, noise with d=1 to d=4, t, o, r and b.
+module _ (qubits outcomes shots lines : ℕ) (out : List ℕ) (range : inRange (headerWith 1 qubits outcomes shots) ≡ true) (few-lines : lines ≤ 1000)
     (room : 1048576 ≤ length out)
   where
-    -- from this seed the call answers 0, and an instruction that is so is among those of the job that it writes
-    pub record Comes (Is : Instruction → Type 0) (seed : ℕ) : Type 0 where
+    -- from this seed the call answers 0, and the first line of the job that it writes (for t the second) is of this kind
+    pub record Comes (seed : ℕ) (kind : LineKind) : Type 0 where
       pub answered : makeReply qubits outcomes shots lines seed out .answered ≡ accepted
-      pub among : Among Is (instructionsOf (jobOf (writtenBy (makeReply qubits outcomes shots lines seed out)) .instructions))
+      pub stands : StandsAt (placeOf kind) (OfKind kind) (instructionsOf (jobOf (writtenBy (makeReply qubits outcomes shots lines seed out)) .instructions))
 
-    comes : {Is : Instruction → Type 0} (seed : ℕ) → (seed ≡ 0 → ⊥) → Among Is (madeInstructions qubits outcomes shots lines seed) → Comes Is seed
-    comes seed seeded a =
-        let zero = make-fits qubits outcomes shots lines seed out range seeded few-lines room in
+    pub kinds-come : (kind : LineKind) → Allowed qubits outcomes lines kind → Comes (kindSeed kind) kind
+    kinds-come kind allowed =
+        let seed = kindSeed kind in
+        let c = kind-comes qubits outcomes shots range lines kind allowed in
+        let zero = make-fits qubits outcomes shots lines seed out range (c .seeded) few-lines room in
         let w = make-writes qubits outcomes shots lines seed out (ap (λ (r : Answer). r .number) zero) in
-        record { answered = zero; among = rw (w .written) a }
+        record { answered = zero; stands = rw (w .written) (c .stands) }
 
-    one-more : suc (lines - 1) ≡ lines
-    one-more = omega arith
-
-    -- Every kind that may stand in any job does for a seed that is written out: u, c, p, e, k, m, f, z, i, noise with d=1 to d=4, and b.
-    pub kinds-come : Every (λ (k : KindSeed). Comes (OfKind (k .kind)) (k .seed)) kindSeeds
-    kinds-come =
-        every-map _ _ kindSeeds
-        (λ (k : KindSeed) (c : KindComes qubits outcomes shots range (lines - 1) k). comes (k .seed) (c .seeded) (rw one-more at (c .among)))
-        (plain-kinds qubits outcomes shots range (lines - 1))
-
-    -- A reset of several qubits, which the second edition has, where there are two.
-    pub resets-come : 2 ≤ qubits → Comes SeveralReset 5
-    resets-come two = comes 5 (λ z. omega arith) (rw one-more at (come.resets-come qubits outcomes shots range (lines - 1) two))
-
-    -- o and r where there is an outcome, and t where there is a second line as well.
-    pub measure-comes : 1 ≤ outcomes → Comes (OfKind LineKind.measure) 20
-    measure-comes some-outcomes = comes 20 (λ z. omega arith) (rw one-more at (come.measure-comes qubits outcomes shots range (lines - 1) some-outcomes))
-
-    pub allocate-comes : 1 ≤ outcomes → Comes (OfKind LineKind.allocate) 1
-    allocate-comes some-outcomes = comes 1 (λ z. omega arith) (rw one-more at (come.allocate-comes qubits outcomes shots range (lines - 1) some-outcomes))
-
-    pub flip-comes : 1 ≤ outcomes → 2 ≤ lines → Comes (OfKind LineKind.flip) 17
-    flip-comes some-outcomes two-lines =
-        let two-more : suc (suc (lines - 2)) ≡ lines = omega arith in
-        comes 17 (λ z. omega arith) (rw two-more at (come.flip-comes qubits outcomes shots range (lines - 2) some-outcomes))
+-- `Allowed` leaves nothing out: if an accepted job has a line of a kind, whatever made it, its header and number of lines allow that kind.
+pub accepted-allowed : (job : List ℕ) → checkJob job .number ≡ 0 → (kind : LineKind) → Among (OfKind kind) (instructionsOf (jobOf job .instructions))
+    → Allowed (jobOf job .header .qubits) (jobOf job .header .outcomes) (length (instructionsOf (jobOf job .instructions))) kind
+accepted-allowed job e kind a =
+    let sound = checked-sound job e in
+    list-allowed (jobOf job .header) (sound .header) kind _ (placed-list (jobOf job .header) 0 (jobOf job .instructions) (sound .instructions)) a

@@ -19,6 +19,7 @@ use made_fields::end_line;
 use made_fields::moved;
 use made_fields::put_members;
 use made_fields::put_value;
+use pauli::QubitId;
 use writer::put_byte;
 use writer::put_bytes;
 use writer::put_hex;
@@ -38,11 +39,12 @@ fn gate_codes(h: Header) -> u64
     15
 }
 
-// The qubits of a gate: a, and for a code from 11 on another one.
-fn gate_qubits(h: Header, g: u64, a: u64, state: u64, list: &mut [u64]) -> Numbers
-    requires { ⌜ (a < h .qubits) × (h .qubits ≤ 256) × (g < gateCodes h 0) × (8 ≤ length (now list)) ⌝ }
-    ensures { λ r. ⌜ ListIs 2 (gateQubits h 0 g a state) (now (list .exit)) r ⌝ }
+// The qubits of a gate: the first, and for a code from 11 on another one.
+fn gate_qubits(h: Header, g: u64, first: QubitId, state: u64, list: &mut [u64]) -> Numbers
+    requires { ⌜ (first .0 < h .qubits) × (h .qubits ≤ 256) × (g < gateCodes h 0) × (8 ≤ length (now list)) ⌝ }
+    ensures { λ r. ⌜ ListIs 2 (gateQubits h 0 g (first .0) state) (now (list .exit)) r ⌝ }
 {
+    let a = first.0 as u64;
     list[0] = a;
     if g < 11 {
         return Numbers { count: 1, state };
@@ -62,7 +64,8 @@ pub fn put_unitary(out: &mut [u8], m: Making, h: Header) -> Making
     let g = pick(gate_codes(h), m.state);
     let a = pick(h.qubits, g.state);
     let mut list = [0u64; 8];
-    let q = gate_qubits(h, g.value, a.value, a.state, &mut list);
+    let first = QubitId(a.value as usize);
+    let q = gate_qubits(h, g.value, first, a.state, &mut list);
     let k = q.count;
     let next = put_value(&mut *out, m.at, b"op=u g=", g.value);
     let end = put_members(&mut *out, next, b" q=", &list[..k]);

@@ -10,6 +10,7 @@ pub use sets::sum_of_qubits;
 ghost use mathlib.Core.Path.{_≡_};
 ghost use mathlib.Core.List.{[], _∷_};
 ghost use Prim.Native.Nat.{_<_};
+ghost use lib.ListN.{length, getD};
 ghost use Rattle.pauli.specs.Bits.{members};
 ghost use Rattle.pauli.specs.Pauli.{_∗_ as _times_, identity as Pauli·identity, anticommutes as Pauli·anticommutes, addedAt, cleared};
 ghost use Rattle.pauli.specs.Gate.{swapXZ, addXtoZ, addZtoX, controlledX, controlledZ, controlledY, swapRows, gateOf, conjugated, conjugatedBack};
@@ -22,6 +23,24 @@ pub struct QubitId(pub usize);
 pub struct OutcomeId(pub usize);
 
 pub struct Shot(pub usize);
+
+// A list in lent words is a list of numbers; its members are taken out as ids by these two alone.
+
+// The qubit at place i of a list.
+pub fn qubit_at(list: &[u64], i: usize) -> QubitId
+    requires { ⌜ i < length (now list) ⌝ }
+    ensures { λ r. ⌜ r .0 ≡ getD (now (list .entry)) i 0 ⌝ }
+{
+    QubitId(list[i] as usize)
+}
+
+// The outcome at place i of a list.
+pub fn outcome_at(list: &[u64], i: usize) -> OutcomeId
+    requires { ⌜ i < length (now list) ⌝ }
+    ensures { λ r. ⌜ r .0 ≡ getD (now (list .entry)) i 0 ⌝ }
+{
+    OutcomeId(list[i] as usize)
+}
 
 // The bits of a word, and the number of the last.
 pub const WORD_BITS: usize = 64;

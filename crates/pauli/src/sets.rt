@@ -1,7 +1,7 @@
 // Fixed sets: 256 qubits in four words, 1,024 outcomes in sixteen. Number q is bit q mod 64 of word q / 64.
 //
-// One core over slices serves both widths. Outside this file a set is reached by QubitId or
-// OutcomeId, or by the list of numbers that a line holds. Every contract says the set as a
+// One core over slices serves both widths, by the number of a bit. Outside this file a set is reached by
+// QubitId or OutcomeId, or by the list of numbers that a line holds. Every contract says the set as a
 // function from numbers to Bool, and nothing of words.
 use super::OutcomeId;
 use super::QubitId;
@@ -13,15 +13,15 @@ ghost use lib.ListN.{length};
 ghost use Rattle.pauli.specs.Bits.{_△_, _∪_, replaced, members};
 ghost use Rattle.pauli.specs.Fixed.{inSet, AllBelow};
 
-// Whether q is in a set. A number past the last word is not.
-fn contains(set: &[u64], q: usize) -> bool
-    ensures { λ r. ⌜ r ≡ inSet (now (set .entry)) q ⌝ }
+// Whether bit n is in a set. A number past the last word is not.
+fn contains(set: &[u64], n: usize) -> bool
+    ensures { λ r. ⌜ r ≡ inSet (now (set .entry)) n ⌝ }
 {
-    let k = q / WORD_BITS;
+    let k = n / WORD_BITS;
     if set.len() <= k {
         return false;
     }
-    (set[k] >> (q % WORD_BITS)) % 2 == 1
+    (set[k] >> (n % WORD_BITS)) % 2 == 1
 }
 
 // Adds a set of as many words to another: the symmetric difference.
@@ -36,13 +36,13 @@ fn add_set(set: &mut [u64], other: &[u64])
     }
 }
 
-// Puts q into a set.
-fn insert(set: &mut [u64], q: usize)
-    requires { ⌜ q / 64 < length (now set) ⌝ }
-    ensures { λ _. ⌜ (length (now (set .exit)) ≡ length (now (set .entry))) × (inSet (now (set .exit)) ≡ replaced (inSet (now (set .entry))) q true) ⌝ }
+// Puts bit n into a set.
+fn insert(set: &mut [u64], n: usize)
+    requires { ⌜ n / 64 < length (now set) ⌝ }
+    ensures { λ _. ⌜ (length (now (set .exit)) ≡ length (now (set .entry))) × (inSet (now (set .exit)) ≡ replaced (inSet (now (set .entry))) n true) ⌝ }
 {
-    let k = q / WORD_BITS;
-    set[k] |= 1u64 << (q % WORD_BITS);
+    let k = n / WORD_BITS;
+    set[k] |= 1u64 << (n % WORD_BITS);
 }
 
 // Puts the listed numbers into a set.

@@ -109,7 +109,7 @@ pub fn measure(
     let id = outcome.0;
     row_loops::add_listed(&mut *deltas, id, x, shape.width, pz);
     row_loops::add_listed(&mut *deltas, id, z, shape.width, px);
-    totals::recount(deltas, totals, shape.width, id);
+    totals::recount(deltas, totals, shape.width, outcome);
 }
 
 // A conditional Pauli is added where the listed deltas sum to 1, since there its condition came out the other way. The parity that it is
@@ -147,9 +147,8 @@ pub fn inject_pauli(x: &mut [u64], z: &mut [u64], shape: Shape, shot: Shot, px: 
     requires { ⌜ (length (now x) ≡ shape .qubits * shape .width) × (length (now z) ≡ shape .qubits * shape .width) × PauliIn (shape .qubits) (now px) (now pz) × (shot .0 < 64 * shape .width) ⌝ }
     ensures { λ _. ⌜ ((m : ℕ) (d : List ℕ) → Acts (shape .width) (lineRule (shape .qubits) m (Line.inject (shot .0) (written (now (px .entry)) (now (pz .entry))))) (now (x .entry)) (now (z .entry)) d (now (x .exit)) (now (z .exit)) d) ⌝ }
 {
-    let s = shot.0;
-    row_loops::flip_listed(x, shape.width, px, s);
-    row_loops::flip_listed(z, shape.width, pz, s);
+    row_loops::flip_listed(x, shape.width, px, shot);
+    row_loops::flip_listed(z, shape.width, pz, shot);
 }
 
 // Adds 1 to an outcome's delta in one shot.
@@ -163,7 +162,5 @@ pub fn inject_outcome_flip(
     requires { ⌜ (length (now deltas) ≡ shape .outcomes * shape .width) × (outcome .0 < shape .outcomes) × (shot .0 < 64 * shape .width) × TotalsHeld (shape .width) (shape .outcomes) (now deltas) (now totals) ⌝ }
     ensures { λ _. ⌜ ((n : ℕ) (x z : List ℕ) → Acts (shape .width) (lineRule n (shape .outcomes) (Line.flip (shot .0) (outcome .0))) x z (now (deltas .entry)) x z (now (deltas .exit))) × TotalsHeld (shape .width) (shape .outcomes) (now (deltas .exit)) (now (totals .exit)) ⌝ }
 {
-    let s = shot.0;
-    let id = outcome.0;
-    totals::flip_counted(deltas, totals, shape, id, s);
+    totals::flip_counted(deltas, totals, shape, outcome, shot);
 }

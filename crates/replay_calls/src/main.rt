@@ -9,6 +9,7 @@ use annotation::locations::locations;
 use checker::check;
 use correlations::correlation;
 use job::Answer;
+use pauli::Shot;
 use replay::bytes_buffer;
 use replay::compare::Tally;
 use replay::compare::counted;
@@ -82,7 +83,8 @@ fn replay_walk(at: usize, fields: &[u64], bytes: &[u8]) -> bool
     let mut set = words_buffer();
     let a = part_end(0, values::member(fields, 0, 0), bytes.len());
     let n = words(&bytes[a..], &mut set);
-    let r = walk(&bytes[..a], values::number(fields, 3), &set[..n]);
+    let shot = Shot(values::number(fields, 3) as usize);
+    let r = walk(&bytes[..a], shot, &set[..n]);
     let answer = r.answered;
     same_answer(at, fields, answer.number, answer.line, r.count)
 }

@@ -7,6 +7,7 @@ ghost use Rattle.rows.specs.Overwrite.{cleared, copied, xored, swapped, flipped
 ghost use Rattle.rows.specs.Listed.{RowsIn, overList, collected};
 ghost use Rattle.rows.specs.Shape.{shapeOf};
 use pauli::LAST_BIT;
+use pauli::Shot;
 use pauli::WORD_BITS;
 use rows::Shape;
 
@@ -147,11 +148,12 @@ pub fn swap_rows(rows: &mut [u64], w: usize, a: usize, b: usize)
     }
 }
 
-// Adds 1 to bit s of row r.
-pub fn flip_bit(rows: &mut [u64], w: usize, r: usize, s: usize)
-    requires { ⌜ (r * w + w ≤ length (now rows)) × (s < 64 * w) ⌝ }
-    ensures { λ _. ⌜ now (rows .exit) ≡ flipped w s r (now (rows .entry)) ⌝ }
+// Adds 1 to a shot's bit of row r.
+pub fn flip_bit(rows: &mut [u64], w: usize, r: usize, shot: Shot)
+    requires { ⌜ (r * w + w ≤ length (now rows)) × (shot .0 < 64 * w) ⌝ }
+    ensures { λ _. ⌜ now (rows .exit) ≡ flipped w (shot .0) r (now (rows .entry)) ⌝ }
 {
+    let s = shot.0;
     let k = r * w + s / WORD_BITS;
     rows[k] ^= 1u64 << (s % WORD_BITS);
 }
@@ -222,15 +224,15 @@ pub fn clear_listed(rows: &mut [u64], w: usize, list: &[u64])
     }
 }
 
-// Adds 1 to bit s of the listed rows.
-pub fn flip_listed(rows: &mut [u64], w: usize, list: &[u64], s: usize)
-    requires { ⌜ (s < 64 * w) × RowsIn w (now list) (now rows) ⌝ }
-    ensures { λ _. ⌜ now (rows .exit) ≡ overList (flipped w s) (now (list .entry)) (now (rows .entry)) ⌝ }
+// Adds 1 to a shot's bit of the listed rows.
+pub fn flip_listed(rows: &mut [u64], w: usize, list: &[u64], shot: Shot)
+    requires { ⌜ (shot .0 < 64 * w) × RowsIn w (now list) (now rows) ⌝ }
+    ensures { λ _. ⌜ now (rows .exit) ≡ overList (flipped w (shot .0)) (now (list .entry)) (now (rows .entry)) ⌝ }
 {
     let mut i = 0;
     while i < list.len() {
         let row = list[i] as usize;
-        flip_bit(rows, w, row, s);
+        flip_bit(rows, w, row, shot);
         i += 1;
     }
 }

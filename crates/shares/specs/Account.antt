@@ -12,7 +12,7 @@ use Rattle.job.specs.Job.{Job, jobOf, checkJob}
 use Rattle.job.specs.Reply.{TextReply}
 use Rattle.draws.specs.Draws.{Lent}
 use Rattle.draws.specs.Known.{SpentAt}
-use Rattle.run.specs.Run.{Source, Memory, RunReply, outcomeWords, enoughWords, lentOf, withSource}
+use Rattle.run.specs.Run.{Source, Memory, RunReply, frameWords, outcomeWords, enoughWords, lentOf, withSource}
 use Rattle.shares.specs.Shares.{Share, sum, stretchFrom, ownLeft, commonLeft, marksFit, eachWithin, sharesFit, callerFits}
 use Rattle.shares.specs.Replies.{shared, takenBy, takesWords, Shared, sharedRunReply, sharedSettleReply}
 
@@ -51,7 +51,7 @@ pub record Passes (job : List ℕ) (enough : Bool) (s : Share) (main : List ℕ)
   pub shares : sharesFit s main ≡ true
   pub caller : callerFits s ≡ true
 
--- ---- calls from the same list, under the same shares
+-- ---- calls
 
 -- a run or a settling: the caller's number, the job, and what is lent beside the main list and the marks
 pub data Call : Type 0 where
@@ -66,6 +66,46 @@ pub data Reply : Type 0 where
 unfoldable pub callerOf : Call → ℕ
 callerOf (Call.run c job m) = c
 callerOf (Call.settle c job s out) = c
+
+-- ---- lent room
+
+-- the lent room with 0 in place of what it holds before the call: its lengths alone
+abbrev pub zeros : List ℕ → List ℕ
+zeros room = replicate (length room) 0
+
+abbrev pub emptied : Memory → Memory
+emptied m = record { x = zeros (m .x); z = zeros (m .z); deltas = zeros (m .deltas); totals = zeros (m .totals); source = m .source }
+
+unfoldable pub roomEmptied : Call → Call
+roomEmptied (Call.run c job m) = Call.run c job (emptied m)
+roomEmptied (Call.settle c job s out) = Call.settle c job s (zeros out)
+
+-- Of a reply the answer, the figure, and what the call wrote: the words and totals that the header needs if a run answers 0 or 14, the text if
+-- settling answers 0, else nothing.
+unfoldable pub writtenWords : List ℕ → RunReply → RunReply
+writtenWords job r =
+    let h = jobOf job .header in
+    let wrote = takesWords (r .answered) in
+    record {
+      answered = r .answered;
+      x = take (cond wrote (frameWords h) 0) (r .x);
+      z = take (cond wrote (frameWords h) 0) (r .z);
+      deltas = take (cond wrote (outcomeWords h) 0) (r .deltas);
+      totals = take (cond wrote (h .outcomes) 0) (r .totals);
+    }
+
+unfoldable pub writtenBytes : TextReply → TextReply
+writtenBytes r = record { answered = r .answered; figure = r .figure; out = take (cond (eqb (r .answered .number) 0) (r .figure) 0) (r .out) }
+
+unfoldable pub written : List ℕ → Reply → Reply
+written job (Reply.ran r) = Reply.ran (writtenWords job r)
+written job (Reply.wrote r) = Reply.wrote (writtenBytes r)
+
+unfoldable pub jobIn : Call → List ℕ
+jobIn (Call.run c job m) = job
+jobIn (Call.settle c job s out) = job
+
+-- ---- from the same list, under the same shares
 
 -- what is lent, with this main list
 abbrev pub from : List ℕ → Source → Source
@@ -116,7 +156,8 @@ module _ (main shares : List ℕ) where
   handedThrough [] marks = []
   handedThrough (c ∷ cs) marks = handedBy c marks ++ handedThrough cs (marksBy c marks)
 
-  -- a call whose job stays within the caller's own stretch; one that the tests of the job or 13 refuse reads no word
+  -- A call whose job stays within the caller's own stretch. One that the tests of the job or 13 refuse reads no word; nor does one that 25 or 26
+  -- refuse, of which the same is asked all the same.
   unfoldable pub StaysOwn : Call → List ℕ → Type 0
   StaysOwn (Call.run c job m) marks =
       checkJob job .number ≡ 0 → enoughWords (jobOf job .header) m ≡ true

@@ -4,4 +4,7 @@ pub mod Words
 pub mod Moves
 pub mod Sequences
 pub mod Spent
+pub mod Alike
 pub mod Alone
+pub mod Behaviours
+pub mod Room

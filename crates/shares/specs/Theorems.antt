@@ -2,7 +2,7 @@
 -- lost; and demand 3 job by job. Their proofs stand in Laws. Assumes nothing.
 use mathlib.Core.Path.{_≡_, refl, sym, ap, subst, _∙_}
 use mathlib.Core.Logic.{_⊎_}
-use mathlib.Core.List.{List, [], _∷_, _++_}
+use mathlib.Core.List.{List, [], _∷_, _++_, map}
 use mathlib.Core.Option.{none}
 use Prim.Native.Nat.{ℕ, _+_, _≤_, _<_}
 use native.Mathlib.Omega.{arith}
@@ -14,7 +14,7 @@ use Rattle.job.specs.Line.{Placed}
 use Rattle.job.specs.Job.{answer, accepted, maxBytes, Job, jobOf}
 use Rattle.job.specs.Reply.{TextReply, refusedText}
 use Rattle.draws.specs.Draws.{Lent}
-use Rattle.draws.specs.Settle.{Settled, settle}
+use Rattle.draws.specs.Settle.{settle}
 use Rattle.draws.specs.Known.{SpentAt, mainLeft}
 use Rattle.draws.specs.Left.{spentOn, leftAfter}
 use Rattle.draws.specs.Laws.Spent.{spent-at}
@@ -25,12 +25,15 @@ use Rattle.backward.specs.SizeTheorems.{figure-enough}
 use Rattle.backward.specs.CallTheorems.{Demand3, demand-3-calls}
 use Rattle.shares.specs.Shares.{Share, sum, stretchFrom, ownLeft, commonLeft, available, marksFit, marksAfter}
 use Rattle.shares.specs.Replies.{shared, takenBy, takesWords, tested, sharedReply, sharedRunReply, sharedSettleReply}
-use Rattle.shares.specs.Account.{times, wordsAt, availablePlaces, Passes, Call, callerOf, callsOf, replyTo, handed, handedBy, marksThrough, handedThrough, StaysOwn, TakeAlike, AllRunOrStay, nothingTaken, Within, leftInStretches, leftInCommon}
+use Rattle.shares.specs.Account.{times, wordsAt, availablePlaces, Passes, withMain, Call, callerOf, roomEmptied, written, jobIn, callsOf, replyTo, handed, handedBy, marksThrough, handedThrough, StaysOwn, TakeAlike, AllRunOrStay, nothingTaken, Within, leftInStretches, leftInCommon}
 use Rattle.shares.specs.Laws.Places.{marked, marked-once, marked-behind, marked-none, left-none}
 use Rattle.shares.specs.Laws.Words.{map-take, available-words, taken-left}
 use Rattle.shares.specs.Laws.Moves.{takes-zero, takes-none, takes-by, kept, moves}
 use Rattle.shares.specs.Laws.Sequences.{nothing-taken, through-within, through-marked, through-left, common-none, others-none}
+use Rattle.shares.specs.Laws.Alike.{SettlesAlike, run-alike}
 use Rattle.shares.specs.Laws.Alone.{call-same, agree-through, alike-through}
+use Rattle.shares.specs.Laws.Behaviours.{both-same}
+use Rattle.shares.specs.Laws.Room.{both-written}
 use Rattle.shares.specs.Laws.Spent.{run-passed, run-settles, settling-passed, short-passed, settling-settles}
 
 -- ---- the plain call on the words available
@@ -159,24 +162,41 @@ handed-words j s from =
     ap (λ (l : List ℕ). l ++ leftAfter (lentOf (j .header) from) (j .instructions) (available s (from .main))) (first-words j s from)
     ∙ taken-left (lentOf (j .header) from) (j .instructions) (available s (from .main))
 
--- Take any calls of a caller among those of others, and one more, which stays within the caller's own stretch. If each of the earlier ones takes its
--- words where no one else calls and among the calls of others, or in neither case, the last one's whole reply is the same.
-pub own-alone : (main shares marks : List ℕ) (caller : ℕ) → Within main shares marks → caller < length shares
-    → (calls : List Call) → TakeAlike main shares caller calls marks marks
-    → (last : Call) → callerOf last ≡ caller → StaysOwn main shares last (marksThrough main shares (callsOf caller calls) marks)
-    → replyTo main shares last (marksThrough main shares (callsOf caller calls) marks) ≡ replyTo main shares last (marksThrough main shares calls marks)
-own-alone main shares marks caller w below calls alike last e s =
-    call-same main shares caller
-    (agree-through main shares caller marks marks record { within = w; also = w; own = refl } below calls alike) last e s
+module _ (main shares start : List ℕ) (caller : ℕ) where
+  -- the marks after a sequence of calls
+  abbrev after : List Call → List ℕ
+  after calls = marksThrough main shares calls start
 
--- So it is, whatever the others do, where each of the earlier calls stays within the stretch too, or is a run.
-pub own-alone-always : (main shares marks : List ℕ) (caller : ℕ) → Within main shares marks → caller < length shares
-    → (calls : List Call) → AllRunOrStay main shares (callsOf caller calls) marks
-    → (last : Call) → callerOf last ≡ caller → StaysOwn main shares last (marksThrough main shares (callsOf caller calls) marks)
-    → replyTo main shares last (marksThrough main shares (callsOf caller calls) marks) ≡ replyTo main shares last (marksThrough main shares calls marks)
-own-alone-always main shares marks caller w below calls kept =
-    own-alone main shares marks caller w below calls
-    (alike-through main shares caller marks marks record { within = w; also = w; own = refl } below calls kept)
+  -- A caller whose job stays within the own stretch gets the same deltas for every behaviour of the others. Take two sequences of calls from the
+  -- same start, list and shares, in which the caller's own calls are the same: jobs, bases, bits and lent room. The contents of the room may differ.
+  -- If a further call of the caller stays within the own stretch after both, its answer, its figure and all that it writes are the same after both.
+  pub own-alone-both : (ks ls : List Call) → map roomEmptied (callsOf caller ks) ≡ map roomEmptied (callsOf caller ls)
+      → (last also : Call) → callerOf last ≡ caller → roomEmptied last ≡ roomEmptied also
+      → StaysOwn main shares last (after ks) → StaysOwn main shares also (after ls)
+      → written (jobIn last) (replyTo main shares last (after ks)) ≡ written (jobIn also) (replyTo main shares also (after ls))
+  own-alone-both = both-written main shares start caller
+
+  -- If the lent room holds the same too, the whole reply is the same.
+  pub own-alone-whole : (ks ls : List Call) → callsOf caller ks ≡ callsOf caller ls → (last : Call) → callerOf last ≡ caller
+      → StaysOwn main shares last (after ks) → StaysOwn main shares last (after ls)
+      → replyTo main shares last (after ks) ≡ replyTo main shares last (after ls)
+  own-alone-whole = both-same main shares start caller
+
+  -- What carries over from one behaviour to another. Take a last call that stays within the own stretch if no one else calls.
+  module _ (w : Within main shares start) (below : caller < length shares) (calls : List Call) where
+    abbrev alone : List ℕ
+    alone = after (callsOf caller calls)
+
+    -- Among the calls of others it gets the same reply if each earlier call of the caller takes its words in both cases or in neither.
+    pub own-alone : TakeAlike main shares caller calls start start → (last : Call) → callerOf last ≡ caller → StaysOwn main shares last alone
+        → replyTo main shares last alone ≡ replyTo main shares last (after calls)
+    own-alone alike =
+        call-same main shares caller (agree-through main shares caller start start record { within = w; also = w; own = refl } below calls alike)
+
+    -- This holds if each earlier call is a run or stays within the own stretch.
+    pub own-alone-always : AllRunOrStay main shares (callsOf caller calls) start → (last : Call) → callerOf last ≡ caller
+        → StaysOwn main shares last alone → replyTo main shares last alone ≡ replyTo main shares last (after calls)
+    own-alone-always kept = own-alone (alike-through main shares caller start start record { within = w; also = w; own = refl } below calls kept)
 
 -- ---- number 14
 
@@ -225,27 +245,32 @@ figure-enough-shared job from out s short within other lent =
 
 -- ---- demand 3
 
--- Job by job, with the draws taken as handed out: a run with a share that answers 0 is a run of the words available, of which those that it takes are enough
--- (taken-suffice), so that the sum of a set's deltas is the count of the walk of the list which settles from those words.
+-- Job by job: a run with a share that answers 0 is a run of the words available, and demand 3 holds of that run.
 pub demand-3-shared : (job : List ℕ) (m : Memory) (s : Share) → sharedRunReply job m s .reply .answered .number ≡ 0
     → (sharedRunReply job m s .reply ≡ runReply job (withSource m (shared s (m .source)))) × Demand3 job (withSource m (shared s (m .source)))
 demand-3-shared job m s zero =
     let same = shared-run-is-plain job m s (run-passed job m s (takes-zero (sharedRunReply job m s .reply .answered) zero)) in
     (same, demand-3-calls job (withSource m (shared s (m .source))) (ap (λ (r : RunReply). r .answered .number) (sym same) ∙ zero))
 
--- As one theorem, with the words handed out: the list of that walk is the one to which they settle.
-pub demand-3-handed : (job : List ℕ) (m : Memory) (s : Share) → sharedRunReply job m s .reply .answered .number ≡ 0
-    → let out = handed (jobOf job) s (m .source) (sharedRunReply job m s .reply .answered) in
-    (sharedRunReply job m s .reply ≡ runReply job (withSource m (shared s (m .source))))
-    × (d : Demand3 job (withSource m (shared s (m .source))))
-    × (settle (lentOf (jobOf job .header) (m .source)) (jobOf job .instructions) (wordsAt (m .source .main) out) ≡ Settled.settled (d .lines))
+-- from the words that a run is handed the job settles as from all that are available
+handed-settle : (job : List ℕ) (m : Memory) (s : Share) → sharedRunReply job m s .reply .answered .number ≡ 0
+    → let words = wordsAt (m .source .main) (handed (jobOf job) s (m .source) (sharedRunReply job m s .reply .answered)) in
+    SettlesAlike job (m .source) words (available s (m .source .main))
 unfolding handed
-demand-3-handed job m s zero =
+handed-settle job m s zero =
     let j = jobOf job in
     let from = m .source in
-    let (same, d) = demand-3-shared job m s zero in (
-      same,
-      d,
-      rw (takes-zero (sharedRunReply job m s .reply .answered) zero)
-          (ap (settle (lentOf (j .header) from) (j .instructions)) (first-words j s from) ∙ taken-suffice j s from ∙ d .settles),
-    )
+    rw (takes-zero (sharedRunReply job m s .reply .answered) zero)
+    (ap (settle (lentOf (j .header) from) (j .instructions)) (first-words j s from) ∙ taken-suffice j s from)
+
+-- With the draws taken as handed out: a run with a share that answers 0 is the plain run whose main list is exactly the words that it was handed, in
+-- their order, and demand 3 holds of that run.
+pub demand-3-of-handed : (job : List ℕ) (m : Memory) (s : Share) → sharedRunReply job m s .reply .answered .number ≡ 0
+    → let words = wordsAt (m .source .main) (handed (jobOf job) s (m .source) (sharedRunReply job m s .reply .answered)) in
+    (sharedRunReply job m s .reply ≡ runReply job (withMain words m)) × Demand3 job (withMain words m)
+demand-3-of-handed job m s zero =
+    let (plain, d) = demand-3-shared job m s zero in
+    let words = wordsAt (m .source .main) (handed (jobOf job) s (m .source) (sharedRunReply job m s .reply .answered)) in
+    let same : sharedRunReply job m s .reply ≡ runReply job (withMain words m) =
+    plain ∙ run-alike job m (available s (m .source .main)) words (λ p l. sym (handed-settle job m s zero)) in
+    (same, demand-3-calls job (withMain words m) (ap (λ (r : RunReply). r .answered .number) (sym same) ∙ zero))

@@ -22,11 +22,16 @@ use Rattle.noise.specs.Condition.{Masks}
 
 -- ---- the rule of a line
 
--- the threshold is that of p, and the chooser that of the kind of distribution
-pub record RuleOf (p : Float) (d : PauliDistribution) (r : DrawRule) : Type 0 where
-  pub threshold : r .threshold ≡ thresholdOf p
-  pub kind : r .chooser .distribution ≡ d
+-- the threshold is that of p, and the chooser has the size of its distribution
+pub record Ruled (r : DrawRule) : Type 0 where
+  pub threshold : r .threshold ≡ thresholdOf (r .p)
   pub sized : Sized (r .chooser)
+
+-- the rule of a line with this p and kind of distribution
+pub record RuleOf (p : Float) (d : PauliDistribution) (r : DrawRule) : Type 0 where
+  pub probability : r .p ≡ p
+  pub kind : r .chooser .distribution ≡ d
+  pub ruled : Ruled r
 
 -- ---- one shot
 

@@ -14,15 +14,15 @@ ghost use mathlib.Core.Path.{_≡_};
 ghost use mathlib.Core.List.{_++_};
 ghost use Prim.Native.Nat.{_*_, _/_, _%_, _<_, _≤_};
 ghost use lib.ListN.{length, getD};
-ghost use lib.Ieee.{Float};
 ghost use Rattle.pauli.specs.Bits.{bit};
 ghost use Rattle.noise.specs.Kinds.{Small};
 ghost use Rattle.choice.specs.Choice.{Sized};
-ghost use Rattle.shots.specs.Shots.{RuleOf, ShotDrawn, FaultFound};
+ghost use Rattle.shots.specs.Shots.{Ruled, RuleOf, ShotDrawn, FaultFound};
 
-// How words become the faults of a line, the same in all its shots: by the threshold of its p a word brings a fault or none, and the chooser finds
-// the element.
+// How words become the faults of a line, the same in all its shots: p decides whether a word brings a fault, its threshold passes over words that
+// bring none, and the chooser finds the element.
 pub struct DrawRule {
+    pub p: f64,
     pub threshold: u64,
     pub chooser: Chooser,
 }
@@ -33,6 +33,7 @@ pub fn rule_of(p: f64, distribution: PauliDistribution) -> DrawRule
     ensures { λ r. ⌜ RuleOf p distribution r ⌝ }
 {
     DrawRule {
+        p,
         threshold: threshold(p),
         chooser: chooser_of(distribution),
     }
@@ -104,15 +105,16 @@ fn fault_from(
     rule: DrawRule,
     sums: &[f64],
 ) -> NextFault
-    requires { ⌜ (at ≤ length (now words ++ now more)) × (shot .0 ≤ shots) × (shots ≤ 64 * length (now mask)) × Sized (rule .chooser) ⌝ }
-    ensures { λ r. ⌜ ((p : Float) (distribution : PauliDistribution) → RuleOf p distribution rule → FaultFound (now (words .entry) ++ now (more .entry)) at (now (mask .entry)) (shot .0) shots p distribution (now (sums .entry)) r) ⌝ }
+    requires { ⌜ (at ≤ length (now words ++ now more)) × (shot .0 ≤ shots) × (shots ≤ 64 * length (now mask)) × Ruled rule ⌝ }
+    ensures { λ r. ⌜ FaultFound (now (words .entry) ++ now (more .entry)) at (now (mask .entry)) (shot .0) shots (rule .p) (rule .chooser .distribution) (now (sums .entry)) r ⌝ }
 {
+    let p = rule.p;
     let threshold = rule.threshold;
     let chooser = rule.chooser;
     let mut next = at;
     let mut s = shot.0;
     while s < shots {
-        let skip = next_skip(words, more, next, shots - s, threshold);
+        let skip = next_skip(words, more, next, shots - s, p, threshold);
         next += skip;
         s += skip;
         if s == shots {
@@ -149,11 +151,11 @@ pub fn next_fault(
     rule: DrawRule,
     sums: &[f64],
 ) -> NextFault
-    requires { ⌜ (at ≤ length (now words ++ now more)) × (shot .0 ≤ shots) × (shots ≤ 64 * length (now mask)) × Sized (rule .chooser) ⌝ }
-    ensures { λ r. ⌜ ((p : Float) (distribution : PauliDistribution) → RuleOf p distribution rule → FaultFound (now (words .entry) ++ now (more .entry)) at (now (mask .entry)) (shot .0) shots p distribution (now (sums .entry)) r) ⌝ }
+    requires { ⌜ (at ≤ length (now words ++ now more)) × (shot .0 ≤ shots) × (shots ≤ 64 * length (now mask)) × Ruled rule ⌝ }
+    ensures { λ r. ⌜ FaultFound (now (words .entry) ++ now (more .entry)) at (now (mask .entry)) (shot .0) shots (rule .p) (rule .chooser .distribution) (now (sums .entry)) r ⌝ }
 {
     if shot.0 < shots {
-        if falls_next(words, more, at, rule.threshold) {
+        if falls_next(words, more, at, rule.p) {
             let chooser = rule.chooser;
             match draw_shot(words, more, at, chooser, sums, is_set(mask, shot)) {
                 ShotDraw::Spent => {

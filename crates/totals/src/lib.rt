@@ -1,7 +1,9 @@
 // Totals: a number for each row of a matrix of bits, equal to the ones in the row. A row that changed is counted again; a single bit that changes is
 // one more or one less. And the other way, in one shot: the sum modulo 2 of listed rows.
+use pauli::OutcomeId;
 use pauli::Shot;
 use pauli::WORD_BITS;
+use pauli::outcome_at;
 use rows::Shape;
 ghost use mathlib.Core.Path.{_≡_};
 ghost use mathlib.Core.Bool.{false};
@@ -71,22 +73,31 @@ fn count_row(rows: &[u64], w: usize, r: usize) -> u64
     ones + count_words(rows, at + j, w - j)
 }
 
-// Puts the ones of row r for its total, after the row changed.
-pub fn recount(rows: &[u64], totals: &mut [u64], w: usize, r: usize)
-    requires { ⌜ (r * w + w ≤ length (now rows)) × (64 * w < 2 ^ 64) × (r < length (now totals)) ⌝ }
-    ensures { λ _. ⌜ now (totals .exit) ≡ set (now (totals .entry)) r (onesTo (64 * w) (bitIn w (now (rows .entry)) r)) ⌝ }
+// Puts the ones of an outcome's row for its total, after the row changed.
+pub fn recount(rows: &[u64], totals: &mut [u64], w: usize, outcome: OutcomeId)
+    requires { ⌜ (outcome .0 * w + w ≤ length (now rows)) × (64 * w < 2 ^ 64) × (outcome .0 < length (now totals)) ⌝ }
+    ensures { λ _. ⌜ now (totals .exit) ≡ set (now (totals .entry)) (outcome .0) (onesTo (64 * w) (bitIn w (now (rows .entry)) (outcome .0))) ⌝ }
 {
+    let r = outcome.0;
     totals[r] = count_row(rows, w, r);
 }
 
-// Adds 1 to bit s of row r of the outcomes. Its total has one more then, or one less where the bit was 1.
-pub fn flip_counted(rows: &mut [u64], totals: &mut [u64], shape: Shape, r: usize, s: usize)
-    requires { ⌜ (r * shape .width + shape .width ≤ length (now rows)) × (r < shape .outcomes) × (s < 64 * shape .width) × TotalsHeld (shape .width) (shape .outcomes) (now rows) (now totals) ⌝ }
-    ensures { λ _. ⌜ (now (rows .exit) ≡ flipped (shape .width) s r (now (rows .entry))) × TotalsHeld (shape .width) (shape .outcomes) (now (rows .exit)) (now (totals .exit)) ⌝ }
+// Adds 1 to an outcome's bit in a shot. Its total has one more then, or one less where the bit was 1.
+pub fn flip_counted(
+    rows: &mut [u64],
+    totals: &mut [u64],
+    shape: Shape,
+    outcome: OutcomeId,
+    shot: Shot,
+)
+    requires { ⌜ (outcome .0 * shape .width + shape .width ≤ length (now rows)) × (outcome .0 < shape .outcomes) × (shot .0 < 64 * shape .width) × TotalsHeld (shape .width) (shape .outcomes) (now rows) (now totals) ⌝ }
+    ensures { λ _. ⌜ (now (rows .exit) ≡ flipped (shape .width) (shot .0) (outcome .0) (now (rows .entry))) × TotalsHeld (shape .width) (shape .outcomes) (now (rows .exit)) (now (totals .exit)) ⌝ }
 {
+    let r = outcome.0;
+    let s = shot.0;
     let was = (rows[r * shape.width + s / WORD_BITS] >> (s % WORD_BITS)) % 2;
     totals[r] = totals[r] + 1 - 2 * was;
-    row_loops::flip_bit(rows, shape.width, r, s);
+    row_loops::flip_bit(rows, shape.width, r, shot);
 }
 
 // The sum modulo 2 of the listed outcomes' deltas in a shot, where a row has w words. Whole words are added, and the shot's bit is taken at the end.
@@ -99,8 +110,9 @@ pub fn delta_sum(deltas: &[u64], w: usize, shot: Shot, set: &[u64]) -> u64
     let mut word = 0u64;
     let mut k = 0;
     while k < set.len() {
-        let id = set[k] as usize;
-        word ^= deltas[id * w + place];
+        let id = outcome_at(set, k);
+        let row = id.0;
+        word ^= deltas[row * w + place];
         k += 1;
     }
     (word >> (s % WORD_BITS)) % 2

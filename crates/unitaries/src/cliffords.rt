@@ -1,5 +1,7 @@
 // Cliffords by their tables, and permutations. The operands' rows are saved in lent words, the scratch, and cleared; then what each saved row goes to
 // is added.
+use pauli::QubitId;
+use pauli::qubit_at;
 use rows::Shape;
 ghost use mathlib.Core.Path.{_≡_};
 ghost use mathlib.Core.Bool.{true};
@@ -18,14 +20,15 @@ ghost use Rattle.unitaries.specs.Images.{RowAdded, ImagesAdded, PlacesAd
 
 // ---- Cliffords
 
-// Adds row i of src to row q, if asked to.
-fn add_row_if(dst: &mut [u64], w: usize, q: usize, src: &[u64], i: usize, on: bool)
-    requires { ⌜ (q * w + w ≤ length (now dst)) × (i * w + w ≤ length (now src)) ⌝ }
-    ensures { λ _. ⌜ RowAdded w on q i (now (src .entry)) (now (dst .entry)) (now (dst .exit)) ⌝ }
+// Adds row i of src to a qubit's row, if asked to.
+fn add_row_if(dst: &mut [u64], w: usize, qubit: QubitId, src: &[u64], i: usize, on: bool)
+    requires { ⌜ (qubit .0 * w + w ≤ length (now dst)) × (i * w + w ≤ length (now src)) ⌝ }
+    ensures { λ _. ⌜ RowAdded w on (qubit .0) i (now (src .entry)) (now (dst .entry)) (now (dst .exit)) ⌝ }
 {
     if !on {
         return;
     }
+    let q = qubit.0;
     row_loops::xor_words(dst, q * w, src, i * w, w);
 }
 
@@ -46,7 +49,7 @@ fn add_image(
     let row = tables::row(table, k, r);
     let mut j = 0;
     while j < k {
-        let q = qubits[j] as usize;
+        let q = qubit_at(qubits, j);
         add_row_if(x, shape.width, q, saved, r, (row >> j) % 2 == 1);
         add_row_if(z, shape.width, q, saved, r, (row >> (k + j)) % 2 == 1);
         j += 1;
@@ -104,7 +107,8 @@ fn add_to_places(rows: &mut [u64], shape: Shape, places: &[u64], qubits: &[u64],
     let mut i = 0;
     while i < places.len() {
         let place = places[i] as usize;
-        let q = qubits[place] as usize;
+        let qubit = qubit_at(qubits, place);
+        let q = qubit.0;
         row_loops::xor_words(rows, q * w, saved, i * w, w);
         i += 1;
     }

@@ -1,12 +1,13 @@
 // Unitary gates. A frame goes through a gate by conjugation; signs are not kept, so that a gate and its inverse do the same.
 use pauli::QubitId;
+use pauli::qubit_at;
 use rows::Shape;
 ghost use mathlib.Core.Path.{_≡_};
 ghost use mathlib.Core.Bool.{true};
 ghost use mathlib.Core.List.{List};
 ghost use mathlib.Core.Option.{some};
 ghost use Prim.Native.Nat.{ℕ, _*_, _<_, _≤_};
-ghost use lib.ListN.{length, getD};
+ghost use lib.ListN.{length};
 ghost use Rattle.pauli.specs.Gate.{Gate, gateOf, swapXZ, addXtoZ, addZtoX, controlledX, controlledZ, controlledY, swapRows};
 ghost use Rattle.pauli.specs.Code.{operandCount};
 ghost use Rattle.job.specs.Line.{Line};
@@ -96,21 +97,13 @@ pub fn apply_swap(x: &mut [u64], z: &mut [u64], shape: Shape, first: QubitId, se
     row_loops::swap_rows(z, shape.width, first_row, second_row);
 }
 
-// The operand at place i.
-fn operand(qubits: &[u64], i: usize) -> QubitId
-    requires { ⌜ i < length (now qubits) ⌝ }
-    ensures { λ r. ⌜ r .0 ≡ getD (now (qubits .entry)) i 0 ⌝ }
-{
-    QubitId(qubits[i] as usize)
-}
-
 // The gate of a code on as many operands as it takes. The last operand is the second of two; a gate on one qubit does not look at it.
 pub fn apply_unitary_op(x: &mut [u64], z: &mut [u64], shape: Shape, gate: u64, qubits: &[u64])
     requires { ⌜ (length (now x) ≡ shape .qubits * shape .width) × (length (now z) ≡ shape .qubits * shape .width) × (gate ≤ 15) × (length (now qubits) ≡ operandCount (gateOf gate)) × (allBelow (shape .qubits) (now qubits) ≡ true) × (distinct (now qubits) ≡ true) ⌝ }
     ensures { λ _. ⌜ ((g : Gate) → gateOf gate ≡ some g → (m : ℕ) (d : List ℕ) → Acts (shape .width) (lineRule (shape .qubits) m (Line.unitary g (now (qubits .entry)))) (now (x .entry)) (now (z .entry)) d (now (x .exit)) (now (z .exit)) d) ⌝ }
 {
-    let a = operand(qubits, 0);
-    let b = operand(qubits, qubits.len() - 1);
+    let a = qubit_at(qubits, 0);
+    let b = qubit_at(qubits, qubits.len() - 1);
     match gate {
         // I, X, Y, Z
         0..=3 => {}

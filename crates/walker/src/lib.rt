@@ -26,7 +26,6 @@ use lines_back::with_observable;
 use lines_from_last::line_start;
 use numbers::rising::is_rising;
 use pauli::Pauli;
-use pauli::QubitId;
 use pauli::Shot;
 use reader::LETTER;
 use reader::LETTER_END;
@@ -114,8 +113,8 @@ fn gates_back(observable: Pauli, job: &[u8], end: usize, number: u64) -> Gates
             };
         }
         let g = read_gate(&job[at..e - 1]);
-        let first = QubitId(g.first as usize);
-        let second = QubitId(g.second as usize);
+        let first = g.first;
+        let second = g.second;
         b = b.conjugate_back(g.code, first, second);
         k -= 1;
         e = at;
@@ -177,8 +176,8 @@ fn refused(number: u64, line: u64) -> CountReply
 }
 
 // The walk of a set of outcomes in a shot: the tests of the job, then 17, then 16.
-pub fn walk(job: &[u8], shot: u64, set: &[u64]) -> CountReply
-    ensures { λ r. ⌜ r ≡ walkReply (now (job .entry)) shot (now (set .entry)) ⌝ }
+pub fn walk(job: &[u8], shot: Shot, set: &[u64]) -> CountReply
+    ensures { λ r. ⌜ r ≡ walkReply (now (job .entry)) (shot .0) (now (set .entry)) ⌝ }
 {
     let found = examine(job);
     let answer = found.answer;
@@ -189,7 +188,7 @@ pub fn walk(job: &[u8], shot: u64, set: &[u64]) -> CountReply
         };
     }
     let header = found.header;
-    if header.shots <= shot {
+    if header.shots <= shot.0 as u64 {
         return refused(refusals::WALK, 0);
     }
     if !is_rising(set) {
@@ -199,7 +198,7 @@ pub fn walk(job: &[u8], shot: u64, set: &[u64]) -> CountReply
         return refused(refusals::WALK, 0);
     }
     let mut outcomes = pauli::outcomes(set);
-    let w = walk_lines(job, found.lines, Shot(shot as usize), &mut outcomes);
+    let w = walk_lines(job, found.lines, shot, &mut outcomes);
     if w.noise != 0 {
         return refused(refusals::NOISE, w.noise);
     }

@@ -12,7 +12,7 @@ pub const MAX_CALLERS: usize = 8;
 ///
 /// Each caller has a stretch at the front of the list, in the order of callers; the rest is common. A caller's job takes words of the own stretch first, then
 /// common ones, and never another's. Words that are taken stay taken, so no word is handed out twice, and a caller whose jobs stay within the own stretch gets
-/// the same frames and deltas whatever the others do. These are theorems (`never-twice`, `others-untouched`, `own-alone-always` and others in
+/// the same frames and deltas whatever the others do. These are theorems (`never-twice`, `others-untouched`, `own-alone-both` and others in
 /// crates/shares/specs/Theorems.antt of the repository).
 ///
 /// List, shares and marks are kept together: marks are moved by calls alone, and can't be used with another list. There is no `Clone`, by which words would be

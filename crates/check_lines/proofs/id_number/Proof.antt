@@ -14,7 +14,7 @@ returns c = fails 8 _ _ (left-false _ _ (ne-eqb _ _ (c .if1 .taken)))
 
 returns-2 : tie.Need-returns-2
 unfolding contextOf
-returns-2 c = fails 8 _ [] (right-false (eqb (c .before .before .before .before .args .id) (c .before .before .before .before .args .c .recorded)) _ (le-ltb _ _ (c .if2 .taken)))
+returns-2 c = fails 8 _ [] (right-false (eqb (c .before .before .before .before .args .id .0) (c .before .before .before .before .args .c .recorded)) _ (le-ltb _ _ (c .if2 .taken)))
 
 returns-3 : tie.Need-returns-3
 unfolding contextOf lowest

@@ -3,27 +3,18 @@ use Prim.Native.Nat.{ℕ, suc, _+_, _≤_}
 use native.Mathlib.Numerals.{add-one}
 use native.Mathlib.Omega.{arith}
 use native.Mathlib.Nat.{zero-add}
-use mathlib.Core.Path.{_≡_, refl, sym, ap, _∙_}
+use mathlib.Core.Path.{_≡_, sym, ap, _∙_}
 use mathlib.Core.Bool.{Bool, true, false, cond}
 use mathlib.Core.List.{List, _∷_}
-use mathlib.Core.Option.{some}
 use borrow.Author.Tests.{eq-eqb, ne-eqb}
-use lib.Dec.{eqb}
 use lib.ListN.{length, drop, drop-of-length-le}
 use Rattle.text.specs.Bytes.{pieces, lines}
-use Rattle.text.specs.Template.{Value}
 use Rattle.job.specs.declared.Answer.{Answer}
 use Rattle.job.specs.Grammar.{Written, readLine}
 use Rattle.job.specs.Checks.{Context, noContext, records, next, refusalOf}
 use Rattle.job.specs.Job.{answer, accepted, wellEnded, isLast, nextOf, checkLines, checkJob}
 use Rattle.job.specs.Theorems.{recorded-counted, header-known}
 use Rattle.job.specs.Contexts.{contextAfter}
-use Rattle.job.specs.Laws.Recorded.{after-first}
-use Rattle.reader.specs.Parsed.{isUnread, Said}
-use Rattle.instructions.specs.Laws.Places.{last-line}
-use Rattle.instructions.specs.declared.LineRead.{LineRead as Line}
-use Rattle.instructions.specs.Reading.{lineAt, NextLine}
-use Rattle.instructions.specs.Laws.Meaning.{said-by}
 use Rattle.checker.specs.declared.Examined.{Examined}
 use Rattle.checker.specs.Examines.{Examines}
 use Rattle.check_values.specs.declared.context.Context.{Context as Known}
@@ -82,7 +73,7 @@ most x (Written.line l) = by (records l)
 most x (Written.noise n) = omega arith
 most x (Written.element v P) = omega arith
 
-one-more : (c d : Known) (w : Written) → contextOf d ≡ next (contextOf c) w → d .recorded ≤ c .recorded + 1
+pub one-more : (c d : Known) (w : Written) → contextOf d ≡ next (contextOf c) w → d .recorded ≤ c .recorded + 1
 unfolding contextOf
 one-more c d w e = let r = ap (λ (x : Context). x .recorded) e in omega (arith, r, most (contextOf c) w)
 
@@ -93,66 +84,6 @@ bad-job said is bad = record { answers = said ∙ is; finds = λ e. absurd (bad 
 pub badly-ended : {job : List ℕ} {r : Examined} → r .answer ≡ answer 1 0 → wellEnded job ≡ false → Examines job r
 unfolding checkJob
 badly-ended said e = bad-job said (rw e) (λ z. omega arith)
-
--- what the code found of the line that begins at `at`
-module _ {job : List ℕ} {c : Known} {at k : ℕ} (left : Left job c at k)
-    {line : Line} {fields : List ℕ} (read : NextLine job at line fields) (number : ℕ)
-    (unread : isUnread (line .form) ≡ true → number ≡ 2)
-    (tests : (vs : List Value) (w : Written) → Said (line .form) fields vs w → number ≡ refusalOf (contextOf c) (eqb (line .end + 1) (length job)) (some w)) where
-  abbrev text : List ℕ
-  text = lineAt job at (line .end)
-
-  abbrev behind : List (List ℕ)
-  behind = lines (drop (line .end + 1) job)
-
-  tested : number ≡ refusalOf (contextOf c) (isLast behind) (readLine text)
-  tested = rw (← last-line job (line .end) (read .place .inside)) (go (isUnread (line .form)) refl)
-    where
-      go : (b : Bool) → isUnread (line .form) ≡ b → number ≡ refusalOf (contextOf c) (eqb (line .end + 1) (length job)) (readLine text)
-      go true u = rw (read .parsed .unread u) (unfold refusalOf in unread u)
-      go false u = let p = read .parsed .read u in rw (p .reads) (tests (p .values) (p .written) (said-by p))
-
-  pub bad-line : {r : Examined} → r .answer ≡ answer number (k + 1) → (number ≡ 0 → ⊥) → Examines job r
-  unfolding checkJob
-  bad-line said bad =
-      bad-job said
-      (rw (left .ended)
-      (sym (left .same ∙ ap (checkLines (k + 1) (contextOf c)) (read .place .cut) ∙ line-refused (k + 1) (contextOf c) text behind number tested bad)))
-      bad
-
-  -- an unread line is refused
-  was-read : number ≡ 0 → isUnread (line .form) ≡ false
-  was-read h = go (isUnread (line .form)) refl
-    where
-      go : (b : Bool) → isUnread (line .form) ≡ b → b ≡ false
-      go true u = absurd (omega (arith, unread u))
-      go false u = refl
-
-  pub goes-on : (d : Known) → number ≡ 0
-      → ((vs : List Value) (w : Written) → Said (line .form) fields vs w → refusalOf (contextOf c) (eqb (line .end + 1) (length job)) (some w) ≡ 0
-      → contextOf d ≡ next (contextOf c) w)
-      → Left job d (line .end + 1) (k + 1)
-  unfolding nextOf
-  goes-on d h change =
-      let p = read .parsed .read (was-read h) in
-      let now = change (p .values) (p .written) (said-by p) (sym (tests (p .values) (p .written) (said-by p)) ∙ h) in
-      record {
-        within = omega (arith, read .place .inside);
-        number = omega (arith, left .number, read .place .begins);
-        ended = left .ended;
-        recorded = omega (arith, left .recorded, read .place .begins, one-more c d (p .written) now);
-        same =
-            left .same
-            ∙ ap (checkLines (k + 1) (contextOf c)) (read .place .cut)
-            ∙ line-passed (k + 1) (contextOf c) text behind number tested h
-            ∙ ap (λ (x : Context). checkLines (k + 1 + 1) x behind) (rw (p .reads) (sym now));
-        after =
-            left .after
-            ∙ ap (contextAfter (contextOf c)) (read .place .cut)
-            ∙ after-first (contextOf c) text behind (p .written) (p .reads)
-            ∙ ap (λ (x : Context). contextAfter x behind) (sym now);
-        count = omega (arith, left .count, ap length (read .place .cut));
-      }
 
 -- no line is left
 pub all-passed : {job : List ℕ} {c : Known} {at k : ℕ} → Left job c at k → length job ≤ at

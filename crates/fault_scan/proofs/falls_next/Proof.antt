@@ -14,18 +14,19 @@ next-word-requires c κs = search needs
 enum-known-word : tie.Need-enum-known-word
 enum-known-word c = search needs
 
-falls-below-requires : tie.Need-falls-below-requires
-falls-below-requires c κs = search needs
+is-fault-requires : tie.Need-is-fault-requires
+is-fault-requires c κs = search needs
 
 enum-told : tie.Need-enum-told
 enum-told c = search needs
 
 returns : tie.Need-returns
 returns c =
-    λ yes p e. subst (λ (x : ℕ). falls x p ≡ true) (word-read (c .before .before .before .before .next-word .ensures) (c .before .before .word .given .1) .1) (sym (c .falls-below .ensures p e) ∙ yes)
+    let a = c .before .before .before .before .before .before .before .args in
+    λ yes. subst (λ (x : ℕ). falls x (a .p) ≡ true) (word-read (c .before .before .before .before .next-word .ensures) (c .before .before .word .given .1) .1) (sym (c .is-fault .ensures) ∙ yes)
 
 returns-2 : tie.Need-returns-2
 returns-2 c = λ no. absurd (true≢false (sym no))
 
 pub falls-next-spec : {M : Type 1} → statement M
-falls-next-spec = tie.close (tie.spec next-word-requires enum-known-word falls-below-requires enum-told returns returns-2)
+falls-next-spec = tie.close (tie.spec next-word-requires enum-known-word is-fault-requires enum-told returns returns-2)

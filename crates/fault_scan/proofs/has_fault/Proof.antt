@@ -40,9 +40,9 @@ loop-again : tie.Need-loop-again Inv-loop μ-loop
 loop-again c = (omega arith, seen-next (c .difference .result) (c .before .before .before .loop .inv .1) (c .difference .ensures))
 
 returns : tie.Need-returns Inv-loop μ-loop
-returns c = λ e.
+returns c = λ no p e.
     let all : c .before .loop .i ≡ 8 = omega arith in
-    subst (Quiet _ _ _) all (c .before .loop .inv .1 .quiet (leb-false (2 ^ 63) (c .before .loop .seen) e))
+    subst (Quiet p _ _) all (c .before .loop .inv .1 .quiet (leb-false (2 ^ 63) (c .before .loop .seen) no) p e)
 
 pub has-fault-spec : {M : Type 1} → statement M
 has-fault-spec =

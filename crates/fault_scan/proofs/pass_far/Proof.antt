@@ -12,22 +12,22 @@ sub-lesser c = search needs
 lesser-requires : tie.Need-lesser-requires
 lesser-requires c κs = search needs
 
-pass-blocks-requires : tie.Need-pass-blocks-requires
-pass-blocks-requires c κs = search needs
+pass-quiet-requires : tie.Need-pass-quiet-requires
+pass-quiet-requires c κs = search needs
 
 returns : tie.Need-returns
-returns c = passed-first _ _ _ _ (c .before .before .if1 .taken) _ (c .before .lesser .ensures) (c .pass-blocks .ensures)
+returns c = passed-first _ _ _ _ (c .before .before .if1 .taken) _ (c .before .lesser .ensures) (c .pass-quiet .ensures)
 
-sub-pass-blocks : tie.Need-sub-pass-blocks
-sub-pass-blocks c = search needs
+sub-pass-quiet : tie.Need-sub-pass-quiet
+sub-pass-quiet c = search needs
 
-pass-blocks-requires-2 : tie.Need-pass-blocks-requires-2
-pass-blocks-requires-2 c κs = let a = c .before .before .before .args in omega (arith, length-append (a .words .now) (a .more .now))
+pass-quiet-requires-2 : tie.Need-pass-quiet-requires-2
+pass-quiet-requires-2 c κs = let a = c .before .before .before .args in omega (arith, length-append (a .words .now) (a .more .now))
 
 returns-2 : tie.Need-returns-2
 returns-2 c =
     let a = c .before .before .before .before .args in
-    passed-second (a .threshold) (a .words .now) (a .more .now) (a .at) (c .before .if1 .left) (c .pass-blocks2 .ensures)
+    passed-second (a .threshold) (a .words .now) (a .more .now) (a .at) (c .before .if1 .left) (c .pass-quiet2 .ensures)
 
 pub pass-far-spec : {M : Type 1} → statement M
 pass-far-spec =
@@ -35,8 +35,8 @@ pass-far-spec =
     (tie.spec
     sub-lesser
     lesser-requires
-    pass-blocks-requires
+    pass-quiet-requires
     returns
-    sub-pass-blocks
-    pass-blocks-requires-2
+    sub-pass-quiet
+    pass-quiet-requires-2
     returns-2)

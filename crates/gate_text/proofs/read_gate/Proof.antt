@@ -20,8 +20,8 @@ read-operands-requires c κs =
 
 returns : tie.Need-returns
 returns c =
-    let code = number-read (code-there (c .before .before .before .before .pre)) (omega arith) (c .before .before .read-digits .ensures) in
-    gate-read code (c .read-operands .ensures) _ refl refl refl refl
+    let code = number-read (code-there (c .before .before .before .before .before .before .pre)) (omega arith) (c .before .before .before .before .read-digits .ensures) in
+    gate-read code (c .before .before .read-operands .ensures) _ refl refl refl refl
 
 pub read-gate-spec : {M : Type 1} → statement M
 read-gate-spec =

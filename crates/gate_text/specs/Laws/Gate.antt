@@ -151,7 +151,7 @@ operands-there {line} t read =
     record { within = omega (arith, p .further, read .behind); members = listAt 0 (t .values); is = rw (read .behind) (p .operands) }
 
 pub gate-read : {line : List ℕ} {n : Digits} {q : Operands} → NumberRead line 7 space n → OperandsRead line (n .behind + 3) q
-    → (r : Gate) → r .code ≡ n .value → r .first ≡ q .first → r .second ≡ q .second → r .count ≡ q .count → GateRead line r
+    → (r : Gate) → r .code ≡ n .value → r .first .0 ≡ q .first .0 → r .second .0 ≡ q .second .0 → r .count ≡ q .count → GateRead line r
 gate-read {line} {n} {q} code operands r a b c d =
     let list-is : (vs : List Value) → valuesOf gateTemplate line ≡ some vs → listQ (drop (n .behind + 3) line) ≡ some (listAt 0 vs)
     = λ vs e. rw (code .behind) (parts line vs e .operands) in

@@ -75,7 +75,7 @@ module _ {line : List ℕ} {from : ℕ} (t : ListThere line from) {n : Digits} (
   number-first qs e = some-same (sym (read .is) ∙ first-member line from (t .within) e)
 
   -- no second member
-  pub operands-one : n .behind ≡ length line → (r : Operands) → r .first ≡ n .value → r .second ≡ 0 → r .count ≡ 1 → OperandsRead line from r
+  pub operands-one : n .behind ≡ length line → (r : Operands) → r .first .0 ≡ n .value → r .second .0 ≡ 0 → r .count ≡ 1 → OperandsRead line from r
   operands-one last r a b c =
       record {
         first = λ qs e. a ∙ number-first qs e;
@@ -92,7 +92,7 @@ module _ {line : List ℕ} {from : ℕ} (t : ListThere line from) {n : Digits} (
         let f = list-more line from (t .within) (t .is) (n .behind) (read .behind) more in
         record { within = omega arith; members = f .rest; is = f .rest-is }
 
-    pub operands-two : {m : Digits} → NumberRead line (n .behind + 1) comma m → (r : Operands) → r .first ≡ n .value → r .second ≡ m .value
+    pub operands-two : {m : Digits} → NumberRead line (n .behind + 1) comma m → (r : Operands) → r .first .0 ≡ n .value → r .second .0 ≡ m .value
         → r .count ≡ 2
         → OperandsRead line from r
     operands-two {m} second r a b c =

@@ -158,7 +158,7 @@ module _ {text : List ℕ} (k : KnownLine text) (there : GateBytes text) where
 
   -- its values were put into the words
   pub gate-parsed : {g : GateWords} → GateRead text g → (before : List ℕ) {coded after : List ℕ} → Whole before → coded ≡ set before 0 (g .code)
-      → ((members : List ℕ) → FewAre members (g .count) (g .first) (g .second) → ListPut coded after 0 members) → Parsed text form.Unitary after
+      → ((members : List ℕ) → FewAre members (g .count) (g .first .0) (g .second .0) → ListPut coded after 0 members) → Parsed text form.Unitary after
   unfolding forms placeOf bytes sift opens literals gateTemplate
   gate-parsed {g} read before {coded} {after} wide is-coded put =
       let o = of-known in

@@ -70,7 +70,7 @@ other-mark f l h e = go (valuesOf (f .template) l) refl
     go none q = unfold said in refl
     go (some v) q = absurd (eqb-false _ _ e (mark-same (f .template) l v h q))
 
-no-form : (fs : List Form) (l : List ℕ) → marked fs ≡ true → without (markOf l) fs ≡ true → readBy fs l ≡ none
+pub no-form : (fs : List Form) (l : List ℕ) → marked fs ≡ true → without (markOf l) fs ≡ true → readBy fs l ≡ none
 unfolding marked without readBy orLater
 no-form [] l m w = refl
 no-form (f ∷ fs) l m w =

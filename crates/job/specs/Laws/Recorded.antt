@@ -99,7 +99,7 @@ recorded-after k c (l ∷ ls) a =
     ∙ ap (λ (o : Option Written). c .recorded + recordedIn (gather k l o (gathered (suc k) ls) .instructions)) (sym (f .reads))
 
 -- a good line behind the header keeps the header's numbers
-same-header : (c : Context) (ls : List (List ℕ)) (w : Written) → c .begun ≡ true → Passing c ls w → next c w .header ≡ c .header
+pub same-header : (c : Context) (ls : List (List ℕ)) (w : Written) → c .begun ≡ true → Passing c ls w → next c w .header ≡ c .header
 unfolding next headerFits
 same-header c ls (Written.header h) b t = absurd (true≢false (sym (t .header) ∙ rw b))
 same-header c ls (Written.line i) b t = refl

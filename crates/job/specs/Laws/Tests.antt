@@ -3,6 +3,7 @@ use Prim.Native.Nat.{ℕ, _≤_, _<_}
 use native.Mathlib.Omega.{arith}
 use mathlib.Core.Path.{_≡_, refl, sym, _∙_}
 use mathlib.Core.Bool.{Bool, true, false, cond, true≢false}
+use mathlib.Core.Logic.{inl, inr}
 use mathlib.Core.List.{List, [], _∷_, map}
 use mathlib.Core.Option.{some}
 use borrow.Author.Tests.{ltb-true}
@@ -12,6 +13,7 @@ use Rattle.text.specs.Laws.Values.{both}
 use Rattle.job.specs.Line.{Line}
 use Rattle.job.specs.Grammar.{Written}
 use Rattle.job.specs.Sound.{Every}
+use Rattle.job.specs.Contexts.{Lowest}
 use Rattle.job.specs.Laws.Lists.{every-map}
 use Rattle.job.specs.Checks.{Context, Test, lineTests, noiseTests, ownTests, tests, lowest, refusalOf}
 
@@ -81,16 +83,24 @@ numbers-above a (t ∷ ts) r =
     let first : a < t .number = ltb-true _ _ (parts .0) in
     (first, every-map (λ (u : Test). t .number < u .number) (λ (u : Test). a < u .number) ts (λ u h. omega arith) (numbers-above (t .number) ts (parts .1)))
 
--- the number that `lowest` gives is not above that of any bad test
-pub lowest-least : (a : ℕ) (ts : List Test) → risesFrom a (testNumbers ts) ≡ true → Every (λ (t : Test). t .bad ≡ true → lowest ts ≤ t .number) ts
+-- a test that passes changes neither the number nor what is said of the others
+later-lowest : (t : Test) (ts : List Test) (n : ℕ) → t .bad ≡ false → Lowest ts n → Lowest (t ∷ ts) n
+later-lowest t ts n q (Lowest.passes zero all) = Lowest.passes zero (q, all)
+later-lowest t ts n q (Lowest.fails above one least) = Lowest.fails above (inr one) (λ e. absurd (true≢false (sym e ∙ q)), least)
+
+-- the number that `lowest` gives, by the tests
+pub lowest-is : (a : ℕ) (ts : List Test) → risesFrom a (testNumbers ts) ≡ true → Lowest ts (lowest ts)
 unfolding risesFrom lowest
-lowest-least a [] r = tt
-lowest-least a (t ∷ ts) r =
+lowest-is a [] r = Lowest.passes refl tt
+lowest-is a (t ∷ ts) r =
     let parts = both (ltb a (t .number)) (risesFrom (t .number) (testNumbers ts)) r in
-    go (t .bad) refl (numbers-above (t .number) ts (parts .1)) (lowest-least (t .number) ts (parts .1))
+    go (t .bad) refl (ltb-true a (t .number) (parts .0)) (numbers-above (t .number) ts (parts .1)) (lowest-is (t .number) ts (parts .1))
   where
-    go : (b : Bool) → t .bad ≡ b → Every (λ (u : Test). t .number < u .number) ts → Every (λ (u : Test). u .bad ≡ true → lowest ts ≤ u .number) ts
-        → (t .bad ≡ true → cond b (t .number) (lowest ts) ≤ t .number) × Every (λ (u : Test). u .bad ≡ true → cond b (t .number) (lowest ts) ≤ u .number) ts
-    go true q above ih =
-        (λ e. omega arith, every-map (λ (u : Test). t .number < u .number) (λ (u : Test). u .bad ≡ true → t .number ≤ u .number) ts (λ u h e. omega arith) above)
-    go false q above ih = (λ e. absurd (true≢false (sym e ∙ q)), ih)
+    go : (b : Bool) → t .bad ≡ b → a < t .number → Every (λ (u : Test). t .number < u .number) ts → Lowest ts (lowest ts)
+        → Lowest (t ∷ ts) (cond b (t .number) (lowest ts))
+    go true q h above ih =
+        Lowest.fails (omega (arith, h)) (inl (q, refl)) (
+          λ e. omega arith,
+          every-map (λ (u : Test). t .number < u .number) (λ (u : Test). u .bad ≡ true → t .number ≤ u .number) ts (λ u h e. omega arith) above,
+        )
+    go false q h above ih = later-lowest t ts (lowest ts) q ih

@@ -118,7 +118,7 @@ module _ {h : Header} (range : HeaderSound h) {lines state from : ℕ} {out : Li
   pub putting-more : {r : Making} {after : List ℕ} → i < lines → m .at ≤ 1048576 → MadeIs (instruction h (m .recorded) (m .state)) m r mid after
       → Putting h lines state from out (i + 1) r after
   putting-more l few made =
-      let a = instruction-makes h range (m .recorded) (p .within) .from (m .state) .makes in
+      let a = instruction-makes h range (m .recorded) (p .within) .from (m .state) in
       record {
         within = omega (arith, a .within, made .recorded);
         near = omega (arith, made .puts .place, a .short);

@@ -17,8 +17,8 @@ part-is-gate-end c = search needs
 is-gate-requires : tie.Need-is-gate-requires
 is-gate-requires c κs = search needs
 
-line-at-requires : tie.Need-line-at-requires
-line-at-requires c κs = gate-fills (c .before .before .before .before .before .pre .0) (c .before .is-gate .ensures (c .if1 .taken))
+line-from-requires : tie.Need-line-from-requires
+line-from-requires c κs = gate-fills (c .before .before .before .before .before .pre .0) (c .before .is-gate .ensures (c .if1 .taken))
 
 add-end : tie.Need-add-end
 add-end c = search needs
@@ -26,7 +26,7 @@ add-end c = search needs
 read-known-gate-requires : tie.Need-read-known-gate-requires
 read-known-gate-requires c κs =
     let pre = c .before .before .before .before .before .before .before .pre in
-    let handed = c .before .line-at .ensures in
+    let handed = c .before .line-from .ensures in
     let there = c .before .before .before .is-gate .ensures (c .before .before .if1 .taken) in
     (handed-known _ _ _ handed (pre .0), gate-bytes (pre .0) handed there, pre .1)
 
@@ -36,7 +36,7 @@ same-length c = search needs
 returns : tie.Need-returns
 returns c =
     let known = c .before .before .before .before .before .before .before .before .before .before .pre .0 in
-    let handed = c .before .before .before .before .line-at .ensures in
+    let handed = c .before .before .before .before .line-from .ensures in
     handed-read _ _ _ handed (known .ended) (known .inside) (c .before .before .read-known-gate .ensures) _ refl refl
 
 other-line-requires : tie.Need-other-line-requires
@@ -67,7 +67,7 @@ next-known-spec =
     part-is-gate-start
     part-is-gate-end
     is-gate-requires
-    line-at-requires
+    line-from-requires
     add-end
     read-known-gate-requires
     same-length

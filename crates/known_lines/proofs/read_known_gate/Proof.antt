@@ -18,9 +18,9 @@ same-length c = search needs
 
 returns : tie.Need-returns
 returns c =
-    let entry = c .before .before .before .before .before .before .before .before .before .before .before in
-    gate-parsed (entry .pre .0) (entry .pre .1) (c .before .before .before .before .before .before .before .before .read-gate .ensures) (entry .args .fields .now)
-    (entry .pre .2) (c .before .before .before .before .before .before .set-number .ensures) (c .before .before .set-few .ensures)
+    let entry = c .before .before .before .before .before .before .before .before .before .before .before .before .before in
+    gate-parsed (entry .pre .0) (entry .pre .1) (c .before .before .before .before .before .before .before .before .before .before .read-gate .ensures) (entry .args .fields .now)
+    (entry .pre .2) (c .before .before .before .before .before .before .before .before .set-number .ensures) (c .before .before .set-few .ensures)
 
 pub read-known-gate-spec : {M : Type 1} → statement M
 read-known-gate-spec =

@@ -83,17 +83,35 @@ unfolding behindLines
 end-behind job zero = refl
 end-behind job (suc n) = ap (behindLines n job) (behind-last job (length job) (omega arith)) ∙ end-behind job n
 
-pub no-more : (job : List ℕ) (at n : ℕ) → 0 < n → length job ≤ at → behindLines n job at ≡ length job
-unfolding behindLines
-no-more job at zero p h = absurd (omega arith)
-no-more job at (suc n) p h = ap (behindLines n job) (behind-last job at (omega arith)) ∙ end-behind job n
-
-pub one-more : (job : List ℕ) (at n : ℕ) → 0 < n → behindLines n job at ≡ behindLines (n - 1) job (behind job at)
+one-more : (job : List ℕ) (at n : ℕ) → 0 < n → behindLines n job at ≡ behindLines (n - 1) job (behind job at)
 unfolding behindLines
 one-more job at zero p = absurd (omega arith)
 one-more job at (suc n) p =
     let k : n ≡ suc n - 1 = omega arith in
     ap (λ (i : ℕ). behindLines i job (behind job at)) k
+
+pub none-more : (job : List ℕ) (at n : ℕ) → n ≤ 0 → behindLines n job at ≡ at
+unfolding behindLines
+none-more job at zero p = refl
+none-more job at (suc n) p = absurd (omega arith)
+
+behind-within : (job : List ℕ) (at : ℕ) → behind job at ≤ length job
+behind-within job at = go (ltb (endFrom job at) (length job)) refl
+  where
+    go : (t : Bool) → ltb (endFrom job at) (length job) ≡ t → behind job at ≤ length job
+    go true e = let h = ltb-true (endFrom job at) (length job) e in omega (arith, h, behind-more job at h)
+    go false e = omega (arith, behind-last job at (ltb-false (endFrom job at) (length job) e))
+
+-- the same where none are left to pass from the end on
+pub one-more-or-none : (job : List ℕ) (at n : ℕ) → 0 < n → behindLines n job at ≡ behindLines (cond (ltb (behind job at) (length job)) (n - 1) 0) job (behind job at)
+one-more-or-none job at n p = one-more job at n p ∙ go (ltb (behind job at) (length job)) refl
+  where
+    go : (t : Bool) → ltb (behind job at) (length job) ≡ t → behindLines (n - 1) job (behind job at) ≡ behindLines (cond t (n - 1) 0) job (behind job at)
+    go true e = refl
+    go false e =
+        let over = ltb-false (behind job at) (length job) e in
+        let end : behind job at ≡ length job = omega (arith, over, behind-within job at) in
+        ap (behindLines (n - 1) job) end ∙ end-behind job (n - 1) ∙ sym end ∙ sym (none-more job (behind job at) 0 (omega arith))
 
 -- the lines from there on are those behind so many
 pub lines-left : (n : ℕ) (job : List ℕ) (at : ℕ) → lines (drop (behindLines n job at) job) ≡ drop n (lines (drop at job))
@@ -111,11 +129,6 @@ line-behind (suc n) job at =
     let k : 1 + n ≡ suc n = omega arith in
     line-behind n job (behind job at) ∙ ap (λ (ls : List (List ℕ)). getD ls n []) (lines-behind job at) ∙ getD-drop 1 (lines (drop at job)) n []
     ∙ ap (λ (i : ℕ). getD (lines (drop at job)) i []) k
-
-pub none-more : (job : List ℕ) (at n : ℕ) → n ≤ 0 → behindLines n job at ≡ at
-unfolding behindLines
-none-more job at zero p = refl
-none-more job at (suc n) p = absurd (omega arith)
 
 -- ---- a line and those behind it
 

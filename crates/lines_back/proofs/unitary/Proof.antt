@@ -1,8 +1,9 @@
 -- `lines_back::unitary` meets its contract. Assumes nothing.
 use native.Mathlib.Omega.{arith}
+use Rattle.pauli.specs.Code.{operandCount}
 use Rattle.job.specs.Sound.{LineSound}
 use Rattle.job.specs.Laws.Lists.{below-more}
-use Rattle.instructions.specs.Laws.Read.{unitary-read}
+use Rattle.instructions.specs.Laws.Read.{unitary-read, gate-small}
 use Rattle.lines_back.specs.Laws.Kinds.{unitary-goes}
 use Rattle.lines_back.proofs.unitary.Statement.{statement}
 use Rattle.lines_back.proofs.unitary.Tie as tie
@@ -14,8 +15,12 @@ list-requires : tie.Need-list-requires
 list-requires c κs = (omega arith, c .before .before .pre .plain .wide, unitary-read (c .before .before .pre .plain) .2 .few 0 (omega arith))
 
 unitary-back-requires : tie.Need-unitary-back-requires
-unfolding LineSound
-unitary-back-requires c κs = rw (c .list .ensures) (below-more _ 256 _ (c .before .before .before .pre .few-qubits) (unitary-read (c .before .before .before .pre .plain) .2 .sound .operands .below))
+unfolding LineSound operandCount
+unitary-back-requires c κs =
+    let e = c .list .ensures in
+    let v = c .before .number .ensures in
+    let (g, k, r) = unitary-read (c .before .before .before .pre .plain) in
+    (rw v (gate-small _ k), rw (e, v, k) (r .sound .count), rw e (below-more _ 256 _ (c .before .before .before .pre .few-qubits) (r .sound .operands .below)))
 
 returns : tie.Need-returns
 returns c = λ shot set. unitary-goes shot set (rw (c .before .before .number .ensures, c .before .list .ensures) at (c .unitary-back .ensures))

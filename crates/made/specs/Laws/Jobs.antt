@@ -25,15 +25,14 @@ use Rattle.made.specs.Laws.Values.{brief-N}
 use Rattle.made.specs.Laws.Lines as lines
 use Rattle.made.specs.Laws.Operands as operands
 use Rattle.made.specs.Laws.Tables as tables
-use Rattle.made.specs.Laws.Makes.{Makes, marks, templateBy, line-known}
+use Rattle.made.specs.Laws.Makes.{Makes, makes-as, marks, templateBy, line-known}
 use Rattle.made.specs.Laws.Noise as noise
 
 -- ---- one instruction
 
--- of some kind
-pub record MakesSome (h : Header) (r : ℕ) (m : Making.Made) : Type 0 where
-  pub kind : LineKind
-  pub makes : Makes h r (OfKind kind) m
+-- of any kind
+abbrev pub MakesSome : Header → ℕ → Making.Made → Type 0
+MakesSome h r m = Makes h r (λ (i : Instruction). Unit {0}) m
 
 module _ (h : Header) (range : HeaderSound h) (r : ℕ) (within : r ≤ h .outcomes) where
   abbrev Stands : Making.Entry → Type 0
@@ -41,12 +40,18 @@ module _ (h : Header) (range : HeaderSound h) (r : ℕ) (within : r ≤ h .outco
 
   -- of this kind, wherever it stands
   known : (kind : LineKind) {made : Choice Making.Made} → Always (Makes h r (OfKind kind)) made → Always (MakesSome h r) made
-  known kind a = record { from = λ state. record { kind = kind; makes = a .from state } }
+  known kind a = record { from = λ state. makes-as (λ i is. tt) (a .from state) }
+
+  unitary-known : Always (MakesSome h r) (Making.unitary h r)
+  unitary-known = record { from = λ state. makes-as (λ i is. tt) (operands.unitary-makes h range r within state) }
+
+  reset-known : Always (MakesSome h r) (Making.reset h r)
+  reset-known = record { from = λ state. makes-as (λ i is. tt) (operands.reset-makes h range r within state) }
 
   ring-stands : Every Stands (Making.ring h r)
   unfolding Making.ring
   ring-stands = (
-    (λ _. known LineKind.unitary (operands.unitary-makes h range r within)),
+    (λ _. unitary-known),
     (
       (λ _. known LineKind.clifford (tables.clifford-makes h range r within)),
       (
@@ -60,7 +65,7 @@ module _ (h : Header) (range : HeaderSound h) (r : ℕ) (within : r ≤ h .outco
               (
                 (λ _. known LineKind.conditional (lines.conditional-makes h range r within)),
                 (
-                  (λ _. known LineKind.reset (operands.reset-makes h range r within)),
+                  (λ _. reset-known),
                   (
                     (λ _. known LineKind.inject (lines.inject-makes h range r within)),
                     (
@@ -103,7 +108,7 @@ module _ (h : Header) (range : HeaderSound h) (r : ℕ) (within : r ≤ h .outco
 
   first-stands : (es : List Making.Entry) → Every Stands es → Always (MakesSome h r) (Making.firstStanding h r es)
   unfolding Making.firstStanding
-  first-stands [] s = known LineKind.unitary (operands.unitary-makes h range r within)
+  first-stands [] s = unitary-known
   first-stands (e ∷ es) s = go (e .stands) refl (first-stands es (s .1))
     where
       go : (b : Bool) → e .stands ≡ b → Always (MakesSome h r) (Making.firstStanding h r es)
@@ -148,7 +153,7 @@ pub made-known : (h : Header) → HeaderSound h → (n r state : ℕ) → r ≤ 
 unfolding madeTexts ListSound unlines
 made-known h range zero r state within = record { instructions = []; count = refl; said = SaidAs.nothing; sound = tt; free = tt; short = omega arith }
 made-known h range (suc n) r state within =
-    let a = instruction-makes h range r within .from state .makes in
+    let a = instruction-makes h range r within .from state in
     let i = Making.instruction h r state in
     made-more a (made-known h range n (i .value .recorded) (i .state) (a .within))
 

@@ -40,6 +40,20 @@ pub record Makes (h : Header) (r : ℕ) (Is : Instruction → Type 0) (m : Makin
   pub free : (ts : List (List ℕ)) → AllFree LF ts → AllFree LF (m .texts ++ ts)
   pub short : length (unlines (m .texts)) ≤ 1048
 
+-- and so whatever follows from what it is
+pub makes-as : {h : Header} {r : ℕ} {Is Js : Instruction → Type 0} {m : Making.Made} → ((i : Instruction) → Is i → Js i) → Makes h r Is m → Makes h r Js m
+makes-as f a =
+    record {
+      instruction = a .instruction;
+      is = f (a .instruction) (a .is);
+      said = a .said;
+      sound = a .sound;
+      recorded = a .recorded;
+      within = a .within;
+      free = a .free;
+      short = a .short;
+    }
+
 -- ---- lines by the mark of their form
 
 -- the template of the form with this mark

@@ -1,8 +1,8 @@
 -- Made lines with operands say sound instructions: m, b, u, z. Laws. Assumes nothing.
-use mathlib.Core.Path.{_≡_, refl, sym, subst, _∙_}
+use mathlib.Core.Path.{_≡_, refl, ap, sym, subst, _∙_}
 use mathlib.Core.Bool.{Bool, true, false, not, cond, _&&_, _||_, true≢false}
 use mathlib.Core.List.{List, [], _∷_}
-use mathlib.Core.Option.{Option, none, some}
+use mathlib.Core.Option.{Option, none, some, Option·some-injective}
 use Prim.Native.Nat.{ℕ, _+_, _-_, _%_, _<_, _≤_}
 use native.Mathlib.Omega.{arith}
 use native.Mathlib.Nat.{mod-lt, mod-eq-of-lt}
@@ -13,8 +13,9 @@ use Rattle.pauli.specs.Bits.{outside, members}
 use Rattle.pauli.specs.Gate.{Gate, gates, gateFrom, gateOf, operandsOf}
 use Rattle.pauli.specs.Laws.Code.{same-at}
 use Rattle.text.specs.Bytes.{bytes}
-use Rattle.text.specs.Template.{Value, lineText}
+use Rattle.text.specs.Template.{Value}
 use Rattle.text.specs.Laws.Values.{both}
+use Rattle.stream.specs.Stream.{step}
 use Rattle.job.specs.declared.Header.{Header}
 use Rattle.job.specs.Line.{Line, Instruction}
 use Rattle.job.specs.Grammar.{unitaryLine}
@@ -99,14 +100,14 @@ module _ (h : Header) (range : HeaderSound h) (r : ℕ) (within : r ≤ h .outco
   unfolding Making.gateCodes
   codes-known = go (eqb (h .qubits) 1) refl (eqb (h .edition) 2) refl
     where
-      go : (a : Bool) → eqb (h .qubits) 1 ≡ a → (b : Bool) → eqb (h .edition) 2 ≡ b → CodesKnown (cond a 11 (cond b 16 15))
-      go true e b f = record { at-least = omega arith; at-most = omega arith; two = λ l. absurd (omega arith); second = λ l. absurd (omega arith) }
+      go : (a : Bool) → eqb (h .qubits) 1 ≡ a → (b : Bool) → eqb (h .edition) 2 ≡ b → CodesKnown (Making.gateCodes h r)
+      go true e b f = rw e (record { at-least = omega arith; at-most = omega arith; two = λ l. absurd (omega arith); second = λ l. absurd (omega arith) })
       go false e true f =
           let more : h .qubits ≡ 1 → ⊥ = eqb-false _ _ e in
-          record { at-least = omega arith; at-most = omega arith; two = λ _. omega (arith, range .some-qubits); second = λ _. eqb-true _ _ f }
+          rw (e, f) (record { at-least = omega arith; at-most = omega arith; two = λ _. omega (arith, range .some-qubits); second = λ _. eqb-true _ _ f })
       go false e false f =
           let more : h .qubits ≡ 1 → ⊥ = eqb-false _ _ e in
-          record { at-least = omega arith; at-most = omega arith; two = λ _. omega (arith, range .some-qubits); second = λ l. absurd (omega arith) }
+          rw (e, f) (record { at-least = omega arith; at-most = omega arith; two = λ _. omega (arith, range .some-qubits); second = λ l. absurd (omega arith) })
 
   one-qubit : (a : ℕ) → a < h .qubits → Stretch (h .qubits) (a ∷ [])
   unfolding distinct members outside allBelow
@@ -136,16 +137,26 @@ module _ (h : Header) (range : HeaderSound h) (r : ℕ) (within : r ≤ h .outco
           always-then (always-pick (h .qubits - 1) (omega arith)) (λ d ld.
           always-given _ (record { operands = two-qubits a d la ld; count = rw e }))
 
-  pub unitary-makes : MakesAlways LineKind.unitary (Making.unitary h r)
-  unfolding Making.unitary marks LineSound recordedBy records lineKind kindOf unitaryLine
-  unitary-makes =
-      always-then (always-pick (Making.gateCodes h r) (omega (arith, codes-known .at-least))) (λ g lg.
+  -- the line of a gate by its code
+  abbrev OfCode : ℕ → Instruction → Type 0
+  OfCode g i = (gate : Gate) → gateOf g ≡ some gate → kindOf i ≡ LineKind.unitary gate
+
+  gate-makes : (g : ℕ) → g < Making.gateCodes h r
+      → Always (Makes h r (OfCode g)) (pick (h .qubits) >>= λ a. Making.gateQubits h r g a >>= λ qs.
+      Making.line r (bytes "op=u g=N q=Q") (Value.number g ∷ Value.list qs ∷ []))
+  unfolding marks LineSound recordedBy records lineKind kindOf unitaryLine
+  gate-makes g lg =
       let k = gate-known g (omega (arith, codes-known .at-most)) in
       always-then (always-pick (h .qubits) (some-qubits range)) (λ a la.
       always-then (always-qubits g a lg la) (λ qs s.
-      always-given _ (line-makes 117 _ (Line.unitary (k .gate) qs) refl refl
+      always-given _ (line-makes 117 _ (Line.unitary (k .gate) qs) (λ gate e. ap LineKind.unitary (Option·some-injective _ _ (sym (k .is) ∙ e))) refl
       (brief-N g (omega (arith, codes-known .at-most)), (brief-stretch range _ (s .operands), tt)) (rw (k .is))
-      (record { operands = stretch-operands (s .operands); count = s .count ∙ sym (k .count); known = λ e. codes-known .second (omega (arith, k .second e)) }) (same-recorded r) within (omega arith)))))
+      (record { operands = stretch-operands (s .operands); count = s .count ∙ sym (k .count); known = λ e. codes-known .second (omega (arith, k .second e)) }) (same-recorded r) within (omega arith))))
+
+  -- the next word chooses the code
+  pub unitary-makes : (state : ℕ) → Makes h r (OfCode (step state % Making.gateCodes h r)) (Making.unitary h r state .value)
+  unfolding Making.unitary _>>=_ pick
+  unitary-makes state = gate-makes (step state % Making.gateCodes h r) (mod-lt _ (omega (arith, codes-known .at-least))) .from (step state)
 
   -- one qubit in the first edition
   record ResetQubits (qs : List ℕ) : Type 0 where
@@ -167,18 +178,9 @@ module _ (h : Header) (range : HeaderSound h) (r : ℕ) (within : r ≤ h .outco
           always-then (always-pick (h .qubits) (some-qubits range)) (λ a la.
           always-given _ (record { operands = one-qubit a la; several = λ l. absurd (omega arith) }))
 
-  reset-line : {Is : Instruction → Type 0} (qs : List ℕ) → ResetQubits qs → Is (Instruction.line (Line.reset qs))
-      → Makes h r Is (record { texts = lineText (bytes "op=z q=Q") (Value.list qs ∷ []) ∷ []; recorded = r })
-  unfolding marks LineSound recordedBy records
-  reset-line qs s is =
-      line-makes 122 _ (Line.reset qs) is refl (brief-stretch range _ (s .operands), tt) refl
+  pub reset-makes : (state : ℕ) → Makes h r (λ i. i ≡ Instruction.line (Line.reset (Making.resetQubits h r state .value))) (Making.reset h r state .value)
+  unfolding Making.reset given _>>=_ marks LineSound recordedBy records
+  reset-makes state =
+      let s = always-reset .from state in
+      line-makes 122 _ (Line.reset (Making.resetQubits h r state .value)) refl refl (brief-stretch range _ (s .operands), tt) refl
       (record { operands = stretch-operands (s .operands); several = s .several }) (same-recorded r) within (omega arith)
-
-  -- with its qubits
-  pub reset-makes-on : (state : ℕ) → Makes h r (λ i. i ≡ Instruction.line (Line.reset (Making.resetQubits h r state .value))) (Making.reset h r state .value)
-  unfolding Making.reset given _>>=_
-  reset-makes-on state = reset-line _ (always-reset .from state) refl
-
-  pub reset-makes : MakesAlways LineKind.reset (Making.reset h r)
-  unfolding Making.reset lineKind kindOf
-  reset-makes = always-then always-reset (λ qs s. always-given _ (reset-line qs s refl))

@@ -1,15 +1,18 @@
 -- Gates by ranges of their codes. Assumes nothing.
 use mathlib.Core.Path.{_≡_, refl, subst}
+use mathlib.Core.Bool.{true}
 use mathlib.Core.List.{List, [], _∷_}
-use mathlib.Core.Option.{none}
-use Prim.Native.Nat.{ℕ, zero, suc, _+_, _≤_, _<_}
+use mathlib.Core.Option.{Option, none, some}
+use Prim.Native.Nat.{ℕ, zero, suc, _+_, _-_, _≤_, _<_}
 use native.Mathlib.Nat.{not-suc-le-zero, le-of-suc-le-suc}
 use native.Mathlib.Decide.{ℕ-discrete}
 use native.Mathlib.Omega.{arith}
-use lib.ListN.{length}
+use lib.Dec.{ltb}
+use lib.ListN.{length, getD}
+use borrow.Author.Tests.{ltb-true}
 use Rattle.pauli.specs.Pauli.{Pauli}
-use Rattle.pauli.specs.Gate.{Gate, gates, gateFrom, gateOf, gateWith, swapXZ, addXtoZ, addZtoX}
-use Rattle.pauli.specs.Code.{byGate}
+use Rattle.pauli.specs.Gate.{Gate, gates, gateFrom, gateOf, operandsOf, gateWith, swapXZ, addXtoZ, addZtoX}
+use Rattle.pauli.specs.Code.{byGate, operandCount}
 
 -- ---- two functions with the same values over a range
 
@@ -68,3 +71,42 @@ module _ (bell : ℕ → ℕ → Pauli → Pauli) (a b : ℕ) (P : Pauli) (code 
   pub alike : (bell′ : ℕ → ℕ → Pauli → Pauli) → code ≤ 13 → made code ≡ byGate (gateWith bell′) (gateOf code) a b P
   unfolding byGate gateWith gateOf gateFrom gates
   alike bell′ h = same-at made (λ k. byGate (gateWith bell′) (gateOf k) a b P) 0 14 refl code (omega arith) (omega arith)
+
+-- ---- the operands of a code's gate, in a list
+
+-- the last operand is the second of two, and a gate on one qubit does not look at it
+pub last-operand : (bell : ℕ → ℕ → Pauli → Pauli) (g : Gate) (qs : List ℕ) (P : Pauli) → length qs ≡ operandsOf g
+    → gateWith bell g (getD qs 0 0) (getD qs (length qs - 1) 0) P ≡ gateWith bell g (getD qs 0 0) (getD qs 1 0) P
+unfolding gateWith operandsOf
+last-operand bell Gate.I qs P e = refl
+last-operand bell Gate.X qs P e = refl
+last-operand bell Gate.Y qs P e = refl
+last-operand bell Gate.Z qs P e = refl
+last-operand bell Gate.Hadamard qs P e = refl
+last-operand bell Gate.SqrtZ qs P e = refl
+last-operand bell Gate.SqrtZInv qs P e = refl
+last-operand bell Gate.SqrtX qs P e = refl
+last-operand bell Gate.SqrtXInv qs P e = refl
+last-operand bell Gate.SqrtY qs P e = refl
+last-operand bell Gate.SqrtYInv qs P e = refl
+last-operand bell Gate.ControlledX qs P e = rw e
+last-operand bell Gate.ControlledZ qs P e = rw e
+last-operand bell Gate.Swap qs P e = rw e
+last-operand bell Gate.PrepareBell qs P e = rw e
+last-operand bell Gate.ControlledY qs P e = rw e
+
+module _ (code : ℕ) (qs : List ℕ) (count : length qs ≡ operandCount (gateOf code)) where
+  -- a code has a gate, and so an operand
+  pub has-operand : code ≤ 15 → 0 < length qs
+  unfolding operandCount operandsOf gateOf gateFrom gates
+  has-operand h = rw count (ltb-true 0 _ (same-at (λ k. ltb 0 (operandCount (gateOf k))) (λ _. true) 0 16 refl code (omega arith) (omega arith)))
+
+  pub last-of-code : (bell : ℕ → ℕ → Pauli → Pauli) (P : Pauli)
+      → byGate (gateWith bell) (gateOf code) (getD qs 0 0) (getD qs (length qs - 1) 0) P ≡ byGate (gateWith bell) (gateOf code) (getD qs 0 0) (getD qs 1 0) P
+  unfolding byGate operandCount
+  last-of-code bell P = go (gateOf code) count
+    where
+      go : (o : Option Gate) → length qs ≡ operandCount o
+          → byGate (gateWith bell) o (getD qs 0 0) (getD qs (length qs - 1) 0) P ≡ byGate (gateWith bell) o (getD qs 0 0) (getD qs 1 0) P
+      go none e = refl
+      go (some g) e = last-operand bell g qs P e

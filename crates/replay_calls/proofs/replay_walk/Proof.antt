@@ -29,11 +29,11 @@ slice-aggregate-words c = search needs
 words-requires : tie.Need-words-requires
 words-requires c κs = search needs
 
-slice-aggregate-walk : tie.Need-slice-aggregate-walk
-slice-aggregate-walk c = sym (length-take-le _ _ (search needs))
-
 number-requires : tie.Need-number-requires
 number-requires c κs = search needs
+
+slice-aggregate-walk : tie.Need-slice-aggregate-walk
+slice-aggregate-walk c = sym (length-take-le _ _ (search needs))
 
 array-share-prefix-set : tie.Need-array-share-prefix-set
 array-share-prefix-set c = search needs
@@ -62,8 +62,8 @@ replay-walk-spec =
     part-words-end
     slice-aggregate-words
     words-requires
-    slice-aggregate-walk
     number-requires
+    slice-aggregate-walk
     array-share-prefix-set
     slice-aggregate-walk-2
     walk-requires

@@ -30,7 +30,7 @@ same-length c = search needs
 
 returns : tie.Need-returns
 unfolding flipped
-returns c = rw (one-shl (c .before .args .s % 64) (omega arith))
+returns c = rw (one-shl (c .before .args .shot .0 % 64) (omega arith))
 
 pub flip-bit-spec : {M : Type 1} → statement M
 flip-bit-spec =

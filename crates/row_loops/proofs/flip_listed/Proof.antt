@@ -10,10 +10,10 @@ use Rattle.row_loops.proofs.flip_listed.Statement.{statement}
 use Rattle.row_loops.proofs.flip_listed.Tie as tie
 
 abbrev Inv-loop : tie.InvT-loop
-Inv-loop rows₀ w list s i₀ rows i = (overList (flipped w s) (drop i list) rows ≡ overList (flipped w s) list rows₀) × (length rows ≡ length rows₀)
+Inv-loop rows₀ w list shot i₀ rows i = (overList (flipped w (shot .0)) (drop i list) rows ≡ overList (flipped w (shot .0)) list rows₀) × (length rows ≡ length rows₀)
 
 abbrev μ-loop : tie.MeasureT-loop
-μ-loop rows₀ w list s i₀ rows i = length list - i
+μ-loop rows₀ w list shot i₀ rows i = length list - i
 
 loop-holds : tie.Need-loop-holds Inv-loop μ-loop
 loop-holds c = (refl, refl)

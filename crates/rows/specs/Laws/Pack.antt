@@ -65,7 +65,7 @@ module _ (rows shots : ℕ) (bits : ℕ → ℕ → Bool) where
   unfolding pack
   length-pack = length-tabulated _ (rows * wordsPerRow shots)
 
-  pack-fits : (i : ℕ) → getD (pack rows shots bits) i 0 < 2 ^ 64
+  pub pack-fits : (i : ℕ) → getD (pack rows shots bits) i 0 < 2 ^ 64
   unfolding pack
   pack-fits i = go (decLt i (rows * wordsPerRow shots))
     where

@@ -4,34 +4,23 @@ use mathlib.Core.Bool.{Bool, true, false, cond, _&&_}
 use mathlib.Core.List.{List, [], _∷_, _++_}
 use Prim.Native.Nat.{ℕ, _+_, _<_, min}
 use native.Mathlib.Omega.{arith}
-use borrow.Author.Tests.{eqb-true, eqb-false, le-leb, lt-ltb, ltb-true}
+use borrow.Author.Tests.{eqb-true, eqb-false, ltb-true}
 use Rattle.text.specs.Laws.Values.{both}
-use lib.Dec.{eqb, leb, ltb}
+use lib.Dec.{eqb, ltb}
 use lib.ListN.{length, getD}
-use Rattle.job.specs.declared.Header.{Header}
 use Rattle.job.specs.declared.Answer.{Answer}
 use Rattle.job.specs.Job.{answer, jobOf, checkJob}
 use Rattle.job.specs.Reply.{TextReply, refusedText}
-use Rattle.draws.specs.Draws.{Lent}
-use Rattle.draws.specs.Settle.{Settled, settle}
-use Rattle.draws.specs.Execute.{Ended, starts, execute}
-use Rattle.draws.specs.Known.{onSettled}
-use Rattle.draws.specs.Laws.Settling.{execute-settle}
+use Rattle.draws.specs.Settle.{settle}
 use Rattle.draws.specs.Laws.Left.{stays, own-taken}
-use Rattle.run.specs.Run.{Source, Memory, RunReply, outcomeWords, enoughWords, lentOf, untouched, spentReply, finishedReply, endedReply, runReply, withSource}
-use Rattle.backward.specs.Settling.{settledAnswer, settleReply}
+use Rattle.run.specs.Run.{Source, Memory, RunReply, enoughWords, lentOf, untouched, runReply, withSource}
 use Rattle.shares.specs.Shares.{ownLeft, commonLeft, available, marksFit, sharesFit, moved, marksAfter}
 use Rattle.shares.specs.Replies.{shared, takenBy, takesWords, marksFor, Shared, tested, sharedReply, sharedRunReply, sharedSettleReply}
 use Rattle.shares.specs.Account.{from, withMain, shareOf, Call, Reply, callerOf, callsOf, replyTo, marksBy, handedBy, marksThrough, StaysOwn, takes, TakesAlike, TakeAlike, RunOrStays, AllRunOrStay, Within, StaysWithin}
 use Rattle.shares.specs.Laws.Moves.{Called}
-use Rattle.shares.specs.Laws.Sequences.{getD-moved, getD-other, call-called, call-within}
+use Rattle.shares.specs.Laws.Sequences.{getD-other, call-called, call-within}
 use Rattle.shares.specs.Laws.Spent.{run-takes}
-
--- what a run leaves does not hang on what draws are taken from, but for the draws
-ended-source : (h : Header) (m : Memory) (s : Source) (e : Ended) → endedReply h (withSource m s) e ≡ endedReply h m e
-unfolding endedReply spentReply finishedReply
-ended-source h m s (Ended.spentAt k) = refl
-ended-source h m s (Ended.ended states) = refl
+use Rattle.shares.specs.Laws.Alike.{SettlesAlike, own-after, same-fit, same-marked, SameSettled, same-call}
 
 -- ---- the same own mark
 
@@ -47,27 +36,17 @@ module _ (main shares : List ℕ) (c : ℕ) where
     unfolding ownLeft
     same-own = rw (a .own) refl
 
-    -- the same tests are passed
-    same-fit : sharesFit (shareOf main shares c marks) main ≡ sharesFit (shareOf main shares c other) main
-    unfolding sharesFit
-    same-fit = rw (a .within .each, a .also .each, le-leb _ _ (a .within .common), le-leb _ _ (a .also .common)) refl
+    fit : sharesFit (shareOf main shares c marks) main ≡ sharesFit (shareOf main shares c other) main
+    fit = same-fit main shares c (a .within) (a .also)
 
-    same-marked : marksFit (shareOf main shares c marks) ≡ marksFit (shareOf main shares c other)
-    same-marked = rw (lt-ltb _ _ (a .within .marked-all), lt-ltb _ _ (a .also .marked-all)) refl
+    marked : marksFit (shareOf main shares c marks) ≡ marksFit (shareOf main shares c other)
+    marked = same-marked main shares c (a .within) (a .also)
 
     -- ---- the words taken of the own stretch
 
     module _ (job : List ℕ) (s : Source) where
       abbrev taken : List ℕ → ℕ
       taken m = takenBy (jobOf job) (shared (shareOf main shares c m) (from main s))
-
-      -- the own mark after a job that takes words
-      own-after : (m : List ℕ) → Within main shares m → c < length shares → (n : ℕ)
-          → getD (marksAfter (shareOf main shares c m) main n) c 0 ≡ getD m c 0 + min n (length (ownLeft shares m c main))
-      unfolding marksAfter
-      own-after m w below n =
-          getD-other (moved m c _) (length shares) c _ (λ (e : length shares ≡ c). omega (arith, e, below))
-          ∙ getD-moved m c _ (omega (arith, below, w .marked-all))
 
       own-same : min (taken marks) (length (ownLeft shares marks c main)) ≡ min (taken other) (length (ownLeft shares other c main))
       unfolding takenBy available
@@ -83,7 +62,8 @@ module _ (main shares : List ℕ) (c : ℕ) where
           go : (u : Bool) → getD (cond u (marksAfter (shareOf main shares c marks) main (taken marks)) marks) c 0
               ≡ getD (cond u (marksAfter (shareOf main shares c other) main (taken other)) other) c 0
           go true =
-              own-after marks (a .within) below (taken marks) ∙ ap₂ _+_ (a .own) own-same ∙ sym (own-after other (a .also) below (taken other))
+              own-after main shares c marks (a .within) below (taken marks) ∙ ap₂ _+_ (a .own) own-same
+              ∙ sym (own-after main shares c other (a .also) below (taken other))
           go false = a .own
 
     module _ {A : Type 0} (job : List ℕ) (enough : Bool) (s : Source) (refuse : Answer → A) (plain also-plain : A) (answered : A → Answer) where
@@ -93,18 +73,13 @@ module _ (main shares : List ℕ) (c : ℕ) where
       abbrev theirs : Shared A
       theirs = sharedReply job enough (shareOf main shares c other) (from main s) refuse also-plain (answered also-plain)
 
-      -- A call whose plain replies are the same replies the same.
-      pub same-reply : plain ≡ also-plain → mine .reply ≡ theirs .reply
-      unfolding sharedReply tested
-      same-reply e = rw (same-fit, same-marked, e) refl
-
-      -- Its own mark is the same, where words are taken of both, or of neither.
+      -- The own mark after a call is the same, if words are taken in both cases or in neither.
       pub same-mark : takesWords (answered (mine .reply)) ≡ takesWords (answered (theirs .reply)) → getD (mine .marks) c 0 ≡ getD (theirs .marks) c 0
       unfolding sharedReply tested
       same-mark t =
-          rw (same-fit, same-marked)
+          rw (fit, marked)
           (go (eqb (checkJob job .number) 0) (enough && marksFit (shareOf main shares c other)) (sharesFit (shareOf main shares c other) main) (ltb c (length shares)) refl
-          (rw (same-fit, same-marked) at t))
+          (rw (fit, marked) at t))
         where
           answer-of : Bool → Bool → Bool → Bool → A → Answer
           answer-of p l f k r = answered (cond p (cond l (cond f (cond k r (refuse (answer 26 0))) (refuse (answer 25 0))) (refuse (answer 13 0))) (refuse (checkJob job)))
@@ -118,78 +93,31 @@ module _ (main shares : List ℕ) (c : ℕ) where
           go true false f b k t = a .own
           go false l f b k t = a .own
 
-    -- ---- the plain calls
-
-    -- what a job that stays within the own stretch settles to
-    same-settled : (job : List ℕ) (s : Source) → StaysWithin (lentOf (jobOf job .header) s) (jobOf job .instructions) (ownLeft shares marks c main)
-        → settle (lentOf (jobOf job .header) s) (jobOf job .instructions) (available (shareOf main shares c marks) main)
-        ≡ settle (lentOf (jobOf job .header) s) (jobOf job .instructions) (available (shareOf main shares c other) main)
-    unfolding available StaysWithin
-    same-settled job s w =
-        let t = stays (lentOf (jobOf job .header) s) (jobOf job .instructions) (ownLeft shares marks c main) w in
-        t .same (commonLeft shares marks main) ∙ sym (t .same (commonLeft shares other main))
-        ∙ ap (λ (l : List ℕ). settle (lentOf (jobOf job .header) s) (jobOf job .instructions) (l ++ commonLeft shares other main)) same-own
-
-    same-run : (job : List ℕ) (m : Memory) → StaysOwn main shares (Call.run c job m) marks
-        → runReply job (withSource m (shared (shareOf main shares c marks) (from main (m .source))))
-        ≡ runReply job (withSource m (shared (shareOf main shares c other) (from main (m .source))))
-    unfolding StaysOwn runReply enoughWords
-    same-run job m w = go (eqb (checkJob job .number) 0) refl (enoughWords (jobOf job .header) m) refl
-      where
-        h : Header
-        h = jobOf job .header
-
-        lent : Lent
-        lent = lentOf h (m .source)
-
-        ended : List ℕ → Ended
-        ended marks = execute h lent (jobOf job .instructions) (available (shareOf main shares c marks) main) starts
-
-        went : List ℕ → RunReply
-        went marks = endedReply h (withSource m (shared (shareOf main shares c marks) (from main (m .source)))) (ended marks)
-
-        same : checkJob job .number ≡ 0 → enoughWords h m ≡ true → went marks ≡ went other
-        same p e =
-            ended-source h m _ (ended marks)
-            ∙ ap (endedReply h m)
-            (execute-settle h lent _ _ starts ∙ ap (onSettled h starts) (same-settled job (m .source) (w p e)) ∙ sym (execute-settle h lent _ _ starts))
-            ∙ sym (ended-source h m _ (ended other))
-
-        go : (p : Bool) → eqb (checkJob job .number) 0 ≡ p → (e : Bool) → enoughWords h m ≡ e
-            → cond p (cond e (went marks) (untouched (answer 13 0) m)) (untouched (checkJob job) m) ≡ cond p (cond e (went other) (untouched (answer 13 0) m)) (untouched (checkJob job) m)
-        go true p true e = same (eqb-true _ 0 p) e
-        go true p false e = refl
-        go false p e′ e = refl
-
-    same-text : (job : List ℕ) (s : Source) (out : List ℕ) → StaysOwn main shares (Call.settle c job s out) marks
-        → settleReply job (shared (shareOf main shares c marks) (from main s)) out ≡ settleReply job (shared (shareOf main shares c other) (from main s)) out
-    unfolding StaysOwn settleReply
-    same-text job s out w = go (eqb (checkJob job .number) 0) refl (leb (outcomeWords (jobOf job .header)) (length (s .noiseless))) refl
-      where
-        went : List ℕ → TextReply
-        went marks = settledAnswer (jobOf job) (settle (lentOf (jobOf job .header) s) (jobOf job .instructions) (available (shareOf main shares c marks) main)) out
-
-        go : (p : Bool) → eqb (checkJob job .number) 0 ≡ p → (e : Bool) → leb (outcomeWords (jobOf job .header)) (length (s .noiseless)) ≡ e
-            → cond p (cond e (went marks) (refusedText (answer 13 0) out)) (refusedText (checkJob job) out)
-            ≡ cond p (cond e (went other) (refusedText (answer 13 0) out)) (refusedText (checkJob job) out)
-        go true p true e = ap (λ (o : Settled). settledAnswer (jobOf job) o out) (same-settled job s (w (eqb-true _ 0 p) e))
-        go true p false e = refl
-        go false p e′ e = refl
-
     -- ---- a call of the caller's
 
+    -- A job that settles to the same from the own words whatever follows them,
+    pub own-settled : (job : List ℕ) (s : Source)
+        → ((more : List ℕ) → SettlesAlike job s (ownLeft shares marks c main ++ more) (ownLeft shares marks c main))
+        → SameSettled main shares c (a .within) (a .also) job s
+    unfolding available
+    own-settled job s same =
+        same (commonLeft shares marks main) ∙ sym (same (commonLeft shares other main))
+        ∙ ap (λ (l : List ℕ). settle (lentOf (jobOf job .header) s) (jobOf job .instructions) (l ++ commonLeft shares other main)) same-own
+
+    -- as one does that stays within the own stretch.
+    same-settled : (job : List ℕ) (s : Source) → StaysWithin (lentOf (jobOf job .header) s) (jobOf job .instructions) (ownLeft shares marks c main)
+        → SameSettled main shares c (a .within) (a .also) job s
+    unfolding StaysWithin
+    same-settled job s w = own-settled job s (stays (lentOf (jobOf job .header) s) (jobOf job .instructions) (ownLeft shares marks c main) w .same)
+
     pub call-same : (k : Call) → callerOf k ≡ c → StaysOwn main shares k marks → replyTo main shares k marks ≡ replyTo main shares k other
-    unfolding callerOf replyTo sharedRunReply sharedSettleReply
-    call-same (Call.run d job m) e w =
-        rw e (ap Reply.ran (same-reply job _ (m .source) (λ b. untouched b (withMain main m)) _ _ (λ (r : RunReply). r .answered) (same-run job m (rw e at w))))
-    call-same (Call.settle d job s out) e w =
-        rw e (ap Reply.wrote (same-reply job _ s (λ b. refusedText b out) _ _ (λ (r : TextReply). r .answered) (same-text job s out (rw e at w))))
+    call-same = same-call main shares c (a .within) (a .also) same-settled
 
     -- A run takes words or not by the tests alone.
-    run-alike : (job : List ℕ) (m : Memory) → takes main shares (Call.run c job m) marks ≡ takes main shares (Call.run c job m) other
+    pub run-takes-alike : (job : List ℕ) (m : Memory) → takes main shares (Call.run c job m) marks ≡ takes main shares (Call.run c job m) other
     unfolding takes sharedRunReply sharedReply tested enoughWords
-    run-alike job m =
-        rw (same-fit, same-marked)
+    run-takes-alike job m =
+        rw (fit, marked)
         (go (eqb (checkJob job .number) 0) refl (enoughWords (jobOf job .header) m && marksFit (shareOf main shares c other)) refl (sharesFit (shareOf main shares c other) main) (ltb c (length shares)))
       where
         ran : List ℕ → RunReply
@@ -214,7 +142,7 @@ module _ (main shares : List ℕ) (c : ℕ) where
 
     pub call-alike : (k : Call) → callerOf k ≡ c → RunOrStays main shares k marks → takes main shares k marks ≡ takes main shares k other
     unfolding callerOf RunOrStays
-    call-alike (Call.run d job m) e w = rw e (run-alike job m)
+    call-alike (Call.run d job m) e w = rw e (run-takes-alike job m)
     call-alike (Call.settle d job s out) e w = unfold takes replyTo in ap answered-takes (call-same (Call.settle d job s out) e w)
       where
         answered-takes : Reply → Bool
@@ -235,17 +163,20 @@ module _ (main shares : List ℕ) (c : ℕ) where
       record { within = call-within main shares k _ (a .within); also = call-within main shares k _ (a .also); own = call-mark a k e t }
 
   -- a call of another's leaves the own mark alone
-  agree-other : {marks other : List ℕ} → Agree marks other → c < length shares → (k : Call) → (callerOf k ≡ c → ⊥) → Agree marks (marksBy main shares k other)
-  agree-other {marks} {other} a below k e =
-      record { within = a .within; also = call-within main shares k other (a .also); own = a .own ∙ sym (go (call-called main shares k other)) }
+  pub other-keeps : (k : Call) (marks : List ℕ) → c < length shares → (callerOf k ≡ c → ⊥) → getD (marksBy main shares k marks) c 0 ≡ getD marks c 0
+  other-keeps k marks below e = go (call-called main shares k marks)
     where
-      go : Called (shareOf main shares (callerOf k) other) main (marksBy main shares k other) (handedBy main shares k other)
-          → getD (marksBy main shares k other) c 0 ≡ getD other c 0
+      go : Called (shareOf main shares (callerOf k) marks) main (marksBy main shares k marks) (handedBy main shares k marks)
+          → getD (marksBy main shares k marks) c 0 ≡ getD marks c 0
       go (Called.took m) =
           ap (λ (l : List ℕ). getD l c 0) (m .marks-are)
-          ∙ getD-other (moved other (callerOf k) (m .own)) (length shares) c (m .common) (λ (h : length shares ≡ c). omega (arith, h, below))
-          ∙ getD-other other (callerOf k) c (m .own) e
+          ∙ getD-other (moved marks (callerOf k) (m .own)) (length shares) c (m .common) (λ (h : length shares ≡ c). omega (arith, h, below))
+          ∙ getD-other marks (callerOf k) c (m .own) e
       go (Called.none same h) = ap (λ (l : List ℕ). getD l c 0) same
+
+  agree-other : {marks other : List ℕ} → Agree marks other → c < length shares → (k : Call) → (callerOf k ≡ c → ⊥) → Agree marks (marksBy main shares k other)
+  agree-other {marks} {other} a below k e =
+      record { within = a .within; also = call-within main shares k other (a .also); own = a .own ∙ sym (other-keeps k other below e) }
 
   -- The caller's own calls alone, beside the calls of all.
   pub agree-through : (marks other : List ℕ) → Agree marks other → c < length shares → (ks : List Call) → TakeAlike main shares c ks marks other

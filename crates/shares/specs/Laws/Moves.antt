@@ -123,7 +123,7 @@ pub takes-none : (a : Answer) → (a .number ≡ 0 → ⊥) → (a .number ≡ 1
 unfolding takesWords
 takes-none a not-zero not-spent = rw (ne-eqb (a .number) 0 not-zero) (ne-eqb (a .number) 14 not-spent)
 
-own-number : (job : List ℕ) → (checkJob job .number ≡ 0 → ⊥) → takesWords (checkJob job) ≡ false
+pub own-number : (job : List ℕ) → (checkJob job .number ≡ 0 → ⊥) → takesWords (checkJob job) ≡ false
 own-number job refused = takes-none (checkJob job) refused not-spent
   where
     not-spent : checkJob job .number ≡ 14 → ⊥

@@ -1,7 +1,6 @@
 -- `shots::next_fault` meets its contract: the first shot's draw as in `fault_from`, with no shot before it.
 use native.Mathlib.Omega.{arith}
 use borrow.Author.Needs.{needs}
-use Rattle.shots.specs.Laws.Next.{found-kind}
 use Rattle.shots.specs.Laws.Shots.{later-none, found-spent, found-at}
 use Rattle.shots.proofs.next_fault.Statement.{statement}
 use Rattle.shots.proofs.next_fault.Tie as tie
@@ -20,7 +19,7 @@ enum-told c = search needs
 
 returns : tie.Need-returns
 returns c =
-    λ p d e. found-kind (e .kind) (found-spent later-none (omega arith) (c .before .before .before .is-set .ensures) (λ inside. c .before .before .before .before .before .before .falls-next .ensures (c .before .before .before .before .before .if2 .taken) p (e .threshold)) (c .before .before .draw-shot .ensures) (c .enum-told .given .1))
+    found-spent later-none (omega arith) (c .before .before .before .is-set .ensures) (λ inside. c .before .before .before .before .before .before .falls-next .ensures (c .before .before .before .before .before .if2 .taken)) (c .before .before .draw-shot .ensures) (c .enum-told .given .1)
 
 enum-told-2 : tie.Need-enum-told-2
 enum-told-2 c = search needs
@@ -30,7 +29,7 @@ enum-known-element c = search needs
 
 returns-2 : tie.Need-returns-2
 returns-2 c =
-    λ p d e. found-kind (e .kind) (found-at later-none (omega arith) (c .before .before .before .before .is-set .ensures) (λ inside. c .before .before .before .before .before .before .before .falls-next .ensures (c .before .before .before .before .before .before .if2 .taken) p (e .threshold)) (c .before .before .before .draw-shot .ensures) _ _ (c .before .element .given .1) (omega arith))
+    found-at later-none (omega arith) (c .before .before .before .before .is-set .ensures) (λ inside. c .before .before .before .before .before .before .before .falls-next .ensures (c .before .before .before .before .before .before .if2 .taken)) (c .before .before .before .draw-shot .ensures) _ _ (c .before .element .given .1) (omega arith)
 
 fault-from-requires : tie.Need-fault-from-requires
 fault-from-requires c κs = search needs

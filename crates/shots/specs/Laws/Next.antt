@@ -14,17 +14,19 @@ use Rattle.draws.specs.Draws.{elementAt, ShotDraw, drawShot, Lent, Draws, alsoF
 use Rattle.draws.specs.Execute.{States, forwardAll, Executed, thenInPlace, injectShots}
 use Rattle.draws.specs.Laws.Faults.{ShotIn, ShotBelow, shot-below}
 use Rattle.noise.specs.declared.PauliDistribution.{PauliDistribution}
+use Rattle.shots.specs.declared.DrawRule.{DrawRule}
 use Rattle.shots.specs.declared.NextFault.{NextFault}
 use Rattle.shots.specs.declared.NextFault.the-variants as next
 use Rattle.noise.specs.Kinds.{Represents}
 use Rattle.noise.specs.Condition.{Masks}
-use Rattle.shots.specs.Shots.{FirstFault, orLater, firstFault, faultOf, wordAfter, InShots, FaultFound}
+use Rattle.shots.specs.Shots.{RuleOf, FirstFault, orLater, firstFault, faultOf, wordAfter, InShots, FaultFound}
 
--- the kind by which the code chooses is that of the line
-pub found-kind : {words : List ℕ} {at : ℕ} {mask : List ℕ} {shot shots : ℕ} {p : Float} {k d : PauliDistribution} {sums : List Float} {r : NextFault} → k ≡ d
-    → FaultFound words at mask shot shots p k sums r → FaultFound words at mask shot shots p d sums r
-found-kind {words} {at} {mask} {shot} {shots} {p} {sums = sums} {r = r} e found =
-    subst (λ (x : PauliDistribution). FaultFound words at mask shot shots p x sums r) e found
+-- the p and the kind of the code's rule are those of the line
+pub found-by : {words : List ℕ} {at : ℕ} {mask : List ℕ} {shot shots : ℕ} {p : Float} {d : PauliDistribution} {rule : DrawRule} {sums : List Float} {r : NextFault}
+    → RuleOf p d rule → FaultFound words at mask shot shots (rule .p) (rule .chooser .distribution) sums r → FaultFound words at mask shot shots p d sums r
+found-by {words} {at} {mask} {shot} {shots} {p} {rule = rule} {sums} {r} q found =
+    subst (λ (x : PauliDistribution). FaultFound words at mask shot shots p x sums r) (q .kind)
+    (subst (λ (x : Float). FaultFound words at mask shot shots x (rule .chooser .distribution) sums r) (q .probability) found)
 
 -- ---- whatever is done with the faults, shot by shot
 

@@ -18,23 +18,20 @@ abbrev μ-loop : tie.MeasureT-loop
 loop-holds : tie.Need-loop-holds Inv-loop μ-loop
 loop-holds c = sum-starts _ _ _ _
 
-mul-id : tie.Need-mul-id Inv-loop μ-loop
-mul-id c = omega arith
-
-shared-slice-read-id : tie.Need-shared-slice-read-id Inv-loop μ-loop
-shared-slice-read-id c = omega arith
+outcome-at-requires : tie.Need-outcome-at-requires Inv-loop μ-loop
+outcome-at-requires c κs = omega arith
 
 mul-word : tie.Need-mul-word Inv-loop μ-loop
-mul-word c = omega (arith, c .before .before .before .pre .0 .fits (c .before .before .loop .k) (c .before .loop-test .taken))
+mul-word c = omega (arith, rw (← (c .outcome-at .ensures)) at (c .before .before .before .before .before .pre .0 .fits (c .before .before .loop .k) (c .before .loop-test .taken)))
 
 add-word : tie.Need-add-word Inv-loop μ-loop
-add-word c = omega (arith, c .before .before .before .pre .0 .fits (c .before .before .loop .k) (c .before .loop-test .taken))
+add-word c = omega (arith, rw (← (c .outcome-at .ensures)) at (c .before .before .before .before .before .pre .0 .fits (c .before .before .loop .k) (c .before .loop-test .taken)))
 
 mul-word-2 : tie.Need-mul-word-2 Inv-loop μ-loop
-mul-word-2 c = omega (arith, c .before .before .before .pre .0 .fits (c .before .before .loop .k) (c .before .loop-test .taken))
+mul-word-2 c = omega (arith, rw (← (c .outcome-at .ensures)) at (c .before .before .before .before .before .pre .0 .fits (c .before .before .loop .k) (c .before .loop-test .taken)))
 
 shared-slice-read-word : tie.Need-shared-slice-read-word Inv-loop μ-loop
-shared-slice-read-word c = omega (arith, c .before .before .before .before .pre .0 .fits (c .before .before .before .loop .k) (c .before .before .loop-test .taken))
+shared-slice-read-word c = omega (arith, rw (← (c .before .outcome-at .ensures)) at (c .before .before .before .before .before .before .pre .0 .fits (c .before .before .before .loop .k) (c .before .before .loop-test .taken)))
 
 add-k : tie.Need-add-k Inv-loop μ-loop
 add-k c = omega arith
@@ -43,7 +40,7 @@ loop-less : tie.Need-loop-less Inv-loop μ-loop
 loop-less c = omega arith
 
 loop-again : tie.Need-loop-again Inv-loop μ-loop
-loop-again c = sum-turn _ _ _ _ _ _ (c .before .before .loop-test .taken) (c .before .before .before .loop .inv)
+loop-again c = rw (c .before .outcome-at .ensures) (sum-turn _ _ _ _ _ _ (c .before .before .loop-test .taken) (c .before .before .before .loop .inv))
 
 shr-result : tie.Need-shr-result Inv-loop μ-loop
 shr-result c = omega arith
@@ -58,8 +55,7 @@ delta-sum-spec =
     Inv-loop
     μ-loop
     loop-holds
-    mul-id
-    shared-slice-read-id
+    outcome-at-requires
     mul-word
     add-word
     mul-word-2

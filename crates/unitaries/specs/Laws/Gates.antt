@@ -9,10 +9,10 @@ use lib.Dec.{ltb}
 use borrow.Author.Tests.{ltb-true}
 use lib.ListN.{length, getD}
 use Rattle.pauli.specs.Pauli.{Pauli}
-use Rattle.pauli.specs.Gate.{Gate, gates, gateFrom, gateOf, operandsOf, gateWith, conjugated, swapXZ, addXtoZ, addZtoX, controlledX, controlledZ, controlledY, swapRows}
+use Rattle.pauli.specs.Gate.{Gate, gates, gateFrom, gateOf, operandsOf, conjugated, prepareBell, swapXZ, addXtoZ, addZtoX, controlledX, controlledZ, controlledY, swapRows}
 use Rattle.pauli.specs.Code.{byGate, operandCount}
 use Rattle.pauli.specs.Laws.Gates.{pauli-path}
-use Rattle.pauli.specs.Laws.Code.{same-at}
+use Rattle.pauli.specs.Laws.Code.{same-at, last-operand, has-operand}
 use Rattle.job.specs.Line.{Line}
 use Rattle.job.specs.Checks.{allBelow, distinct}
 use Rattle.job.specs.Laws.Lists.{below-at, distinct-at}
@@ -81,33 +81,7 @@ cy-acts {w} {x} {z} {d} {x₁} {z₁} {z₂} {z₃} a b first second third =
 
 -- ---- the gate of a code
 
--- the last operand is the second of two, and a gate on one qubit does not look at it
-last-operand : (g : Gate) (qs : List ℕ) (P : Pauli) → length qs ≡ operandsOf g
-    → conjugated g (getD qs 0 0) (getD qs (length qs - 1) 0) P ≡ conjugated g (getD qs 0 0) (getD qs 1 0) P
-unfolding gateWith operandsOf
-last-operand Gate.I qs P e = refl
-last-operand Gate.X qs P e = refl
-last-operand Gate.Y qs P e = refl
-last-operand Gate.Z qs P e = refl
-last-operand Gate.Hadamard qs P e = refl
-last-operand Gate.SqrtZ qs P e = refl
-last-operand Gate.SqrtZInv qs P e = refl
-last-operand Gate.SqrtX qs P e = refl
-last-operand Gate.SqrtXInv qs P e = refl
-last-operand Gate.SqrtY qs P e = refl
-last-operand Gate.SqrtYInv qs P e = refl
-last-operand Gate.ControlledX qs P e = rw e
-last-operand Gate.ControlledZ qs P e = rw e
-last-operand Gate.Swap qs P e = rw e
-last-operand Gate.PrepareBell qs P e = rw e
-last-operand Gate.ControlledY qs P e = rw e
-
 module _ (code : ℕ) (qs : List ℕ) (count : length qs ≡ operandCount (gateOf code)) where
-  -- a code has a gate, and so an operand
-  pub has-operand : code ≤ 15 → 0 < length qs
-  unfolding operandCount operandsOf gateOf gateFrom gates
-  has-operand h = rw count (ltb-true 0 _ (same-at (λ k. ltb 0 (operandCount (gateOf k))) (λ _. true) 0 16 refl code (omega arith) (omega arith)))
-
   -- two operands are two qubits
   pub operands-apart : (a b : ℕ) → 11 ≤ code → code ≤ 15 → distinct qs ≡ true → a ≡ getD qs 0 0 → b ≡ getD qs (length qs - 1) 0 → a ≡ b → ⊥
   unfolding operandCount operandsOf gateOf gateFrom gates
@@ -117,16 +91,16 @@ module _ (code : ℕ) (qs : List ℕ) (count : length qs ≡ operandCount (gateO
       omega arith
 
   pub first-below : (n a : ℕ) → code ≤ 15 → allBelow n qs ≡ true → a ≡ getD qs 0 0 → a < n
-  first-below n a h below e = rw e (below-at n qs below 0 (has-operand h))
+  first-below n a h below e = rw e (below-at n qs below 0 (has-operand code qs count h))
 
   pub last-below : (n b : ℕ) → code ≤ 15 → allBelow n qs ≡ true → b ≡ getD qs (length qs - 1) 0 → b < n
-  last-below n b h below e = let some : 0 < length qs = has-operand h in rw e (below-at n qs below (length qs - 1) (omega arith))
+  last-below n b h below e = let some : 0 < length qs = has-operand code qs count h in rw e (below-at n qs below (length qs - 1) (omega arith))
 
   -- a rule that is what the code's gate does on the first and the last operand
   module _ (a b : ℕ) (ea : a ≡ getD qs 0 0) (eb : b ≡ getD qs (length qs - 1) 0) (f : Pauli → Pauli) (made : (P : Pauli) → f P ≡ byGate conjugated (gateOf code) a b P) where
     made-by : (g : Gate) → gateOf code ≡ some g → (P : Pauli) → f P ≡ conjugated g (getD qs 0 0) (getD qs 1 0) P
     unfolding byGate operandCount
-    made-by g e P = rw (e, ea, eb) at (made P) ∙ last-operand g qs P (rw e at count)
+    made-by g e P = rw (e, ea, eb) at (made P) ∙ last-operand prepareBell g qs P (rw e at count)
 
     pub code-acts : (w n m : ℕ) (x z d x′ z′ : List ℕ) → Acts w (λ s. onFrame f) x z d x′ z′ d → (g : Gate) → gateOf code ≡ some g
         → Acts w (lineRule n m (Line.unitary g qs)) x z d x′ z′ d

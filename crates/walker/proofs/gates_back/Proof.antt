@@ -61,17 +61,17 @@ read-gate-requires c κs = gate-there (c .before .before .is-gate .ensures (not-
 
 conjugate-back-requires : tie.Need-conjugate-back-requires Inv-loop μ-loop
 unfolding lineAt
-conjugate-back-requires c κs = operands-of (c .before .before .before .is-gate .ensures (not-false _ (c .before .before .if1 .left))) (c .read-gate .ensures) (line-known _ (c .before .before .before .before .before .before .before .before .before .pre .0) (c .before .before .before .before .before .before .before .loop .inv .left .left) (c .before .before .before .before .before .before .loop-test .taken) (c .before .before .before .before .before .line-start .ensures))
+conjugate-back-requires c κs = operands-of (c .before .before .before .before .before .is-gate .ensures (not-false _ (c .before .before .before .before .if1 .left))) (c .before .before .read-gate .ensures) (line-known _ (c .before .before .before .before .before .before .before .before .before .before .before .pre .0) (c .before .before .before .before .before .before .before .before .before .loop .inv .left .left) (c .before .before .before .before .before .before .before .before .loop-test .taken) (c .before .before .before .before .before .before .before .line-start .ensures))
 
 sub-k : tie.Need-sub-k Inv-loop μ-loop
-sub-k c = line-left _ (c .before .before .before .before .before .before .before .before .before .before .pre .0) (c .before .before .before .before .before .before .before .before .loop .inv .left .left) (c .before .before .before .before .before .before .before .loop-test .taken) (c .before .before .before .before .before .before .line-start .ensures)
+sub-k c = line-left _ (c .before .before .before .before .before .before .before .before .before .before .before .before .pre .0) (c .before .before .before .before .before .before .before .before .before .before .loop .inv .left .left) (c .before .before .before .before .before .before .before .before .before .loop-test .taken) (c .before .before .before .before .before .before .before .before .line-start .ensures)
 
 loop-less : tie.Need-loop-less Inv-loop μ-loop
-loop-less c = omega (arith, c .before .before .before .before .before .before .line-start .ensures .within, c .before .before .before .before .before .before .before .loop-test .taken)
+loop-less c = omega (arith, c .before .before .before .before .before .before .before .before .line-start .ensures .within, c .before .before .before .before .before .before .before .before .before .loop-test .taken)
 
 loop-again : tie.Need-loop-again Inv-loop μ-loop
 unfolding lineAt
-loop-again c = gates-on _ (c .before .before .before .before .before .before .before .before .before .before .pre .0) (c .before .before .before .before .before .before .before .before .loop .inv) (c .before .before .before .before .before .before .before .loop-test .taken) (c .before .before .before .before .before .before .line-start .ensures) (λ count noise shot set. gate-goes (c .before .before .before .before .is-gate .ensures (not-false _ (c .before .before .before .if1 .left))) (c .before .read-gate .ensures) (c .conjugate-back .ensures) shot _ set)
+loop-again c = gates-on _ (c .before .before .before .before .before .before .before .before .before .before .before .before .pre .0) (c .before .before .before .before .before .before .before .before .before .before .loop .inv) (c .before .before .before .before .before .before .before .before .before .loop-test .taken) (c .before .before .before .before .before .before .before .before .line-start .ensures) (λ count noise shot set. gate-goes (c .before .before .before .before .before .before .is-gate .ensures (not-false _ (c .before .before .before .before .before .if1 .left))) (c .before .before .before .read-gate .ensures) (c .conjugate-back .ensures) shot _ set)
 
 returns-2 : tie.Need-returns-2 Inv-loop μ-loop
 returns-2 c = (c .before .loop .inv, λ h. absurd (omega (arith, h, c .loop-test .left)))

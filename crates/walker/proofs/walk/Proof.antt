@@ -35,10 +35,10 @@ refused-requires-3 : tie.Need-refused-requires-3
 refused-requires-3 c κs = search needs
 
 returns-4 : tie.Need-returns-4
-returns-4 c = c .refused3 .ensures ∙ examined-recorded (c .before .before .before .before .before .before .before .before .before .before .before .examine .ensures) (c .before .before .before .before .before .before .before .before .before .before .before .before .before .before .args .shot) _ (c .before .before .before .before .before .before .before .before .if1 .left) (sym (c .before .before .all-below .ensures) ∙ not-true _ (c .before .if4 .taken))
+returns-4 c = c .refused3 .ensures ∙ examined-recorded (c .before .before .before .before .before .before .before .before .before .before .before .examine .ensures) (c .before .before .before .before .before .before .before .before .before .before .before .before .before .before .args .shot .0) _ (c .before .before .before .before .before .before .before .before .if1 .left) (sym (c .before .before .all-below .ensures) ∙ not-true _ (c .before .if4 .taken))
 
 outcomes-requires : tie.Need-outcomes-requires
-outcomes-requires c κs = examined-below (c .before .before .before .before .before .before .before .before .before .before .examine .ensures) (c .before .before .before .before .before .before .before .before .before .before .before .before .before .args .shot) _ (c .before .before .before .before .before .before .before .if1 .left) (sym (c .before .all-below .ensures) ∙ not-false _ (c .if4 .left))
+outcomes-requires c κs = examined-below (c .before .before .before .before .before .before .before .before .before .before .examine .ensures) (c .before .before .before .before .before .before .before .before .before .before .before .before .before .args .shot .0) _ (c .before .before .before .before .before .before .before .if1 .left) (sym (c .before .all-below .ensures) ∙ not-false _ (c .if4 .left))
 
 slice-aggregate-walk-lines : tie.Need-slice-aggregate-walk-lines
 slice-aggregate-walk-lines c = search needs

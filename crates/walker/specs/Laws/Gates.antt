@@ -41,7 +41,7 @@ module _ {text : List ℕ} (there : GateBytes text) where
   gate-there o = gate-line (gate-of o)
 
   module _ {q : GateWords} (read : GateRead text q) where
-    pub operands-of : OfJob text → (q .first < 256) × (q .second < 256)
+    pub operands-of : OfJob text → (q .first .0 < 256) × (q .second .0 < 256)
     operands-of o =
         let g = gate-of o in (
           rw (read .first _ (g .reads)) (operand-below 256 _ 0 (omega arith) (qubits-below o)),
@@ -49,7 +49,7 @@ module _ {text : List ℕ} (there : GateBytes text) where
         )
 
     -- a gate line changes the observable alone
-    pub gate-goes : {w : WalkWords} {b : PauliWords} → asPauli b ≡ byGate conjugatedBack (gateOf (q .code)) (q .first) (q .second) (asPauli (w .observable))
+    pub gate-goes : {w : WalkWords} {b : PauliWords} → asPauli b ≡ byGate conjugatedBack (gateOf (q .code)) (q .first .0) (q .second .0) (asPauli (w .observable))
         → (shot k : ℕ) (set : List ℕ) → length set ≡ 16
         → TextBack text shot k w (record { observable = b; count = w .count; noise = w .noise }) set set
     unfolding byGate writtenBack noiseBack backward carry counts

@@ -69,31 +69,55 @@ fn every_kind_comes_up() {
     }
 }
 
+/// The pairs of a table of docs/MAKING.md: what comes up, and the seed.
+fn seeds_of(heading: &str) -> Vec<(&'static str, u64)> {
+    let (_, table) = include_str!("../../../../docs/MAKING.md").split_once(heading).expect("a table");
+    let rows = table.lines().skip(2).take_while(|line| line.starts_with('|'));
+    let cells: Vec<&str> = rows.flat_map(|row| row.trim_matches('|').split('|').map(str::trim)).collect();
+    let pairs = cells.chunks(2).filter(|pair| !pair[0].is_empty());
+    pairs.map(|pair| (pair[0], pair[1].parse().expect("a seed"))).collect()
+}
+
+/// Headers with few and with many qubits, outcomes and shots.
+const HEADERS: [(u64, u64, u64); 5] = [(1, 0, 1), (1, 1, 1), (2, 3, 64), (5, 1_024, 4_096), (256, 1, 100)];
+
 /// The seeds of docs/MAKING.md, with which a job begins with a line of each kind.
 #[test]
 fn seeds_of_the_kinds() {
-    let page = include_str!("../../../../docs/MAKING.md");
-    let (_, table) = page.split_once("| kind | seed |").expect("a table");
-    let rows = table.lines().skip(2).take_while(|line| line.starts_with('|'));
-    let cells: Vec<&str> = rows.flat_map(|row| row.trim_matches('|').split('|').map(str::trim)).collect();
-    let mut kinds: Vec<&str> = Vec::new();
-    for pair in cells.chunks(2).filter(|pair| !pair[0].is_empty()) {
-        let seed = pair[1].split(',').next().and_then(|seed| seed.parse().ok()).expect("a seed");
-        let wanted = match pair[0].strip_prefix('n') {
+    let seeds = seeds_of("| kind | seed |");
+    assert_eq!(seeds.len(), 17);
+    for (name, seed) in seeds {
+        let wanted = match name.strip_prefix('n') {
             Some(d) => format!("op=n d={d}"),
-            None => format!("op={} ", pair[0]),
+            None => format!("op={} ", &name[..1]),
         };
-        let place = usize::from(pair[0] == "t");
-        for (qubits, outcomes, shots) in [(1, 0, 1), (1, 1, 1), (2, 3, 64), (5, 1_024, 4_096), (256, 1, 100)] {
-            if outcomes == 0 && ["o", "r", "t"].contains(&pair[0]) {
+        let place = usize::from(name == "t");
+        for (qubits, outcomes, shots) in HEADERS {
+            let several = name == "z, several qubits";
+            if outcomes == 0 && ["o", "r", "t"].contains(&name) || several && qubits == 1 {
                 continue;
             }
             let job = make_job(JobParameters { qubits, outcomes, shots, lines: 2, seed }).expect("it fits");
-            assert_eq!(kind(lines(&job)[place]), wanted, "{}", pair[0]);
+            let line = lines(&job)[place];
+            assert_eq!(kind(line), wanted, "{name}");
+            assert!(!wanted.starts_with("op=z") || line.contains(',') == several, "{name}: {line}");
         }
-        kinds.push(pair[0]);
     }
-    assert_eq!(kinds.len(), 17);
+}
+
+#[test]
+fn seeds_of_the_gates() {
+    let seeds = seeds_of("| g | seed |");
+    let mut codes: Vec<u64> = seeds.iter().map(|(code, _)| code.parse().expect("a code")).collect();
+    codes.sort_unstable();
+    assert_eq!(codes, (0..16).collect::<Vec<u64>>());
+    for (code, seed) in seeds {
+        let operands = if code.parse::<u64>().expect("a code") < 11 { 1 } else { 2 };
+        for (qubits, outcomes, shots) in HEADERS.into_iter().filter(|header| header.0 >= operands) {
+            let job = make_job(JobParameters { qubits, outcomes, shots, lines: 1, seed }).expect("it fits");
+            assert!(lines(&job)[0].starts_with(&format!("op=u g={code} ")), "{code}: {}", lines(&job)[0]);
+        }
+    }
 }
 
 #[test]

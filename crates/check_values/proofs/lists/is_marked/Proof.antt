@@ -7,7 +7,7 @@ shared-slice-read-result : tie.Need-shared-slice-read-result
 shared-slice-read-result c = search needs
 
 returns : tie.Need-returns
-returns c = c .before .before .before .before .pre .is (c .before .before .before .before .args .n) (c .before .if1 .taken)
+returns c = c .before .before .before .before .pre .is (c .before .before .before .before .args .qubit .0) (c .before .if1 .taken)
 
 contains-requires : tie.Need-contains-requires
 contains-requires c κs = search needs

@@ -16,11 +16,8 @@ abbrev μ-loop : tie.MeasureT-loop
 loop-holds : tie.Need-loop-holds Inv-loop μ-loop
 loop-holds c = (omega arith, none-marked _ (c .before .before .pre))
 
-mul-mark : tie.Need-mul-mark Inv-loop μ-loop
-mul-mark c = omega arith
-
-shared-slice-read-mark : tie.Need-shared-slice-read-mark Inv-loop μ-loop
-shared-slice-read-mark c = omega arith
+qubit-at-requires : tie.Need-qubit-at-requires Inv-loop μ-loop
+qubit-at-requires c κs = omega arith
 
 mark-requires : tie.Need-mark-requires Inv-loop μ-loop
 mark-requires c κs = search needs
@@ -33,7 +30,7 @@ loop-less c = omega arith
 
 loop-again : tie.Need-loop-again Inv-loop μ-loop
 loop-again c =
-    let e = c .before .before .mark .ensures in
+    let e = rw (c .before .before .before .qubit-at .ensures) at (c .before .before .mark .ensures) in
     let inv = c .before .before .before .before .before .before .loop .inv in
     let within = c .before .before .before .before .before .loop-test .taken in
     (omega arith, next-marked _ _ within (inv .1) e)
@@ -51,8 +48,7 @@ mark-all-spec =
     Inv-loop
     μ-loop
     loop-holds
-    mul-mark
-    shared-slice-read-mark
+    qubit-at-requires
     mark-requires
     add-i
     loop-less

@@ -30,11 +30,8 @@ loop-holds c = (omega arith, c .before .mark-all .ensures, refl)
 slice-aggregate-is-marked : tie.Need-slice-aggregate-is-marked Inv-loop μ-loop
 slice-aggregate-is-marked c = search needs
 
-mul-is-marked : tie.Need-mul-is-marked Inv-loop μ-loop
-mul-is-marked c = omega arith
-
-shared-slice-read-is-marked : tie.Need-shared-slice-read-is-marked Inv-loop μ-loop
-shared-slice-read-is-marked c = omega arith
+qubit-at-requires : tie.Need-qubit-at-requires Inv-loop μ-loop
+qubit-at-requires c κs = omega arith
 
 is-marked-requires : tie.Need-is-marked-requires Inv-loop μ-loop
 is-marked-requires c κs = c .before .before .before .loop .inv .1
@@ -48,7 +45,7 @@ loop-less c = omega arith
 loop-again : tie.Need-loop-again Inv-loop μ-loop
 loop-again c =
     let inv = c .before .before .before .before .loop .inv in
-    let here = c .is-marked .ensures in
+    let here = rw (c .before .qubit-at .ensures) at (c .is-marked .ensures) in
     (omega arith, inv .1, rw here (next-counted _ _ _ _ (c .before .before .before .loop-test .taken) (inv .2)))
 
 returns : tie.Need-returns Inv-loop μ-loop
@@ -64,8 +61,7 @@ overlap-is-odd-spec =
     mark-all-requires
     loop-holds
     slice-aggregate-is-marked
-    mul-is-marked
-    shared-slice-read-is-marked
+    qubit-at-requires
     is-marked-requires
     add-i
     loop-less

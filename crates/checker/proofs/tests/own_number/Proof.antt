@@ -2,7 +2,7 @@
 use native.Mathlib.Omega.{arith}
 use mathlib.Core.Path.{_∙_}
 use Rattle.check_lines.specs.Laws.Elements.{unread-said}
-use Rattle.check_lines.specs.Laws.Lines.{tests-header, tests-edition, tests-pauli, tests-exponential, tests-allocate, tests-reset, tests-barrier}
+use Rattle.check_lines.specs.Laws.Lines.{tests-header, tests-edition, tests-pauli, tests-exponential, tests-reset, tests-barrier}
 use Rattle.check_lines.specs.Laws.Noise.{tests-uniform, tests-weighted, tests-element}
 use Rattle.check_lines.specs.Laws.Elements.{no-weights, with-weights}
 use borrow.Author.Needs.{needs}
@@ -60,11 +60,8 @@ measure-number-requires c κs = search needs
 enum-told-10 : tie.Need-enum-told-10
 enum-told-10 c = search needs
 
-number-requires : tie.Need-number-requires
-number-requires c κs = search needs
-
-id-number-requires : tie.Need-id-number-requires
-id-number-requires c κs = search needs
+allocate-number-requires : tie.Need-allocate-number-requires
+allocate-number-requires c κs = search needs
 
 enum-told-11 : tie.Need-enum-told-11
 enum-told-11 c = search needs
@@ -129,8 +126,8 @@ weighted-element-number-requires c κs = search needs
 enum-told-21 : tie.Need-enum-told-21
 enum-told-21 c = search needs
 
-number-requires-2 : tie.Need-number-requires-2
-number-requires-2 c κs = search needs
+number-requires : tie.Need-number-requires
+number-requires c κs = search needs
 
 edition-number-requires : tie.Need-edition-number-requires
 edition-number-requires c κs = search needs
@@ -175,11 +172,7 @@ returns-9 : tie.Need-returns-9
 returns-9 c = λ vs w h x. c .measure-number .ensures vs w (rw (c .before .enum-told9 .given .1) at h)
 
 returns-10 : tie.Need-returns-10
-returns-10 c =
-    λ vs w h x.
-    let t = tests-allocate (c .before .before .before .before .before .args .c) (rw (c .before .before .enum-told10 .given .1) at h) in
-    let id = c .before .number .ensures ∙ t .held .number 0 (omega arith) in
-    (rw id at (c .id-number .ensures)) ∙ t .own
+returns-10 c = λ vs w h x. c .allocate-number .ensures vs w (rw (c .before .enum-told10 .given .1) at h)
 
 returns-11 : tie.Need-returns-11
 returns-11 c = λ vs w h x. c .conditional-number .ensures vs w (rw (c .before .enum-told11 .given .1) at h)
@@ -231,7 +224,7 @@ returns-21 : tie.Need-returns-21
 returns-21 c =
     λ vs w h x.
     let t = tests-edition (c .before .before .before .before .before .args .c) (rw (c .before .before .enum-told21 .given .1) at h) in
-    let edition = c .before .number2 .ensures ∙ t .held .number 0 (omega arith) in
+    let edition = c .before .number .ensures ∙ t .held .number 0 (omega arith) in
     (rw edition at (c .edition-number .ensures)) ∙ t .own
 
 returns-22 : tie.Need-returns-22
@@ -261,8 +254,7 @@ own-number-spec =
     enum-told-9
     measure-number-requires
     enum-told-10
-    number-requires
-    id-number-requires
+    allocate-number-requires
     enum-told-11
     conditional-number-requires
     enum-told-12
@@ -284,7 +276,7 @@ own-number-spec =
     enum-told-20
     weighted-element-number-requires
     enum-told-21
-    number-requires-2
+    number-requires
     edition-number-requires
     enum-told-22
     operands-number-requires-2

@@ -22,14 +22,11 @@ abbrev μ-loop : tie.MeasureT-loop
 loop-holds : tie.Need-loop-holds Inv-loop μ-loop
 loop-holds c = (refl, refl)
 
-mul-q : tie.Need-mul-q Inv-loop μ-loop
-mul-q c = search needs
-
-shared-slice-read-q : tie.Need-shared-slice-read-q Inv-loop μ-loop
-shared-slice-read-q c = omega arith
+qubit-at-requires : tie.Need-qubit-at-requires Inv-loop μ-loop
+qubit-at-requires c κs = omega arith
 
 flip-if-requires : tie.Need-flip-if-requires Inv-loop μ-loop
-flip-if-requires c κs = (omega (arith, c .before .before .before .before .before .before .pre .1 .fits _ (c .before .before .loop-test .taken), c .before .before .before .loop .inv .1), c .before .before .before .before .before .before .pre .0)
+flip-if-requires c κs = (omega (arith, rw (← (c .before .qubit-at .ensures)) at (c .before .before .before .before .before .before .pre .1 .fits _ (c .before .before .loop-test .taken)), c .before .before .before .loop .inv .1), c .before .before .before .before .before .before .pre .0)
 
 add-i : tie.Need-add-i Inv-loop μ-loop
 add-i c = omega arith
@@ -38,7 +35,7 @@ loop-less : tie.Need-loop-less Inv-loop μ-loop
 loop-less c = omega arith
 
 loop-again : tie.Need-loop-again Inv-loop μ-loop
-loop-again c = (sym (selected-next _ _ _ _ _ _ (c .before .before .before .before .before .loop-test .taken) (c .before .before .flip-if .ensures)) ∙ c .before .before .before .before .before .before .loop .inv .0, c .before .before .flip-if .kept .0 ∙ c .before .before .before .before .before .before .loop .inv .1)
+loop-again c = (sym (selected-next _ _ _ _ _ _ (c .before .before .before .before .before .loop-test .taken) (rw (c .before .before .before .before .qubit-at .ensures) at (c .before .before .flip-if .ensures))) ∙ c .before .before .before .before .before .before .loop .inv .0, c .before .before .flip-if .kept .0 ∙ c .before .before .before .before .before .before .loop .inv .1)
 
 same-length : tie.Need-same-length Inv-loop μ-loop
 same-length c = c .before .loop .inv .1
@@ -53,8 +50,7 @@ flip-selected-spec =
     Inv-loop
     μ-loop
     loop-holds
-    mul-q
-    shared-slice-read-q
+    qubit-at-requires
     flip-if-requires
     add-i
     loop-less

@@ -1,6 +1,6 @@
 -- `execution::injection::inject_faults` meets its contract. Assumes nothing.
 use Rattle.execution.specs.Laws.Faults.{Injecting, injecting-none, injecting-spent, injecting-done, element-ready, injecting-at}
-use Rattle.shots.specs.Laws.Next.{at-within, at-shot}
+use Rattle.shots.specs.Laws.Next.{found-by, at-within, at-shot}
 use borrow.Author.Needs.{needs}
 use mathlib.Core.List.{_++_}
 use lib.ListN.{length}
@@ -29,7 +29,7 @@ next-fault-requires c κs =
     let i = c .loop .inv in
     let words = c .before .before .before .before .before .before .before .before .before .pre .in-words in
     let mask = c .before .before .before .before .before .before .before .before .before .pre .in-mask in
-    (i .0, i .1, omega arith, c .before .rule-of .ensures .sized)
+    (i .0, i .1, omega arith, c .before .rule-of .ensures .ruled)
 
 enum-told : tie.Need-enum-told Inv-loop μ-loop
 enum-told c = search needs
@@ -42,7 +42,7 @@ same-length-2 c = c .before .before .before .loop .inv .3
 
 returns : tie.Need-returns Inv-loop μ-loop
 returns c =
-    injecting-spent _ _ _ _ _ _ _ _ _ _ _ _ _ _ _ (c .before .before .before .loop .inv .1) (c .before .before .before .before .before .before .before .before .before .before .before .before .pre .in-words) _ (c .before .before .next-fault .ensures _ _ (c .before .before .before .before .rule-of .ensures)) (c .before .before .before .loop .inv .4) (c .enum-told .given .1)
+    injecting-spent _ _ _ _ _ _ _ _ _ _ _ _ _ _ _ (c .before .before .before .loop .inv .1) (c .before .before .before .before .before .before .before .before .before .before .before .before .pre .in-words) _ (found-by (c .before .before .before .before .rule-of .ensures) (c .before .before .next-fault .ensures)) (c .before .before .before .loop .inv .4) (c .enum-told .given .1)
 
 enum-known-position : tie.Need-enum-known-position Inv-loop μ-loop
 enum-known-position c = search needs
@@ -55,7 +55,7 @@ same-length-4 c = c .before .before .before .before .loop .inv .3
 
 returns-2 : tie.Need-returns-2 Inv-loop μ-loop
 returns-2 c =
-    injecting-done _ _ _ _ _ _ _ _ _ _ _ _ _ _ _ (c .before .before .before .before .loop .inv .1) (c .before .before .before .before .before .before .before .before .before .before .before .before .before .pre .in-words) _ (c .before .before .before .next-fault .ensures _ _ (c .before .before .before .before .before .rule-of .ensures)) (c .before .before .before .before .loop .inv .4) _ (c .before .position .given .1)
+    injecting-done _ _ _ _ _ _ _ _ _ _ _ _ _ _ _ (c .before .before .before .before .loop .inv .1) (c .before .before .before .before .before .before .before .before .before .before .before .before .before .pre .in-words) _ (found-by (c .before .before .before .before .before .rule-of .ensures) (c .before .before .before .next-fault .ensures)) (c .before .before .before .before .loop .inv .4) _ (c .before .position .given .1)
 
 enum-known-shot : tie.Need-enum-known-shot Inv-loop μ-loop
 enum-known-shot c = search needs
@@ -64,7 +64,7 @@ inject-element-requires : tie.Need-inject-element-requires Inv-loop μ-loop
 inject-element-requires c κs =
     let i = c .before .before .before .before .before .before .loop .inv in
     let r = c .before .before .before .before .before .before .before .before .before .before .before .before .before .before .before .pre in
-    let found = c .before .before .before .before .before .next-fault .ensures _ _ (c .before .before .before .before .before .before .before .rule-of .ensures) in
+    let found = found-by (c .before .before .before .before .before .before .before .rule-of .ensures) (c .before .before .before .before .before .next-fault .ensures) in
     let shot = at-shot found _ _ _ (c .before .before .before .shot .given .1) in
     let words = r .in-words in (
       element-ready _ _ _ _ _ _ _ _ _ _ _ _ _ _ _ (i .1) words _ found (i .4) r _ _ _ (c .before .before .before .shot .given .1),
@@ -74,15 +74,15 @@ inject-element-requires c κs =
     )
 
 add-next-shot : tie.Need-add-next-shot Inv-loop μ-loop
-add-next-shot c = let shot = at-shot (c .before .before .before .before .before .before .before .before .before .before .before .next-fault .ensures _ _ (c .before .before .before .before .before .before .before .before .before .before .before .before .before .rule-of .ensures)) _ _ _ (c .before .before .before .before .before .before .before .before .before .shot .given .1) in record { fits = omega (arith, shot, c .before .before .before .before .before .before .before .before .before .before .before .before .before .before .before .before .before .before .before .before .before .good) }
+add-next-shot c = let shot = at-shot (found-by (c .before .before .before .before .before .before .before .before .before .before .before .before .before .rule-of .ensures) (c .before .before .before .before .before .before .before .before .before .before .before .next-fault .ensures)) _ _ _ (c .before .before .before .before .before .before .before .before .before .shot .given .1) in record { fits = omega (arith, shot, c .before .before .before .before .before .before .before .before .before .before .before .before .before .before .before .before .before .before .before .before .before .good) }
 
 loop-less : tie.Need-loop-less Inv-loop μ-loop
-loop-less c = let shot = at-shot (c .before .before .before .before .before .before .before .before .before .before .before .next-fault .ensures _ _ (c .before .before .before .before .before .before .before .before .before .before .before .before .before .rule-of .ensures)) _ _ _ (c .before .before .before .before .before .before .before .before .before .shot .given .1) in omega arith
+loop-less c = let shot = at-shot (found-by (c .before .before .before .before .before .before .before .before .before .before .before .before .before .rule-of .ensures) (c .before .before .before .before .before .before .before .before .before .before .before .next-fault .ensures)) _ _ _ (c .before .before .before .before .before .before .before .before .before .shot .given .1) in omega arith
 
 loop-again : tie.Need-loop-again Inv-loop μ-loop
 loop-again c =
     let i = c .before .before .before .before .before .before .before .before .before .before .before .before .loop .inv in
-    let found = c .before .before .before .before .before .before .before .before .before .before .before .next-fault .ensures _ _ (c .before .before .before .before .before .before .before .before .before .before .before .before .before .rule-of .ensures) in
+    let found = found-by (c .before .before .before .before .before .before .before .before .before .before .before .before .before .rule-of .ensures) (c .before .before .before .before .before .before .before .before .before .before .before .next-fault .ensures) in
     let k = c .before .before .before .before .before .before .before .before .before .shot .given .1 in
     let shot = at-shot found _ _ _ k in (
       at-within found _ _ _ k,

@@ -20,11 +20,8 @@ abbrev μ-loop : tie.MeasureT-loop
 loop-holds : tie.Need-loop-holds Inv-loop μ-loop
 loop-holds c = (all-left _ _ _, all-left _ _ _)
 
-mul-t8 : tie.Need-mul-t8 Inv-loop μ-loop
-mul-t8 c = omega arith
-
-shared-slice-read-t11 : tie.Need-shared-slice-read-t11 Inv-loop μ-loop
-shared-slice-read-t11 c = omega arith
+qubit-at-requires : tie.Need-qubit-at-requires Inv-loop μ-loop
+qubit-at-requires c κs = omega arith
 
 shr-add-at : tie.Need-shr-add-at Inv-loop μ-loop
 shr-add-at c = omega arith
@@ -33,7 +30,7 @@ shr-add-at-2 : tie.Need-shr-add-at-2 Inv-loop μ-loop
 shr-add-at-2 c = omega arith
 
 add-at-requires : tie.Need-add-at-requires Inv-loop μ-loop
-add-at-requires c κs = below-at 256 _ (c .before .before .before .before .pre .1) (c .before .before .loop .i) (omega arith)
+add-at-requires c κs = rw (c .qubit-at .ensures) (below-at 256 _ (c .before .before .before .before .pre .1) (c .before .before .loop .i) (omega arith))
 
 add-i : tie.Need-add-i Inv-loop μ-loop
 add-i c = omega arith
@@ -43,7 +40,7 @@ loop-less c = omega arith
 
 loop-again : tie.Need-loop-again Inv-loop μ-loop
 unfolding asPauli addedAt
-loop-again c = (one-added (c .before .before .before .loop .inv .0) _ (c .before .before .loop-test .taken) (rw bit-is (ap (λ (P : Pauli). P .x) (c .add-at .ensures))), one-added (c .before .before .before .loop .inv .1) _ (c .before .before .loop-test .taken) (rw bit-is (ap (λ (P : Pauli). P .z) (c .add-at .ensures))))
+loop-again c = (one-added (c .before .before .before .loop .inv .0) _ (c .before .before .loop-test .taken) (rw bit-is (ap (λ (P : Pauli). P .x) (rw (c .before .qubit-at .ensures) at (c .add-at .ensures)))), one-added (c .before .before .before .loop .inv .1) _ (c .before .before .loop-test .taken) (rw bit-is (ap (λ (P : Pauli). P .z) (rw (c .before .qubit-at .ensures) at (c .add-at .ensures)))))
 
 returns : tie.Need-returns Inv-loop μ-loop
 returns c = (none-left (c .before .loop .inv .0) (c .loop-test .left), none-left (c .before .loop .inv .1) (c .loop-test .left))
@@ -55,8 +52,7 @@ add-parts-spec =
     Inv-loop
     μ-loop
     loop-holds
-    mul-t8
-    shared-slice-read-t11
+    qubit-at-requires
     shr-add-at
     shr-add-at-2
     add-at-requires

@@ -17,11 +17,8 @@ abbrev μ-loop : tie.MeasureT-loop
 loop-holds : tie.Need-loop-holds Inv-loop μ-loop
 loop-holds c = (omega arith, packed-none _)
 
-mul-t5 : tie.Need-mul-t5 Inv-loop μ-loop
-mul-t5 c = omega arith
-
-shared-slice-read-t8 : tie.Need-shared-slice-read-t8 Inv-loop μ-loop
-shared-slice-read-t8 c = omega arith
+qubit-at-requires : tie.Need-qubit-at-requires Inv-loop μ-loop
+qubit-at-requires c κs = omega arith
 
 has-qubit-requires : tie.Need-has-qubit-requires Inv-loop μ-loop
 has-qubit-requires c κs = tt
@@ -36,7 +33,7 @@ loop-less : tie.Need-loop-less Inv-loop μ-loop
 loop-less c = omega arith
 
 loop-again : tie.Need-loop-again Inv-loop μ-loop
-loop-again c = (omega arith, c .with-bit .ensures _ (c .before .before .before .before .loop .inv .1) (c .before .has-qubit .ensures))
+loop-again c = (omega arith, c .with-bit .ensures _ (c .before .before .before .before .loop .inv .1) (rw (c .before .before .qubit-at .ensures) at (c .before .has-qubit .ensures)))
 
 returns : tie.Need-returns Inv-loop μ-loop
 returns c = packed-all (c .before .loop .inv .1) (c .before .loop .inv .0) (c .loop-test .left)
@@ -48,8 +45,7 @@ parts-at-spec =
     Inv-loop
     μ-loop
     loop-holds
-    mul-t5
-    shared-slice-read-t8
+    qubit-at-requires
     has-qubit-requires
     with-bit-requires
     add-i

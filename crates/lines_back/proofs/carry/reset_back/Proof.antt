@@ -19,14 +19,11 @@ abbrev μ-loop : tie.MeasureT-loop
 loop-holds : tie.Need-loop-holds Inv-loop μ-loop
 loop-holds c = record { within = omega arith; same = refl }
 
-mul-t5 : tie.Need-mul-t5 Inv-loop μ-loop
-mul-t5 c = omega arith
-
-shared-slice-read-t8 : tie.Need-shared-slice-read-t8 Inv-loop μ-loop
-shared-slice-read-t8 c = omega arith
+qubit-at-requires : tie.Need-qubit-at-requires Inv-loop μ-loop
+qubit-at-requires c κs = omega arith
 
 clear-qubit-requires : tie.Need-clear-qubit-requires Inv-loop μ-loop
-clear-qubit-requires c κs = below-at 256 _ (c .before .before .before .before .pre) _ (omega arith)
+clear-qubit-requires c κs = rw (c .qubit-at .ensures) (below-at 256 _ (c .before .before .before .before .pre) _ (omega arith))
 
 add-i : tie.Need-add-i Inv-loop μ-loop
 add-i c = omega arith
@@ -35,7 +32,7 @@ loop-less : tie.Need-loop-less Inv-loop μ-loop
 loop-less c = omega arith
 
 loop-again : tie.Need-loop-again Inv-loop μ-loop
-loop-again c = one-cleared (c .before .before .before .loop .inv) _ (c .before .before .loop-test .taken) (c .clear-qubit .ensures)
+loop-again c = one-cleared (c .before .before .before .loop .inv) _ (c .before .before .loop-test .taken) (rw (c .before .qubit-at .ensures) at (c .clear-qubit .ensures))
 
 returns : tie.Need-returns Inv-loop μ-loop
 returns c = none-to-clear (c .before .loop .inv) (c .loop-test .left)
@@ -47,8 +44,7 @@ reset-back-spec =
     Inv-loop
     μ-loop
     loop-holds
-    mul-t5
-    shared-slice-read-t8
+    qubit-at-requires
     clear-qubit-requires
     add-i
     loop-less

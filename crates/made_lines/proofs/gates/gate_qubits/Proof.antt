@@ -14,7 +14,7 @@ same-length : tie.Need-same-length
 same-length c = search needs
 
 returns : tie.Need-returns
-returns c = gate-one (c .before .before .args .h) (c .before .before .args .g) (c .before .before .args .a) (c .before .before .args .state) (c .before .before .args .list .now) (c .if1 .taken) (omega arith)
+returns c = gate-one (c .before .before .args .h) (c .before .before .args .g) (c .before .before .args .first .0) (c .before .before .args .state) (c .before .before .args .list .now) (c .if1 .taken) (omega arith)
 
 sub-pick : tie.Need-sub-pick
 sub-pick c = search needs
@@ -35,13 +35,13 @@ rem-list : tie.Need-rem-list
 rem-list c = search needs
 
 slice-write-list-2 : tie.Need-slice-write-list-2
-slice-write-list-2 c = omega (arith, length-set (c .before .before .before .before .before .before .args .list .now) 0 (c .before .before .before .before .before .before .args .a), c .before .before .before .before .before .before .pre .3)
+slice-write-list-2 c = omega (arith, length-set (c .before .before .before .before .before .before .args .list .now) 0 (c .before .before .before .before .before .before .args .first .0), c .before .before .before .before .before .before .pre .3)
 
 same-length-2 : tie.Need-same-length-2
 same-length-2 c = search needs
 
 returns-2 : tie.Need-returns-2
-returns-2 c = gate-two (c .before .before .before .before .before .before .args .h) (c .before .before .before .before .before .before .args .g) (c .before .before .before .before .before .before .args .a) (c .before .before .before .before .before .before .args .state) (c .before .before .before .before .before .before .args .list .now) (c .before .before .before .before .if1 .left) (omega (arith, c .before .before .before .before .before .before .pre .3)) (c .before .before .pick .ensures)
+returns-2 c = gate-two (c .before .before .before .before .before .before .args .h) (c .before .before .before .before .before .before .args .g) (c .before .before .before .before .before .before .args .first .0) (c .before .before .before .before .before .before .args .state) (c .before .before .before .before .before .before .args .list .now) (c .before .before .before .before .if1 .left) (omega (arith, c .before .before .before .before .before .before .pre .3)) (c .before .before .pick .ensures)
 
 pub gate-qubits-spec : {M : Type 1} → statement M
 gate-qubits-spec =

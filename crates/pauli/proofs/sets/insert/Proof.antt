@@ -23,7 +23,7 @@ same-length : tie.Need-same-length
 same-length c = search needs
 
 returns : tie.Need-returns
-returns c = (search needs, rw (one-shl (c .before .args .q % 64) (omega arith)) (in-inserted (c .before .args .set .now) (c .before .args .q) (c .before .pre)))
+returns c = (search needs, rw (one-shl (c .before .args .n % 64) (omega arith)) (in-inserted (c .before .args .set .now) (c .before .args .n) (c .before .pre)))
 
 pub insert-spec : {M : Type 1} → statement M
 insert-spec =

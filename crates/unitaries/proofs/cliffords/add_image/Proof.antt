@@ -23,17 +23,14 @@ row-requires c κs = (c .before .before .before .before .before .pre .2, c .befo
 loop-holds : tie.Need-loop-holds Inv-loop μ-loop
 loop-holds c = (row-starts _ _ _ _ _ _, row-starts _ _ _ _ _ _, refl, refl)
 
-mul-q : tie.Need-mul-q Inv-loop μ-loop
-mul-q c = omega arith
-
-shared-slice-read-q : tie.Need-shared-slice-read-q Inv-loop μ-loop
-shared-slice-read-q c = omega arith
+qubit-at-requires : tie.Need-qubit-at-requires Inv-loop μ-loop
+qubit-at-requires c κs = omega arith
 
 shr-add-row-if : tie.Need-shr-add-row-if Inv-loop μ-loop
 shr-add-row-if c = omega (arith, c .before .before .before .before .before .before .before .before .before .before .pre .2 .few)
 
 add-row-if-requires : tie.Need-add-row-if-requires Inv-loop μ-loop
-add-row-if-requires c κs = (row-in _ _ _ _ (c .before .before .before .loop .inv .2 ∙ c .before .before .before .before .before .before .before .before .before .before .pre .0) (below-at _ _ (c .before .before .before .before .before .before .before .before .before .before .pre .3) _ (c .before .before .loop-test .taken)), c .before .before .before .before .before .before .before .before .before .before .pre .5)
+add-row-if-requires c κs = (rw (c .before .qubit-at .ensures) (row-in _ _ _ _ (c .before .before .before .loop .inv .2 ∙ c .before .before .before .before .before .before .before .before .before .before .pre .0) (below-at _ _ (c .before .before .before .before .before .before .before .before .before .before .pre .3) _ (c .before .before .loop-test .taken))), c .before .before .before .before .before .before .before .before .before .before .pre .5)
 
 add-add-row-if : tie.Need-add-add-row-if Inv-loop μ-loop
 add-add-row-if c = omega (arith, c .before .before .before .before .before .before .before .before .before .before .before .before .before .before .pre .2 .few)
@@ -42,7 +39,7 @@ shr-add-row-if-2 : tie.Need-shr-add-row-if-2 Inv-loop μ-loop
 shr-add-row-if-2 c = omega (arith, c .before .before .before .before .before .before .before .before .before .before .before .before .before .before .pre .2 .few)
 
 add-row-if-requires-2 : tie.Need-add-row-if-requires-2 Inv-loop μ-loop
-add-row-if-requires-2 c κs = (row-in _ _ _ _ (c .before .before .before .before .before .before .before .loop .inv .3 ∙ c .before .before .before .before .before .before .before .before .before .before .before .before .before .before .pre .1) (below-at _ _ (c .before .before .before .before .before .before .before .before .before .before .before .before .before .before .pre .3) _ (c .before .before .before .before .before .before .loop-test .taken)), c .before .before .before .before .before .before .before .before .before .before .before .before .before .before .pre .5)
+add-row-if-requires-2 c κs = (rw (c .before .before .before .before .before .qubit-at .ensures) (row-in _ _ _ _ (c .before .before .before .before .before .before .before .loop .inv .3 ∙ c .before .before .before .before .before .before .before .before .before .before .before .before .before .before .pre .1) (below-at _ _ (c .before .before .before .before .before .before .before .before .before .before .before .before .before .before .pre .3) _ (c .before .before .before .before .before .before .loop-test .taken))), c .before .before .before .before .before .before .before .before .before .before .before .before .before .before .pre .5)
 
 add-j : tie.Need-add-j Inv-loop μ-loop
 add-j c = omega arith
@@ -53,9 +50,10 @@ loop-less c = omega arith
 loop-again : tie.Need-loop-again Inv-loop μ-loop
 loop-again c =
     let j = c .before .before .before .before .before .before .before .before .before .loop-test .taken in
+    let e = c .before .before .before .before .before .before .before .before .qubit-at .ensures in
     let row = c .before .before .before .before .before .before .before .before .before .before .before .row .ensures in (
-      row-turn _ _ _ _ _ _ _ _ _ _ j (row-part _ _ _ _ row (omega arith)) (c .before .before .before .before .before .before .add-row-if .ensures) (c .before .before .before .before .before .before .before .before .before .before .loop .inv .0),
-      row-turn _ _ _ _ _ _ _ _ _ _ j (row-part _ _ _ _ row (omega arith)) (c .before .before .add-row-if2 .ensures) (c .before .before .before .before .before .before .before .before .before .before .loop .inv .1),
+      row-turn _ _ _ _ _ _ _ _ _ _ j (row-part _ _ _ _ row (omega arith)) (rw e at (c .before .before .before .before .before .before .add-row-if .ensures)) (c .before .before .before .before .before .before .before .before .before .before .loop .inv .0),
+      row-turn _ _ _ _ _ _ _ _ _ _ j (row-part _ _ _ _ row (omega arith)) (rw e at (c .before .before .add-row-if2 .ensures)) (c .before .before .before .before .before .before .before .before .before .before .loop .inv .1),
       c .before .before .before .before .before .before .add-row-if .kept .0 ∙ c .before .before .before .before .before .before .before .before .before .before .loop .inv .2,
       c .before .before .add-row-if2 .kept .0 ∙ c .before .before .before .before .before .before .before .before .before .before .loop .inv .3,
     )
@@ -77,8 +75,7 @@ add-image-spec =
     μ-loop
     row-requires
     loop-holds
-    mul-q
-    shared-slice-read-q
+    qubit-at-requires
     shr-add-row-if
     add-row-if-requires
     add-add-row-if

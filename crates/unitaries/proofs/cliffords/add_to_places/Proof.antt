@@ -25,20 +25,17 @@ mul-place c = omega arith
 shared-slice-read-place : tie.Need-shared-slice-read-place Inv-loop μ-loop
 shared-slice-read-place c = omega arith
 
-mul-q : tie.Need-mul-q Inv-loop μ-loop
-mul-q c = omega (arith, below-at _ _ (test-permutes _ _ (c .before .before .before .before .before .before .before .pre .2) .below) (c .before .before .loop .i) (c .before .loop-test .taken))
-
-shared-slice-read-q : tie.Need-shared-slice-read-q Inv-loop μ-loop
-shared-slice-read-q c = below-at _ _ (test-permutes _ _ (c .before .before .before .before .before .before .before .before .pre .2) .below) (c .before .before .before .loop .i) (c .before .before .loop-test .taken)
+qubit-at-requires : tie.Need-qubit-at-requires Inv-loop μ-loop
+qubit-at-requires c κs = below-at _ _ (test-permutes _ _ (c .before .before .before .before .before .before .before .pre .2) .below) (c .before .before .loop .i) (c .before .loop-test .taken)
 
 mul-xor-words : tie.Need-mul-xor-words Inv-loop μ-loop
-mul-xor-words c = omega (arith, row-in _ _ _ _ (c .before .before .before .before .loop .inv .1 ∙ c .before .before .before .before .before .before .before .before .before .pre .0) (below-at _ _ (c .before .before .before .before .before .before .before .before .before .pre .1) _ (below-at _ _ (test-permutes _ _ (c .before .before .before .before .before .before .before .before .before .pre .2) .below) (c .before .before .before .before .loop .i) (c .before .before .before .loop-test .taken))))
+mul-xor-words c = omega (arith, rw (← (c .before .qubit-at .ensures)) at (row-in _ _ _ _ (c .before .before .before .before .loop .inv .1 ∙ c .before .before .before .before .before .before .before .before .before .pre .0) (below-at _ _ (c .before .before .before .before .before .before .before .before .before .pre .1) _ (below-at _ _ (test-permutes _ _ (c .before .before .before .before .before .before .before .before .before .pre .2) .below) (c .before .before .before .before .loop .i) (c .before .before .before .loop-test .taken)))))
 
 mul-xor-words-2 : tie.Need-mul-xor-words-2 Inv-loop μ-loop
 mul-xor-words-2 c = omega (arith, row-below (c .before .before .before .before .before .before .before .before .before .args .shape .width) _ (c .before .before .before .before .loop .i) (c .before .before .before .before .before .before .before .before .before .pre .3) (operand-at (c .before .before .before .before .before .before .before .before .before .args .places .now) (c .before .before .before .before .before .before .before .before .before .args .qubits .now) _ (c .before .before .before .before .before .before .before .before .before .pre .2) (c .before .before .before .loop-test .taken)))
 
 xor-words-requires : tie.Need-xor-words-requires Inv-loop μ-loop
-xor-words-requires c κs = (row-in _ _ _ _ (c .before .before .before .before .loop .inv .1 ∙ c .before .before .before .before .before .before .before .before .before .pre .0) (below-at _ _ (c .before .before .before .before .before .before .before .before .before .pre .1) _ (below-at _ _ (test-permutes _ _ (c .before .before .before .before .before .before .before .before .before .pre .2) .below) (c .before .before .before .before .loop .i) (c .before .before .before .loop-test .taken))), row-below (c .before .before .before .before .before .before .before .before .before .args .shape .width) _ (c .before .before .before .before .loop .i) (c .before .before .before .before .before .before .before .before .before .pre .3) (operand-at (c .before .before .before .before .before .before .before .before .before .args .places .now) (c .before .before .before .before .before .before .before .before .before .args .qubits .now) _ (c .before .before .before .before .before .before .before .before .before .pre .2) (c .before .before .before .loop-test .taken)))
+xor-words-requires c κs = (rw (c .before .qubit-at .ensures) (row-in _ _ _ _ (c .before .before .before .before .loop .inv .1 ∙ c .before .before .before .before .before .before .before .before .before .pre .0) (below-at _ _ (c .before .before .before .before .before .before .before .before .before .pre .1) _ (below-at _ _ (test-permutes _ _ (c .before .before .before .before .before .before .before .before .before .pre .2) .below) (c .before .before .before .before .loop .i) (c .before .before .before .loop-test .taken)))), row-below (c .before .before .before .before .before .before .before .before .before .args .shape .width) _ (c .before .before .before .before .loop .i) (c .before .before .before .before .before .before .before .before .before .pre .3) (operand-at (c .before .before .before .before .before .before .before .before .before .args .places .now) (c .before .before .before .before .before .before .before .before .before .args .qubits .now) _ (c .before .before .before .before .before .before .before .before .before .pre .2) (c .before .before .before .loop-test .taken)))
 
 add-i : tie.Need-add-i Inv-loop μ-loop
 add-i c = omega arith
@@ -47,7 +44,7 @@ loop-less : tie.Need-loop-less Inv-loop μ-loop
 loop-less c = omega arith
 
 loop-again : tie.Need-loop-again Inv-loop μ-loop
-loop-again c = (places-turn _ _ _ _ _ _ _ _ (c .before .before .before .before .before .before .loop-test .taken) (operand-at (c .before .before .before .before .before .before .before .before .before .before .before .before .args .places .now) (c .before .before .before .before .before .before .before .before .before .before .before .before .args .qubits .now) _ (c .before .before .before .before .before .before .before .before .before .before .before .before .pre .2) (c .before .before .before .before .before .before .loop-test .taken)) (row-in _ _ _ _ (c .before .before .before .before .before .before .before .loop .inv .1 ∙ c .before .before .before .before .before .before .before .before .before .before .before .before .pre .0) (below-at _ _ (c .before .before .before .before .before .before .before .before .before .before .before .before .pre .1) _ (below-at _ _ (test-permutes _ _ (c .before .before .before .before .before .before .before .before .before .before .before .before .pre .2) .below) (c .before .before .before .before .before .before .before .loop .i) (c .before .before .before .before .before .before .loop-test .taken)))) (c .before .before .xor-words .ensures) (c .before .before .before .before .before .before .before .loop .inv .0), c .before .before .xor-words .kept .0 ∙ c .before .before .before .before .before .before .before .loop .inv .1)
+loop-again c = (places-turn _ _ _ _ _ _ _ _ (c .before .before .before .before .before .before .loop-test .taken) (operand-at (c .before .before .before .before .before .before .before .before .before .before .before .before .args .places .now) (c .before .before .before .before .before .before .before .before .before .before .before .before .args .qubits .now) _ (c .before .before .before .before .before .before .before .before .before .before .before .before .pre .2) (c .before .before .before .before .before .before .loop-test .taken)) (row-in _ _ _ _ (c .before .before .before .before .before .before .before .loop .inv .1 ∙ c .before .before .before .before .before .before .before .before .before .before .before .before .pre .0) (below-at _ _ (c .before .before .before .before .before .before .before .before .before .before .before .before .pre .1) _ (below-at _ _ (test-permutes _ _ (c .before .before .before .before .before .before .before .before .before .before .before .before .pre .2) .below) (c .before .before .before .before .before .before .before .loop .i) (c .before .before .before .before .before .before .loop-test .taken)))) (rw (c .before .before .before .before .qubit-at .ensures) at (c .before .before .xor-words .ensures)) (c .before .before .before .before .before .before .before .loop .inv .0), c .before .before .xor-words .kept .0 ∙ c .before .before .before .before .before .before .before .loop .inv .1)
 
 same-length : tie.Need-same-length Inv-loop μ-loop
 same-length c = c .before .loop .inv .1
@@ -64,8 +61,7 @@ add-to-places-spec =
     loop-holds
     mul-place
     shared-slice-read-place
-    mul-q
-    shared-slice-read-q
+    qubit-at-requires
     mul-xor-words
     mul-xor-words-2
     xor-words-requires

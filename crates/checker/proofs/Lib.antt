@@ -1,0 +1,2 @@
+-- What the walk of the check's pass uses.
+mod Words

@@ -1,0 +1,2 @@
+-- What the walks of functions that hold a reader share.
+pub mod Local
