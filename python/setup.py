@@ -1,20 +1,20 @@
-"""Builds the package: links libkundatrezo.so, which it calls, from the archive libkundatrezo.a, and builds libkundatrezo_edge.so, by which refusals
-have hints, from the Rust crate.
+"""Builds the package: cargo builds libkundatrezo_edge.so, which it calls, from the Rust crate of the repository and the archive libkundatrezo.a.
 
 The archive lies in the folder that the environment variable KUNDATREZO_LIB_DIR names, or in target/library of the repository, where ./setup puts it.
-The crate is that of the repository; without it, or without cargo, the package has no hints.
 """
 
 import os
+import re
 import shutil
 import subprocess
-import sys
 from pathlib import Path
 
 from setuptools import Distribution, setup
 from setuptools.command.build_py import build_py
 
 HERE = Path(__file__).resolve().parent
+RUST = (HERE.parent / "rust").resolve()
+LIBRARY = "libkundatrezo_edge.so"
 
 
 def archive() -> Path:
@@ -23,32 +23,40 @@ def archive() -> Path:
     found = Path(folder) / "libkundatrezo.a" if folder else HERE.parent / "target/library/libkundatrezo.a"
     if not found.is_file():
         raise SystemExit(f"there is no {found}: './setup --library' in the repository's folder puts it there; KUNDATREZO_LIB_DIR names another folder")
-    return found
+    return found.resolve()
 
 
-def build_edge(folder: Path) -> None:
-    """The crate's C interface, where it can be built: the package works without it."""
-    rust = (HERE.parent / "rust").resolve()
-    command = ["cargo", "build", "--offline", "--quiet", "--release", "--package", "kundatrezo-edge", "--target-dir", str(rust / "target")]
+def require_cargo() -> None:
+    """That there is a cargo, and that it is not too old."""
+    if not (RUST / "Cargo.toml").is_file():
+        raise SystemExit(f"there is no {RUST / 'Cargo.toml'}: the package is built in the repository's folder, beside the Rust crate")
+    wanted = re.search(r'^rust-version = "(\d+)\.(\d+)"', (RUST / "Cargo.toml").read_text(), re.MULTILINE).groups()
     try:
-        subprocess.run(command, cwd=rust, env={**os.environ, "KUNDATREZO_LIB_DIR": str(archive().parent.resolve())}, check=True)
-        shutil.copy(rust / "target/release/libkundatrezo_edge.so", folder)
+        said = subprocess.run(["cargo", "--version"], capture_output=True, text=True, check=True).stdout
     except (OSError, subprocess.CalledProcessError) as error:
-        print(f"{error}: the package will have no hints, which cargo builds from the folder rust/ of the repository", file=sys.stderr)
+        raise SystemExit(f"the package is built by cargo {'.'.join(wanted)} or later, and there is none: {error}") from None
+    found = re.match(r"cargo (\d+)\.(\d+)", said)
+    if not found or tuple(map(int, found.groups())) < tuple(map(int, wanted)):
+        raise SystemExit(f"the package is built by cargo {'.'.join(wanted)} or later, and this one is older: {said.strip()}")
+
+
+def build_library(folder: Path) -> None:
+    """Put the library into a folder."""
+    require_cargo()
+    target = RUST / "target"
+    command = ["cargo", "build", "--offline", "--quiet", "--release", "--package", "kundatrezo-edge", "--target-dir", str(target)]
+    subprocess.run(command, cwd=RUST, env={**os.environ, "KUNDATREZO_LIB_DIR": str(archive().parent)}, check=True)
+    shutil.copy(target / "release" / LIBRARY, folder)
 
 
 class Build(build_py):
-    """Copies the modules and puts the libraries beside them."""
+    """Copies the modules and puts the library beside them."""
 
     def run(self) -> None:
         super().run()
         folder = HERE / "kundatrezo" if self.editable_mode else Path(self.build_lib) / "kundatrezo"
         folder.mkdir(parents=True, exist_ok=True)
-        whole = ["-Wl,--whole-archive", str(archive()), "-Wl,--no-whole-archive"]
-        # -z defs: the library asks for nothing but the C library
-        command = [os.environ.get("CC", "cc"), "-shared", "-Wl,-z,defs", "-Wl,-soname,libkundatrezo.so", *whole]
-        subprocess.run([*command, "-o", str(folder / "libkundatrezo.so")], check=True)
-        build_edge(folder)
+        build_library(folder)
 
 
 class Binary(Distribution):

@@ -7,6 +7,7 @@ is 0 where no fault falls, the *observable* the set whose sum a decoder is to gu
 from __future__ import annotations
 
 from dataclasses import dataclass
+from typing import Optional
 
 from kundatrezo import Circuit, Job
 
@@ -38,7 +39,10 @@ def surface(distance: int, rounds: int, p: float) -> Experiment:
     The edges above and below have X plaquettes of two qubits, those at the sides Z plaquettes. So the logical Z goes along a row, and X errors that go unseen
     along a column. A fault of an ancilla spreads to the last two qubits of its plaquette, which lie across the logical operator that it could become a part of.
     """
-    place = lambda row, column: row * distance + column if 0 <= row < distance and 0 <= column < distance else None
+
+    def place(row: int, column: int) -> Optional[int]:
+        return row * distance + column if 0 <= row < distance and 0 <= column < distance else None
+
     x_checks, z_checks = [], []
     for row in range(distance + 1):
         for column in range(distance + 1):

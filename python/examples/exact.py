@@ -56,7 +56,10 @@ def _elements(line: dict[str, str]) -> list[tuple[set[int], set[int]]]:
         return [(set(_qubits(line["x"])), set(_qubits(line["z"])))]
     assert line["d"] == "2"
     qubits = _qubits(line["q"])
-    part = lambda choice, bit: {qubit for place, qubit in enumerate(qubits) if choice >> 2 * place + bit & 1}
+
+    def part(choice: int, bit: int) -> set[int]:
+        return {qubit for place, qubit in enumerate(qubits) if choice >> 2 * place + bit & 1}
+
     return [(part(choice, 0), part(choice, 1)) for choice in range(1, 4 ** len(qubits))]
 
 

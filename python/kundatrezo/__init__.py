@@ -9,63 +9,23 @@ A `Job` is a circuit with noise, of which `Circuit` writes the lines; `sample` g
 >>> bool(low < counts.rates[outcome] < high)
 True
 
-Each call is one of the library, which is proved; the loop of `sample`, the builder and what is made of error models are tested.
+The calls are those of the engine, which is proved, by the Rust crate. The crate's sampler and error models, and the builder here, are tested.
 """
 
 from ._circuit import GATES, Circuit, Pauli
-from ._counts import DRAWS, Counts, wilson
-from ._jobs import (
-    MAX_BYTES,
-    MAX_GROUPS,
-    MAX_OUTCOMES,
-    MAX_SHOTS,
-    TEXTS,
-    FaultTable,
-    Job,
-    Refused,
-    Rows,
-    bits,
-    by_outcome,
-    by_shot,
-    make_job,
-    words,
-)
-from ._models import Mechanism, error_model, mechanisms
-from ._sampling import sample, sample_shots
-from ._words import fill, state_of_block, state_of_seed
+from ._jobs import FaultTable, Job, Mechanism, Rows, error_model, make_job, mechanisms
+from ._library import MAX_BYTES, MAX_GROUPS, MAX_OUTCOMES, MAX_SHOTS, REFUSAL_TEXTS, Refused
+from ._library import bits, by_outcome, by_shot, fill, pack_bits, state_of_block, state_of_seed
+from ._sampling import DRAWS, Counts, sample, sample_shots, wilson
 
 # the name that users know
 Refused.__module__ = "kundatrezo"
 
 __version__ = "0.1.0"
 
+# fmt: off
 __all__ = [
-    "DRAWS",
-    "GATES",
-    "MAX_BYTES",
-    "MAX_GROUPS",
-    "MAX_OUTCOMES",
-    "MAX_SHOTS",
-    "TEXTS",
-    "Circuit",
-    "Counts",
-    "FaultTable",
-    "Job",
-    "Mechanism",
-    "Pauli",
-    "Refused",
-    "Rows",
-    "bits",
-    "by_outcome",
-    "by_shot",
-    "error_model",
-    "fill",
-    "make_job",
-    "mechanisms",
-    "sample",
-    "sample_shots",
-    "state_of_block",
-    "state_of_seed",
-    "wilson",
-    "words",
+    "DRAWS", "GATES", "MAX_BYTES", "MAX_GROUPS", "MAX_OUTCOMES", "MAX_SHOTS", "REFUSAL_TEXTS", "Circuit", "Counts", "FaultTable", "Job", "Mechanism",
+    "Pauli", "Refused", "Rows", "bits", "by_outcome", "by_shot", "error_model", "fill", "make_job", "mechanisms", "pack_bits", "sample",
+    "sample_shots", "state_of_block", "state_of_seed", "wilson",
 ]

@@ -4,7 +4,7 @@ from __future__ import annotations
 
 import operator
 import re
-from math import inf
+import sys
 from typing import Iterable, Mapping, Optional, Sequence, Union
 
 import numpy as np
@@ -12,104 +12,71 @@ import numpy as np
 from ._jobs import Job
 from ._library import binary64, whole
 
-GATES = {
-    "I": 0,
-    "X": 1,
-    "Y": 2,
-    "Z": 3,
-    "Hadamard": 4,
-    "SqrtZ": 5,
-    "SqrtZInv": 6,
-    "SqrtX": 7,
-    "SqrtXInv": 8,
-    "SqrtY": 9,
-    "SqrtYInv": 10,
-    "ControlledX": 11,
-    "ControlledZ": 12,
-    "Swap": 13,
-    "PrepareBell": 14,
-    "ControlledY": 15,
-}
+_NAMES = "I X Y Z Hadamard SqrtZ SqrtZInv SqrtX SqrtXInv SqrtY SqrtYInv ControlledX ControlledZ Swap PrepareBell ControlledY"
+GATES = {name: code for code, name in enumerate(_NAMES.split())}
 """The gates with their codes. ControlledY is of the second edition."""
 
 _ALIASES = {"H": "Hadamard", "S": "SqrtZ", "Sdg": "SqrtZInv", "SX": "SqrtX", "SXdg": "SqrtXInv", "CX": "ControlledX", "CNOT": "ControlledX"}
 _ALIASES |= {"CZ": "ControlledZ", "CY": "ControlledY", "SWAP": "Swap"}
+_EACH = ", each an argument of its own"
 
 Pauli = Union[str, Mapping[int, str]]
 """A Pauli without its sign: a text such as "X0 Y1 Z2", or the letter of each qubit. The empty one is the identity."""
 
 
-def _is_whole(number: object) -> bool:
-    """Whether Python takes it for a whole number, as it does those of numpy and of other libraries."""
-    try:
-        operator.index(number)
-    except TypeError:
-        return False
-    return True
-
-
-def _numbers(numbers: Iterable[int], name: str, each: str = "") -> list[int]:
+def _numbers(numbers: Iterable[int], name: str = "qubits", each: str = "") -> list[int]:
     """Numbers that a caller gives. Nothing is rounded, or read from a text."""
     try:
         given = list(numbers)
     except TypeError:
         raise TypeError(f"{name} are to be a list of whole numbers, not {numbers!r}") from None
     for number in given:
-        if isinstance(number, (bool, np.bool_)) or not _is_whole(number):
-            raise TypeError(f"{name} are to be whole numbers{each}, not {number!r}")
+        try:
+            # those of numpy and of other libraries are whole numbers, too
+            operator.index("" if isinstance(number, (bool, np.bool_)) else number)
+        except TypeError:
+            raise TypeError(f"{name} are to be whole numbers{each}, not {number!r}") from None
     return [whole(number, f"each of the {name}") for number in given]
 
 
-def _qubits(arguments: tuple[int, ...]) -> list[int]:
-    return _numbers(arguments, "qubits", ", each an argument of its own")
-
-
 def _letters(pauli: Pauli) -> dict[int, str]:
+    """The letter of each qubit, in rising order."""
     if isinstance(pauli, str):
         found = [re.fullmatch(r"([XYZ])(\d+)", part) for part in pauli.split()]
         if not all(found):
             raise ValueError(f"'{pauli}' is no Pauli: it is written as in 'X0 Y1 Z2'")
-        letters = [(int(part[2]), part[1]) for part in found if part]
-        if len({qubit for qubit, _ in letters}) < len(letters):
+        letters = sorted((int(part[2]), part[1]) for part in found if part)
+        if len(dict(letters)) < len(letters):
             raise ValueError(f"'{pauli}' has a qubit twice")
         return dict(letters)
     if not isinstance(pauli, Mapping):
         raise TypeError(f"{pauli!r} is no Pauli: it is written as in 'X0 Y1 Z2'")
     if not all(letter in ("I", "X", "Y", "Z") for letter in pauli.values()):
         raise ValueError(f"{dict(pauli)} is no Pauli: its letters are I, X, Y and Z")
-    return {qubit: letter for qubit, letter in zip(_numbers(pauli, "qubits"), pauli.values()) if letter != "I"}
+    return {qubit: letter for qubit, letter in sorted(zip(_numbers(pauli), pauli.values())) if letter != "I"}
 
 
 def _list(numbers: Iterable[int]) -> str:
     return ",".join(map(str, numbers)) or "-"
 
 
-def _outcomes(outcomes: Iterable[int]) -> str:
-    return _list(sorted(_numbers(outcomes, "outcomes")))
-
-
 def _parts(pauli: Pauli, x: str = "x", z: str = "z") -> str:
-    letters = _letters(pauli)
-    has = lambda wanted: _list(sorted(qubit for qubit, letter in letters.items() if letter in wanted))
-    return f"{x}={has('XY')} {z}={has('ZY')}"
+    x_part, z_part = (_list(qubit for qubit, letter in _letters(pauli).items() if letter in part) for part in ("XY", "ZY"))
+    return f"{x}={x_part} {z}={z_part}"
 
 
-def _bits(number: float) -> str:
-    return f"{binary64(number):016x}"
-
-
-def _probability(p: float) -> str:
-    digits = _bits(p)
-    if not 0 <= p <= 1:
-        raise ValueError(f"p is a probability, from 0 to 1, not {p!r}")
+def _digits(number: float, most: float, what: str) -> str:
+    """The binary64 of a probability or a weight."""
+    digits = f"{binary64(number):016x}"
+    if not 0 <= number <= most:
+        raise ValueError(f"{what}, not {number!r}")
     return digits
 
 
-def _weight(weight: float) -> str:
-    digits = _bits(weight)
-    if not 0 <= weight < inf:
-        raise ValueError(f"a weight is a number from 0 on, not {weight!r}")
-    return digits
+def _noise(p: float, corr: Optional[int], cond: Iterable[int], parity: int) -> str:
+    number = "-" if corr is None else whole(corr, "corr")
+    digits = _digits(p, 1, "p is a probability, from 0 to 1")
+    return f"op=n p={digits} corr={number} cond={_list(sorted(_numbers(cond, 'outcomes')))} parity={whole(parity, 'parity')}"
 
 
 class Circuit:
@@ -132,9 +99,7 @@ class Circuit:
 
     def __init__(self) -> None:
         self._lines: list[str] = []
-        self._qubits = 1
-        self._outcomes = 0
-        self._edition = 1
+        self._qubits, self._outcomes, self._edition = 1, 0, 1
 
     def __repr__(self) -> str:
         return f"<Circuit of {len(self._lines)} lines>"
@@ -160,14 +125,13 @@ class Circuit:
         name = _ALIASES.get(name, name)
         if name not in GATES:
             raise ValueError(f"there is no gate '{name}'; those that there are: {', '.join(GATES)}; and for short {', '.join(_ALIASES)}")
-        numbers = _qubits(qubits)
+        numbers = _numbers(qubits, each=_EACH)
         return self._add(f"op=u g={GATES[name]} q={_list(numbers)}", qubits=numbers, edition=2 if name == "ControlledY" else 1)
 
     def clifford(self, qubits: Sequence[int], x_images: Sequence[Pauli], z_images: Sequence[Pauli]) -> Circuit:
-        """Any Clifford of up to eight qubits, by the images of X and of Z on each of them, in their order. Qubits of an image are named by their numbers."""
-        numbers = _numbers(qubits, "qubits")
+        """Any Clifford of up to eight qubits, by the images of X and of Z on each of them, in their order. An image names qubits by their numbers."""
+        numbers, x_images, z_images = _numbers(qubits), list(x_images), list(z_images)
         k = len(numbers)
-        x_images, z_images = list(x_images), list(z_images)
         if not len(x_images) == len(z_images) == k:
             raise ValueError(f"a Clifford on {k} qubits has {k} images of X and {k} of Z, not {len(x_images)} and {len(z_images)}")
         table = 0
@@ -194,7 +158,7 @@ class Circuit:
 
     def permute(self, places: Sequence[int], qubits: Sequence[int]) -> Circuit:
         """What was at place i of the qubits goes to place `places[i]`."""
-        numbers = _numbers(qubits, "qubits")
+        numbers = _numbers(qubits)
         return self._add(f"op=m s={_list(_numbers(places, 'places'))} q={_list(numbers)}", qubits=numbers)
 
     def measure(self, pauli: Pauli) -> int:
@@ -212,16 +176,17 @@ class Circuit:
 
     def conditional(self, pauli: Pauli, outcomes: Iterable[int], parity: int = 1) -> Circuit:
         """A Pauli that is applied by the parity of outcomes."""
-        return self._add(f"op=f {_parts(pauli)} id={_outcomes(outcomes)} parity={whole(parity, 'parity')}", qubits=_letters(pauli))
+        condition = f"id={_list(sorted(_numbers(outcomes, 'outcomes')))} parity={whole(parity, 'parity')}"
+        return self._add(f"op=f {_parts(pauli)} {condition}", qubits=_letters(pauli))
 
     def reset(self, *qubits: int) -> Circuit:
         """Reset qubits."""
-        numbers = _qubits(qubits)
+        numbers = _numbers(qubits, each=_EACH)
         return self._add(*(f"op=z q={qubit}" for qubit in numbers), qubits=numbers)
 
     def barrier(self, *qubits: int) -> Circuit:
         """A barrier, which does nothing."""
-        numbers = _qubits(qubits)
+        numbers = _numbers(qubits, each=_EACH)
         return self._add(f"op=b q={_list(numbers)}", qubits=numbers, edition=2)
 
     def inject(self, shot: int, pauli: Pauli) -> Circuit:
@@ -234,7 +199,7 @@ class Circuit:
 
     def depolarize(self, p: float, *qubits: int, corr: Optional[int] = None, cond: Iterable[int] = (), parity: int = 0) -> Circuit:
         """With probability p one of all Paulis on the qubits but the identity, each as likely."""
-        numbers = _qubits(qubits)
+        numbers = _numbers(qubits, each=_EACH)
         return self._add(f"{_noise(p, corr, cond, parity)} d=2 q={_list(numbers)} size={4 ** len(numbers) - 1}", qubits=numbers)
 
     def fault(self, p: float, pauli: Pauli, *, corr: Optional[int] = None, cond: Iterable[int] = (), parity: int = 0) -> Circuit:
@@ -242,25 +207,15 @@ class Circuit:
         return self._add(f"{_noise(p, corr, cond, parity)} d=1 {_parts(pauli)} size=1", qubits=_letters(pauli))
 
     def choose(
-        self,
-        p: float,
-        paulis: Sequence[Pauli],
-        weights: Optional[Sequence[float]] = None,
-        *,
-        corr: Optional[int] = None,
-        cond: Iterable[int] = (),
-        parity: int = 0,
-    ) -> Circuit:
+        self, p: float, paulis: Sequence[Pauli], weights: Optional[Sequence[float]] = None, *,
+        corr: Optional[int] = None, cond: Iterable[int] = (), parity: int = 0,
+    ) -> Circuit:  # fmt: skip
         """With probability p one of these Paulis, each as likely, or by weights."""
         n = len(paulis)
         if weights is not None and len(weights) != n:
             raise ValueError(f"{n} Paulis have {len(weights)} weights")
         line = f"{_noise(p, corr, cond, parity)} d={3 if weights is None else 4} n={n} size={n}"
-        before = ["" if weights is None else f"w={_weight(weights[place])} " for place in range(n)]
+        most = sys.float_info.max
+        before = [""] * n if weights is None else [f"w={_digits(weight, most, 'a weight is a number from 0 on')} " for weight in weights]
         elements = [f"{weight}{_parts(pauli)}" for weight, pauli in zip(before, paulis)]
         return self._add(line, *elements, qubits=[qubit for pauli in paulis for qubit in _letters(pauli)])
-
-
-def _noise(p: float, corr: Optional[int], cond: Iterable[int], parity: int) -> str:
-    number = "-" if corr is None else whole(corr, "corr")
-    return f"op=n p={_probability(p)} corr={number} cond={_outcomes(cond)} parity={whole(parity, 'parity')}"

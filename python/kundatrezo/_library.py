@@ -1,7 +1,7 @@
-"""The calls of libkundatrezo.so, as include/kundatrezo.h declares them.
+"""Words, and the calls of libkundatrezo_edge.so: the C interface of the Rust crate, which rust/edge/src/lib.rs declares. The crate calls the engine.
 
-What a caller owes is kept here: pointers that are not null and are aligned, lists that are as long as is said, no list that is written and overlaps another,
-and the floating-point state that programs start with. That no other thread touches a lent array while a call runs is the caller's.
+What a caller owes is kept here: aligned pointers, lists that are as long as is said, and no written list that overlaps another. That no other thread
+touches a lent array while a call runs is the caller's.
 """
 
 from __future__ import annotations
@@ -9,13 +9,16 @@ from __future__ import annotations
 import ctypes
 import operator
 import os
+import re
 import struct
-from ctypes import c_size_t, c_uint32, c_uint64, c_void_p
+from ctypes import c_size_t, c_uint64, c_void_p
 from pathlib import Path
-from typing import Any, Callable, Sequence, Union
+from typing import Any, NamedTuple, Optional, Sequence, Union
 
 import numpy as np
 import numpy.typing as npt
+
+MAX_BYTES, MAX_SHOTS, MAX_OUTCOMES, MAX_GROUPS = 1_048_576, 4_096, 1_024, 16
 
 Words = npt.NDArray[np.uint64]
 """An array of 64-bit words."""
@@ -24,99 +27,117 @@ Lendable = Union[Words, Sequence[int]]
 """Words that a call reads: an array of uint64 is lent as it is, anything else is copied into one."""
 
 
-class Answer(ctypes.Structure):
-    """struct kundatrezo_answer"""
-
-    _fields_ = [("number", c_uint64), ("line", c_uint64)]
+class _List(ctypes.Structure):
+    _fields_ = [("first", c_void_p), ("len", c_size_t)]
 
 
-class TextAnswer(ctypes.Structure):
-    """struct kundatrezo_text_answer, and kundatrezo_count_answer, which is laid out alike"""
-
-    _fields_ = [("answer", Answer), ("figure", c_uint64)]
-
-
-class Examination(ctypes.Structure):
-    """struct kundatrezo_examination"""
-
-    _fields_ = [("answer", Answer)] + [(name, c_uint64) for name in ("qubits", "outcomes", "shots", "recorded", "lines")]
+class _Reply(ctypes.Structure):
+    _fields_ = [("number", c_uint64), ("line", c_uint64), ("count", c_uint64)]
+    _fields_ += [("text", c_void_p), ("text_len", c_size_t), ("words", c_void_p), ("words_len", c_size_t)]
 
 
-class LinePart(ctypes.Structure):
-    """struct kundatrezo_line_part"""
+# The calls that the package makes. What they take, the library says.
+_NAMES = """declarations refusals examine run settle walk annotate locations correlation by_shot by_outcome fill state_of_seed state_of_block make
+    outcomes fault_table error_model condition_notes sampling_open sampling_run sampling_text sampling_close counts_read counts_add rates
+    free""".split()
 
-    _fields_ = [("start", c_size_t), ("len", c_size_t)]
-
-
-# What each call takes: lists, which are a pointer and a length, written or read, and numbers.
-_READ, _WRITTEN, _NUMBER = "read", "written", "number"
-_TYPES: dict[str, list[Any]] = {_READ: [c_void_p, c_size_t], _WRITTEN: [c_void_p, c_size_t], _NUMBER: [c_uint64]}
-_DRAWS = [_READ, _READ, _READ, _NUMBER]
-_CALLS: dict[str, tuple[Any, list[str]]] = {
-    "check": (Answer, [_READ]),
-    "examine": (Examination, [_READ]),
-    "run_totals": (Answer, [_READ, _WRITTEN, _WRITTEN, _WRITTEN, _WRITTEN, *_DRAWS]),
-    "settle": (TextAnswer, [_READ, *_DRAWS, _WRITTEN]),
-    "walk": (TextAnswer, [_READ, _NUMBER, _READ]),
-    "annotate": (TextAnswer, [_READ, _NUMBER, _WRITTEN]),
-    "locations": (TextAnswer, [_READ]),
-    "correlation": (Answer, [_READ]),
-    "line": (LinePart, [_READ, _NUMBER]),
-    "by_shot": (Answer, [_NUMBER, _NUMBER, _READ, _WRITTEN]),
-    "by_outcome": (Answer, [_NUMBER, _NUMBER, _READ, _WRITTEN]),
-    "fault_table": (TextAnswer, [_READ, _READ, _WRITTEN]),
-    "fill": (Answer, [_NUMBER, _WRITTEN]),
-    "make": (TextAnswer, [_NUMBER, _NUMBER, _NUMBER, _NUMBER, _NUMBER, _WRITTEN]),
-}
-
-PATH = Path(os.environ.get("KUNDATREZO_LIBRARY") or Path(__file__).with_name("libkundatrezo.so")).absolute()
-"""The library's file: that beside this one, or the one that the environment variable KUNDATREZO_LIBRARY names. The path is made absolute, since a bare
-name would be looked for in the system's folders. The variable is trusted: whatever code it names is run in this process."""
+PATH = Path(os.environ.get("KUNDATREZO_LIBRARY") or Path(__file__).with_name("libkundatrezo_edge.so")).absolute()
+"""The library's file: that beside this one, or the one that KUNDATREZO_LIBRARY names. This variable is trusted: the code is run in this process. The
+path is made absolute, since a bare name would be looked for in the system's folders."""
 
 
-def _loaded() -> dict[str, tuple[Callable[..., Any], list[str]]]:
+def _loaded() -> dict[str, Any]:
     try:
         library = ctypes.CDLL(str(PATH))
     except OSError as error:
-        raise ImportError(f"{error}: the library is linked when the package is built, see python/README.md") from error
+        raise ImportError(f"{error}: cargo builds the library when the package is built, see python/README.md") from error
     # all of them before the first is called: another library, or an older one, is found here and not in the middle of the work
-    missing = [f"kundatrezo_{name}" for name in _CALLS if not hasattr(library, f"kundatrezo_{name}")]
+    missing = [f"kundatrezo_edge_{name}" for name in _NAMES if not hasattr(library, f"kundatrezo_edge_{name}")]
     if missing:
         raise ImportError(f"{PATH} lacks {', '.join(missing)}: it is another library, or older than this package")
-    calls = {}
-    for name, (answer, kinds) in _CALLS.items():
-        call = getattr(library, f"kundatrezo_{name}")
-        call.restype = answer
-        call.argtypes = [kind for parameter in kinds for kind in _TYPES[parameter]]
-        calls[name] = (call, kinds)
-    return calls
+    functions = {name: getattr(library, f"kundatrezo_edge_{name}") for name in _NAMES}
+    for function in functions.values():
+        function.restype = _Reply
+    functions["free"].restype, functions["free"].argtypes = None, [_Reply]
+    return functions
 
 
-_calls = _loaded()
-
-# An empty list has an address, too.
-_NOWHERE = np.zeros(1, dtype=np.uint64)
+_functions = _loaded()
+_kinds: dict[str, list[str]] = {"declarations": []}
 
 
-def call(name: str, *arguments: Union[int, bytes, np.ndarray]) -> Any:
-    """Make a call: bytes and arrays are lent where they lie. The interpreter's lock is released meanwhile."""
-    function, kinds = _calls[name]
-    lent: list[Union[int, bytes, None]] = []
-    written = []
-    for kind, argument in zip(kinds, arguments, strict=True):
+class Refused(ValueError):
+    """A call says no: the first bad line counts, and its lowest number.
+
+    `number` is that by which docs/REFUSALS.md explains it; `line` the line of the job, from 1, or 0 if none fits, and `line_text` that line;
+    `bytes_needed`, with 15 from settling, what the text needs; `hint` what may help, if something can be said; and `cause` of the causes of a number
+    with several the one that it is, if that is known.
+    """
+
+    def __init__(self, number: int, line: int = 0, line_text: str = "", bytes_needed: int = 0, hint: str = "", cause: str = "") -> None:
+        self.number, self.line, self.line_text, self.bytes_needed, self.hint, self.cause = number, line, line_text, bytes_needed, hint, cause
+        super().__init__(number, line, line_text, bytes_needed, hint, cause)
+
+    @property
+    def text(self) -> str:
+        """What the number means."""
+        return self.cause or REFUSAL_TEXTS.get(self.number, "a number that this package does not know")
+
+    def __str__(self) -> str:
+        line = f" at line {self.line}: {self.line_text}" if self.line else ""
+        hint = f"\nhint: {self.hint}" if self.hint else ""
+        return f"{self.number} ({self.text}){line}{hint}"
+
+
+class Given(NamedTuple):
+    """What a call gives."""
+
+    count: int
+    text: bytes
+    words: Words
+
+
+def call(name: str, *arguments: Union[int, bytes, np.ndarray, None]) -> Given:
+    """Make a call: bytes and arrays are lent where they lie; None is a list that is not given. The interpreter's lock is released meanwhile."""
+    lent: list[Any] = []
+    arrays: list[tuple[bool, np.ndarray]] = []
+    for kind, argument in zip(_kinds[name], arguments, strict=True):
         if isinstance(argument, np.ndarray):
-            if kind == _WRITTEN:
-                written.append(argument)
-            lent += [(argument if argument.size else _NOWHERE).ctypes.data, argument.size]
+            arrays.append((kind == "WordsMut", argument))
+            lent.append(_List(argument.ctypes.data, argument.size))
         elif isinstance(argument, bytes):
-            lent += [argument, len(argument)]
+            lent.append(_List(ctypes.cast(argument, c_void_p), len(argument)))
+        elif argument is None:
+            lent.append(_List(None, 0))
         else:
             lent.append(whole(argument))
-    for place, own in enumerate(written):
-        others = written[:place] + [argument for argument in arguments if isinstance(argument, np.ndarray) and argument is not own]
-        if any(own is other or np.may_share_memory(own, other) for other in others):
+    for place, (is_written, one) in enumerate(arrays):
+        if any((is_written or other_is) and np.may_share_memory(one, other) for other_is, other in arrays[place + 1 :]):
             raise ValueError("an array that a call writes overlaps another that it is lent")
-    return _in_default_state(function, lent)
+    reply = _functions[name](*lent)
+    text = ctypes.string_at(reply.text, reply.text_len) if reply.text else b""
+    words = np.empty(reply.words_len, dtype=np.uint64)
+    ctypes.memmove(words.ctypes.data, reply.words, words.nbytes)
+    _functions["free"](reply)
+    raise_if_refused(reply, text)
+    return Given(reply.count, text, words)
+
+
+def raise_if_refused(reply: _Reply, text: bytes) -> None:
+    """Raise what a reply refuses by: a refusal of the engine, a wrong argument (1000), or an error of the library itself."""
+    if reply.number > 999:
+        raise (ValueError if reply.number == 1000 else RuntimeError)(text.decode())
+    if reply.number:
+        cause, hint, line = text.split(b"\0", 2)
+        raise Refused(reply.number, reply.line, line.decode(errors="backslashreplace"), reply.count, hint.decode(errors="replace"), cause.decode())
+
+
+_kinds |= {name: re.findall(r": (\w+), ", kinds) for name, kinds in re.findall(r"edge_(\w+)\((.*)\)", call("declarations").text.decode())}
+for name in _NAMES[:-1]:
+    _functions[name].argtypes = [{"u64": c_uint64, "Handle": c_void_p}.get(kind, _List) for kind in _kinds[name]]
+
+REFUSAL_TEXTS = {int(line.partition(" ")[0]): line.partition(" ")[2] for line in call("refusals").text.decode().splitlines()}
+"""What the numbers of refusals mean; docs/REFUSALS.md has examples and remedies."""
 
 
 def whole(number: int, name: str = "an argument", least: int = 0) -> int:
@@ -146,7 +167,7 @@ def read_words(words: Lendable) -> Words:
         return np.require(words, requirements=["C", "A"]).reshape(-1)
     given = np.asarray(words, dtype=object).reshape(-1)
     if any(isinstance(number, bool) for number in given):
-        raise TypeError("booleans are no words: kundatrezo.words makes rows of them")
+        raise TypeError("booleans are no words: kundatrezo.pack_bits makes rows of them")
     numbers = [operator.index(number) for number in given]
     if not all(0 <= number < 2**64 for number in numbers):
         raise ValueError("a word is a number from 0 to below 2^64")
@@ -160,26 +181,69 @@ def written_words(words: Words) -> Words:
     return words.reshape(-1)
 
 
-# ---- the floating-point state
+def fill(seed: int, words: Union[Words, int]) -> Words:
+    """Fill a lent array, or a new one with this number of words, from a seed: Marsaglia's 64-bit xorshift, whose first state the seed is. `Refused`
+    by 22 for 0. This is the program's --state. Seeds of `run` and `sample` are mixed first: `run(seed=1)` reads the words of
+    `fill(state_of_seed(1), ..)`. The streams of small seeds begin alike, and are not for a series of runs.
 
-_libm = ctypes.CDLL("libm.so.6")
-_libm.fesetenv.argtypes = [c_void_p]
-# fenv_t of x86-64: eight words, the last of which is MXCSR
-_Environment = c_uint32 * 8
-# of MXCSR: denormals-are-zero, the six exception masks, the rounding mode, flush-to-zero
-_CONTROL, _DEFAULT = 0xFFC0, 0x1F80
-_FE_DFL_ENV = c_void_p(-1)
+    >>> fill(1, 2).tolist()
+    [1082269761, 1152992998833853505]
+    """
+    words = np.empty(words, dtype=np.uint64) if isinstance(words, (int, np.integer)) else written_words(words)
+    call("fill", seed, words)
+    return words
 
 
-def _in_default_state(function: Callable[..., Any], arguments: list[Any]) -> Any:
-    """Make a call in the floating-point state that programs start with. A library that was built with -ffast-math and is loaded in this process may have
-    set another, in which subnormal numbers are zero."""
-    before = _Environment()
-    _libm.fegetenv(before)
-    if before[7] & _CONTROL == _DEFAULT:
-        return function(*arguments)
-    _libm.fesetenv(_FE_DFL_ENV)
-    try:
-        return function(*arguments)
-    finally:
-        _libm.fesetenv(before)
+def state_of_seed(seed: int) -> int:
+    """The first state of a seed: the first word of SplitMix64 from it, or the second if that is zero. The program's --seed takes it so."""
+    return call("state_of_seed", whole(seed, "a seed")).count
+
+
+def state_of_block(seed: int, block: int, second: bool = False) -> int:
+    """The first state of a block of a sample, for its main list or its second: the rule of `Xorshift::of_block` of the Rust crate."""
+    return call("state_of_block", whole(seed, "a seed"), block, int(second)).count
+
+
+def by_shot(deltas: Words, shots: int, *, out: Optional[Words] = None) -> Words:
+    """Rows by outcome, as a run leaves deltas, as a row for each shot: outcome o is bit o mod 64 of word o // 64."""
+    return _turned("by_shot", deltas, len(deltas), shots, (shots, -(-len(deltas) // 64)), out)
+
+
+def by_outcome(rows: Words, outcomes: int, *, out: Optional[Words] = None) -> Words:
+    """The way back from `by_shot`."""
+    return _turned("by_outcome", rows, outcomes, len(rows), (outcomes, -(-len(rows) // 64)), out)
+
+
+def _turned(name: str, rows: Words, outcomes: int, shots: int, shape: tuple[int, int], out: Optional[Words]) -> Words:
+    if not (0 <= outcomes <= MAX_OUTCOMES and 1 <= shots <= MAX_SHOTS):
+        raise Refused(3)
+    # a row has a bit for each of the others
+    row_words = -(-(shots if name == "by_shot" else outcomes) // 64)
+    if np.ndim(rows) == 2 and np.shape(rows)[1] > row_words:
+        raise ValueError(f"these rows have {np.shape(rows)[1]} words each, but outcomes={outcomes} and shots={shots} need {row_words}")
+    out = np.zeros(shape, dtype=np.uint64) if out is None else out
+    call(name, outcomes, shots, read_words(rows), written_words(out))
+    return out
+
+
+def bits(rows: Words, count: int) -> npt.NDArray[np.bool_]:
+    """Rows of bits as booleans, `count` of them to a row: for the rows of a run, its job's shots."""
+    given = np.asarray(rows)
+    if given.dtype == bool:
+        raise TypeError("bits makes booleans of words, and these are booleans")
+    if given.ndim != 2:
+        raise ValueError(f"rows are to be an array with a row of words each, not of shape {given.shape}")
+    if not 0 <= (count := whole(count, "count")) <= 64 * given.shape[1]:
+        raise ValueError(f"a row of {given.shape[1]} words has {64 * given.shape[1]} bits, not {count}")
+    if given.shape[1] == 0:
+        return np.zeros((len(given), 0), dtype=bool)
+    packed = read_words(rows).astype("<u8", copy=False).reshape(given.shape)
+    return np.unpackbits(packed.view(np.uint8), axis=1, count=count, bitorder="little").view(bool)
+
+
+def pack_bits(booleans: npt.ArrayLike) -> Words:
+    """Booleans as rows of bits: the way back from `bits`."""
+    packed = np.packbits(np.asarray(booleans, dtype=bool), axis=1, bitorder="little")
+    rows = np.zeros((len(packed), -(-packed.shape[1] // 8) * 8), dtype=np.uint8)
+    rows[:, : packed.shape[1]] = packed
+    return rows.view("<u8").astype(np.uint64, copy=False)

@@ -1,134 +1,227 @@
-"""Any number of shots of a job, in blocks that have words of their own: the rule of the program's `sample`, so that counts are equal for one seed."""
+"""Any number of shots of a job, in blocks with words of their own, and their counts: those of the program's `sample` and `merge`, by the crate."""
 
 from __future__ import annotations
 
-import re
-import struct
-import zlib
+import os
 from collections import deque
 from concurrent.futures import Executor, Future
-from dataclasses import dataclass, replace
-from math import ceil, sqrt
-from typing import Any, Callable, Iterable, Iterator, Optional, Sequence
+from dataclasses import dataclass
+from math import ceil
+from pathlib import Path
+from typing import Any, Callable, Iterable, Iterator, Optional, Union
 from warnings import warn
+from weakref import finalize
 
 import numpy as np
 import numpy.typing as npt
 
-from ._counts import LENT, Counts, Sample, part_blocks, subject_of
-from ._jobs import MAX_LIST, MAX_SHOTS, Job, Refused, Rows, bits, by_outcome, by_shot, rising, test_job, words
-from ._library import Lendable, Words, read_words, whole
-from ._words import Stream, state_of_block
+from ._jobs import Job, Lists, outcome_lists
+from ._library import MAX_SHOTS, Lendable, Words, bits, call, read_words, whole
 
-Bools = npt.NDArray[np.bool_]
+DRAWS = "xorshift"
+"""The rule by which `sample` draws, as a text of counts names it (docs/SAMPLING.md, 'Blocks and streams')."""
+
+Bytes = npt.NDArray[np.uint8]
+Floats = npt.NDArray[np.float64]
+Count = Callable[[npt.NDArray[np.bool_]], npt.ArrayLike]
+Part = tuple[int, int]
+# What is sampled: it goes to each worker, which opens a sampling by it.
+_Plan = tuple[Any, ...]
 
 # Blocks of a task at most, and tasks that an executor is given ahead.
 _TASK, _AHEAD = 256, 64
 
 
-def sample(
-    job: Job,
-    shots: int,
-    seed: int,
-    sets: Sequence[Sequence[int]] = (),
-    executor: Optional[Executor] = None,
-    *,
-    count: Optional[Callable[[Bools], npt.ArrayLike]] = None,
-    part: tuple[int, int] = (1, 1),
-    named: Optional[str] = None,
-    noiseless: Optional[Lendable] = None,
-    noiseless_shots: Optional[npt.NDArray[np.uint8]] = None,
-) -> Counts:
-    """Run so many shots, whatever the job's header has, and count in how many of them each outcome is flipped, and the parity of each set of outcomes.
+def wilson(totals: npt.ArrayLike, shots: int) -> tuple[Floats, Floats]:
+    """Wilson's score interval at 95 percent of the rates of totals among shots: its lower and its upper ends. Of no shots nothing is known: 0 to 1.
 
-    The shots are run in blocks of 4,096, each with words of its own, made from the seed and the block's number, so that the counts are the same for every
-    executor, and the same as those of the program's `sample`. An `executor` is any of concurrent.futures, dask.distributed (`client.get_executor()`) or
+    >>> [float(end.round(4)) for end in wilson(10, 100)]
+    [0.0552, 0.1744]
+    """
+    rates = _rates(np.asarray(totals), whole(shots, "shots"))
+    return rates[:, 1].reshape(np.shape(totals)), rates[:, 2].reshape(np.shape(totals))
+
+
+def _rates(totals: Lendable, shots: int) -> Floats:
+    """For each total among shots a row: its rate, and the two ends of its interval."""
+    return call("rates", read_words(totals), shots).words.view(np.float64).reshape(-1, 3)
+
+
+@dataclass(frozen=True, eq=False)
+class Counts:
+    """In how many shots outcomes and the parities of sets of outcomes are flipped. Counts are equal if their texts are. Those of other parts of a
+    sample, and those of other seeds, are added by `+` and `sum`.
+
+    `totals` has for each outcome of the header the shots that flip it, among all counted `shots`, `rates` their part of these, and `intervals`
+    Wilson's interval of that, a row of its two ends; the same with `set_` is of the parity of each of the `sets`. `counted` are the shots that the
+    caller's own function counts, None if there is none. `seeds` are those of all samples. `missing` says what is missing of a sample of which not all
+    parts are counted, and is empty if nothing is. `job` is None if the counts were read without it.
+
+    >>> job = Job("op=job qubits=1 outcomes=1 shots=1\\nop=n p=3fe0000000000000 corr=- cond=- parity=0 d=1 x=0 z=- size=1\\nop=o x=- z=0 id=0\\n")
+    >>> parts = [sample(job, 10_000, seed=1, part=(place, 3)) for place in (1, 2, 3)]
+    >>> sum(parts) == sample(job, 10_000, seed=1) == Counts.of_text(sum(parts).text())
+    True
+    """
+
+    saved: str
+    shots: int
+    totals: Words
+    rates: Floats
+    intervals: Floats
+    set_totals: Words
+    set_rates: Floats
+    set_intervals: Floats
+    counted: Optional[int]
+    seeds: tuple[int, ...]
+    sets: tuple[tuple[int, ...], ...]
+    missing: str
+    job: Optional[Job] = None
+
+    @staticmethod
+    def read(path: Union[str, os.PathLike[str]], job: Optional[Job] = None) -> Counts:
+        """The counts of a file, in which `text` was saved, here, by the program or by the Rust crate."""
+        return Counts.of_text(Path(path).read_bytes().decode(errors="replace"), job)
+
+    @staticmethod
+    def of_text(text: str, job: Optional[Job] = None) -> Counts:
+        """The counts of a text, and with their job, if it is given. A text that is cut off or was changed is a ValueError."""
+        found = call("counts_read", text.encode(), b"" if job is None else job.text)
+        shots, rest, lists = int(found.words[0]), found.words[1:], []
+        while rest.size:
+            lists.append(rest[1 : 1 + int(rest[0])])
+            rest = rest[1 + int(rest[0]) :]
+        counted, seeds, *sets = (tuple(list_.tolist()) for list_ in lists[2:])
+        of_outcomes, of_sets = ((totals, _rates(totals, shots)[:, 0], _rates(totals, shots)[:, 1:]) for totals in lists[:2])
+        return Counts(text, shots, *of_outcomes, *of_sets, counted[0] if counted else None, seeds, tuple(sets), found.text.decode(), job)
+
+    def text(self) -> str:
+        """The counts as they are saved: what the program's `sample` prints, and its `merge`, `Counts.of_text` and the Rust crate read."""
+        return self.saved
+
+    @property
+    def seed(self) -> int:
+        """The seed of a sample; an error if counts of several were added."""
+        if len(self.seeds) > 1:
+            raise ValueError("these counts have several seeds: see `seeds`")
+        return self.seeds[0]
+
+    def _counted_rates(self) -> list[float]:
+        if self.counted is None:
+            raise ValueError("no function counted these shots: `sample` takes one as count=")
+        return _rates([self.counted], self.shots)[0].tolist()
+
+    @property
+    def counted_rate(self) -> float:
+        """The part of the shots that the caller's own function counts."""
+        return self._counted_rates()[0]
+
+    @property
+    def counted_interval(self) -> tuple[float, float]:
+        """Wilson's interval of that rate."""
+        _, low, high = self._counted_rates()
+        return low, high
+
+    def __eq__(self, other: object) -> bool:
+        return self.saved == other.saved if isinstance(other, Counts) else NotImplemented
+
+    def __hash__(self) -> int:
+        return hash(self.saved)
+
+    def __add__(self, other: Counts) -> Counts:
+        """The sum with counts of other shots: other parts of a sample, or samples of other seeds, of the same job and sets."""
+        if not isinstance(other, Counts):
+            return NotImplemented
+        return Counts.of_text(call("counts_add", self.saved.encode(), other.saved.encode()).text.decode(), self.job or other.job)
+
+    def __radd__(self, other: object) -> Counts:
+        # `sum` begins with 0
+        return self if isinstance(other, int) and other == 0 else NotImplemented
+
+
+def sample(
+    job: Job, shots: int, seed: int, sets: Lists = (), executor: Optional[Executor] = None, *, count: Optional[Count] = None, part: Part = (1, 1),
+    named: Optional[str] = None, noiseless: Optional[Lendable] = None, noiseless_shots: Optional[Bytes] = None,
+) -> Counts:  # fmt: skip
+    """Run this number of shots, whatever the job's header has, and count in how many of them each outcome is flipped, and the parity of each set of
+    outcomes.
+
+    The shots are run in blocks of 4,096, each with words of its own, made from the seed and the block's number, so that the counts are the same for
+    every executor, and those of the program's `sample`. An `executor` is any of concurrent.futures, dask.distributed (`client.get_executor()`) or
     mpi4py.futures; without one the blocks are run here, one after the other. Threads run side by side, since calls release the interpreter's lock.
 
-    `count` is a function, such as a decoder, that is given the parities of the sets by shot, or all outcomes where there are no sets, as an array of
+    `count` is a function, such as a decoder, that is given the parities of the sets by shot, or all outcomes if there are no sets, as an array of
     booleans with a row for each shot, and gives for each shot whether it counts. Processes need one that can be pickled.
 
-    `part` is (I, K) for the I-th of K parts of the shots, from 1, as the program's --part: the counts of all parts, here or on other machines, add up to
-    those of the whole.
+    `part` is (I, K) for the I-th of K parts of the shots, from 1, as the program's --part: the counts of all parts, here or on other machines, add up
+    to those of the whole. A job with injections or flips needs `named`: "whole", they stand in the shots of the whole that they name, or "block", in
+    those of each block.
 
-    A job with injections or flips wants `named`: "whole", they stand in the shots of the whole that they name, or "block", in those of each block.
-
-    `noiseless` has noiseless bits for the job's own shots, in the layout of deltas, which come again: shot s has those of s mod `job.shots`. `noiseless_shots`
-    has them for each shot, a row of packed bytes, eight outcomes to a byte, the lowest first. Without them all are 0; a warning says so if noise with
-    a condition looks at them.
+    `noiseless` has noiseless bits for the job's own shots, in the layout of deltas, which come again: shot s has those of s mod `job.shots`.
+    `noiseless_shots` has them for each shot, a row of packed bytes, eight outcomes to a byte, the lowest first. Without them all are 0; a warning
+    says so if noise with a condition looks at them.
     """
-    plan = _Plan.of(job, shots, seed, sets, part, named, noiseless)
-    given = _given(plan, noiseless_shots)
-    _warn_of_conditions(plan, given is not None)
-    size = min(_TASK, max(1, ceil(len(plan.blocks) / _AHEAD)))
-    tasks = ((first, min(first + size, plan.blocks.stop)) for first in plan.blocks[::size])
-    calls = ((plan, first, last, _slice(given, first, last), count) for first, last in tasks)
-    sum_ = _Sum.of(plan)
-    for done in _done(calls, executor):
-        sum_.add(done)
-    mark = LENT if given is not None else plan.noiseless_sum
-    return Counts(
-        subject_of(job, plan.sets, named, mark),
-        (Sample((plan.seed,), ((plan.part[0], plan.part[0]),), plan.part[1], plan.shots),),
-        sum_.shots,
-        sum_.totals,
-        sum_.sets,
-        None if count is None else sum_.counted,
-        job,
-    )
+    plan, given = _planned(job, shots, seed, sets, part, named, noiseless, noiseless_shots)
+    sampling = _Sampling(plan)
+    blocks, sums = sampling.blocks, sampling.sums
+    size = min(_TASK, max(1, ceil(len(blocks) / _AHEAD)))
+    tasks = ((first, min(first + size, blocks.stop)) for first in blocks[::size])
+    for done in _done(((plan, first, last, _slice(given, first, last), count) for first, last in tasks), executor):
+        sums += done
+    return Counts.of_text(call("sampling_text", sampling.handle, sums, int(count is not None), int(given is not None)).text.decode(), job)
 
 
 def sample_shots(
-    job: Job,
-    shots: int,
-    seed: int,
-    sets: Sequence[Sequence[int]] = (),
-    *,
-    packed: bool = False,
-    part: tuple[int, int] = (1, 1),
-    named: Optional[str] = None,
-    noiseless: Optional[Lendable] = None,
-    noiseless_shots: Optional[npt.NDArray[np.uint8]] = None,
-) -> Iterator[np.ndarray]:
+    job: Job, shots: int, seed: int, sets: Lists = (), *, packed: bool = False, part: Part = (1, 1),
+    named: Optional[str] = None, noiseless: Optional[Lendable] = None, noiseless_shots: Optional[Bytes] = None,
+) -> Iterator[np.ndarray]:  # fmt: skip
     """The shots of the same sample, or of its part, block by block, as decoders read them: an array with a row for each shot, and in it a boolean for
-    each set, or for each outcome where there are no sets; `packed`, bytes that have eight of them each, the lowest first."""
-    plan = _Plan.of(job, shots, seed, sets, part, named, noiseless)
-    given = _given(plan, noiseless_shots)
-    _warn_of_conditions(plan, given is not None)
-    bench = _Bench(plan)
-    for block in plan.blocks:
-        bench.run(block, _slice(given, block, block + 1))
-        rows = bench.by_shot()
-        yield rows.view(np.uint8)[:, : ceil(plan.width / 8)] if packed else bits(rows, plan.width)
+    each set, or for each outcome if there are no sets; `packed`, bytes that have eight of them each, the lowest first."""
+    plan, given = _planned(job, shots, seed, sets, part, named, noiseless, noiseless_shots)
+    sampling = _Sampling(plan)
+    for block in sampling.blocks:
+        rows = sampling.rows(block, _slice(given, block, block + 1))
+        yield rows.view(np.uint8)[:, : ceil(sampling.width / 8)] if packed else bits(rows, sampling.width)
 
 
-def _given(plan: _Plan, noiseless_shots: Optional[npt.NDArray[np.uint8]]) -> Optional[npt.NDArray[np.uint8]]:
-    """The noiseless bits of each shot, if they are given."""
-    if noiseless_shots is None:
-        return None
-    if plan.noiseless is not None:
+def _planned(
+    job: Job, shots: int, seed: int, sets: Lists, part: Part, named: Optional[str], noiseless: Optional[Lendable], shots_bits: Optional[Bytes]
+) -> tuple[_Plan, Optional[Bytes]]:
+    """What is sampled, tested, and the noiseless bits of each shot, if they are given. Says what conditions look at bits that are not given."""
+    rising = outcome_lists(job, "set", sets)
+    shots, seed = whole(shots, "shots", least=1), whole(seed, "a seed")
+    if not (isinstance(part, tuple) and len(part) == 2 and 1 <= whole(part[0], "part") <= whole(part[1], "part")):
+        raise ValueError(f"part is to be (I, K), with I from 1 to K, not {part!r}")
+    rows, needed, row = None if noiseless is None else read_words(noiseless), (job.outcomes, job.row_words), ceil(job.outcomes / 8)
+    if rows is not None and (rows.size != needed[0] * needed[1] or (np.ndim(noiseless) > 1 and np.shape(noiseless) != needed)):
+        header = f"the header's outcomes={job.outcomes} and shots={job.shots} need exactly {needed[0] * needed[1]}, shape {needed}"
+        raise ValueError(f"noiseless bits of {rows.size} words, shape {np.shape(noiseless)}, but {header}")
+    plan = (job.text, shots, seed, (named or "").encode(), rows, rising, *part)
+    if shots_bits is None:
+        for note in call("condition_notes", job.text, int(noiseless is not None)).text.decode().splitlines():
+            warn(note, stacklevel=3)
+        return plan, None
+    if noiseless is not None:
         raise ValueError("noiseless bits come again or are given for each shot, not both")
-    bytes_ = ceil(plan.job.outcomes / 8)
-    if noiseless_shots.dtype != np.uint8 or noiseless_shots.ndim != 2 or noiseless_shots.shape[1] != bytes_ or len(noiseless_shots) < plan.shots:
-        raise ValueError(f"noiseless bits are to be {plan.shots} rows of {bytes_} bytes")
-    return noiseless_shots[: plan.shots]
+    if shots_bits.dtype != np.uint8 or shots_bits.ndim != 2 or shots_bits.shape[1] != row or len(shots_bits) < shots:
+        raise ValueError(f"noiseless bits are to be {shots} rows of {row} bytes")
+    return plan, shots_bits[:shots]
 
 
-def _slice(given: Optional[npt.NDArray[np.uint8]], first: int, last: int) -> Optional[npt.NDArray[np.uint8]]:
+def _slice(given: Optional[Bytes], first: int, last: int) -> Optional[Bytes]:
     return None if given is None else np.ascontiguousarray(given[first * MAX_SHOTS : last * MAX_SHOTS])
 
 
-def _done(calls: Iterable[tuple[Any, ...]], executor: Optional[Executor]) -> Iterator[_Sum]:
-    """What tasks give, in their order; no more of them are waiting than so many."""
+def _done(calls: Iterable[tuple[Any, ...]], executor: Optional[Executor]) -> Iterator[Words]:
+    """What tasks give, in their order; no more than `_AHEAD` of them are waiting."""
     if executor is None:
-        yield from (_task(*call) for call in calls)
+        yield from (_task(*call_) for call_ in calls)
         return
-    waiting: deque[Future[_Sum]] = deque()
+    waiting: deque[Future[Words]] = deque()
     try:
-        for call in calls:
+        for call_ in calls:
             if len(waiting) >= _AHEAD:
                 yield waiting.popleft().result()
-            waiting.append(executor.submit(_task, *call))
+            waiting.append(executor.submit(_task, *call_))
         while waiting:
             yield waiting.popleft().result()
     finally:
@@ -136,234 +229,39 @@ def _done(calls: Iterable[tuple[Any, ...]], executor: Optional[Executor]) -> Ite
             future.cancel()
 
 
-def _task(plan: _Plan, first: int, last: int, given: Optional[npt.NDArray[np.uint8]], count: Optional[Callable[[Bools], npt.ArrayLike]]) -> _Sum:
-    """The counts of some blocks."""
-    bench = _Bench(plan)
-    sum_ = _Sum.of(plan)
+def _task(plan: _Plan, first: int, last: int, given: Optional[Bytes], count: Optional[Count]) -> Words:
+    """The counts of some blocks, as `_Sampling.sums` has them."""
+    sampling = _Sampling(plan)
+    if count is None:
+        sampling.run(first, last, given, np.empty(0, dtype=np.uint64))
+        return sampling.sums
     for block in range(first, last):
-        bench.run(block, _slice(given, block - first, block - first + 1))
-        sum_.shots += bench.job.shots
-        sum_.totals += bench.rows.totals
-        for place, parity in enumerate(bench.parities()):
-            sum_.sets[place] += np.uint64(np.unpackbits(parity.view(np.uint8)).sum())
-        if count is not None:
-            counted = np.asarray(count(bits(bench.by_shot(), plan.width)))
-            if counted.shape != (bench.job.shots,):
-                raise ValueError(f"count is to say for each of {bench.job.shots} shots whether it counts, and gives an array of shape {counted.shape}")
-            sum_.counted += int(np.count_nonzero(counted))
-    return sum_
+        rows = sampling.rows(block, _slice(given, block - first, block - first + 1))
+        counted = np.asarray(count(bits(rows, sampling.width)))
+        if counted.shape != (len(rows),):
+            raise ValueError(f"count is to say for each of {len(rows)} shots whether it counts, and gives an array of shape {counted.shape}")
+        sampling.sums[1] += np.uint64(np.count_nonzero(counted))
+    return sampling.sums
 
 
-@dataclass
-class _Sum:
-    totals: Words
-    sets: Words
-    shots: int = 0
-    counted: int = 0
-
-    @staticmethod
-    def of(plan: _Plan) -> _Sum:
-        return _Sum(np.zeros(plan.job.outcomes, dtype=np.uint64), np.zeros(len(plan.sets), dtype=np.uint64))
-
-    def add(self, other: _Sum) -> None:
-        self.totals += other.totals
-        self.sets += other.sets
-        self.shots += other.shots
-        self.counted += other.counted
-
-
-@dataclass(frozen=True)
-class _Plan:
-    """What is sampled: it goes to each worker."""
-
-    job: Job
-    shots: int
-    seed: int
-    sets: tuple[tuple[int, ...], ...]
-    part: tuple[int, int]
-    named: Optional[str]
-    noiseless: Optional[Words]
-
-    @staticmethod
-    def of(
-        job: Job,
-        shots: int,
-        seed: int,
-        sets: Sequence[Sequence[int]],
-        part: tuple[int, int],
-        named: Optional[str],
-        noiseless: Optional[Lendable],
-    ) -> _Plan:
-        test_job(job)
-        shots, seed = whole(shots, "shots", least=1), whole(seed, "a seed")
-        if not (isinstance(part, tuple) and len(part) == 2 and 1 <= whole(part[0], "part") <= whole(part[1], "part")):
-            raise ValueError(f"part is to be (I, K), with I from 1 to K, not {part!r}")
-        if named not in (None, "whole", "block"):
-            raise ValueError("named is to be 'whole' or 'block'")
-        if named is None and (line := _first_named(job.text)):
-            raise ValueError(
-                f"line {line} stands in a shot that it names. With named='whole' it stands in that shot of the whole sample, with named='block' in that "
-                f"shot of each block of {MAX_SHOTS}; for a fault in every shot write noise of p = 1"
-            )
-        again = None if noiseless is None else _noiseless_rows(job, noiseless)
-        return _Plan(job, shots, seed, tuple(rising(job, "set", sets)), part, named, again)
-
-    @property
-    def blocks(self) -> range:
-        """The blocks of the part."""
-        return part_blocks(-(-self.shots // MAX_SHOTS), *self.part)
-
-    @property
-    def noiseless_sum(self) -> Optional[str]:
-        """What says that counts had the same noiseless bits."""
-        return None if self.noiseless is None else f"{zlib.crc32(self.noiseless.astype('<u8').tobytes()):08x}"
-
-    @property
-    def width(self) -> int:
-        """The bits of a shot: one for each set, or for each outcome of the header where there are no sets."""
-        return len(self.sets) or self.job.outcomes
-
-    def shots_of(self, block: int) -> int:
-        return min(MAX_SHOTS, self.shots - block * MAX_SHOTS)
-
-
-def _noiseless_rows(job: Job, noiseless: Lendable) -> Words:
-    """Noiseless bits for the job's own shots: those for another number of shots would be read in a wrong shape."""
-    rows, shape = read_words(noiseless), (job.outcomes, job.row_words)
-    if rows.size != shape[0] * shape[1] or (np.ndim(noiseless) > 1 and np.shape(noiseless) != shape):
-        raise ValueError(
-            f"noiseless bits of {rows.size} words, shape {np.shape(noiseless)}, but the header's outcomes={job.outcomes} and shots={job.shots} "
-            f"need exactly {shape[0] * shape[1]}, shape {shape}"
-        )
-    return rows.reshape(shape)
-
-
-_CONDITION = re.compile(rb"^op=n p=(\w+) corr=\S+ cond=(\d\S*) ", re.MULTILINE)
-_RANDOM = re.compile(rb"^op=r id=(\d+) ", re.MULTILINE)
-
-
-def _warn_of_conditions(plan: _Plan, given: bool) -> None:
-    """Say that noise with a condition looks at noiseless bits that are not given, or at those of a random outcome, which are the same in all shots or
-    come again."""
-    text = plan.job.text
-    falls = lambda found: struct.unpack(">d", bytes.fromhex(found[1].decode()))[0] > 0
-    conditions = [(text.count(b"\n", 0, found.start()) + 1, found[2].split(b",")) for found in _CONDITION.finditer(text) if falls(found)]
-    if given or not conditions:
-        return
-    if plan.noiseless is None:
-        warn(f"line {conditions[0][0]} has noise with a condition, and without noiseless= or noiseless_shots= all noiseless bits are 0", stacklevel=3)
-    random = set(_RANDOM.findall(text))
-    found = next(((line, outcome) for line, outcomes in conditions for outcome in outcomes if outcome in random), None)
-    if found:
-        same = "is 0 in every shot" if plan.noiseless is None else f"comes again every {plan.job.shots} shots"
-        what = f"the condition of line {found[0]} looks at outcome {int(found[1])}, which op=r records at random"
-        warn(f"{what}, and its noiseless bit {same}: noiseless_shots= gives it for each shot", stacklevel=3)
-
-
-_NAMED = re.compile(rb"^op=[it] shot=(\d+) .*$", re.MULTILINE)
-
-
-def _first_named(text: bytes) -> int:
-    found = _NAMED.search(text)
-    return text.count(b"\n", 0, found.start()) + 1 if found else 0
-
-
-class _Bench:
-    """The memory of a worker, which blocks use one after the other, and what the last one left there."""
+class _Sampling:
+    """The crate's sampler with the memory of one worker."""
 
     def __init__(self, plan: _Plan) -> None:
-        self.plan = plan
-        self.jobs: dict[tuple[int, bool], Job] = {}
-        self.job = self.job_of(plan.blocks.start)
-        self.rows = Rows.of(self.job)
-        self.main, self.second = Stream(1), Stream(1)
-        self.need = _Need.of(plan.job.text)
-        self.period = None if plan.noiseless is None else bits(plan.noiseless, plan.job.shots)
-        self.zeros = np.zeros(self.rows.deltas.size, dtype=np.uint64)
+        opened = call("sampling_open", *plan)
+        self.handle = opened.count
+        finalize(self, call, "sampling_close", self.handle)
+        first, last, self.shots, self.width, sums = opened.words.tolist()
+        self.blocks = range(first, last)
+        # the shots, those that a function counts, the totals of outcomes, those of sets
+        self.sums = np.zeros(sums, dtype=np.uint64)
 
-    def job_of(self, block: int) -> Job:
-        """The job as a block runs it: with its own shots, and the identity as a gate for injections and flips that do not stand in it."""
-        shots, plan = self.plan.shots_of(block), self.plan
-        key = (shots, block == 0)
-        if key not in self.jobs:
+    def run(self, first: int, last: int, given: Optional[Bytes], rows: Words) -> None:
+        """Run blocks and add their counts; write the shots of the last as rows, if there is room for them."""
+        call("sampling_run", self.handle, first, last, None if given is None else given.reshape(-1), self.sums, rows.reshape(-1))
 
-            def line_of(line: re.Match[bytes]) -> bytes:
-                stands = int(line[1]) < shots if plan.named == "block" else block == 0
-                return line[0] if stands else b"op=p x=- z=-"
-
-            header, _, rest = _NAMED.sub(line_of, plan.job.text).partition(b"\n")
-            self.jobs[key] = Job(header[: header.rindex(b"=") + 1] + b"%d\n" % shots + rest)
-        return self.jobs[key]
-
-    def run(self, block: int, given: Optional[npt.NDArray[np.uint8]]) -> None:
-        """Run a block."""
-        plan, job = self.plan, self.job_of(block)
-        if job.shots != self.job.shots:
-            self.rows = Rows.of(job)
-        self.job = job
-        self.main.begin(state_of_block(plan.seed, block))
-        self.second.begin(state_of_block(plan.seed, block, second=True))
-        lengths = [self.need.main(job.shots), self.need.second(job.shots)]
-        noiseless = self.noiseless(block, given)
-        while True:
-            try:
-                job.run(self.main.first(lengths[0]), second=self.second.first(lengths[1]), noiseless=noiseless, rows=self.rows)
-                return
-            except Refused as refusal:
-                # the guess was too small: the same words, and more of them
-                corr = refusal.line_text.partition(" corr=")[2].partition(" ")[0]
-                place = 0 if corr == "-" else int(corr or MAX_LIST)
-                longer = min(MAX_LIST, 2 * lengths[corr != "-"] + place + job.shots)
-                if refusal.number != 14:
-                    raise
-                if place >= MAX_LIST or longer == lengths[corr != "-"]:
-                    hint = f"place corr of this line lies past {MAX_LIST} words, the most of a list"
-                    raise Refused(14, refusal.line, refusal.line_text, hint=hint) from None
-                lengths[corr != "-"] = longer
-
-    def noiseless(self, block: int, given: Optional[npt.NDArray[np.uint8]]) -> Words:
-        job = self.job
-        if given is not None:
-            whole = np.zeros((job.shots, ceil(job.outcomes / 64) * 8), dtype=np.uint8)
-            whole[:, : given.shape[1]] = given
-            return by_outcome(whole.view("<u8").astype(np.uint64, copy=False), job.outcomes)
-        if self.period is None:
-            return self.zeros[: job.outcomes * job.row_words]
-        places = (block * MAX_SHOTS + np.arange(job.shots)) % self.plan.job.shots
-        return words(self.period[:, places])
-
-    def parities(self) -> list[Words]:
-        """For each set the sum of its rows of deltas."""
-        return [np.bitwise_xor.reduce(self.rows.deltas[list(set_)], axis=0) for set_ in self.plan.sets]
-
-    def by_shot(self) -> Words:
-        """Rows by shot of the sets, or of all outcomes where there are none."""
-        deltas = np.array(self.parities(), dtype=np.uint64) if self.plan.sets else self.rows.deltas
-        return by_shot(deltas, self.job.shots)
-
-
-@dataclass(frozen=True)
-class _Need:
-    """How many words the noise lines of a job read, a shot on average: a guess, which the calls judge."""
-
-    mean: float
-    variance: float
-    place: Optional[int]
-
-    @staticmethod
-    def of(text: bytes) -> _Need:
-        need = _Need(0.0, 0.0, None)
-        for digits, corr, kind in re.findall(rb"^op=n p=(\w+) corr=(\S+) .* d=(\d) ", text, re.MULTILINE):
-            p = struct.unpack(">d", bytes.fromhex(digits.decode()))[0]
-            if p > 0 and corr != b"-":
-                need = replace(need, place=max(int(corr), need.place or 0))
-            elif p > 0:
-                chosen = 0.0 if kind == b"1" else p
-                need = replace(need, mean=need.mean + 1 + chosen, variance=need.variance + chosen * (1 - chosen))
-        return need
-
-    def main(self, shots: int) -> int:
-        return min(MAX_LIST, int(self.mean * shots + 8 * sqrt(self.variance * shots)) + 64) if self.mean else 0
-
-    def second(self, shots: int) -> int:
-        return 0 if self.place is None or self.place >= MAX_LIST else min(MAX_LIST, self.place + 2 * shots + 64)
+    def rows(self, block: int, given: Optional[Bytes]) -> Words:
+        """Run a block and add its counts; its shots as rows, with a bit for each set, or for each outcome if there are no sets."""
+        rows = np.zeros((min(MAX_SHOTS, self.shots - block * MAX_SHOTS), ceil(self.width / 64)), dtype=np.uint64)
+        self.run(block, block + 1, given, rows)
+        return rows

@@ -12,7 +12,7 @@ from conftest import PROGRAM, REPOSITORY, jobs, program, sets_of
 from hypothesis import given, settings
 from hypothesis import strategies as st
 
-from kundatrezo import DRAWS, Circuit, Counts, Job, sample, sample_shots, words
+from kundatrezo import DRAWS, Circuit, Counts, Job, pack_bits, sample, sample_shots, wilson
 
 SYNDROME = Job.read(REPOSITORY / "examples/syndrome.job")
 SETS = [[4, 5, 6], [0], []]
@@ -174,6 +174,23 @@ def test_no_function_that_counts():
     assert taken(7).seed == 7
 
 
+@pytest.mark.parametrize("shots", [1, 7, 20_000])
+def test_rates_and_intervals_are_those_of_the_program(shots):
+    """The arrays have the numbers that the program prints, and `wilson` the same ends."""
+    options = [part for set_ in SETS for part in ("--set", ",".join(map(str, set_)) or "-")]
+    counts = taken(3, shots=shots, count=odd)
+    printed = program("sample", "-", "--shots", shots, "--seed", 3, *options, job=SYNDROME).decode()
+    rows = [[part.partition("=")[2] for part in line.split()[1:]] for line in printed.splitlines()[2:]]
+    totals = np.concatenate([counts.totals, counts.set_totals])
+    rates = np.concatenate([counts.rates, counts.set_rates])
+    ends = np.concatenate([counts.intervals, counts.set_intervals])
+    numbers = [[f"{float(number):.6e}" for number in row[1:]] for row in rows]
+    assert numbers == [[f"{number:.6e}" for number in row] for row in np.column_stack([rates, ends])]
+    assert [int(row[0]) for row in rows] == totals.tolist()
+    assert (np.stack(wilson(totals, shots), axis=-1) == ends).all()
+    assert counts.counted_interval == tuple(float(end) for end in wilson(counts.counted, shots))
+
+
 def test_an_empty_part():
     empty = taken(1, (1, 9), shots=5)
     assert empty.shots == 0 and empty.rates.tolist() == [0.0] * 7 and empty.intervals.tolist() == [[0.0, 1.0]] * 7
@@ -184,7 +201,7 @@ def test_noiseless_bits_are_named():
     circuit = Circuit()
     circuit.measure("Z0")
     job = circuit.job(10)
-    rows = [words(np.full((1, 10), bit)) for bit in (False, True)]
+    rows = [pack_bits(np.full((1, 10), bit)) for bit in (False, True)]
     counts = [sample(job, 10, seed, noiseless=row) for seed, row in enumerate(rows)]
     assert counts[0] == sample(job, 10, 0, noiseless=rows[0]) and counts[0] != sample(job, 10, 0)
     with pytest.raises(ValueError, match="other options"):

@@ -6,7 +6,6 @@ usage: random_calls.py N [SEED]; random_calls.py control makes one call that rea
 
 from __future__ import annotations
 
-import ctypes
 import random
 import struct
 import sys
@@ -18,7 +17,7 @@ import numpy as np
 
 import kundatrezo
 from kundatrezo import Circuit, Job, Refused, Rows
-from kundatrezo._library import _CALLS, PATH, call
+from kundatrezo._library import _functions, _kinds, _List, call
 
 BORDERS = [0, 1, 63, 64, 65, 255, 256, 257, 1023, 1024, 1025, 4095, 4096, 4097, 2**32, 2**63, 2**64 - 1]
 PROBABILITIES = [0.0, -0.0, 5e-324, 0.25, 1.0, 1.0000000000000002, float("inf"), float("-inf"), float("nan")]
@@ -133,43 +132,66 @@ class Calls:
         none = np.zeros((0, 1), np.uint64)
         self.make("by_shot", lambda: kundatrezo.by_shot(turned[0].reshape(count, -1) if count else none, shots, out=turned[1]))
         self.make("by_outcome", lambda: kundatrezo.by_outcome(turned[1].reshape(shots, -1) if shots else none, count, out=turned[0]))
-        self.make("bits and words", lambda: kundatrezo.words(kundatrezo.bits(job.run(seed=4, second_seed=5).deltas, job.shots)))
+        self.make("bits and pack_bits", lambda: kundatrezo.pack_bits(kundatrezo.bits(job.run(seed=4, second_seed=5).deltas, job.shots)))
 
     def library(self) -> None:
-        """Every call of the library through the package's own way to it, with any lists and numbers."""
+        """Every call of the library through the package's own way to it, with any lists and numbers, but for those that free."""
         job = self.job()
         text = choice_of_texts(self.random, job.text, self.damaged(job.text))
         frames, outcomes, list_ = job.qubits * job.row_words, job.outcomes * job.row_words, self.words
-        draws = [list_(self.near(outcomes)), list_(choice_of(self.random, 500)), list_(choice_of(self.random, 300)), self.number(5)]
+        main, second = (self.random.choice([None, list_(choice_of(self.random, most))]) for most in (500, 300))
+        draws = [list_(self.near(outcomes)), main, self.number(9), second, self.number(9), self.number(5)]
         p = struct.unpack("<Q", struct.pack("<d", self.random.choice(PROBABILITIES)))[0]
-        out = lambda need: np.zeros(self.near(need), dtype=np.uint8)  # noqa: E731
         counts = self.number(70), self.number(70)
         needs = [rows * -(-columns // 64) if max(counts) < 5000 else 3 for rows, columns in (counts, counts[::-1])]
         ids = [number for number in range(job.recorded) if self.random.random() < 0.3]
+        flat = np.array([len(ids), *ids, 0], dtype=np.uint64)
+        lists = self.random.choice([flat, flat, flat, list_(self.near(3))])
+        counted = Circuit().fault(0.25, "X0")
+        counted.measure("Z0")
+        counts_text = kundatrezo.sample(counted.job(), 70, self.number(9), [[0]], part=(1, self.random.choice([1, 3]))).text().encode()
         arguments = {
-            "check": [text],
-            "examine": [text],
-            "run_totals": [text, *(list_(self.near(need)) for need in (frames, frames, outcomes, job.outcomes)), *draws],
-            "settle": [text, *draws, out(len(text))],
+            "examine": [text, self.random.randrange(2)],
+            "run": [text, *(list_(self.near(need)) for need in (frames, frames, outcomes, job.outcomes)), *draws],
+            "settle": [text, *draws],
             "walk": [text, self.number(job.shots), np.array(ids, dtype=np.uint64)],
-            "annotate": [text, p, out(5 * len(text))],
+            "annotate": [text, p],
             "locations": [text],
             "correlation": [text],
-            "line": [text, self.number(job.lines + 2)],
             "by_shot": [*counts, list_(self.near(needs[0])), list_(self.near(needs[1]))],
             "by_outcome": [*counts, list_(self.near(needs[1])), list_(self.near(needs[0]))],
-            "fault_table": [text, np.array([len(ids), *ids, 0], dtype=np.uint64), out(3000)],
             "fill": [self.number(9), list_(self.near(6))],
-            "make": [self.number(9), self.number(9), self.number(70), self.number(30), self.number(9), out(900)],
+            "state_of_seed": [self.number(9)],
+            "state_of_block": [self.number(9), self.number(9), self.number(2)],
+            "make": [self.number(9), self.number(9), self.number(70), self.number(30), self.number(9)],
+            "outcomes": [text, b"set", lists],
+            "fault_table": [text, lists],
+            "error_model": [text, lists, flat],
+            "condition_notes": [text, self.number(2)],
+            "counts_read": [self.damaged(counts_text), self.random.choice([b"", text])],
+            "counts_add": [counts_text, self.damaged(counts_text)],
+            "rates": [list_(self.near(3)), self.number(9)],
+            "refusals": [],
+            "declarations": [],
         }
-        assert arguments.keys() == _CALLS.keys()
         for name, given in arguments.items():
-            answer = call(name, *given)
-            number = getattr(getattr(answer, "answer", answer), "number", 0)
-            self.seen[f"kundatrezo_{name}" + (f" refused by {number}" if number else "")] += 1
-            # a second call with just the bytes that the text takes
-            if name == "settle" and number == 15 and answer.figure <= 60_000:
-                call(name, *given[:-1], np.zeros(answer.figure, dtype=np.uint8))
+            self.make(f"kundatrezo_edge_{name}", lambda: call(name, *given))
+        assert arguments.keys() | {f"sampling_{name}" for name in ("open", "run", "text", "close")} == _kinds.keys()
+        self.make("kundatrezo_edge_sampling", lambda: self.sampling(job, flat))
+
+    def sampling(self, job: Job, sets: np.ndarray) -> None:
+        """A sampling, with any lists, from its opening to its closing."""
+        shots, list_ = self.random.choice([1, 70, 5000]), self.words
+        noiseless = self.random.choice([None, list_(self.near(job.outcomes * job.row_words))])
+        opened = call("sampling_open", job.text, shots, self.number(9), b"block", noiseless, sets, 1, 1)
+        try:
+            first, last, _, _, length = opened.words.tolist()
+            packed = self.random.choice([None, bytes(self.near(shots * -(-job.outcomes // 8)))])
+            sums = list_(self.near(length)) >> np.uint64(8)
+            call("sampling_run", opened.count, first, last, packed, sums, list_(self.near(shots % 4096)))
+            call("sampling_text", opened.count, sums, self.random.randrange(2), packed is not None)
+        finally:
+            call("sampling_close", opened.count)
 
 
 def choice_of(generator: random.Random, most: int) -> int:
@@ -184,7 +206,7 @@ def choice_of_texts(generator: random.Random, whole: bytes, damaged: bytes) -> b
 def control() -> None:
     """Lend a job that is said to be longer than it is."""
     job = np.frombuffer(b"op=job qubits=1 outcomes=0 shots=1\n" * 40, dtype=np.uint8).copy()
-    ctypes.CDLL(str(PATH)).kundatrezo_check(ctypes.c_void_p(job.ctypes.data + 35 * 39), ctypes.c_size_t(200))
+    _functions["free"](_functions["examine"](_List(job.ctypes.data + 35 * 39, 200), 0))
 
 
 def main() -> None:

@@ -1,6 +1,6 @@
 //! Clifford lines.
 
-use crate::{Number, check};
+use crate::{Circuit, Header, Instruction, MAX_QUBITS, Number, check};
 
 /// Most qubits of a Clifford line.
 pub const MAX_CLIFFORD_QUBITS: usize = 8;
@@ -38,11 +38,10 @@ pub fn clifford_line(qubits: &[usize], x_images: &[&str], z_images: &[&str]) -> 
     }
     let rows: Option<Vec<Vec<bool>>> = images().map(|image| row(image)).collect();
     let bits = rows.ok_or(Number::FORM)?.concat();
-    let qubits: Vec<String> = qubits.iter().map(usize::to_string).collect();
-    let words: Vec<String> = bits.chunks(64).map(word).map(|word| format!("{word:016x}")).collect();
-    let line = format!("op=c q={} t={}", qubits.join(","), words.join(","));
-    let job = format!("op=job qubits={} outcomes=0 shots=1\n{line}\n", crate::MAX_QUBITS);
-    check(job.as_bytes()).map_err(|refusal| refusal.number)?;
+    let clifford = Instruction::Clifford { qubits: qubits.to_vec(), table: bits.chunks(64).map(word).collect() };
+    let line = clifford.to_string();
+    let header = Header { edition: None, qubits: MAX_QUBITS, outcomes: 0, shots: 1 };
+    check(&Circuit { header, instructions: vec![clifford] }.to_job()).map_err(|refusal| refusal.number)?;
     Ok(line)
 }
 

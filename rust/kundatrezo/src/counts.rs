@@ -1,7 +1,7 @@
 //! Counts of shots, and the text by which they are saved, read again and added.
 
 use crate::sampler::part_blocks;
-use crate::{Frames, MAX_OUTCOMES, MAX_SHOTS, Named, size};
+use crate::{Answer, Frames, MAX_OUTCOMES, MAX_SHOTS, Named, examine, size};
 use std::error::Error;
 use std::fmt;
 use std::ops::{AddAssign, RangeInclusive};
@@ -51,18 +51,32 @@ pub struct Counts {
 }
 
 impl Counts {
+    /// The part of the shots that a total among them is: 0 of no shots.
+    #[must_use]
+    pub fn rate(&self, total: u64) -> f64 {
+        rate(total, self.shots)
+    }
+
+    /// Wilson's interval of that rate, at 95 percent.
+    #[must_use]
+    pub fn interval(&self, total: u64) -> [f64; 2] {
+        wilson(total, self.shots)
+    }
+
     /// Add what a run left: the totals that the library has counted, and for each set the ones in the sum of its rows.
     ///
-    /// # Panics
+    /// # Errors
     ///
-    /// Panics if a set has an outcome that is not below the header's outcomes.
-    pub fn add(&mut self, frames: &Frames, sets: &[Vec<u64>]) {
+    /// The refusal by 17 if a set has an outcome that is not below the header's outcomes. Nothing is added then.
+    pub fn add(&mut self, frames: &Frames, sets: &[Vec<u64>]) -> Answer {
+        frames.require_outcomes(sets)?;
         let parity = |set: &Vec<u64>| {
             let word = |place: usize| set.iter().fold(0, |sum, id| sum ^ frames.delta_row(size(*id))[place]);
             (0..frames.job().words_per_row()).map(|place| u64::from(word(place).count_ones())).sum()
         };
         let sets = sets.iter().map(parity).collect();
         *self += &Self { shots: frames.job().shots as u64, totals: frames.totals().to_vec(), sets, counted: None };
+        Ok(())
     }
 }
 
@@ -92,7 +106,7 @@ impl fmt::Display for CountsError {
 
 impl Error for CountsError {}
 
-fn fault<T>(text: impl Into<String>) -> Result<T, CountsError> {
+pub(crate) fn fault<T>(text: impl Into<String>) -> Result<T, CountsError> {
     Err(CountsError(text.into()))
 }
 
@@ -110,7 +124,7 @@ fn fault<T>(text: impl Into<String>) -> Result<T, CountsError> {
 /// assert_eq!(SavedCounts::read(&sum.text()), Ok(sum.clone()));
 /// // a sample is not twice the shots
 /// assert!(sum.checked_add(&sum).is_err());
-/// # Ok::<(), kundatrezo::Refusal>(())
+/// # Ok::<(), kundatrezo::SamplerError>(())
 /// ```
 #[derive(Debug, Clone, PartialEq, Eq, Hash)]
 pub struct SavedCounts {
@@ -146,16 +160,26 @@ impl SavedCounts {
         self.samples.iter().flat_map(|sample| sample.seeds.iter().copied())
     }
 
+    /// Whether these are counts of this job.
+    #[must_use]
+    pub fn is_of(&self, job: &[u8]) -> bool {
+        let numbers = (self.qubits, self.outcomes, self.recorded);
+        self.job == crc32(job.iter().copied())
+            && examine(job).is_ok_and(|job| (job.qubits, job.outcomes, job.recorded) == numbers)
+    }
+
     /// The shots that a caller's own function counts, in the place of those that the counts have.
     ///
-    /// # Panics
+    /// # Errors
     ///
-    /// Panics if they are more than the counts have shots.
-    #[must_use]
-    pub fn with_counted(mut self, counted: u64) -> Self {
-        assert!(counted <= self.counts.shots, "no more shots than there are");
+    /// They are more than the counts have shots.
+    pub fn with_counted(mut self, counted: u64) -> Result<Self, CountsError> {
+        let shots = self.counts.shots;
+        if counted > shots {
+            return fault(format!("{counted} shots are counted, and there are {shots}"));
+        }
         self.counts.counted = Some(counted);
-        self
+        Ok(self)
     }
 
     /// Say that noiseless bits were lent for each shot.
@@ -185,7 +209,7 @@ impl SavedCounts {
             option("noiseless", self.noiseless.as_deref()),
         );
         for (name, total) in self.rows() {
-            let (rate, [low, high]) = (rate(total, shots), wilson(total, shots));
+            let (rate, [low, high]) = (self.counts.rate(total), self.counts.interval(total));
             text += &format!("{name} total={total} rate={rate:.6e} low={low:.6e} high={high:.6e}\n");
         }
         text
@@ -432,7 +456,7 @@ impl Sample {
     }
 
     /// The shots of the counted parts.
-    fn shots(&self) -> u64 {
+    pub(crate) fn shots(&self) -> u64 {
         if self.is_whole() {
             return self.whole;
         }
@@ -558,6 +582,10 @@ mod tests {
         sampler.sample(&[vec![4, 5, 6], vec![]], part, 2).expect("it runs")
     }
 
+    fn counted(saved: SavedCounts, counted: u64) -> SavedCounts {
+        saved.with_counted(counted).expect("there are more shots")
+    }
+
     fn said<T: fmt::Debug>(answer: Result<T, CountsError>, part: &str) {
         let said = answer.expect_err("it is refused").to_string();
         assert!(said.contains(part), "{said}");
@@ -568,12 +596,35 @@ mod tests {
         assert_eq!((crc32(*b"123456789"), crc32(*b"")), (0xcbf4_3926, 0));
     }
 
+    /// Wrong sizes are errors, and change nothing.
+    #[test]
+    fn wrong_sizes_are_refused() {
+        let whole = saved(1, (1, 1));
+        said(whole.clone().with_counted(20_001), "20001 shots are counted, and there are 20000");
+        let sampler = Sampler::new(JOB, 20_000, 1).expect("it is accepted");
+        for (part, text) in [((0, 1), "no part 0 of 1"), ((3, 2), "no part 3 of 2"), ((1, 0), "no part 1 of 0")] {
+            said(sampler.saved(whole.counts.clone(), &whole.sets, part), text);
+            let error = sampler.sample(&[], part, 1).unwrap_err();
+            assert!(error.to_string().contains(text), "{error}");
+        }
+        let needed = "but part 1/1 has shots=20000 outcomes=7 sets=2";
+        let mut few = whole.counts.clone();
+        few.totals.pop();
+        let given = "counts of shots=20000 outcomes=6 sets=2";
+        said(sampler.saved(few, &whole.sets, (1, 1)), &format!("{given}, {needed}"));
+        said(sampler.saved(Counts::default(), &whole.sets, (1, 1)), needed);
+        said(sampler.saved(whole.counts.clone(), &whole.sets[..1], (1, 1)), "outcomes=7 sets=1");
+        said(sampler.saved(whole.counts.clone(), &whole.sets, (1, 2)), "but part 1/2 has shots=8192 ");
+
+        let mut counts = Counts::default();
+        let refusal = counts.add(&Frames::new(), &[vec![0]]).unwrap_err();
+        assert_eq!((refusal.number, counts), (crate::Number::WALK, Counts::default()));
+    }
+
     #[test]
     fn texts_are_read_back() {
         let whole = saved(1, (1, 1));
-        for saved in
-            [whole.clone(), whole.clone().with_counted(7), whole.clone().with_lent_noiseless(), saved(3, (2, 7))]
-        {
+        for saved in [whole.clone(), counted(whole.clone(), 7), whole.clone().with_lent_noiseless(), saved(3, (2, 7))] {
             assert_eq!(SavedCounts::read(&saved.text()), Ok(saved));
         }
         let block = Sampler::with_named(JOB, 10, 1, Named::Block).expect("it is accepted");
@@ -583,7 +634,7 @@ mod tests {
 
     #[test]
     fn texts_that_are_cut_off_or_changed_are_refused() {
-        let text = saved(1, (1, 1)).with_counted(7).text();
+        let text = counted(saved(1, (1, 1)), 7).text();
         let lines: Vec<&str> = text.split_inclusive('\n').collect();
         for count in 2..lines.len() {
             let there = format!("its first line says 10 lines of counts, and there are {}", count - 2);
@@ -687,8 +738,8 @@ mod tests {
         said(one.checked_add(&with("\nid=0", " named=block\nid=0")), "other options");
         said(one.checked_add(&with("\nid=0", " noiseless=shots\nid=0")), "other options");
         said(one.checked_add(&with("set=4,5,6", "set=4,5")), "other sets");
-        said(one.checked_add(&other.clone().with_counted(3)), "only one of the two");
-        let sum = one.clone().with_counted(4).checked_add(&other.with_counted(3)).expect("both are counted");
+        said(one.checked_add(&counted(other.clone(), 3)), "only one of the two");
+        let sum = counted(one.clone(), 4).checked_add(&counted(other, 3)).expect("both are counted");
         assert_eq!(sum.counts().counted, Some(7));
     }
 

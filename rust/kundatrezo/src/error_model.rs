@@ -1,10 +1,11 @@
 //! A job's noise as a detector error model.
 
-use crate::noise::{Kind, Noise, weight};
-use crate::{Answer, MAX_GROUPS, Number, fault_table};
+use crate::{
+    Answer, Circuit, Form, Instruction, MAX_GROUPS, Noise, Number, OutcomeCondition, PauliDistribution, fault_table,
+};
 use std::collections::{BTreeSet, HashMap};
 use std::fmt;
-use std::ops::RangeInclusive;
+use std::ops::Range;
 
 /// The noise of a job as a detector error model, which decoders read: for each element of each noise line its probability, and which detectors and logical
 /// observables it flips. A detector or an observable is a group of recorded outcomes, rising strictly, whose sum is 0 modulo 2 where no fault falls, or is
@@ -32,24 +33,24 @@ use std::ops::RangeInclusive;
 /// # Ok::<(), kundatrezo::Refusal>(())
 /// ```
 pub fn error_model(job: &[u8], detectors: &[Vec<u64>], observables: &[Vec<u64>]) -> Answer<ErrorModel> {
-    let lines = noise_lines(job);
-    let mut flips = all_flips(job, &lines, &[detectors, observables].concat())?.into_iter();
+    let circuit = Circuit::read(job)?;
+    let mut flips = all_flips(&circuit, &[detectors, observables].concat())?.into_iter();
     let mut mechanisms: Vec<Mechanism> = Vec::new();
-    let mut together: HashMap<String, usize> = HashMap::new();
-    for line in lines {
-        let first = match line.noise.correlation {
-            Some(_) => *together.entry(line.drawn()).or_insert(mechanisms.len()),
+    let mut together: HashMap<Drawn<'_>, usize> = HashMap::new();
+    for (line, noise) in circuit.noise() {
+        let first = match noise.correlation {
+            Some(_) => *together.entry(Drawn::of(noise)).or_insert(mechanisms.len()),
             None => mechanisms.len(),
         };
-        for (element, (p, flips)) in line.probabilities().into_iter().zip(&mut flips).enumerate() {
+        for (element, (p, flips)) in probabilities(noise).into_iter().zip(&mut flips).enumerate() {
             match mechanisms.get_mut(first + element) {
                 Some(earlier) => earlier.flip(&flips),
                 None => mechanisms.push(Mechanism {
-                    line: line.number,
+                    line,
                     element,
                     p,
-                    has_condition: !line.noise.condition.is_empty(),
-                    correlation: line.noise.correlation,
+                    has_condition: noise.condition.is_some(),
+                    correlation: noise.correlation,
                     flips,
                     detectors: detectors.len(),
                 }),
@@ -59,17 +60,55 @@ pub fn error_model(job: &[u8], detectors: &[Vec<u64>], observables: &[Vec<u64>])
     Ok(ErrorModel { detectors: detectors.len(), observables: observables.len(), mechanisms })
 }
 
-/// The groups that each element of some noise lines flips, line by line. Tables are made for sixteen groups at a time, and where one is too long, for each half
-/// of the lines by itself: noise in other lines counts as absent, so that a job without it has the same rows.
-fn all_flips(job: &[u8], lines: &[Line<'_>], groups: &[Vec<u64>]) -> Answer<Vec<Vec<usize>>> {
+/// The table of single faults, as [`fault_table`] makes it, for any number of groups and of elements: the engine is asked for several tables.
+///
+/// # Errors
+///
+/// As [`error_model`].
+///
+/// ```
+/// let job = b"op=job qubits=1 outcomes=1 shots=1
+/// op=n p=3f847ae147ae147b corr=- cond=- parity=0 d=2 q=0 size=3
+/// op=o x=- z=0 id=0
+/// ";
+/// let faults = kundatrezo::single_faults(job, &vec![vec![0]; 20])?;
+/// assert_eq!((faults[2].line, faults[2].element, faults[2].flips.len()), (2, 2, 20));
+/// assert!(faults[1].flips.is_empty());
+/// # Ok::<(), kundatrezo::Refusal>(())
+/// ```
+pub fn single_faults(job: &[u8], groups: &[Vec<u64>]) -> Answer<Vec<Fault>> {
+    let circuit = Circuit::read(job)?;
+    let flips = all_flips(&circuit, groups)?;
+    let places = circuit
+        .noise()
+        .flat_map(|(line, noise)| (0..crate::size(noise.distribution.size())).map(move |element| (line, element)));
+    Ok(places.zip(flips).map(|((line, element), flips)| Fault { line, element, flips }).collect())
+}
+
+/// A possible fault, and what it flips.
+#[derive(Debug, Clone, PartialEq, Eq, Hash)]
+#[non_exhaustive]
+pub struct Fault {
+    /// The noise line's number in the job, from 1.
+    pub line: usize,
+    /// The element of its distribution, from 0.
+    pub element: usize,
+    /// The groups that it flips, rising.
+    pub flips: Vec<usize>,
+}
+
+/// The groups that each element of a circuit's noise flips, line by line. Tables are made for sixteen groups at a time. If one is too long, they are made
+/// for each half of the noise lines by itself: noise in other lines counts as absent, so that a job without it has the same rows.
+fn all_flips(circuit: &Circuit, groups: &[Vec<u64>]) -> Answer<Vec<Vec<usize>>> {
+    let job = circuit.to_job();
+    let lines = circuit.noise().count();
     let mut all: Vec<Vec<usize>> = Vec::new();
     // without groups there is a call all the same, which refuses them
     for first in (0..groups.len().max(1)).step_by(MAX_GROUPS) {
-        let table = match fault_table(job, &groups[first..groups.len().min(first + MAX_GROUPS)]) {
-            Err(refusal) if refusal.number == Number::ROOM && lines.len() > 1 => {
-                let (one, other) = lines.split_at(lines.len() / 2);
-                let [one, other] = [without(job, other), without(job, one)];
-                let halves = [one, other].map(|job| all_flips(&job, &noise_lines(&job), groups));
+        let table = match fault_table(&job, &groups[first..groups.len().min(first + MAX_GROUPS)]) {
+            Err(refusal) if refusal.number == Number::ROOM && lines > 1 => {
+                let halves =
+                    [0..lines / 2, lines / 2..lines].map(|kept| all_flips(&with_noise(circuit, &kept), groups));
                 return halves.into_iter().collect::<Answer<Vec<_>>>().map(|halves| halves.concat());
             }
             table => table?,
@@ -82,66 +121,60 @@ fn all_flips(job: &[u8], lines: &[Line<'_>], groups: &[Vec<u64>]) -> Answer<Vec<
     Ok(all)
 }
 
-/// The job without some of its noise lines, and their elements.
-fn without(job: &[u8], lines: &[Line<'_>]) -> Vec<u8> {
-    let mut left_out = lines.iter().flat_map(Line::numbers).peekable();
-    let kept = |(place, _): &(usize, &[u8])| left_out.next_if_eq(&(place + 1)).is_none();
-    job.split_inclusive(|byte| *byte == b'\n').enumerate().filter(kept).flat_map(|(_, line)| line).copied().collect()
+/// The circuit with those of its noise lines alone whose places among them are kept.
+fn with_noise(circuit: &Circuit, kept: &Range<usize>) -> Circuit {
+    let mut places = 0..;
+    let mut is_kept = |instruction: &&Instruction| match instruction {
+        Instruction::Noise(_) => places.next().is_some_and(|place| kept.contains(&place)),
+        _ => true,
+    };
+    let instructions = circuit.instructions.iter().filter(|instruction| is_kept(instruction)).cloned().collect();
+    Circuit { instructions, ..*circuit }
 }
 
-/// A noise line of an accepted job, with the weights of its elements.
-struct Line<'a> {
-    number: usize,
-    text: &'a str,
-    noise: Noise,
-    weights: Vec<f64>,
-}
-
-impl Line<'_> {
-    /// The numbers of the line and its element lines.
-    fn numbers(&self) -> RangeInclusive<usize> {
-        let elements = match self.noise.kind {
-            Kind::Single | Kind::Depolarizing => 0,
-            Kind::Uniform | Kind::Weighted => crate::size(self.noise.size),
-        };
-        self.number..=self.number + elements
+/// The probability of each element of a noise line.
+#[allow(clippy::cast_precision_loss)]
+fn probabilities(noise: &Noise) -> Vec<f64> {
+    // no fault falls with a p below zero
+    let p = noise.probability.max(0.0);
+    match &noise.distribution {
+        PauliDistribution::Weighted(elements) => {
+            let total = elements.iter().fold(0.0, |sum, element| sum + element.weight);
+            elements.iter().map(|element| p * (element.weight / total)).collect()
+        }
+        other => vec![p / other.size() as f64; crate::size(other.size())],
     }
+}
 
-    /// The probability of each element.
-    #[allow(clippy::cast_precision_loss)]
-    fn probabilities(&self) -> Vec<f64> {
-        // no fault falls with a p below zero
-        let p = self.noise.p.max(0.0);
-        match self.noise.kind {
-            Kind::Weighted => {
-                let total = self.weights.iter().fold(0.0, |sum, weight| sum + weight);
-                self.weights.iter().map(|weight| p * (weight / total)).collect()
+/// All that decides when the elements of a noise line fall: what it has in common with the lines that fall together with it.
+#[derive(PartialEq, Eq, Hash)]
+struct Drawn<'a> {
+    probability: u64,
+    correlation: Option<u64>,
+    condition: Option<&'a OutcomeCondition>,
+    form: Form,
+    size: u64,
+    weights: Vec<u64>,
+}
+
+impl<'a> Drawn<'a> {
+    fn of(noise: &'a Noise) -> Self {
+        let weights = match &noise.distribution {
+            // 0 and -0 draw alike
+            PauliDistribution::Weighted(elements) => {
+                elements.iter().map(|element| (element.weight + 0.0).to_bits()).collect()
             }
-            _ => vec![p / self.noise.size as f64; crate::size(self.noise.size)],
+            _ => Vec::new(),
+        };
+        Self {
+            probability: noise.probability.to_bits(),
+            correlation: noise.correlation,
+            condition: noise.condition.as_ref(),
+            form: noise.distribution.form(),
+            size: noise.distribution.size(),
+            weights,
         }
     }
-
-    /// All that decides when its elements fall: what it has in common with the lines that fall together with it.
-    fn drawn(&self) -> String {
-        let (common, _) = self.text.split_once(" d=").expect("a noise line has its kind");
-        // 0 and -0 draw alike
-        let weights: Vec<u64> = self.weights.iter().map(|weight| (weight + 0.0).to_bits()).collect();
-        format!("{common} {:?} {} {weights:?}", self.noise.kind, self.noise.size)
-    }
-}
-
-/// The noise lines of a job, which passed the checks.
-fn noise_lines(job: &[u8]) -> Vec<Line<'_>> {
-    let text = std::str::from_utf8(job).unwrap_or_default();
-    let mut lines: Vec<Line<'_>> = Vec::new();
-    for (place, text) in text.lines().enumerate() {
-        if let Some(noise) = Noise::read(text) {
-            lines.push(Line { number: place + 1, text, noise, weights: Vec::new() });
-        } else if let (Some(weight), Some(line)) = (weight(text), lines.last_mut()) {
-            line.weights.push(weight);
-        }
-    }
-    lines
 }
 
 /// A detector error model, by [`error_model`]. It is written, by `Display`, in the form of files that decoders read: a line `error(P) D0 D1 L0` for each
@@ -203,7 +236,7 @@ pub struct Mechanism {
     /// The correlation of its noise line.
     pub correlation: Option<u64>,
     /// The groups that it flips, rising: detectors, then observables.
-    flips: Vec<usize>,
+    pub flips: Vec<usize>,
     detectors: usize,
 }
 

@@ -47,6 +47,21 @@ impl Examination {
         self.outcomes * self.words_per_row()
     }
 
+    /// What a list of outcomes that [`test_set`](Self::test_set) refuses must be; `what` names the list.
+    #[must_use]
+    pub fn outcomes_hint(&self, what: &str) -> String {
+        match self.recorded {
+            0 => "the job records no outcome".into(),
+            some => format!("{what}: it names recorded outcomes, 0 to {}, each once", some - 1),
+        }
+    }
+
+    /// Which shots there are, for a walk that is refused by its shot.
+    #[must_use]
+    pub fn shot_hint(&self) -> String {
+        format!("the job's shots are 0 to {}", self.shots.saturating_sub(1))
+    }
+
     /// Whether a set of outcomes rises strictly and names those alone that the job records. The walk judges it, on a job that records as many.
     ///
     /// # Errors

@@ -1,6 +1,8 @@
 //! Frames and deltas in memory of their own.
 
-use crate::{Answer, Examination, Rows, Source, examine, run};
+use crate::{Answer, Examination, Number, Refusal, Rows, Source, examine, run};
+use std::error::Error;
+use std::fmt;
 use std::ops::BitXorAssign;
 
 /// The frames and outcome deltas that a run leaves, in memory of their own, which a further run uses again.
@@ -152,11 +154,81 @@ impl Frames {
         self.row(&self.deltas, id)
     }
 
+    /// Add the rows of another run, as `^=` does.
+    ///
+    /// # Errors
+    ///
+    /// The headers of the two jobs differ. Nothing is added then.
+    pub fn try_add(&mut self, other: &Self) -> Result<(), FrameSizeError> {
+        if self.job == Examination::default() {
+            self.clone_from(other);
+            return Ok(());
+        }
+        let header = |job: Examination| [job.qubits, job.outcomes, job.shots];
+        if header(self.job) != header(other.job) {
+            return Err(FrameSizeError { own: header(self.job), other: header(other.job) });
+        }
+        for (rows, others) in [(&mut self.x, &other.x), (&mut self.z, &other.z), (&mut self.deltas, &other.deltas)] {
+            for (word, other) in rows.iter_mut().zip(others) {
+                *word ^= other;
+            }
+        }
+        for (id, total) in self.totals.iter_mut().enumerate() {
+            let words = self.job.words_per_row();
+            *total = self.deltas[id * words..][..words].iter().map(|word| u64::from(word.count_ones())).sum();
+        }
+        Ok(())
+    }
+
+    /// For each set of outcomes the sum of its delta rows, modulo 2, one after the other in the place of what `out` held.
+    ///
+    /// # Errors
+    ///
+    /// The refusal by 17 if a set has an outcome that is not below the header's outcomes.
+    pub fn sums(&self, sets: &[Vec<u64>], out: &mut Vec<u64>) -> Answer {
+        self.require_outcomes(sets)?;
+        let words = self.job.words_per_row();
+        out.clear();
+        out.resize(sets.len() * words, 0);
+        for (row, set) in out.chunks_exact_mut(words.max(1)).zip(sets) {
+            for id in set {
+                row.iter_mut().zip(self.delta_row(crate::size(*id))).for_each(|(word, delta)| *word ^= delta);
+            }
+        }
+        Ok(())
+    }
+
+    /// Refuse sets with an outcome that has no row.
+    pub(crate) fn require_outcomes(&self, sets: &[Vec<u64>]) -> Answer {
+        if sets.iter().flatten().any(|id| *id >= self.job.outcomes as u64) {
+            return Err(Refusal { number: Number::WALK, line: 0, figure: 0 });
+        }
+        Ok(())
+    }
+
     fn row<'a>(&self, list: &'a [u64], place: usize) -> &'a [u64] {
         let words = self.job.words_per_row();
         &list[place * words..][..words]
     }
 }
+
+/// Frames of jobs with different headers, which can't be added.
+#[derive(Debug, Clone, Copy, PartialEq, Eq)]
+pub struct FrameSizeError {
+    /// The qubits, outcomes and shots of each job.
+    own: [usize; 3],
+    other: [usize; 3],
+}
+
+impl fmt::Display for FrameSizeError {
+    fn fmt(&self, f: &mut fmt::Formatter<'_>) -> fmt::Result {
+        let header =
+            |[qubits, outcomes, shots]: [usize; 3]| format!("qubits={qubits} outcomes={outcomes} shots={shots}");
+        write!(f, "frames of {} can't be added to those of {}", header(self.other), header(self.own))
+    }
+}
+
+impl Error for FrameSizeError {}
 
 /// Adds the rows of another run, by exclusive or, and counts the totals of the sum; frames without rows take the other's.
 ///
@@ -166,7 +238,7 @@ impl Frames {
 ///
 /// # Panics
 ///
-/// Panics if the headers of the two jobs differ.
+/// Panics if the headers of the two jobs differ; [`Frames::try_add`] returns an error then.
 ///
 /// ```
 /// use kundatrezo::{Draws, Frames};
@@ -187,20 +259,8 @@ impl Frames {
 /// ```
 impl BitXorAssign<&Frames> for Frames {
     fn bitxor_assign(&mut self, other: &Frames) {
-        if self.job == Examination::default() {
-            self.clone_from(other);
-            return;
-        }
-        let header = |frames: &Frames| (frames.job.qubits, frames.job.outcomes, frames.job.shots);
-        assert_eq!(header(self), header(other), "the headers of jobs whose frames are added");
-        for (rows, others) in [(&mut self.x, &other.x), (&mut self.z, &other.z), (&mut self.deltas, &other.deltas)] {
-            for (word, other) in rows.iter_mut().zip(others) {
-                *word ^= other;
-            }
-        }
-        for (id, total) in self.totals.iter_mut().enumerate() {
-            let words = self.job.words_per_row();
-            *total = self.deltas[id * words..][..words].iter().map(|word| u64::from(word.count_ones())).sum();
+        if let Err(error) = self.try_add(other) {
+            panic!("{error}");
         }
     }
 }
@@ -213,4 +273,23 @@ impl BitXorAssign<&Frames> for Frames {
 #[must_use]
 pub fn bit(row: &[u64], shot: usize) -> bool {
     row[shot / 64] >> (shot % 64) & 1 == 1
+}
+
+#[cfg(test)]
+mod tests {
+    use super::*;
+    use crate::Draws;
+
+    #[test]
+    fn frames_of_other_sizes_are_not_added() {
+        let run = |header: &str| Frames::of_run(header.as_bytes(), &[0; 9], Draws::default()).expect("it runs");
+        let own = run("op=job qubits=1 outcomes=2 shots=3\n");
+        let mut sum = own.clone();
+        for header in ["qubits=2 outcomes=2 shots=3", "qubits=1 outcomes=1 shots=3", "qubits=1 outcomes=2 shots=4"] {
+            let error = sum.try_add(&run(&format!("op=job {header}\n"))).unwrap_err();
+            let said = format!("frames of {header} can't be added to those of qubits=1 outcomes=2 shots=3");
+            assert_eq!((error.to_string(), sum.deltas()), (said, own.deltas()));
+        }
+        assert_eq!(sum.try_add(&own), Ok(()));
+    }
 }

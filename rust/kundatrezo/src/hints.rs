@@ -1,60 +1,12 @@
 //! The likely cause of a refusal of a job, and what to do about it. The engine has judged the job; here its refused line is looked at once more, for a
 //! sentence that helps.
 
-use crate::noise::binary64;
-use crate::{MAX_BYTES, MAX_CLIFFORD_QUBITS, MAX_OUTCOMES, MAX_QUBITS, MAX_SHOTS, Number};
+use crate::instructions::depolarizing_size;
+use crate::{Circuit, Form, Gate, Header, MAX_BYTES, MAX_CLIFFORD_QUBITS, MAX_OUTCOMES, MAX_QUBITS, MAX_SHOTS, Number};
 
 /// Most members of a list on a line, and most elements of a distribution.
 const MOST_MEMBERS: usize = 31;
 const MOST_ELEMENTS: u64 = 64;
-
-/// The gates by their codes: the names of pauliverse, and how else they are called. The last is of the second edition.
-const GATES: [&[&str]; 16] = [
-    &["I", "Id"],
-    &["X"],
-    &["Y"],
-    &["Z"],
-    &["Hadamard", "H"],
-    &["SqrtZ", "S"],
-    &["SqrtZInv", "Sdg", "SDag", "S_dag"],
-    &["SqrtX", "SX", "V"],
-    &["SqrtXInv", "SXdg", "Vdg"],
-    &["SqrtY"],
-    &["SqrtYInv"],
-    &["ControlledX", "CX", "CNOT"],
-    &["ControlledZ", "CZ"],
-    &["Swap"],
-    &["PrepareBell", "Bell"],
-    &["ControlledY", "CY"],
-];
-
-/// The forms of lines, in the second edition, each field with the kind of its value: a number, a gate code, 16 hexadecimal digits, a table of words
-/// of so many, a bit, a rising list, a list of operands, a correlation.
-const FORMS: [(&str, &str); 15] = [
-    ("job", "edition=N qubits=N outcomes=N shots=N"),
-    ("u", "g=G q=Q"),
-    ("c", "q=Q t=T"),
-    ("p", "x=L z=L"),
-    ("e", "x=L z=L"),
-    ("k", "x=L z=L u=L v=L"),
-    ("m", "s=Q q=Q"),
-    ("o", "x=L z=L id=N"),
-    ("r", "id=N angle=B"),
-    ("f", "x=L z=L id=L parity=B"),
-    ("z", "q=Q"),
-    ("b", "q=Q"),
-    ("i", "shot=N x=L z=L"),
-    ("t", "shot=N id=N"),
-    ("n", "p=H corr=C cond=L parity=B"),
-];
-
-/// The further fields of a noise line, behind which its size stands, and those of its element lines.
-const KINDS: [(&str, &str); 4] = [("1", "x=L z=L"), ("2", "q=Q"), ("3", "n=N"), ("4", "n=N")];
-const ELEMENTS: [(&str, &str); 2] = [("3", "x=L z=L"), ("4", "w=H x=L z=L")];
-
-fn named<T: Copy>(table: &[(&str, T)], name: &str) -> Option<T> {
-    table.iter().find(|(own, _)| *own == name).map(|(_, entry)| *entry)
-}
 
 /// What a user may do about the refusal of a job by this number at this line, from 1, if that can be said: the likely cause, for every call, in the
 /// program and in the Python package.
@@ -104,18 +56,15 @@ impl Job<'_> {
             Number::FORM => self.form(),
             Number::HEADER => Some(self.header()),
             Number::EDITION => Some("edition= is 1 or 2; without this field it is 1".into()),
-            Number::QUBIT => self.below("qubits"),
-            Number::SHOT => self.below("shots"),
+            Number::QUBIT => self.below("qubits", |header| header.qubits),
+            Number::SHOT => self.below("shots", |header| header.shots),
             Number::OPERANDS => self.operands(),
             Number::PERMUTATION => {
                 Some("s= holds each of 0 to k - 1 once, for k qubits in q=: it names places in q=, not qubits".into())
             }
             Number::CLIFFORD => Some(self.clifford()),
-            Number::NEXT_ID => Some(self.next_id()),
-            Number::NOT_RECORDED => Some(match self.recorded() {
-                0 => "no outcome is recorded before this line".into(),
-                recorded => format!("before this line outcomes 0 to {} are recorded", recorded - 1),
-            }),
+            Number::NEXT_ID => self.next_id(),
+            Number::NOT_RECORDED => self.recorded(),
             Number::PROBABILITY => Some(format!("p= is {:?} in decimal", binary64(field(self.line, "p")?)?)),
             Number::ELEMENTS => self.elements(),
             Number::NOISE => Some("settle the job first, and walk the settled job".into()),
@@ -136,29 +85,38 @@ impl Job<'_> {
         }
     }
 
+    /// The lines before the refused one, as a circuit. If that is an element line, the lines before its noise.
+    fn circuit_before(&self) -> Option<Circuit> {
+        let read = |lines: &[&str]| Circuit::read((lines.join("\n") + "\n").as_bytes()).ok();
+        read(self.before).or_else(|| read(&self.before[..self.last_op()?]))
+    }
+
+    /// The place of the last line before the refused one that is no element line.
+    fn last_op(&self) -> Option<usize> {
+        self.before.iter().rposition(|line| line.starts_with("op="))
+    }
+
     /// What a number of the header allows.
-    fn below(&self, key: &str) -> Option<String> {
-        let count = self.limit(key)?;
+    fn below(&self, key: &str, number: impl Fn(&Header) -> usize) -> Option<String> {
+        let count = number(&self.circuit_before()?.header);
         Some(format!("the header has {key}={count}: they are 0 to {}", count.checked_sub(1)?))
     }
 
-    /// A number of the header.
-    fn limit(&self, key: &str) -> Option<u64> {
-        field(self.before.first()?, key)?.parse().ok()
+    fn recorded(&self) -> Option<String> {
+        Some(match self.circuit_before()?.recorded() {
+            0 => "no outcome is recorded before this line".into(),
+            recorded => format!("before this line outcomes 0 to {} are recorded", recorded - 1),
+        })
     }
 
-    fn recorded(&self) -> usize {
-        self.before.iter().filter(|line| line.starts_with("op=o ") || line.starts_with("op=r ")).count()
-    }
-
-    fn next_id(&self) -> String {
-        let next = self.recorded();
-        match self.limit("outcomes") {
-            Some(outcomes) if outcomes <= next as u64 => {
-                format!("the header has outcomes={outcomes}, and as many are recorded before this line")
-            }
-            _ => format!("the next id is {next}: op=o and op=r lines are numbered together, from 0"),
-        }
+    fn next_id(&self) -> Option<String> {
+        let circuit = self.circuit_before()?;
+        let (outcomes, next) = (circuit.header.outcomes, circuit.recorded());
+        Some(if outcomes <= next {
+            format!("the header has outcomes={outcomes}, and as many are recorded before this line")
+        } else {
+            format!("the next id is {next}: op=o and op=r lines are numbered together, from 0")
+        })
     }
 
     fn header(&self) -> String {
@@ -194,9 +152,9 @@ impl Job<'_> {
         if self.line.starts_with("op=c ") {
             return Some(format!("op=c takes one to {MAX_CLIFFORD_QUBITS} qubits, and q= has {}", operands.len()));
         }
-        let code: usize = field(self.line, "g")?.parse().ok()?;
-        let count = if code <= 10 { "one qubit" } else { "two qubits" };
-        Some(format!("gate {code}, {}, takes {count}", GATES.get(code)?[0]))
+        let gate = Gate::from_code(field(self.line, "g")?.parse().ok()?)?;
+        let count = if gate.operands() == 1 { "one qubit" } else { "two qubits" };
+        Some(format!("gate {}, {gate}, takes {count}", gate.code()))
     }
 
     /// The qubits on which the control and the target of a controlled Pauli act by different letters.
@@ -245,15 +203,10 @@ impl Job<'_> {
 
     /// The kind of the noise line that wants this line for an element, which one of them this is, from 1, and how many there are.
     fn due(&self) -> Option<(&str, u64, u64)> {
-        let mut due = None;
-        for line in self.before {
-            due = match due {
-                Some((kind, place, count)) if place < count => Some((kind, place + 1, count)),
-                Some(_) => None,
-                None => wanted(line).map(|(kind, count)| (kind, 1, count)),
-            };
-        }
-        due
+        let noise = self.last_op()?;
+        let (kind, count) = wanted(self.before[noise])?;
+        let place = (self.before.len() - noise) as u64;
+        (place <= count).then_some((kind, place, count))
     }
 
     /// What is wrong with the form of the line.
@@ -262,7 +215,7 @@ impl Job<'_> {
             return Some(fault.into());
         }
         if let Some((kind, place, count)) = self.due() {
-            let form = split(named(&ELEMENTS, kind)?);
+            let form: Vec<Field> = noise_form(kind)?.elements()?.fields().collect();
             if self.line.starts_with("op=") {
                 let keys = keys(&form).join(" ");
                 return Some(format!(
@@ -278,23 +231,22 @@ impl Job<'_> {
         let Some(op) = op else {
             return Some("a line begins with op=; element lines follow a noise line with d=3 or d=4, n of them".into());
         };
-        let Some(form) = named(&FORMS, op) else {
-            return Some(no_such_op(op));
+        let form = match op {
+            "n" => return self.noise_form(),
+            "job" if field(self.line, "edition").is_some() => Form::HeaderWithEdition,
+            _ => match Form::ALL.iter().find(|form| form.op() == Some(op)) {
+                Some(form) => *form,
+                None => return Some(no_such_op(op)),
+            },
         };
-        if op == "n" {
-            return self.noise_form();
-        }
-        if op == "job" && field(self.line, "edition").is_none() {
-            return fields(self.line, &split(form)[1..], "op=job");
-        }
-        let fault = fields(self.line, &split(form), &format!("op={op}"));
+        let fault = fields(self.line, &form.fields().collect::<Vec<Field>>(), &format!("op={op}"));
         fault.or_else(|| if op == "c" { self.words_of_table() } else { of_second_edition(op) })
     }
 
     /// What is wrong with the form of the noise line.
     fn noise_form(&self) -> Option<String> {
         let kind = field(self.line, "d").unwrap_or_default();
-        let Some(without_size) = form_without_size(kind) else {
+        let Some(form) = noise_form(kind) else {
             return Some("a noise line is op=n p=H corr= cond= parity= d=, with d= 1, 2, 3 or 4".into());
         };
         if let Some(size) = distribution_size(self.line) {
@@ -302,8 +254,7 @@ impl Job<'_> {
                 "the line lacks its last field, size={size}: 'kundatrezo sizes' writes it into a job"
             ));
         }
-        let whole: Vec<(&str, &str)> = without_size.into_iter().chain([("size", "N")]).collect();
-        let fault = fields(self.line, &whole, &format!("op=n with d={kind}"));
+        let fault = fields(self.line, &form.fields().collect::<Vec<Field>>(), &format!("op=n with d={kind}"));
         let condition =
             || (field(self.line, "cond")? == "-").then(|| "without a condition (cond=-) parity is 0".into());
         let ends = || wanted(self.line).map(|(_, count)| format!("the job ends before the {count} element lines"));
@@ -312,27 +263,25 @@ impl Job<'_> {
     }
 }
 
-/// The fields of a noise line but for the last, its size.
-fn form_without_size(kind: &str) -> Option<Vec<(&'static str, &'static str)>> {
-    let common = split(named(&FORMS, "n")?).into_iter().chain([("d", "N")]);
-    Some(common.chain(split(named(&KINDS, kind)?)).collect())
+/// A field of a form: its key, and what stands for its value.
+type Field = (&'static str, &'static str);
+
+/// The form of noise lines with this `d=`.
+fn noise_form(kind: &str) -> Option<Form> {
+    Form::ALL.iter().copied().find(|form| form.op() == Some("n") && form.fields().any(|field| field == ("d", kind)))
 }
 
 /// The size of the distribution on a noise line that has all other fields in their form: 1, 4^k - 1 over k qubits, or n. None where it has not, or where
 /// 4^k is not below 2^64.
-///
-/// ```
-/// assert_eq!(kundatrezo::distribution_size("op=n p=3fe0000000000000 corr=- cond=- parity=0 d=2 q=1,0"), Some(15));
-/// ```
-#[must_use]
-pub fn distribution_size(line: &str) -> Option<u64> {
+pub(crate) fn distribution_size(line: &str) -> Option<u64> {
     let kind = field(line, "d")?;
-    if fields(line, &form_without_size(kind)?, "").is_some() {
+    let without_size: Vec<Field> = noise_form(kind)?.fields().filter(|(key, _)| *key != "size").collect();
+    if fields(line, &without_size, "").is_some() {
         return None;
     }
     match kind {
         "1" => Some(1),
-        "2" => Some(4_u64.checked_pow(field(line, "q")?.split(',').count().try_into().ok()?)? - 1),
+        "2" => depolarizing_size(members(line, "q")?),
         _ => field(line, "n")?.parse().ok(),
     }
 }
@@ -356,11 +305,6 @@ fn members(line: &str, key: &str) -> Option<usize> {
 /// A number of things.
 fn counted(number: usize, thing: &str) -> String {
     format!("{number} {thing}{}", if number == 1 { "" } else { "s" })
-}
-
-/// The keys and kinds of a form.
-fn split(form: &str) -> Vec<(&str, &str)> {
-    form.split(' ').filter_map(|field| field.split_once('=')).collect()
 }
 
 /// What is wrong with a line whatever its fields are.
@@ -396,18 +340,14 @@ fn of_second_edition(op: &str) -> Option<String> {
 }
 
 fn no_such_op(op: &str) -> String {
-    match gate(op) {
-        Some(code) => format!("there is no op={op}: the gate {} is op=u g={code}", GATES[code][0]),
+    match Gate::from_name(op) {
+        Some(gate) => format!("there is no op={op}: the gate {gate} is op=u g={}", gate.code()),
         None => {
-            let all: Vec<&str> = FORMS.iter().map(|(op, _)| *op).collect();
+            let mut all: Vec<&str> = Form::ALL.iter().filter_map(|form| form.op()).collect();
+            all.dedup();
             format!("there is no op={op}: there are {}", all.join(", "))
         }
     }
-}
-
-/// The code of a gate by one of its names.
-fn gate(name: &str) -> Option<usize> {
-    GATES.iter().position(|names| names.iter().any(|own| own.eq_ignore_ascii_case(name)))
 }
 
 fn keys(fields: &[(&str, &str)]) -> Vec<String> {
@@ -433,12 +373,12 @@ fn value(key: &str, kind: &str, value: &str) -> Option<String> {
         members.is_sorted_by(|earlier, later| earlier < later)
     };
     match kind {
-        "G" if number(value) => {
-            let is_unknown = value.parse::<usize>().ok()? >= GATES.len();
+        "N" if key == "g" && number(value) => {
+            let is_unknown = Gate::from_code(value.parse().ok()?).is_none();
             is_unknown.then(|| "gate codes are 0 to 14, and 15 in the second edition".into())
         }
-        "G" => Some(match gate(value) {
-            Some(code) => format!("g= is the code of a gate: {} is {code}", GATES[code][0]),
+        "N" if key == "g" => Some(match Gate::from_name(value) {
+            Some(gate) => format!("g= is the code of a gate: {gate} is {}", gate.code()),
             None => "g= is the code of a gate, 0 to 14, or 15 in the second edition".into(),
         }),
         "H" => hexadecimal(key, value),
@@ -473,6 +413,12 @@ fn hexadecimal(key: &str, value: &str) -> Option<String> {
         Ok(number) => Some(format!("{wanted}: {value} is {:016x} (see 'kundatrezo bits')", number.to_bits())),
         _ => Some(wanted),
     }
+}
+
+/// The number of 16 hexadecimal digits.
+fn binary64(digits: &str) -> Option<f64> {
+    let is_word = digits.len() == 16 && digits.bytes().all(|byte| byte.is_ascii_hexdigit());
+    if is_word { u64::from_str_radix(digits, 16).ok().map(f64::from_bits) } else { None }
 }
 
 #[cfg(test)]

@@ -18,10 +18,18 @@
 //! | [`make`] | a job from a seed, which passes the tests of a job; [`make_job`] as a `Vec` |
 //! | [`by_shot`] | deltas as a row for each shot, and [`by_outcome`] the way back; [`Shots`] has memory of its own |
 //!
-//! Beside the calls, [`Sampler`] runs any number of shots of a job from a seed, by several threads, and counts, and [`SavedCounts`] is how counts are
-//! saved and added; [`split`] shares the shots of a
-//! settled job among several benches, and `^=` on [`Frames`] adds what they leave; [`clifford_line`] writes a Clifford of up to eight qubits, such as
-//! a code's encoder, as a line; [`error_model`] gives a job's noise to a decoder; [`OutputFile`] writes a file whole or not at all.
+//! Beside the calls:
+//!
+//! | item | gives |
+//! |---|---|
+//! | [`Circuit`] | a job as a list of typed instructions, and its bytes again; [`Gate`] and [`Form`] are the tables of gates and of forms |
+//! | [`Sampler`] | any number of shots of a job from a seed, by several threads, and their counts; [`SavedCounts`] saves and adds them |
+//! | [`split`] | the shots of a settled job as parts for several benches; `^=` on [`Frames`] adds what they leave |
+//! | [`error_model`] | a job's noise, for a decoder; [`single_faults`] is a table of single faults for any number of groups |
+//! | [`GrowingDraws`] | words from seeds, as far as a call needs them |
+//! | [`clifford_line`] | a Clifford of up to eight qubits, such as a code's encoder, as a line |
+//! | [`with_sizes`] | a job whose noise lines lack their sizes, with them |
+//! | [`OutputFile`] | a file that is written whole or not at all |
 //!
 //! # Rows
 //!
@@ -92,16 +100,20 @@ mod error_model;
 mod examination;
 mod float_state;
 mod frames;
+mod growing;
 mod hints;
+mod instructions;
 mod make;
-mod noise;
+mod noise_sizes;
 mod output;
 mod refusal;
 mod sampler;
+mod sampler_error;
 mod shares;
 mod single_faults;
 mod split;
-mod sys;
+#[doc(hidden)]
+pub mod sys;
 mod used;
 mod xorshift;
 
@@ -109,14 +121,19 @@ pub use by_shot::{Shots, by_outcome, by_shot};
 pub use clifford::{MAX_CLIFFORD_QUBITS, clifford_line};
 pub use counts::{Counts, CountsError, DRAWS, SavedCounts, wilson};
 pub use draws::{Draws, Source};
-pub use error_model::{ErrorModel, Mechanism, error_model};
+pub use error_model::{ErrorModel, Fault, Mechanism, error_model, single_faults};
 pub use examination::{Examination, examine};
-pub use frames::{Frames, bit};
-pub use hints::distribution_size;
+pub use frames::{FrameSizeError, Frames, bit};
+pub use growing::{GrowingDraws, WordSource};
+pub use instructions::{
+    Circuit, Form, Gate, Header, Instruction, Noise, OutcomeCondition, PauliDistribution, SparsePauli, WeightedPauli,
+};
 pub use make::{JobParameters, make, make_job};
+pub use noise_sizes::{UnknownSizeError, with_sizes};
 pub use output::{FileId, OutputFile, WrittenFile, write_file, written_path};
 pub use refusal::{Answer, Number, Refusal};
-pub use sampler::{Bench, Named, NoiselessSizeError, Sampler, conditions, first_named};
+pub use sampler::{Bench, Named, NoiselessSizeError, Sampler, condition_notes, conditions, first_named, named_fault};
+pub use sampler_error::SamplerError;
 pub use shares::{AccountError, Caller, MAX_CALLERS, SharedDraws};
 pub use single_faults::{FaultTable, MAX_GROUPS, SingleFault, fault_table, write_fault_table};
 pub use split::{Part, restricted, split};

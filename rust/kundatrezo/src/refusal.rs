@@ -92,6 +92,12 @@ impl Number {
         crate::hints::hint(self, line, job)
     }
 
+    /// One of the causes that its words have, from 0, for a caller who knows which it is.
+    #[must_use]
+    pub fn cause(self, place: usize) -> &'static str {
+        self.words().split("; ").nth(place).unwrap_or(self.words())
+    }
+
     /// The number itself.
     #[must_use]
     pub const fn get(self) -> u64 {

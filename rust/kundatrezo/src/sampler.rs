@@ -1,9 +1,11 @@
 //! Any number of shots of a job, in blocks that have words of their own.
 
-use crate::counts::{DRAWS, Sample, crc32};
-use crate::noise::{Kind, Noise};
+use crate::counts::{DRAWS, Sample, crc32, fault};
+use crate::instructions::write_job;
 use crate::{
-    Answer, Counts, Draws, Examination, Frames, MAX_SHOTS, Number, Refusal, SavedCounts, Xorshift, bit, examine,
+    Answer, Circuit, Counts, CountsError, Draws, Examination, Frames, Header, Instruction, MAX_BYTES, MAX_SHOTS, Noise,
+    Number, PauliDistribution, Refusal, SamplerError, SavedCounts, SparsePauli, Xorshift, bit, by_outcome, examine,
+    size,
 };
 use std::collections::BTreeSet;
 use std::error::Error;
@@ -13,10 +15,7 @@ use std::sync::atomic::{AtomicBool, AtomicU64, Ordering};
 use std::thread;
 
 /// Most words of a list of a block, 2 GiB: no job of main-list noise needs as many.
-const MOST_WORDS: usize = 1 << 28;
-
-/// A line that has the place of an injection or a flip in blocks where that does not stand: the identity as a gate, which changes nothing.
-const NOTHING: &[u8] = b"op=p x=- z=-\n";
+pub(crate) const MOST_WORDS: usize = 1 << 28;
 
 /// In which shots of the whole the injections and flips of a job stand.
 #[derive(Debug, Clone, Copy, Default, PartialEq, Eq, Hash)]
@@ -93,7 +92,7 @@ impl Error for NoiselessSizeError {}
 /// let rate = |total: u64| total as f64 / counts.shots as f64;
 /// assert!((rate(counts.totals[0]) - 0.25).abs() < 0.01);
 /// assert!((rate(counts.sets[0]) - 2.0 * 0.25 * 0.75).abs() < 0.01);
-/// # Ok::<(), kundatrezo::Refusal>(())
+/// # Ok::<(), kundatrezo::SamplerError>(())
 /// ```
 #[derive(Debug, Clone)]
 pub struct Sampler {
@@ -117,15 +116,28 @@ pub struct Sampler {
 }
 
 impl Sampler {
-    /// So many shots of a job with the words of a seed. Injections and flips stand in the shots of the whole that they name; by
-    /// [`with_named`](Self::with_named) they can stand in those of each block.
+    /// A sampler of this number of shots of a job, with the words of a seed.
     ///
     /// # Errors
     ///
-    /// The refusal by a test of the job.
-    pub fn new(job: &[u8], shots: u64, seed: u64) -> Answer<Self> {
-        let sampler = Self::with_named(job, shots, seed, Named::Whole)?;
-        Ok(Self { named: sampler.named.filter(|_| first_named(job).is_some()), ..sampler })
+    /// The refusal by a test of the job, or the first injection or flip, which stands in a shot that it names: [`with_named`](Self::with_named) says
+    /// where these stand.
+    ///
+    /// ```
+    /// use kundatrezo::{Named, Sampler, SamplerError};
+    ///
+    /// let job = b"op=job qubits=1 outcomes=1 shots=9\nop=i shot=4 x=0 z=-\nop=o x=- z=0 id=0\n";
+    /// let error = Sampler::new(job, 100_000, 1).map(drop).unwrap_err();
+    /// assert_eq!(error, SamplerError::NamedShot { line: 2 });
+    /// let sampler = Sampler::with_named(job, 100_000, 1, Named::Whole)?;
+    /// assert_eq!(sampler.counts(&[], 1)?.totals, [1]);
+    /// # Ok::<(), kundatrezo::Refusal>(())
+    /// ```
+    pub fn new(job: &[u8], shots: u64, seed: u64) -> Result<Self, SamplerError> {
+        match first_named(job) {
+            Some(line) => Err(SamplerError::NamedShot { line }),
+            None => Ok(Self { named: None, ..Self::with_named(job, shots, seed, Named::Whole)? }),
+        }
     }
 
     /// The same, and in which shots of the whole injections and flips stand.
@@ -135,6 +147,7 @@ impl Sampler {
     /// The refusal by a test of the job.
     pub fn with_named(job: &[u8], shots: u64, seed: u64, named: Named) -> Answer<Self> {
         let examined = examine(job)?;
+        let circuit = Circuit::read_accepted(job);
         let blocks = shots.div_ceil(BLOCK);
         let text = |block: u64| {
             let shots = shots_of(shots, block);
@@ -142,7 +155,7 @@ impl Sampler {
                 Named::Whole => block == 0,
                 Named::Block => shot < shots.end - shots.start,
             };
-            block_text(job, shots.end - shots.start, stands)
+            block_text(&circuit, shots.end - shots.start, stands)
         };
         Ok(Self {
             first: text(0),
@@ -156,7 +169,7 @@ impl Sampler {
             named: Some(named),
             noiseless: Vec::new(),
             noiseless_sum: None,
-            need: Need::of(job),
+            need: Need::of(&circuit),
         })
     }
 
@@ -219,7 +232,7 @@ impl Sampler {
     #[must_use]
     pub fn text(&self, block: u64) -> &[u8] {
         match block {
-            _ if block + 1 == self.blocks() => &self.last,
+            _ if block.checked_add(1) == Some(self.blocks()) => &self.last,
             0 => &self.first,
             _ => &self.middle,
         }
@@ -235,8 +248,8 @@ impl Sampler {
         bench.noiseless.clear();
         bench.noiseless.resize(self.job.outcomes * words, 0);
         let period = self.noiseless.len() / self.job.outcomes.max(1);
-        if period > 0 {
-            let start = usize::try_from(block * (BLOCK / 64) % period as u64).unwrap_or_default();
+        if period > 0 && words > 0 {
+            let start = size(block % period as u64) * (MAX_SHOTS / 64) % period;
             for (row, given) in bench.noiseless.chunks_exact_mut(words).zip(self.noiseless.chunks_exact(period)) {
                 row.iter_mut().zip(given.iter().cycle().skip(start)).for_each(|(word, given)| *word = *given);
             }
@@ -262,6 +275,35 @@ impl Sampler {
                 Err(refusal) if refusal.number == Number::DRAWS && bench.grow(&refusal, text, shots) => {}
                 answer => return answer.map(|()| &bench.frames),
             }
+        }
+    }
+
+    /// Run a block with noiseless bits for each of its shots: a row of ceil(outcomes / 8) bytes each, eight outcomes to a byte, the lowest first.
+    ///
+    /// # Errors
+    ///
+    /// As [`run`](Self::run), and 13 if there are too few bytes.
+    pub fn run_packed<'a>(&self, block: u64, bytes: &[u8], bench: &'a mut Bench) -> Answer<&'a Frames> {
+        let Range { start, end } = self.shots_of(block);
+        let outcomes = self.job.outcomes;
+        let word = |bytes: &[u8]| bytes.iter().rev().fold(0, |word, byte| word << 8 | u64::from(*byte));
+        let rows: Vec<u64> =
+            bytes.chunks_exact(outcomes.div_ceil(8).max(1)).flat_map(|row| row.chunks(8).map(word)).collect();
+        bench.noiseless.resize(outcomes * self.row_words(block), 0);
+        by_outcome(outcomes as u64, end - start, &rows, &mut bench.noiseless)?;
+        self.run_lent(block, bench)
+    }
+
+    /// What a user may do about the refusal of a block, if that can be said.
+    #[must_use]
+    pub fn hint(&self, refusal: &Refusal) -> Option<String> {
+        match refusal.number {
+            Number::LENGTH => {
+                Some(format!("with {MAX_SHOTS} shots in its header the job has more than {MAX_BYTES} bytes"))
+            }
+            Number::SHOT => Some(format!("the whole has {} shots", self.shots)),
+            Number::DRAWS => Some(format!("place corr of this line lies past {MOST_WORDS} words, the most of a list")),
+            _ => None,
         }
     }
 
@@ -305,7 +347,9 @@ impl Sampler {
         };
         let wanted = usize::try_from(blocks.end.saturating_sub(blocks.start)).unwrap_or(usize::MAX);
         thread::scope(|scope| {
-            let others: Vec<_> = (1..threads.min(wanted)).map(|_| scope.spawn(obey)).collect();
+            // no more than the system has
+            let spawned = |_| thread::Builder::new().spawn_scoped(scope, obey).ok();
+            let others: Vec<_> = (1..threads.min(wanted)).map_while(spawned).collect();
             let own = obey();
             let joined = others.into_iter().map(|thread| thread.join().expect("a thread ends by itself"));
             [own].into_iter().chain(joined).collect()
@@ -324,10 +368,8 @@ impl Sampler {
     fn counts_of(&self, blocks: Range<u64>, sets: &[Vec<u64>], threads: usize) -> Answer<Counts> {
         sets.iter().try_for_each(|set| self.job.test_set(set))?;
         let start = || (Bench::new(), Counts::default());
-        let made = Self::each(blocks, threads, start, |(bench, counts), block| {
-            counts.add(self.run(block, bench)?, sets);
-            Ok(())
-        })?;
+        let made =
+            Self::each(blocks, threads, start, |(bench, counts), block| counts.add(self.run(block, bench)?, sets))?;
         let mut sum = self.no_counts(sets);
         made.iter().for_each(|(_, counts)| sum += counts);
         Ok(sum)
@@ -343,37 +385,49 @@ impl Sampler {
     ///
     /// # Errors
     ///
-    /// As [`counts`](Self::counts).
-    ///
-    /// # Panics
-    ///
-    /// Panics if there is no such part.
-    pub fn sample(&self, sets: &[Vec<u64>], part: (u64, u64), threads: usize) -> Answer<SavedCounts> {
-        let counts = self.counts_of(self.part(part.0.saturating_sub(1), part.1), sets, threads)?;
-        Ok(self.saved(counts, sets, part))
+    /// As [`counts`](Self::counts), and if there is no such part.
+    pub fn sample(&self, sets: &[Vec<u64>], part: (u64, u64), threads: usize) -> Result<SavedCounts, SamplerError> {
+        part_of(part)?;
+        let counts = self.counts_of(self.part(part.0 - 1, part.1), sets, threads)?;
+        Ok(self.saved(counts, sets, part)?)
     }
 
     /// The counts of all shots of a part, from 1, of how many, which were made by this sampler's runs, in the form in which they are saved and added.
     ///
-    /// # Panics
+    /// # Errors
     ///
-    /// Panics if there is no such part.
-    #[must_use]
-    pub fn saved(&self, counts: Counts, sets: &[Vec<u64>], part: (u64, u64)) -> SavedCounts {
-        assert!((1..=part.1).contains(&part.0), "a part from 1 to the number of parts");
-        SavedCounts {
+    /// There is no such part, or the counts are not those of its shots, of the job's outcomes and of the sets.
+    pub fn saved(&self, counts: Counts, sets: &[Vec<u64>], part: (u64, u64)) -> Result<SavedCounts, CountsError> {
+        part_of(part)?;
+        let sample = Sample::part(self.seed, part, self.shots);
+        let numbers =
+            |shots: u64, outcomes: usize, sets: usize| format!("shots={shots} outcomes={outcomes} sets={sets}");
+        let given = numbers(counts.shots, counts.totals.len(), counts.sets.len());
+        let needed = numbers(sample.shots(), self.job.outcomes, sets.len());
+        if given != needed {
+            return fault(format!("counts of {given}, but part {}/{} has {needed}", part.0, part.1));
+        }
+        Ok(SavedCounts {
             qubits: self.job.qubits,
             outcomes: self.job.outcomes,
             recorded: self.job.recorded,
             job: self.sum,
             draws: DRAWS.into(),
-            samples: vec![Sample::part(self.seed, part, self.shots)],
+            samples: vec![sample],
             named: self.named,
             noiseless: self.noiseless_sum.map(|sum| format!("{sum:08x}")),
             sets: sets.to_vec(),
             counts,
-        }
+        })
     }
+}
+
+/// Whether there is a part of this number, from 1, of how many.
+fn part_of((place, parts): (u64, u64)) -> Result<(), CountsError> {
+    if (1..=parts).contains(&place) {
+        return Ok(());
+    }
+    fault(format!("there is no part {place} of {parts}: parts are numbered from 1"))
 }
 
 const BLOCK: u64 = MAX_SHOTS as u64;
@@ -394,30 +448,51 @@ fn gcd(a: usize, b: usize) -> usize {
     if b == 0 { a } else { gcd(b, a % b) }
 }
 
-/// An accepted job with another number of shots, at least 1, in its header, and with the injections and flips of those shots alone in which they
-/// stand. The lines keep their numbers.
-fn block_text(job: &[u8], shots: u64, stands: impl Fn(u64) -> bool) -> Vec<u8> {
-    let header = job.iter().position(|byte| *byte == b'\n').unwrap_or(job.len());
-    let digits = job[..header].iter().rposition(|byte| *byte == b'=').map_or(header, |place| place + 1);
-    let mut text = job[..digits].to_vec();
-    text.extend(shots.max(1).to_string().bytes());
-    for (place, line) in job[header..].split_inclusive(|byte| *byte == b'\n').enumerate() {
-        let kept = place == 0 || named_shot(line).is_none_or(&stands);
-        text.extend_from_slice(if kept { line } else { NOTHING });
-    }
-    text
-}
-
-/// The shot of an injection or a flip, in a job that has passed the checks.
-fn named_shot(line: &[u8]) -> Option<u64> {
-    let fields = line.strip_prefix(b"op=i shot=").or_else(|| line.strip_prefix(b"op=t shot="))?;
-    std::str::from_utf8(fields.split(|byte| *byte == b' ').next()?).ok()?.parse().ok()
+/// The job of a circuit with another number of shots, at least 1, in its header, and with the injections and flips of those shots alone in which they
+/// stand. In the place of others is the identity as a gate, which changes nothing, so that lines keep their numbers.
+fn block_text(circuit: &Circuit, shots: u64, stands: impl Fn(u64) -> bool) -> Vec<u8> {
+    let header = Header { shots: size(shots.max(1)), ..circuit.header };
+    let identity = Instruction::Pauli(SparsePauli::default());
+    let kept = |instruction: &Instruction| instruction.shot().is_none_or(|shot| stands(shot as u64));
+    let lines = circuit.instructions.iter().map(|line| if kept(line) { line } else { &identity });
+    write_job(&header, lines)
 }
 
 /// The first line of an accepted job, from 1, that stands in a shot which it names: an injection or a flip.
 #[must_use]
 pub fn first_named(job: &[u8]) -> Option<u64> {
-    job.split(|byte| *byte == b'\n').zip(1..).find(|(line, _)| named_shot(line).is_some()).map(|(_, place)| place)
+    let circuit = Circuit::read(job).ok()?;
+    circuit.numbered().find(|(_, instruction)| instruction.shot().is_some()).map(|(line, _)| line as u64)
+}
+
+/// Why a job with a line that stands in a shot which it names, such as [`first_named`] finds, isn't sampled unless an option says where these lines
+/// stand; `whole` and `block` are the ways to write this option.
+#[must_use]
+pub fn named_fault(line: u64, whole: &str, block: &str) -> String {
+    format!(
+        "line {line} stands in a shot that it names. With {whole} it stands in that shot of the whole sample, with {block} in that shot of each \
+         block of {MAX_SHOTS}; for a fault in every shot write noise of p = 1"
+    )
+}
+
+/// Notes on noise whose condition looks at noiseless bits that are not given, or at those of a random outcome, which are the same in all shots, or
+/// repeat if bits are given for the job's own shots. `own` and `each` name the options by which bits are given for these and for each shot.
+#[must_use]
+pub fn condition_notes(job: &[u8], is_given: bool, own: &str, each: &str) -> Vec<String> {
+    let conditions = conditions(job);
+    let first = conditions.first().filter(|_| !is_given);
+    let no_bits = first.map(|(line, _)| {
+        format!("line {line} has noise with a condition, and without {own} or {each} all noiseless bits are 0")
+    });
+    let random = conditions.iter().find_map(|(line, random)| Some((line, (*random)?))).map(|(line, outcome)| {
+        let shots = examine(job).unwrap_or_default().shots;
+        let same = if is_given { format!("comes again every {shots} shots") } else { "is 0 in every shot".into() };
+        format!(
+            "the condition of line {line} looks at outcome {outcome}, which op=r records at random, and its noiseless bit {same}: {each} \
+             gives it for each shot"
+        )
+    });
+    no_bits.into_iter().chain(random).collect()
 }
 
 /// The noise lines of an accepted job that look at noiseless bits and can fall: the number of each, from 1, and the first outcome of its condition that
@@ -430,14 +505,19 @@ pub fn first_named(job: &[u8]) -> Option<u64> {
 /// ```
 #[must_use]
 pub fn conditions(job: &[u8]) -> Vec<(u64, Option<usize>)> {
-    let text = std::str::from_utf8(job).unwrap_or_default();
-    let random_id = |line: &str| line.strip_prefix("op=r id=")?.split(' ').next()?.parse::<usize>().ok();
-    let random: BTreeSet<usize> = text.lines().filter_map(random_id).collect();
-    let condition = |(line, place): (&str, u64)| {
-        let noise = Noise::read(line).filter(|noise| noise.p > 0.0 && !noise.condition.is_empty())?;
-        Some((place, noise.condition.into_iter().find(|outcome| random.contains(outcome))))
+    let Ok(circuit) = Circuit::read(job) else {
+        return Vec::new();
     };
-    text.lines().zip(1..).filter_map(condition).collect()
+    let random_outcome = |instruction: &Instruction| match instruction {
+        Instruction::Allocate { outcome, .. } => Some(*outcome),
+        _ => None,
+    };
+    let random: BTreeSet<usize> = circuit.instructions.iter().filter_map(random_outcome).collect();
+    let condition = |(line, noise): (usize, &Noise)| {
+        let outcomes = &noise.condition.as_ref().filter(|_| noise.probability > 0.0)?.outcomes;
+        Some((line as u64, outcomes.iter().find(|outcome| random.contains(outcome)).copied()))
+    };
+    circuit.noise().filter_map(condition).collect()
 }
 
 /// How many words the noise lines of a job read, a shot on average: a guess, which the calls judge.
@@ -450,18 +530,16 @@ struct Need {
 }
 
 impl Need {
-    fn of(job: &[u8]) -> Self {
+    fn of(circuit: &Circuit) -> Self {
         let mut need = Self::default();
-        for line in job.split(|byte| *byte == b'\n').filter(|line| line.starts_with(b"op=n ")) {
-            let Some(noise) = std::str::from_utf8(line).ok().and_then(Noise::read).filter(|noise| noise.p > 0.0) else {
-                continue;
-            };
-            match noise.correlation {
-                Some(place) => need.place = need.place.max(Some(place)),
-                None if noise.kind == Kind::Single => need.mean += 1.0,
-                None => {
-                    need.mean += 1.0 + noise.p;
-                    need.variance += noise.p * (1.0 - noise.p);
+        for (_, noise) in circuit.noise().filter(|(_, noise)| noise.probability > 0.0) {
+            let p = noise.probability;
+            match (noise.correlation, &noise.distribution) {
+                (Some(place), _) => need.place = need.place.max(Some(place)),
+                (None, PauliDistribution::Single(_)) => need.mean += 1.0,
+                (None, _) => {
+                    need.mean += 1.0 + p;
+                    need.variance += p * (1.0 - p);
                 }
             }
         }
@@ -507,8 +585,8 @@ impl Bench {
 
     /// More words for the list that the refused noise line reads; whether there are any.
     fn grow(&mut self, refusal: &Refusal, text: &[u8], shots: usize) -> bool {
-        let line = refusal.line_of(text).and_then(|line| std::str::from_utf8(line).ok());
-        match line.and_then(Noise::read).and_then(|noise| noise.correlation) {
+        let circuit = Circuit::read_accepted(text);
+        match circuit.noise_at(size(refusal.line)).and_then(|noise| noise.correlation) {
             None => self.main.grow(2 * self.main.words.len() + shots),
             Some(place) => usize::try_from(place)
                 .is_ok_and(|place| place < MOST_WORDS && self.second.grow(2 * self.second.words.len() + place + shots)),
@@ -518,13 +596,13 @@ impl Bench {
 
 /// The first words of a stream, as many as are needed.
 #[derive(Debug, Clone, Default)]
-struct List {
-    words: Vec<u64>,
+pub(crate) struct List {
+    pub(crate) words: Vec<u64>,
     stream: Option<Xorshift>,
 }
 
 impl List {
-    fn begin(&mut self, stream: Xorshift, words: usize) {
+    pub(crate) fn begin(&mut self, stream: Xorshift, words: usize) {
         self.stream = Some(stream);
         self.words.resize(words, 0);
         self.fill(0);
@@ -537,7 +615,7 @@ impl List {
     }
 
     /// Make the list longer, by the next words; whether that could be.
-    fn grow(&mut self, words: usize) -> bool {
+    pub(crate) fn grow(&mut self, words: usize) -> bool {
         let before = self.words.len();
         self.words.resize(words.clamp(before, MOST_WORDS.max(before)), 0);
         self.fill(before);
@@ -558,10 +636,14 @@ op=o x=- z=1 id=1
 op=t shot=0 id=1
 ";
 
+    fn sampler(job: &str, shots: u64, seed: u64) -> Sampler {
+        Sampler::with_named(job.as_bytes(), shots, seed, Named::Whole).expect("it is accepted")
+    }
+
     /// Blocks are runs of the job with other shots and the words of the block.
     #[test]
     fn blocks_are_runs() {
-        let sampler = Sampler::new(JOB.as_bytes(), 10_000, 3).expect("it is accepted");
+        let sampler = sampler(JOB, 10_000, 3);
         let sampler = sampler.with_noiseless(&[0b10110, 0]).expect("a row for each outcome");
         let mut bench = Bench::new();
         for block in [2, 0, 1] {
@@ -590,14 +672,14 @@ op=t shot=0 id=1
     /// Noiseless bits for another number of shots would be read in a wrong shape: the job has two outcomes and five shots.
     #[test]
     fn noiseless_bits_of_another_size_are_refused() {
-        let sampler = Sampler::new(JOB.as_bytes(), 9_000, 1).expect("it is accepted");
+        let sampler = sampler(JOB, 9_000, 1);
         for words in [0, 1, 3, 128] {
             let error = sampler.clone().with_noiseless(&vec![0; words]).expect_err("another size");
             let header = "the header's outcomes=2 and shots=5 need exactly 2";
             assert_eq!(error.to_string(), format!("noiseless bits of {words} words, but {header}"));
         }
         assert!(sampler.with_noiseless(&[0, 0]).is_ok());
-        let most = Sampler::new(JOB.replace("shots=5", "shots=4096").as_bytes(), 9_000, 1).expect("it is accepted");
+        let most = self::sampler(&JOB.replace("shots=5", "shots=4096"), 9_000, 1);
         assert!(most.clone().with_noiseless(&[0; 2 * 64]).is_ok() && most.with_noiseless(&[0, 0]).is_err());
     }
 
@@ -614,23 +696,41 @@ op=t shot=0 id=1
     /// Guesses that are too small are made good, and change nothing.
     #[test]
     fn more_words_are_made_where_they_are_needed() {
-        let sampler = Sampler::new(JOB.as_bytes(), 9_000, 1).expect("it is accepted");
+        let sampler = sampler(JOB, 9_000, 1);
         let starved = Sampler { need: Need::default(), ..sampler.clone() };
         assert_eq!((starved.list_words(), sampler.list_words() > 4096 + 9000 + 4096), (0, true));
         assert_eq!(starved.counts(&[vec![0, 1]], 2), sampler.counts(&[vec![0, 1]], 3));
         let far = JOB.replace("corr=9000", "corr=18446744073709551615");
-        let refusal = Sampler::new(far.as_bytes(), 5, 1).and_then(|sampler| sampler.counts(&[], 1)).unwrap_err();
+        let refusal = self::sampler(&far, 5, 1).counts(&[], 1).unwrap_err();
         assert_eq!((refusal.number, refusal.line), (Number::DRAWS, 5));
     }
 
     #[test]
     fn sets_parts_and_blocks_that_there_are_not() {
-        let sampler = Sampler::new(JOB.as_bytes(), 9_000, 1).expect("it is accepted");
+        let sampler = sampler(JOB, 9_000, 1);
         for wrong in [vec![1, 0], vec![0, 0], vec![u64::MAX]] {
             assert_eq!(sampler.counts(&[vec![0], wrong], 2).unwrap_err().number, Number::WALK);
         }
         assert!([(3, 3), (u64::MAX, 3), (0, 0)].iter().all(|(place, parts)| sampler.part(*place, *parts).is_empty()));
-        assert_eq!(sampler.run(sampler.blocks(), &mut Bench::new()).map(drop).unwrap_err().number, Number::WORDS);
+        let lent = sampler.clone().with_noiseless(&[0b10110, 0]).expect("a row for each outcome");
+        for block in [sampler.blocks(), u64::MAX - 1, u64::MAX] {
+            for sampler in [&sampler, &lent] {
+                let refusal = sampler.run(block, &mut Bench::new()).map(drop).unwrap_err();
+                assert_eq!(refusal.number, Number::WORDS, "{block}");
+            }
+        }
+    }
+
+    /// What the program refuses, the crate refuses.
+    #[test]
+    fn named_shots_are_not_guessed() {
+        let error = Sampler::new(JOB.as_bytes(), 9_000, 1).map(drop).unwrap_err();
+        assert_eq!(error, SamplerError::NamedShot { line: 4 });
+        let sentence = "line 4 stands in a shot that it names. With Named::Whole it stands in that shot of the whole sample, with \
+                        Named::Block in that shot of each block of 4096; for a fault in every shot write noise of p = 1";
+        assert_eq!(error.to_string(), sentence);
+        let error = Sampler::new(b"op=job\n", 9_000, 1).map(drop).unwrap_err();
+        assert_eq!(error.to_string(), format!("refused: {} at line 1", Number::FORM));
     }
 
     #[test]
@@ -653,7 +753,7 @@ op=t shot=0 id=1
     #[test]
     fn parts_share_the_blocks() {
         for shots in [0, 1, 4096, 4097, 1_000_000, u64::MAX] {
-            let sampler = Sampler::new(JOB.as_bytes(), shots, 1).expect("it is accepted");
+            let sampler = sampler(JOB, shots, 1);
             for parts in [1, 2, 7, 300] {
                 let shares: Vec<Range<u64>> = (0..parts).map(|place| sampler.part(place, parts)).collect();
                 assert_eq!((shares[0].start, shares[shares.len() - 1].end), (0, sampler.blocks()));

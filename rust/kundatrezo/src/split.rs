@@ -1,6 +1,7 @@
 //! A job's shots on several benches.
 
-use crate::{Answer, examine, walk};
+use crate::instructions::write_job;
+use crate::{Answer, Circuit, walk};
 use std::ops::Range;
 
 /// A part of a job: its shots, and the job that a bench runs for them.
@@ -39,11 +40,11 @@ pub struct Part {
 /// # Ok::<(), kundatrezo::Refusal>(())
 /// ```
 pub fn split(job: &[u8], parts: usize) -> Answer<Vec<Part>> {
-    test_settled(job)?;
-    let shots = examine(job)?.shots;
+    let circuit = settled_circuit(job)?;
+    let shots = circuit.header.shots;
     let part = |place: usize| {
         let shots = place * shots / parts..(place + 1) * shots / parts;
-        let job = kept_lines(job, |shot| shots.contains(&shot));
+        let job = kept_lines(&circuit, |shot| shots.contains(&shot));
         Part { shots, job }
     };
     Ok((0..parts).map(part).collect())
@@ -71,23 +72,16 @@ pub fn split(job: &[u8], parts: usize) -> Answer<Vec<Part>> {
 /// # Ok::<(), kundatrezo::Refusal>(())
 /// ```
 pub fn restricted(job: &[u8], is_kept: impl Fn(usize) -> bool) -> Answer<Vec<u8>> {
-    test_settled(job)?;
-    Ok(kept_lines(job, is_kept))
+    Ok(kept_lines(&settled_circuit(job)?, is_kept))
 }
 
-/// That a job passes the checks and has no noise: what the walk of no outcome tests.
-fn test_settled(job: &[u8]) -> Answer {
-    walk(job, 0, &[]).map(drop)
+/// The circuit of a job that passes the tests and has no noise, which the walk of no outcome tests.
+fn settled_circuit(job: &[u8]) -> Answer<Circuit> {
+    walk(job, 0, &[])?;
+    Ok(Circuit::read_accepted(job))
 }
 
-fn kept_lines(job: &[u8], is_kept: impl Fn(usize) -> bool) -> Vec<u8> {
-    let kept = |line: &&[u8]| shot_of(line).is_none_or(&is_kept);
-    job.split_inclusive(|byte| *byte == b'\n').filter(kept).collect::<Vec<&[u8]>>().concat()
-}
-
-/// The shot of an injection or a flip, in a job that has passed the checks.
-fn shot_of(line: &[u8]) -> Option<usize> {
-    let fields = line.strip_prefix(b"op=i shot=").or_else(|| line.strip_prefix(b"op=t shot="))?;
-    let digits = fields.split(|byte| *byte == b' ').next()?;
-    std::str::from_utf8(digits).ok()?.parse().ok()
+fn kept_lines(circuit: &Circuit, is_kept: impl Fn(usize) -> bool) -> Vec<u8> {
+    let kept = circuit.instructions.iter().filter(|instruction| instruction.shot().is_none_or(&is_kept));
+    write_job(&circuit.header, kept)
 }

@@ -1,7 +1,8 @@
 //! How many words of the lists are read.
 
-use crate::noise::{Kind, Noise};
-use crate::{Answer, Draws, Examination, Frames, Number, SharedDraws, bit, settle, size};
+use crate::{
+    Answer, Circuit, Draws, Examination, Frames, Noise, Number, PauliDistribution, SharedDraws, bit, settle, size,
+};
 
 /// How many words a run or settling reads.
 #[derive(Debug, Clone, Copy, Default, PartialEq, Eq, Hash)]
@@ -68,16 +69,18 @@ fn least(most: usize, guess: usize, has: impl Fn(usize) -> bool) -> usize {
 
 /// From which place on the noise lines of an accepted job read no word of the second list, as far as can be told from their text. The calls judge it.
 fn guess(job: &[u8], numbers: Examination, noiseless: &[u64], draws: &Draws<'_>) -> Option<usize> {
-    let text = std::str::from_utf8(job).ok()?;
+    let circuit = Circuit::read_accepted(job);
     let mut used = 0;
-    for noise in text.lines().filter_map(Noise::read).filter(|noise| noise.p > 0.0) {
+    for (_, noise) in circuit.noise().filter(|(_, noise)| noise.probability > 0.0) {
         let Some(correlation) = noise.correlation else {
             continue;
         };
         let holds = |shot: usize| {
             let words = numbers.words_per_row();
-            let sum = noise.condition.iter().fold(false, |sum, id| sum ^ bit(&noiseless[id * words..][..words], shot));
-            noise.condition.is_empty() || sum == noise.parity
+            let noiseless_bit = |id: &usize| bit(&noiseless[id * words..][..words], shot);
+            noise.condition.as_ref().is_none_or(|condition| {
+                condition.outcomes.iter().fold(false, |sum, id| sum ^ noiseless_bit(id)) == condition.parity
+            })
         };
         let place = usize::try_from(draws.base.wrapping_add(correlation)).ok()?;
         used = used.max(place + noise.words(draws.second.get(place..)?, numbers.shots, holds)?);
@@ -93,13 +96,13 @@ impl Noise {
             let word = list.get(next)?;
             next += 1;
             #[allow(clippy::cast_precision_loss)]
-            let falls = ((word >> 11) as f64) < self.p * (1_u64 << 53) as f64;
+            let falls = ((word >> 11) as f64) < self.probability * (1_u64 << 53) as f64;
             if falls && holds(shot) {
-                next += match self.kind {
-                    Kind::Single => 0,
-                    Kind::Weighted => 1,
-                    Kind::Depolarizing | Kind::Uniform => {
-                        let bound = u64::MAX - u64::MAX.checked_rem(self.size)?;
+                next += match &self.distribution {
+                    PauliDistribution::Single(_) => 0,
+                    PauliDistribution::Weighted(_) => 1,
+                    other => {
+                        let bound = u64::MAX - u64::MAX.checked_rem(other.size())?;
                         1 + list.get(next..)?.iter().position(|word| *word < bound)?
                     }
                 };

@@ -89,6 +89,12 @@ impl Xorshift {
         fill(state, &mut []).map(|()| Self { state })
     }
 
+    /// The state before the next word: [`from_state`](Self::from_state) goes on from it.
+    #[must_use]
+    pub fn state(&self) -> u64 {
+        self.state
+    }
+
     /// The next words, in the place of what the list held.
     pub fn fill(&mut self, list: &mut [u64]) {
         fill(self.state, list).expect("no state is zero");

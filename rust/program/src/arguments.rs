@@ -3,12 +3,14 @@
 use crate::Failure;
 use crate::files::{Names, shown};
 use crate::shares::lock_name;
+use crate::spelling::nearest;
 use std::ffi::{OsStr, OsString};
 use std::os::unix::ffi::OsStrExt;
 
 /// A command of the program.
 pub struct Command {
     pub name: &'static str,
+    pub group: Group,
     pub operand: Operand,
     /// One line, for the help of the whole program.
     pub summary: &'static str,
@@ -17,6 +19,47 @@ pub struct Command {
     /// Its options, in groups.
     pub options: &'static [&'static [Flag]],
     pub obey: fn(&Arguments) -> Result<(), Failure>,
+}
+
+/// A group of commands, under a heading of its own in the help and the manual page.
+#[derive(Clone, Copy, PartialEq, Eq)]
+pub enum Group {
+    Jobs,
+    Sample,
+    Faults,
+    Shares,
+    Make,
+    Program,
+}
+
+impl Group {
+    /// Every group, in the order of the help.
+    pub const ALL: [Self; 6] = [Self::Jobs, Self::Sample, Self::Faults, Self::Shares, Self::Make, Self::Program];
+
+    pub fn title(self) -> &'static str {
+        match self {
+            Self::Jobs => "Write and check jobs",
+            Self::Sample => "Sample",
+            Self::Faults => "Faults and decoders",
+            Self::Shares => "Shares of shots and words",
+            Self::Make => "Make jobs and words from seeds",
+            Self::Program => "This program",
+        }
+    }
+}
+
+/// An option of the program itself, which takes the place of a command.
+pub struct ProgramOption {
+    pub short: &'static str,
+    pub long: &'static str,
+    pub text: &'static str,
+    pub run: fn() -> Result<(), Failure>,
+}
+
+impl ProgramOption {
+    pub fn names(&self) -> [&'static str; 2] {
+        [self.short, self.long]
+    }
 }
 
 /// What a command is called on.
@@ -28,6 +71,8 @@ pub enum Operand {
     Values(&'static str),
     /// One of these words.
     Word(&'static str, &'static [&'static str]),
+    /// The name of a command, or nothing.
+    Command,
     None,
 }
 
@@ -38,6 +83,7 @@ impl Operand {
             Self::Job => " JOB".into(),
             Self::Values(name) => format!(" {name}.."),
             Self::Word(name, _) => format!(" {name}"),
+            Self::Command => " [COMMAND]".into(),
             Self::None => String::new(),
         }
     }
@@ -80,6 +126,11 @@ const AMBIGUOUS: [(&str, &str, &str); 1] = [(
 impl Command {
     pub fn flags(&self) -> impl Iterator<Item = &'static Flag> {
         self.options.iter().flat_map(|group| group.iter())
+    }
+
+    /// The names of its options, and that of its help.
+    pub fn option_names(&self) -> impl Iterator<Item = &'static str> {
+        self.flags().map(|flag| flag.name).chain(["--help"])
     }
 
     pub fn usage(&self) -> String {
@@ -139,7 +190,9 @@ impl Arguments {
             return Err((*text).into());
         }
         let flag = command.flags().find(|flag| flag.name == name).ok_or_else(|| {
-            format!("'{}' has no option '{}' (after --, a name may begin with -)", command.name, shown(name))
+            let known = nearest(&shown(name), command.option_names());
+            let hint = known.map_or_else(|| "after --, a name may begin with -".into(), did_you_mean);
+            format!("'{}' has no option '{}' ({hint})", command.name, shown(name))
         })?;
         let value = parts.next().map(|value| OsStr::from_bytes(value).to_owned()).or_else(|| rest.next().cloned());
         let value = value.ok_or_else(|| format!("the option {} wants a value: {}", flag.name, flag.value))?;
@@ -158,6 +211,7 @@ impl Arguments {
         };
         match (command.operand, self.operands.first()) {
             (Operand::None, _) => surplus(0, "no argument is wanted"),
+            (Operand::Command, _) => surplus(1, "one command is wanted"),
             (Operand::Job, None) => Err("a job is missing (a file, or - for standard input)".into()),
             (Operand::Job, _) => surplus(1, "one job is wanted"),
             (Operand::Values(name), None) => Err(format!("{name} is missing")),
@@ -232,6 +286,11 @@ impl Arguments {
     pub fn number(&self, name: &str) -> Result<Option<u64>, Failure> {
         self.parsed(name, "a number below 2^64", |text| text.parse().ok())
     }
+}
+
+/// The question after a mistyped name.
+pub fn did_you_mean(name: &str) -> String {
+    format!("did you mean {name}?")
 }
 
 /// The digits of a whole number below 2^53 that is written in another way, such as 1e6, 1_000_000 or 1,000,000.

@@ -1,8 +1,9 @@
 //! The commands, a call of the engine each.
 
-use crate::arguments::{Arguments, Command, FILE, Flag, NEW_FILE, Operand};
+use crate::arguments::{Arguments, Command, FILE, Flag, Group, NEW_FILE, Operand, ProgramOption, did_you_mean};
 use crate::completions::{self, SHELLS};
 use crate::files::{Names, Outputs, shown};
+use crate::spelling::nearest;
 use crate::words::{self, Lent};
 use crate::{Failure, counts, faults, files, load, manual, numbers, print, rates, sample, say, shares, shots, sizes};
 use kundatrezo::{Examination, Frames, MAX_BYTES, Number, Refusal, Shots, bit};
@@ -53,6 +54,7 @@ ceil(outcomes / 8) bytes, with eight outcomes to a byte, the lowest first. Shot 
 pub const COMMANDS: &[Command] = &[
     Command {
         name: "check",
+        group: Group::Jobs,
         operand: Operand::Job,
         summary: "whether a job passes its tests, and its numbers",
         details: &["\
@@ -63,6 +65,7 @@ the number of outcomes that it records, and 'lines=' with that of its lines."],
     },
     Command {
         name: "run",
+        group: Group::Sample,
         operand: Operand::Job,
         summary: "the frames and the outcome deltas of all shots, and how often each outcome is flipped",
         details: &[
@@ -81,6 +84,7 @@ and 'delta=' for each recorded outcome, with a digit for each shot, shot 0 first
     },
     Command {
         name: "settle",
+        group: Group::Jobs,
         operand: Operand::Job,
         summary: "the job with its noise replaced by the injections that it draws",
         details: &[
@@ -93,6 +97,7 @@ and 'delta=' for each recorded outcome, with a digit for each shot, shot 0 first
     },
     Command {
         name: "walk",
+        group: Group::Faults,
         operand: Operand::Job,
         summary: "the count of faults that flip the parity of a set of outcomes",
         details: &["\
@@ -104,6 +109,7 @@ first). Prints 'ok=1 count=' and the number of the shot's faults that flip the s
     },
     Command {
         name: "annotate",
+        group: Group::Jobs,
         operand: Operand::Job,
         summary: "the job with depolarizing noise before each measurement and after each gate",
         details: &["\
@@ -114,6 +120,7 @@ or --p-bits is wanted."],
     },
     Command {
         name: "locations",
+        group: Group::Faults,
         operand: Operand::Job,
         summary: "the number of fault locations",
         details: &["\
@@ -124,6 +131,7 @@ job. A qubit that control and target share counts for both."],
     },
     Command {
         name: "correlation",
+        group: Group::Jobs,
         operand: Operand::Job,
         summary: "whether correlated noise lines agree in size",
         details: &[
@@ -134,6 +142,7 @@ job. A qubit that control and target share counts for both."],
     },
     Command {
         name: "faults",
+        group: Group::Faults,
         operand: Operand::Job,
         summary: "the table of single faults: which groups of outcomes each flips",
         details: &[faults::TABLE],
@@ -142,6 +151,7 @@ job. A qubit that control and target share counts for both."],
     },
     Command {
         name: "dem",
+        group: Group::Faults,
         operand: Operand::Job,
         summary: "the job's noise as a detector error model, for a decoder",
         details: &[faults::MODEL, faults::APPROXIMATION],
@@ -150,6 +160,7 @@ job. A qubit that control and target share counts for both."],
     },
     Command {
         name: "sample",
+        group: Group::Sample,
         operand: Operand::Job,
         summary: "the rates of any number of shots, with their intervals, or the shots by row",
         details: sample::DETAILS,
@@ -158,6 +169,7 @@ job. A qubit that control and target share counts for both."],
     },
     Command {
         name: "merge",
+        group: Group::Sample,
         operand: Operand::Values(FILE),
         summary: "the sum of the counts of several samples",
         details: &[counts::DETAILS],
@@ -166,6 +178,7 @@ job. A qubit that control and target share counts for both."],
     },
     Command {
         name: "share",
+        group: Group::Shares,
         operand: Operand::None,
         summary: "the account of a main list that several callers have shares of",
         details: &[shares::NEW],
@@ -174,6 +187,7 @@ job. A qubit that control and target share counts for both."],
     },
     Command {
         name: "split",
+        group: Group::Shares,
         operand: Operand::Job,
         summary: "a job for each of several benches, with a part of the shots",
         details: &["\
@@ -187,6 +201,7 @@ write: the sum is what a run of the whole job writes. In its own shots each run 
     },
     Command {
         name: "add",
+        group: Group::Shares,
         operand: Operand::Values(FILE),
         summary: "the sum of the rows of several runs",
         details: &["\
@@ -198,6 +213,7 @@ the injections and flips of all, each among the same lines, and twice where two 
     },
     Command {
         name: "make",
+        group: Group::Make,
         operand: Operand::None,
         summary: "a job from a seed, the same on every machine",
         details: &[load::JOB],
@@ -206,6 +222,7 @@ the injections and flips of all, each among the same lines, and twice where two 
     },
     Command {
         name: "fill",
+        group: Group::Make,
         operand: Operand::None,
         summary: "words from a state or a seed, the same on every machine",
         details: &[load::WORDS],
@@ -214,6 +231,7 @@ the injections and flips of all, each among the same lines, and twice where two 
     },
     Command {
         name: "sizes",
+        group: Group::Jobs,
         operand: Operand::Job,
         summary: "the job with the size of the distribution on each noise line",
         details: &[sizes::DETAILS],
@@ -222,6 +240,7 @@ the injections and flips of all, each among the same lines, and twice where two 
     },
     Command {
         name: "bits",
+        group: Group::Jobs,
         operand: Operand::Values("NUMBER"),
         summary: "the bits of probabilities or weights, as jobs have them, from decimal",
         details: &[numbers::BITS],
@@ -230,6 +249,7 @@ the injections and flips of all, each among the same lines, and twice where two 
     },
     Command {
         name: "decimal",
+        group: Group::Jobs,
         operand: Operand::Values("BITS"),
         summary: "probabilities or weights in decimal, from their bits",
         details: &[numbers::DECIMAL],
@@ -237,7 +257,17 @@ the injections and flips of all, each among the same lines, and twice where two 
         obey: numbers::print_decimal,
     },
     Command {
+        name: "help",
+        group: Group::Program,
+        operand: Operand::Command,
+        summary: "what the program or one of its commands does",
+        details: &["Prints the help of a command, as its --help does, or of the whole program."],
+        options: &[],
+        obey: help,
+    },
+    Command {
         name: "completions",
+        group: Group::Program,
         operand: Operand::Word("SHELL", SHELLS),
         summary: "a script that lets a shell complete commands and options",
         details: &[completions::DETAILS],
@@ -246,6 +276,7 @@ the injections and flips of all, each among the same lines, and twice where two 
     },
     Command {
         name: "man",
+        group: Group::Program,
         operand: Operand::None,
         summary: "the manual page of this program",
         details: &["Prints the manual page, for man: 'kundatrezo man >kundatrezo.1'."],
@@ -253,6 +284,42 @@ the injections and flips of all, each among the same lines, and twice where two 
         obey: |_| print(manual::page()),
     },
 ];
+
+/// The options that take the place of a command.
+pub const PROGRAM_OPTIONS: &[ProgramOption] = &[
+    ProgramOption {
+        short: "-h",
+        long: "--help",
+        text: "print the help of the program; after a command, that of the command",
+        run: || print(manual::help()),
+    },
+    ProgramOption {
+        short: "-V",
+        long: "--version",
+        text: "print the version",
+        run: || print(concat!("kundatrezo ", env!("CARGO_PKG_VERSION"), "\n")),
+    },
+];
+
+/// The command of a name.
+pub fn command(name: &str) -> Result<&'static Command, Failure> {
+    COMMANDS.iter().find(|command| command.name == name).ok_or_else(|| {
+        let names = COMMANDS.iter().map(|command| command.name);
+        let options = PROGRAM_OPTIONS.iter().flat_map(ProgramOption::names);
+        let hint = nearest(name, names.chain(options)).map(|known| format!(" ({})", did_you_mean(known)));
+        Failure::Other(format!(
+            "there is no command '{name}'{}; 'kundatrezo --help' names those that there are",
+            hint.unwrap_or_default()
+        ))
+    })
+}
+
+fn help(arguments: &Arguments) -> Result<(), Failure> {
+    match arguments.operands().first() {
+        Some(name) => print(command(&shown(name))?.help()),
+        None => print(manual::help()),
+    }
+}
 
 fn check(arguments: &Arguments) -> Result<(), Failure> {
     let (_, examined) = examined(arguments)?;
@@ -328,10 +395,8 @@ fn walk(arguments: &Arguments) -> Result<(), Failure> {
     };
     let (job, examined) = examined(arguments)?;
     let count = kundatrezo::walk(&job, shot, &set).map_err(|refusal| match refusal.number {
-        Number::WALK if shot >= examined.shots as u64 => {
-            Failure::refused_shot(&format!("the job's shots are 0 to {}", examined.shots - 1))
-        }
-        Number::WALK => Failure::refused_list(&outcomes_wanted(SET.name, examined.recorded)),
+        Number::WALK if shot >= examined.shots as u64 => Failure::refused_shot(&examined.shot_hint()),
+        Number::WALK => Failure::refused_list(&examined.outcomes_hint(SET.name)),
         _ => Failure::refused(&refusal, &job, None),
     })?;
     print(format!("ok=1 count={count}\n"))
@@ -466,14 +531,6 @@ pub fn write_out(arguments: &Arguments, bytes: &[u8]) -> Result<(), Failure> {
     match arguments.value(OUTPUT.name) {
         Some(path) => files::write(path, bytes),
         None => print(bytes),
-    }
-}
-
-/// What a list of outcomes that is refused by 17 is to be.
-pub fn outcomes_wanted(what: &str, recorded: usize) -> String {
-    match recorded {
-        0 => "the job records no outcome".into(),
-        some => format!("{what}: it names recorded outcomes, 0 to {}, each once", some - 1),
     }
 }
 

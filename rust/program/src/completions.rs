@@ -1,7 +1,7 @@
 //! Scripts by which shells complete commands, options and files.
 
-use crate::arguments::{Arguments, Command, FILE, Flag, Operand};
-use crate::commands::COMMANDS;
+use crate::arguments::{Arguments, Command, FILE, Flag, Operand, ProgramOption};
+use crate::commands::{COMMANDS, PROGRAM_OPTIONS};
 use crate::{Failure, print};
 use std::fmt::Write;
 
@@ -21,20 +21,25 @@ pub fn print_script(arguments: &Arguments) -> Result<(), Failure> {
     })
 }
 
-fn names(command: &Command) -> Vec<&'static str> {
-    command.flags().map(|flag| flag.name).chain(["--help"]).collect()
+/// The names of all commands.
+fn command_names() -> Vec<&'static str> {
+    COMMANDS.iter().map(|command| command.name).collect()
 }
 
 /// The words that a command is called on, if there are such.
-fn operands(command: &Command) -> &'static [&'static str] {
-    if let Operand::Word(_, words) = command.operand { words } else { &[] }
+fn operands(command: &Command) -> Vec<&'static str> {
+    match command.operand {
+        Operand::Word(_, words) => words.to_vec(),
+        Operand::Command => command_names(),
+        _ => Vec::new(),
+    }
 }
 
 fn bash() -> String {
-    let commands: Vec<&str> = COMMANDS.iter().map(|command| command.name).collect();
+    let first = command_names().into_iter().chain(PROGRAM_OPTIONS.iter().flat_map(ProgramOption::names));
     let mut cases = String::new();
     for command in COMMANDS {
-        let words = [operands(command), &names(command)].concat().join(" ");
+        let words = operands(command).into_iter().chain(command.option_names()).collect::<Vec<_>>().join(" ");
         writeln!(cases, "        {}) words='{words}' ;;", command.name).expect("a string takes all");
     }
     let mut files: Vec<&str> =
@@ -45,7 +50,7 @@ fn bash() -> String {
         "_kundatrezo() {{
     local word=${{COMP_WORDS[COMP_CWORD]}} before=${{COMP_WORDS[COMP_CWORD - 1]}} words=
     if ((COMP_CWORD == 1)); then
-        COMPREPLY=($(compgen -W '{} --help --version' -- \"$word\"))
+        COMPREPLY=($(compgen -W '{}' -- \"$word\"))
         return
     fi
     case $before in
@@ -60,7 +65,7 @@ fn bash() -> String {
 }}
 complete -o filenames -F _kundatrezo kundatrezo
 ",
-        commands.join(" "),
+        first.collect::<Vec<_>>().join(" "),
         files.join("|"),
     )
 }
@@ -68,6 +73,11 @@ complete -o filenames -F _kundatrezo kundatrezo
 fn zsh() -> String {
     let mut commands = String::new();
     let mut cases = String::new();
+    for option in PROGRAM_OPTIONS {
+        for name in option.names() {
+            writeln!(commands, "        '{name}:{}'", quoted(option.text)).expect("a string takes all");
+        }
+    }
     for command in COMMANDS {
         writeln!(commands, "        '{}:{}'", command.name, quoted(command.summary)).expect("a string takes all");
         let option = |flag: &Flag| {
@@ -80,7 +90,8 @@ fn zsh() -> String {
             Operand::Job => "':job:_files'".into(),
             Operand::Values(FILE) => format!("'*:{FILE}:_files'"),
             Operand::Values(name) => format!("'*:{name}:'"),
-            Operand::Word(name, words) => format!("':{name}:({})'", words.join(" ")),
+            Operand::Word(name, _) => format!("':{name}:({})'", operands(command).join(" ")),
+            Operand::Command => format!("'::COMMAND:({})'", operands(command).join(" ")),
             Operand::None => String::new(),
         };
         writeln!(
@@ -112,7 +123,13 @@ _kundatrezo \"$@\"
 }
 
 fn fish() -> String {
-    let mut script = String::from("complete -c kundatrezo -f -n __fish_use_subcommand -l help -d 'say how'\n");
+    let mut script = String::new();
+    for option in PROGRAM_OPTIONS {
+        let [short, long] = option.names().map(|name| name.trim_start_matches('-'));
+        let text = quoted(option.text);
+        writeln!(script, "complete -c kundatrezo -f -n __fish_use_subcommand -s {short} -l {long} -d '{text}'")
+            .expect("a string takes all");
+    }
     for command in COMMANDS {
         let (name, summary) = (command.name, quoted(command.summary));
         let is_chosen = format!("-n '__fish_seen_subcommand_from {name}'");
@@ -126,7 +143,7 @@ fn fish() -> String {
         }
         let operand = match command.operand {
             Operand::Job | Operand::Values(FILE) => "-F".into(),
-            Operand::Word(_, words) => format!("-f -a '{}'", words.join(" ")),
+            Operand::Word(..) | Operand::Command => format!("-f -a '{}'", operands(command).join(" ")),
             Operand::Values(_) | Operand::None => "-f".into(),
         };
         writeln!(script, "complete -c kundatrezo {is_chosen} {operand}").expect("a string takes all");

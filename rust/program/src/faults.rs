@@ -1,7 +1,7 @@
 //! What each possible fault does, as a table and as a detector error model.
 
 use crate::arguments::{Arguments, Flag};
-use crate::commands::{examined, outcomes, outcomes_wanted, write_out};
+use crate::commands::{examined, outcomes, write_out};
 use crate::{Failure, say};
 use kundatrezo::{Answer, MAX_BYTES, MAX_GROUPS, Number, Refusal};
 
@@ -78,7 +78,7 @@ fn called<T>(
         let mut all = groups.iter().flat_map(|(what, groups)| groups.iter().map(move |group| (what, group)));
         let (what, group) = all.find(|(_, group)| examined.test_set(group).is_err())?;
         let members: Vec<String> = group.iter().map(u64::to_string).collect();
-        Some(outcomes_wanted(&format!("the {what} {}", members.join(",")), examined.recorded))
+        Some(examined.outcomes_hint(&format!("the {what} {}", members.join(","))))
     };
     let remedy = |refusal: &Refusal| match refusal.number {
         Number::GROUPS if refusal.line == 0 => {

@@ -15,11 +15,12 @@ mod sample;
 mod shares;
 mod shots;
 mod sizes;
+mod spelling;
 mod turns;
 mod words;
 
-use arguments::{Arguments, Command};
-use commands::COMMANDS;
+use arguments::Arguments;
+use commands::PROGRAM_OPTIONS;
 use kundatrezo::{Number, Refusal};
 use std::ffi::OsString;
 use std::io::{self, Write};
@@ -59,7 +60,7 @@ impl Failure {
 
     /// A refusal by one of the causes that a number's words have.
     fn by_cause(number: Number, cause: usize, remedy: &str) -> Self {
-        let words = number.words().split("; ").nth(cause).unwrap_or(number.words());
+        let words = number.cause(cause);
         Self::Refused(format!("refused: {} ({words})\nhint: {remedy}", number.get()))
     }
 }
@@ -91,18 +92,13 @@ fn main() -> ExitCode {
 
 fn obey(arguments: &[OsString]) -> Result<(), Failure> {
     let Some((first, rest)) = arguments.split_first() else {
-        return Err(Failure::Other(format!("a command is missing\n\n{}", whole_help().trim_end())));
+        return Err(Failure::Other(format!("a command is missing\n\n{}", manual::help().trim_end())));
     };
     let name = files::shown(first);
-    if name == "--help" || name == "-h" {
-        return print(whole_help());
+    if let Some(option) = PROGRAM_OPTIONS.iter().find(|option| option.names().contains(&name.as_str())) {
+        return (option.run)();
     }
-    if name == "--version" {
-        return print(concat!("kundatrezo ", env!("CARGO_PKG_VERSION"), "\n"));
-    }
-    let command = COMMANDS.iter().find(|command| command.name == name).ok_or_else(|| {
-        Failure::Other(format!("there is no command '{name}'; 'kundatrezo --help' names those that there are"))
-    })?;
+    let command = commands::command(&name)?;
     match Arguments::read(command, rest) {
         Ok(Some(arguments)) => {
             arguments.names(command).test()?;
@@ -123,44 +119,6 @@ fn print(text: impl AsRef<[u8]>) -> Result<(), Failure> {
     let mut out = io::stdout().lock();
     out.write_all(text.as_ref())?;
     Ok(out.flush()?)
-}
-
-/// What the program is.
-const SUMMARY: &str = "Kundatrezo: a Pauli-frame noise engine. Calls on jobs that lie in files.";
-
-/// What all commands have in common, in paragraphs.
-const COMMON: [&str; 3] = [
-    "\
-JOB is a file, or - for standard input; docs/JOBS.md has the language of jobs. A file of words holds 64-bit
-words, eight bytes each, the lowest byte first. An option whose value is shown with .. may be given several
-times, others once. What follows -- is no option.",
-    "\
-Exit status: 0, the work is done; 1, the call refused, and standard error says by which number, at which
-line, and what may help (docs/REFUSALS.md has more); 2, the arguments are at fault, or a file or standard
-output can't be read or written. Unless the status is 0 no file is changed, but for an account of shared
-words, which is written before all else, and by a refusal by 14 too.",
-    "\
-A file is written in its folder as NAME.XXXXXXXXXXXXXXXX.partial, and gets its name when all is written; until
-then the old file stays as it was. The new file has the mode of the old one. If the name is a link, the file
-that it leads to is replaced. An output that is also an input, or is named for two outputs, is refused. Pipes
-and devices are written under their names.",
-];
-
-/// The help of the whole program.
-fn whole_help() -> String {
-    let row = |command: &Command| format!("    {:<12} {}\n", command.name, command.summary);
-    let commands: String = COMMANDS.iter().map(row).collect();
-    format!(
-        "{SUMMARY}
-
-usage: kundatrezo COMMAND JOB [OPTION VALUE]..
-       kundatrezo COMMAND --help
-
-{commands}
-{}
-",
-        COMMON.join("\n\n")
-    )
 }
 
 /// A line of a job as printable text, cut where it is long.

@@ -1,15 +1,12 @@
 //! Any number of shots of a job: how often outcomes and parities are flipped, or the shots themselves in the forms that decoders read.
 
 use crate::arguments::{Arguments, FILE, Flag, NEW_FILE};
-use crate::commands::{outcomes, outcomes_wanted};
+use crate::commands::outcomes;
 use crate::files::{self, Output, shown};
 use crate::progress::Progress;
 use crate::turns::Turns;
 use crate::{Failure, print, say, shots};
-use kundatrezo::{
-    Bench, Counts, Examination, Frames, MAX_BYTES, MAX_OUTCOMES, MAX_SHOTS, Named, Number, Refusal, Sampler,
-    by_outcome, by_shot,
-};
+use kundatrezo::{Bench, Counts, Examination, Frames, MAX_OUTCOMES, Named, Refusal, Sampler, SamplerError, by_shot};
 use std::ffi::OsStr;
 use std::fs::File;
 use std::io::{IsTerminal, stdout};
@@ -88,9 +85,9 @@ pub fn sample(arguments: &Arguments) -> Result<(), Failure> {
     let asked = Asked::read(arguments)?;
     let job = files::job(arguments.operand())?;
     let whole = Whole::read(arguments, asked, &job)?;
-    note_conditions(arguments, &job)?;
+    note_conditions(arguments, &job);
     let (mut output, counts) = whole.run(arguments.value(OUTPUT.name))?;
-    let text = whole.text(counts);
+    let text = whole.text(counts)?;
     match (asked.format.has_rows(), arguments.value(OUTPUT.name)) {
         (false, _) => {
             output.write(text.as_bytes())?;
@@ -182,23 +179,25 @@ fn sets(arguments: &Arguments, job: Examination) -> Result<Vec<Vec<u64>>, Failur
     let set = |(place, text): &(String, String)| {
         let fault = || format!("{place}a set is to be {SET_IS}, not '{}'", text.escape_default());
         let set = outcomes(text).ok_or_else(|| Failure::Other(fault()))?;
-        job.test_set(&set)
-            .map_err(|_| Failure::refused_list(&outcomes_wanted(&format!("{place}the set {text}"), job.recorded)))?;
+        job.test_set(&set).map_err(|_| Failure::refused_list(&job.outcomes_hint(&format!("{place}the set {text}"))))?;
         Ok(set)
     };
     given.iter().map(set).collect()
 }
 
-fn named(arguments: &Arguments, job: &[u8]) -> Result<Option<Named>, Failure> {
-    let named = arguments.parsed(NAMED.name, "'whole' or 'block'", Named::of_name)?;
-    match (named, kundatrezo::first_named(job)) {
-        (None, Some(line)) => Err(Failure::Other(format!(
-            "line {line} stands in a shot that it names. With {0} whole it stands in that shot of the whole sample, with {0} \
-             block in that shot of each block of {1}; for a fault in every shot write noise of p = 1",
-            NAMED.name, MAX_SHOTS
-        ))),
-        (named, _) => Ok(named),
-    }
+fn sampler(arguments: &Arguments, asked: Asked, job: &[u8]) -> Result<Sampler, Failure> {
+    let sampler = match arguments.parsed(NAMED.name, "'whole' or 'block'", Named::of_name)? {
+        Some(named) => Sampler::with_named(job, asked.shots, asked.seed, named).map_err(SamplerError::from),
+        None => Sampler::new(job, asked.shots, asked.seed),
+    };
+    sampler.map_err(|error| match error {
+        SamplerError::Refused(refusal) => Failure::refused(&refusal, job, None),
+        SamplerError::NamedShot { line } => {
+            let [whole, block] = ["whole", "block"].map(|value| format!("{} {value}", NAMED.name));
+            Failure::Other(kundatrezo::named_fault(line, &whole, &block))
+        }
+        other => Failure::Other(other.to_string()),
+    })
 }
 
 /// A file with noiseless bits for each shot of the whole, and its name.
@@ -241,28 +240,13 @@ fn noiseless(
     }
 }
 
-/// Say that noise with a condition looks at noiseless bits that are not given, or at those of a random outcome, which are the same in all shots or
-/// come again.
-fn note_conditions(arguments: &Arguments, job: &[u8]) -> Result<(), Failure> {
-    let conditions = kundatrezo::conditions(job);
-    let (Some((first, _)), None) = (conditions.first(), arguments.value(NOISELESS_SHOTS.name)) else {
-        return Ok(());
-    };
-    let is_given = arguments.value(NOISELESS.name).is_some();
-    if !is_given {
-        let options = format!("{} or {}", NOISELESS.name, NOISELESS_SHOTS.name);
-        say(&format!("note: line {first} has noise with a condition, and without {options} all noiseless bits are 0"));
+/// Say that noise with a condition looks at noiseless bits that are not given, or at those of a random outcome.
+fn note_conditions(arguments: &Arguments, job: &[u8]) {
+    if arguments.value(NOISELESS_SHOTS.name).is_none() {
+        let is_given = arguments.value(NOISELESS.name).is_some();
+        let notes = kundatrezo::condition_notes(job, is_given, NOISELESS.name, NOISELESS_SHOTS.name);
+        notes.iter().for_each(|note| say(&format!("note: {note}")));
     }
-    if let Some((line, outcome)) = conditions.iter().find_map(|(line, random)| Some((line, (*random)?))) {
-        let shots = kundatrezo::examine(job).map_err(|refusal| Failure::refused(&refusal, job, None))?.shots;
-        let same = if is_given { format!("comes again every {shots} shots") } else { "is 0 in every shot".into() };
-        say(&format!(
-            "note: the condition of line {line} looks at outcome {outcome}, which op=r records at random, and its noiseless bit {same}: {} \
-             gives it for each shot",
-            NOISELESS_SHOTS.name
-        ));
-    }
-    Ok(())
 }
 
 /// What is sampled.
@@ -296,24 +280,21 @@ impl Whole<'_> {
         if asked.format.has_rows() && sets.len() > MAX_OUTCOMES {
             return Err(Failure::Other(format!("a row has at most {MAX_OUTCOMES} sets")));
         }
-        let sampler = match named(arguments, job)? {
-            Some(named) => Sampler::with_named(job, asked.shots, asked.seed, named),
-            None => Sampler::new(job, asked.shots, asked.seed),
-        };
-        let (sampler, given) = noiseless(arguments, sampler.map_err(refused)?, examined)?;
+        let (sampler, given) = noiseless(arguments, sampler(arguments, asked, job)?, examined)?;
         Ok(Whole { asked, job, sampler, sets, given })
     }
 
     /// The counts as a table, or as the text that is merged. Those of rows in a file are printed as if rows were not asked for.
-    fn text(&self, counts: Counts) -> String {
+    fn text(&self, counts: Counts) -> Result<String, Failure> {
         let saved = self.sampler.saved(counts, &self.sets, self.asked.part);
+        let saved = saved.map_err(|error| Failure::Other(error.to_string()))?;
         let saved = if self.given.is_some() { saved.with_lent_noiseless() } else { saved };
         let is_table = match self.asked.format {
             Format::Table => true,
             Format::Counts => false,
             Format::Digits | Format::Packed => stdout().is_terminal(),
         };
-        if is_table { saved.table() } else { saved.text() }
+        Ok(if is_table { saved.table() } else { saved.text() })
     }
 
     /// Run the blocks of the part that is asked for: rows go to a file or to standard output, in their order.
@@ -356,22 +337,17 @@ impl Whole<'_> {
     fn block(&self, memory: &mut Memory, block: u64, turns: &Turns) -> Result<(), Failure> {
         let Memory { bench, counts, parities, rows, bytes } = memory;
         let frames = match &self.given {
-            None => self.sampler.run(block, bench),
-            Some((file, name)) => {
-                self.read_noiseless(file, block, bytes, bench)
-                    .map_err(|error| Failure::Other(format!("{name}: {error}")))?;
-                self.sampler.run_lent(block, bench)
-            }
+            None => self.sampler.run(block, bench).map_err(|refusal| self.refused(&refusal))?,
+            Some(given) => self.run_given(given, block, bytes, bench)?,
         };
-        let frames = frames.map_err(|refusal| self.refused(&refusal))?;
-        counts.add(frames, &self.sets);
+        counts.add(frames, &self.sets).map_err(|refusal| self.refused(&refusal))?;
         if !self.asked.format.has_rows() {
             return Ok(());
         }
         let (count, deltas) = match self.sets.as_slice() {
             [] => (frames.job().outcomes, frames.deltas()),
             sets => {
-                sums(frames, sets, parities);
+                frames.sums(sets, parities).map_err(|refusal| self.refused(&refusal))?;
                 (sets.len(), parities.as_slice())
             }
         };
@@ -386,49 +362,23 @@ impl Whole<'_> {
         turns.write(block, bytes)
     }
 
-    /// The noiseless bits of a block, from a file that has bytes for each shot.
-    fn read_noiseless(&self, file: &File, block: u64, bytes: &mut Vec<u8>, bench: &mut Bench) -> std::io::Result<()> {
+    /// Run a block with the noiseless bits that a file has for each of its shots.
+    fn run_given<'a>(
+        &self,
+        (file, name): &GivenShots,
+        block: u64,
+        bytes: &mut Vec<u8>,
+        bench: &'a mut Bench,
+    ) -> Result<&'a Frames, Failure> {
         let Range { start, end } = self.sampler.shots_of(block);
-        let (outcomes, shots) = (self.sampler.job().outcomes, usize::try_from(end - start).unwrap_or_default());
-        let row = outcomes.div_ceil(8);
-        bytes.resize(row * shots, 0);
-        file.read_exact_at(bytes, start * row as u64)?;
-        let mut rows = Vec::with_capacity(shots * outcomes.div_ceil(64));
-        for shot in bytes.chunks_exact(row.max(1)) {
-            rows.extend(shot.chunks(8).map(|word| {
-                let mut bytes = [0; 8];
-                bytes[..word.len()].copy_from_slice(word);
-                u64::from_le_bytes(bytes)
-            }));
-        }
-        bench.noiseless.resize(outcomes * shots.div_ceil(64), 0);
-        let done = by_outcome(outcomes as u64, shots as u64, &rows, &mut bench.noiseless);
-        done.map_err(|refusal| std::io::Error::other(refusal.to_string()))
+        let row = self.sampler.job().outcomes.div_ceil(8);
+        bytes.resize(row * usize::try_from(end - start).unwrap_or_default(), 0);
+        file.read_exact_at(bytes, start * row as u64).map_err(|error| Failure::Other(format!("{name}: {error}")))?;
+        self.sampler.run_packed(block, bytes, bench).map_err(|refusal| self.refused(&refusal))
     }
 
     /// The refusal of a block, whose lines are those of the job.
     fn refused(&self, refusal: &Refusal) -> Failure {
-        let remedy = match refusal.number {
-            Number::LENGTH => {
-                Some(format!("with {MAX_SHOTS} shots in its header the job has more than {MAX_BYTES} bytes"))
-            }
-            Number::SHOT => Some(format!("the whole has {} shots", self.sampler.shots())),
-            Number::DRAWS => Some("place corr of this line lies past 268435456 words, the most of a list".to_owned()),
-            _ => None,
-        };
-        Failure::refused(refusal, self.job, remedy)
-    }
-}
-
-/// For each set the sum of its rows, one after the other.
-fn sums(frames: &Frames, sets: &[Vec<u64>], out: &mut Vec<u64>) {
-    let words = frames.job().words_per_row();
-    out.clear();
-    out.resize(sets.len() * words, 0);
-    for (row, set) in out.chunks_exact_mut(words).zip(sets) {
-        for id in set {
-            let delta = frames.delta_row(usize::try_from(*id).unwrap_or(usize::MAX));
-            row.iter_mut().zip(delta).for_each(|(word, delta)| *word ^= delta);
-        }
+        Failure::refused(refusal, self.job, self.sampler.hint(refusal))
     }
 }

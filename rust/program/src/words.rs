@@ -4,7 +4,7 @@ use crate::arguments::{Arguments, FILE, Flag};
 use crate::commands::longer;
 use crate::shares::Share;
 use crate::{Failure, files};
-use kundatrezo::{Answer, Caller, Draws, Examination, Number, Refusal, Source as Drawn, Used, Xorshift};
+use kundatrezo::{Answer, Caller, Circuit, Draws, Examination, Number, Refusal, Source as Drawn, Used, Xorshift};
 use std::ffi::OsString;
 use std::io::Read;
 
@@ -293,7 +293,7 @@ impl<'a> Lent<'a> {
         let for_line = 2 * self.examined.shots;
         match self.correlation(refusal) {
             None => {
-                let lines = self.job.split(|byte| *byte == b'\n').filter(|line| line.starts_with(b"op=n ")).count();
+                let lines = Circuit::read(self.job).map_or(0, |circuit| circuit.noise().count());
                 self.main.grow((lines * for_line).max(2 * self.main.words.len()))
             }
             Some(correlation) => {
@@ -306,10 +306,9 @@ impl<'a> Lent<'a> {
         }
     }
 
-    /// The correlation of the refused noise line, which has passed the checks.
+    /// The correlation of the refused noise line.
     fn correlation(&self, refusal: &Refusal) -> Option<u64> {
-        let line = std::str::from_utf8(refusal.line_of(self.job)?).ok()?;
-        line.split(' ').find_map(|field| field.strip_prefix("corr="))?.parse().ok()
+        Circuit::read(self.job).ok()?.noise_at(usize::try_from(refusal.line).ok()?)?.correlation
     }
 
     /// The place from which a line with this correlation reads the second list.

@@ -2,7 +2,9 @@
 
 mod by_shot;
 mod codes;
+mod declarations;
 mod editions;
+mod instructions;
 mod make;
 mod names;
 mod output;

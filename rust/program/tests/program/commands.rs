@@ -333,7 +333,13 @@ fn arguments_at_fault() {
     let odd = file(&folder, "odd", [0; 9]);
     let cases = [
         ("", "a command is missing"),
-        ("simulate -", "there is no command 'simulate'"),
+        ("simulate -", "there is no command 'simulate'; 'kundatrezo --help' names those that there are"),
+        ("smaple -", "there is no command 'smaple' (did you mean sample?); 'kundatrezo --help' names"),
+        ("--verison", "there is no command '--verison' (did you mean --version?); 'kundatrezo --help' names"),
+        ("help smaple", "there is no command 'smaple' (did you mean sample?); 'kundatrezo --help' names"),
+        ("help run walk", "one command is wanted, and 'walk' is one more; see 'kundatrezo help --help'"),
+        ("run - --sede 1", "'run' has no option '--sede' (did you mean --seed?); see 'kundatrezo run --help'"),
+        ("run - --noise 1", "'run' has no option '--noise' (did you mean --noiseless?)"),
         ("check", "a job is missing"),
         ("check - -", "one job is wanted"),
         ("check - --seed 1", "'check' has no option '--seed'"),
@@ -497,15 +503,25 @@ fn help_names_every_command_and_option() {
         ("sizes", vec!["output"]),
         ("bits", vec![]),
         ("decimal", vec![]),
+        (
+            "sample",
+            "shots seed set sets format output threads part named noiseless noiseless-shots".split(' ').collect(),
+        ),
+        ("merge", vec!["output"]),
+        ("help", vec![]),
         ("completions", vec![]),
         ("man", vec![]),
     ];
     let page = help("man");
+    let complete = help("completions bash");
+    assert_eq!(page.matches("\n.SS kundatrezo ").count(), commands.len());
+    assert_eq!(complete.matches(") words='").count(), commands.len());
     for (command, options) in commands {
         assert!(whole.contains(&format!("    {command} ")), "{command}");
         let own = help(&format!("{command} --help"));
         assert!(own.starts_with(&format!("usage: kundatrezo {command}")), "{own}");
         assert!(page.contains(&format!("\n.SS kundatrezo {command}")), "{command}");
+        assert_eq!(help(&format!("help {command}")), own);
         let rows = own.lines().filter(|line| line.starts_with("    --")).count();
         assert_eq!(rows, options.len(), "{own}");
         for option in options {
@@ -513,6 +529,33 @@ fn help_names_every_command_and_option() {
             assert!(page.contains(&format!("\n\\fB\\-\\-{}\\fR ", option.replace('-', "\\-"))), "{option}");
         }
     }
+    assert_eq!((help("-h"), help("help")), (whole.clone(), whole));
     assert_eq!(help("run -h"), help("run --help"));
     assert!(help("--version").starts_with("kundatrezo "));
+    assert_eq!(help("-V"), help("--version"));
+}
+
+/// Each command stands under one heading of the help, and under the same one of the manual page.
+#[test]
+fn help_and_manual_have_groups() {
+    let groups = [
+        ("Write and check jobs", "check settle annotate correlation sizes bits decimal"),
+        ("Sample", "run sample merge"),
+        ("Faults and decoders", "walk locations faults dem"),
+        ("Shares of shots and words", "share split add"),
+        ("Make jobs and words from seeds", "make fill"),
+        ("This program", "help completions man"),
+    ];
+    let [help, page] = ["help", "man"].map(|command| String::from_utf8(call(command, "").stdout).expect("text"));
+    for (title, commands) in groups {
+        let (_, rows) = help.split_once(&format!("\n{title}:\n")).expect("a heading");
+        let rows = rows.split("\n\n").next().unwrap_or_default();
+        let names: Vec<&str> = rows.lines().filter_map(|row| row.split_whitespace().next()).collect();
+        assert_eq!(names.join(" "), commands, "{title}");
+        let (_, section) = page.split_once(&format!("\n.SH {}\n", title.to_uppercase())).expect("a section");
+        let section = section.split("\n.SH ").next().unwrap_or_default();
+        let usages = section.lines().filter_map(|line| line.strip_prefix(".SS kundatrezo "));
+        let names: Vec<&str> = usages.filter_map(|usage| usage.split(' ').next()).collect();
+        assert_eq!(names.join(" "), commands, "{title}");
+    }
 }

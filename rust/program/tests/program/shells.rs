@@ -55,6 +55,8 @@ fn bash_completes() {
         ("kundatrezo faults job --group 0 --g", "--group\n"),
         ("kundatrezo sizes job --o", "--output\n"),
         ("kundatrezo completions z", "zsh\n"),
+        ("kundatrezo help co", "correlation completions\n"),
+        ("kundatrezo --v", "--version\n"),
     ];
     for (words, expected) in cases {
         if let Some(said) = completed(words) {
