@@ -37,9 +37,9 @@ class _Reply(ctypes.Structure):
 
 
 # The calls that the package makes. What they take, the library says.
-_NAMES = """declarations refusals examine run settle walk annotate locations correlation by_shot by_outcome fill state_of_seed state_of_block make
-    outcomes fault_table error_model condition_notes sampling_open sampling_run sampling_text sampling_close counts_read counts_add rates
-    free""".split()
+_NAMES = """declarations refusals gates forms examine circuit run settle walk annotate locations correlation by_shot by_outcome fill state_of_seed
+    state_of_block make outcomes fault_table error_model condition_notes sampling_open sampling_run sampling_text sampling_close counts_read
+    counts_add rates free""".split()
 
 PATH = Path(os.environ.get("KUNDATREZO_LIBRARY") or Path(__file__).with_name("libkundatrezo_edge.so")).absolute()
 """The library's file: that beside this one, or the one that KUNDATREZO_LIBRARY names. This variable is trusted: the code is run in this process. The
@@ -235,8 +235,6 @@ def bits(rows: Words, count: int) -> npt.NDArray[np.bool_]:
         raise ValueError(f"rows are to be an array with a row of words each, not of shape {given.shape}")
     if not 0 <= (count := whole(count, "count")) <= 64 * given.shape[1]:
         raise ValueError(f"a row of {given.shape[1]} words has {64 * given.shape[1]} bits, not {count}")
-    if given.shape[1] == 0:
-        return np.zeros((len(given), 0), dtype=bool)
     packed = read_words(rows).astype("<u8", copy=False).reshape(given.shape)
     return np.unpackbits(packed.view(np.uint8), axis=1, count=count, bitorder="little").view(bool)
 

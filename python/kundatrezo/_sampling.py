@@ -191,10 +191,9 @@ def _planned(
     shots, seed = whole(shots, "shots", least=1), whole(seed, "a seed")
     if not (isinstance(part, tuple) and len(part) == 2 and 1 <= whole(part[0], "part") <= whole(part[1], "part")):
         raise ValueError(f"part is to be (I, K), with I from 1 to K, not {part!r}")
-    rows, needed, row = None if noiseless is None else read_words(noiseless), (job.outcomes, job.row_words), ceil(job.outcomes / 8)
-    if rows is not None and (rows.size != needed[0] * needed[1] or (np.ndim(noiseless) > 1 and np.shape(noiseless) != needed)):
-        header = f"the header's outcomes={job.outcomes} and shots={job.shots} need exactly {needed[0] * needed[1]}, shape {needed}"
-        raise ValueError(f"noiseless bits of {rows.size} words, shape {np.shape(noiseless)}, but {header}")
+    rows, row = None if noiseless is None else read_words(noiseless), ceil(job.outcomes / 8)
+    if np.ndim(noiseless) > 1 and np.shape(noiseless) != (shape := (job.outcomes, job.row_words)):
+        raise ValueError(f"noiseless bits have shape {np.shape(noiseless)}, and this job needs {shape}")
     plan = (job.text, shots, seed, (named or "").encode(), rows, rising, *part)
     if shots_bits is None:
         for note in call("condition_notes", job.text, int(noiseless is not None)).text.decode().splitlines():
