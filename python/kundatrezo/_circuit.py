@@ -12,9 +12,10 @@ import numpy as np
 from ._jobs import Job
 from ._library import binary64, call, pack_bits, whole
 
-# The crate's tables: the code, edition, name and aliases of each gate, and the templates of lines, in which capital letters stand for values.
+# The crate's tables: the code, edition, name and aliases of each gate, and the templates of lines, in which capital letters stand for values and
+# are written here as `format` has them.
 _TABLE = [line.split() for line in call("gates").text.decode().splitlines()]
-_FORMS = dict(line.split(" ", 1) for line in call("forms").text.decode().splitlines())
+_FORMS = {form: re.sub("[A-Z]", "{}", template) for form, template in (line.split(" ", 1) for line in call("forms").text.decode().splitlines())}
 
 GATES = {name: int(code) for code, _, name, *_ in _TABLE}
 """The gates with their codes. ControlledY is of the second edition."""
@@ -61,8 +62,7 @@ def _letters(pauli: Pauli) -> dict[int, str]:
 
 def _line(form: str, *values: _Value) -> str:
     """A line of a form, with these values for the capital letters of its template. A list without members is written as a dash."""
-    texts = (",".join(map(str, value)) or "-" if isinstance(value, list) else value for value in values)
-    return re.sub("[A-Z]", "{}", _FORMS[form]).format(*texts)
+    return _FORMS[form].format(*[",".join(map(str, value)) or "-" if isinstance(value, list) else value for value in values])
 
 
 def _parts(pauli: Pauli) -> list[list[int]]:

@@ -17,7 +17,7 @@ from hypothesis import strategies as st
 
 import kundatrezo
 from kundatrezo import Circuit, Job, Refused, Rows, bits, by_outcome, by_shot, error_model, fill, pack_bits
-from kundatrezo import _library
+from kundatrezo import _circuit, _library
 
 BELL = Job.read(REPOSITORY / "examples/bell.job")
 SYNDROME = Job.read(REPOSITORY / "examples/syndrome.job")
@@ -94,6 +94,12 @@ def test_names_of_gates_are_those_of_the_language():
     section = (REPOSITORY / "docs/JOBS.md").read_text().partition("### Gates")[2].partition("###")[0]
     table = re.findall(r"^\| (\d+) \| (\w+) \| ", section, re.MULTILINE)
     assert {name: int(code) for code, name in table} == kundatrezo.GATES
+
+
+def test_the_builder_writes_every_form():
+    """Those of the crate's table."""
+    source = (_library.PATH.parent / "_circuit.py").read_text()
+    assert len(_circuit._FORMS) >= 21 and all(f'"{form}"' in source for form in _circuit._FORMS)
 
 
 @given(jobs())
