@@ -103,10 +103,10 @@ class Circuit:
     """
 
     def __init__(self, job: Optional[Job] = None) -> None:
-        _, text, numbers = call("circuit", _line("Header", 1, 0, 1).encode() + b"\n" if job is None else job.text)
+        read = call("circuit", _line("Header", 1, 0, 1).encode() + b"\n" if job is None else job.text)
         # the edition is 0 if the header has none
-        self._edition, self._qubits, self._outcomes, self._shots, self._recorded = map(int, numbers)
-        self._lines = text.decode().splitlines()
+        self._edition, self._qubits, self._outcomes, self._shots, self._recorded = map(int, read.words)
+        self._lines = read.text.decode().splitlines()
 
     def __repr__(self) -> str:
         return f"<Circuit of {len(self._lines)} lines>"

@@ -192,7 +192,7 @@ def _planned(
     if not (isinstance(part, tuple) and len(part) == 2 and 1 <= whole(part[0], "part") <= whole(part[1], "part")):
         raise ValueError(f"part is to be (I, K), with I from 1 to K, not {part!r}")
     rows, row = None if noiseless is None else read_words(noiseless), ceil(job.outcomes / 8)
-    if np.ndim(noiseless) > 1 and np.shape(noiseless) != (shape := (job.outcomes, job.row_words)):
+    if noiseless is not None and np.ndim(noiseless) > 1 and np.shape(noiseless) != (shape := (job.outcomes, job.row_words)):
         raise ValueError(f"noiseless bits have shape {np.shape(noiseless)}, and this job needs {shape}")
     plan = (job.text, shots, seed, (named or "").encode(), rows, rising, *part)
     if shots_bits is None:
