@@ -5,7 +5,7 @@ from __future__ import annotations
 import operator
 import re
 import sys
-from typing import Iterable, Mapping, Optional, Sequence, Union
+from typing import Any, Iterable, Mapping, Optional, Sequence, Union
 
 import numpy as np
 
@@ -31,7 +31,7 @@ _Value = Union[int, str, list[int], list[str]]
 def _numbers(numbers: Iterable[int], name: str = "qubits", each: str = "") -> list[int]:
     """Numbers that a caller gives. Nothing is rounded, or read from a text."""
     try:
-        given = list(numbers)
+        given: list[Any] = list(numbers)
     except TypeError:
         raise TypeError(f"{name} are to be a list of whole numbers, not {numbers!r}") from None
     for number in given:

@@ -48,7 +48,8 @@ class Rows:
     @staticmethod
     def of(job: Job) -> Rows:
         """Cleared rows for a job. Further runs of it, and of other jobs of the same shape, can use them again."""
-        return Rows(*(np.zeros(shape, dtype=np.uint64) for shape in Rows._shapes(job)))
+        x, z, deltas, totals = (np.zeros(shape, dtype=np.uint64) for shape in Rows._shapes(job))
+        return Rows(x, z, deltas, totals)
 
     @staticmethod
     def _shapes(job: Job) -> list[tuple[int, ...]]:
@@ -154,7 +155,7 @@ class Job:
     def _draws(self, words: Lendable, seed: Seed, second: Lendable, second_seed: Seed, noiseless: Optional[Lendable]) -> list[Any]:
         """What a call draws from: noiseless bits, and the words of each list, or None, and its seed."""
         shape = (self.outcomes, self.row_words)
-        if np.ndim(noiseless) > 1 and np.shape(noiseless) != shape:
+        if noiseless is not None and np.ndim(noiseless) > 1 and np.shape(noiseless) != shape:
             raise ValueError(f"noiseless bits have shape {np.shape(noiseless)}, and this job needs {shape}")
         if any(number is not None and np.size(list_) for list_, number in ((words, seed), (second, second_seed))):
             raise ValueError("a list is given, or made from a seed, not both")
