@@ -20,8 +20,9 @@ pub use lists::{Bytes, FAULT, GivenBytes, GivenWords, PANIC, Reply, Words, Words
 pub use sampling::Handle;
 
 use kundatrezo::{
-    Counts, GrowingDraws, JobParameters, Number, Rows, SavedCounts, WordSource, Xorshift, annotated, condition_notes,
-    correlation, error_model, examine, locations, make_job, run, settled, single_faults, walk, wilson,
+    Circuit, Counts, Form, Gate, GrowingDraws, Header, Instruction, JobParameters, Number, Rows, SavedCounts,
+    WordSource, Xorshift, annotated, condition_notes, correlation, error_model, examine, locations, make_job, run,
+    settled, single_faults, walk, wilson,
 };
 use lists::{Failure, Given, Lent, OnJob};
 use sampling::{Plan, Sampling};
@@ -56,6 +57,32 @@ calls! {
         let hint = is_path.then(|| "Job(text) takes the text of a job: Job.read(path) reads a file".to_owned());
         let found = examine(job).map_err(|refusal| Failure::refused(&refusal, job, hint))?;
         Ok(Given::words([found.qubits, found.outcomes, found.shots, found.recorded, found.lines].map(|number| number as u64)))
+    }
+
+    /// Read a job into instructions. Text: their lines, without a line end after the last. Words: the edition, 0 if the header has none, qubits,
+    /// outcomes, shots, recorded.
+    fn kundatrezo_edge_circuit(job: Bytes) {
+        let circuit = Circuit::read(job).on(job)?;
+        let Header { edition, qubits, outcomes, shots } = circuit.header;
+        let numbers = [qubits, outcomes, shots, circuit.recorded()].map(|number| number as u64);
+        let lines: Vec<String> = circuit.instructions.iter().map(Instruction::to_string).collect();
+        let words = [edition.unwrap_or(0)].into_iter().chain(numbers).collect();
+        Ok(Given { words, ..Given::text(lines.join("\n")) })
+    }
+
+    /// The table of gates: a line each, with the code, the first edition that has the gate, its name and its aliases.
+    fn kundatrezo_edge_gates() {
+        let line = |gate: &Gate| {
+            let names: Vec<&str> = gate.names().collect();
+            format!("{} {} {}\n", gate.code(), gate.edition(), names.join(" "))
+        };
+        Ok(Given::text(Gate::ALL.iter().map(line).collect::<String>()))
+    }
+
+    /// The table of forms: a line each, with the name and the template.
+    fn kundatrezo_edge_forms() {
+        let line = |form: &Form| format!("{form:?} {}\n", form.template());
+        Ok(Given::text(Form::ALL.iter().map(line).collect::<String>()))
     }
 
     /// Run a job. A list that isn't given is made from its seed.
@@ -354,6 +381,20 @@ mod tests {
         assert_eq!((cut.0, cut.3.as_str()), (FAULT, "a list of lists is cut short"));
         let broken = taken(Reply::of(|| panic!("broken")));
         assert_eq!((broken.0, broken.3.as_str()), (PANIC, "broken"));
+    }
+
+    /// The lines of a circuit are those of its job, and the numbers those of the header.
+    #[test]
+    fn a_circuit_has_the_lines_of_its_job() {
+        let text = String::from_utf8_lossy(JOB);
+        let (header, lines) = text.split_once('\n').expect("it has a header");
+        let (number, _, _, found, numbers) = taken(unsafe { kundatrezo_edge_circuit(bytes(JOB)) });
+        let job = examine(JOB).expect("it is accepted");
+        let own = [0, job.qubits, job.outcomes, job.shots, job.recorded].map(|number| number as u64);
+        assert!(!header.contains("edition"));
+        assert_eq!((number, format!("{found}\n").as_str(), numbers), (0, lines, own.to_vec()));
+        let refused = taken(unsafe { kundatrezo_edge_circuit(bytes(&JOB[1..])) });
+        assert_eq!((refused.0, refused.1), (2, 1));
     }
 
     /// The counts of blocks, added up, are those of the crate's sampler, and so is their text.
