@@ -28,7 +28,8 @@ def archive() -> Path:
     folder = os.environ.get("KUNDATREZO_LIB_DIR")
     found = Path(folder) / "libkundatrezo.a" if folder else HERE.parent / "target/library/libkundatrezo.a"
     if not found.is_file():
-        raise SystemExit(f"there is no {found}: './setup --library' in the repository's folder puts it there; KUNDATREZO_LIB_DIR names another folder")
+        remedy = "'./setup --library' in the repository's folder puts it there; KUNDATREZO_LIB_DIR names another folder"
+        raise SystemExit(f"there is no {found}: {remedy}")
     return found.resolve()
 
 
