@@ -266,7 +266,7 @@ fn drawn<T>(
     job: &[u8],
     lists: [(Option<&[u64]>, u64); 2],
     base: u64,
-    mut call: impl FnMut(kundatrezo::Draws<'_>) -> kundatrezo::Answer<T>,
+    mut call: impl FnMut(kundatrezo::Draws<'_>) -> Result<T, kundatrezo::Refusal>,
 ) -> Result<T, Failure> {
     let [main, second] = lists.map(|(words, seed)| words.map_or(WordSource::Seed(seed), WordSource::Lent));
     let mut draws = GrowingDraws::new(main, second, base);

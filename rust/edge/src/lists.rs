@@ -1,6 +1,6 @@
 //! What passes through the C interface: lists that the caller lends, and the reply of a call.
 
-use kundatrezo::{Answer, Number, Refusal};
+use kundatrezo::{Number, Refusal};
 use std::any::Any;
 use std::panic::{AssertUnwindSafe, catch_unwind};
 use std::{ptr, slice};
@@ -179,7 +179,7 @@ impl Failure {
 
     fn by_parts(refusal: &Refusal, cause: &str, hint: &str, line: &[u8]) -> Self {
         let text = [cause.as_bytes(), hint.as_bytes(), line].join(&0);
-        Self::Refused { number: refusal.number.get(), line: refusal.line, needed: refusal.figure, text }
+        Self::Refused { number: refusal.number.get(), line: refusal.line, needed: refusal.bytes_needed, text }
     }
 
     pub fn fault(text: impl ToString) -> Self {
@@ -193,7 +193,7 @@ pub trait OnJob<T> {
     fn on(self, job: &[u8]) -> Result<T, Failure>;
 }
 
-impl<T> OnJob<T> for Answer<T> {
+impl<T> OnJob<T> for Result<T, Refusal> {
     fn on(self, job: &[u8]) -> Result<T, Failure> {
         self.map_err(|refusal| Failure::refused(&refusal, job, None))
     }

@@ -1,7 +1,7 @@
 //! Counts of shots, and the text by which they are saved, read again and added.
 
 use crate::sampler::part_blocks;
-use crate::{Answer, Frames, MAX_OUTCOMES, MAX_SHOTS, Named, examine, size};
+use crate::{Frames, MAX_OUTCOMES, MAX_SHOTS, Named, Refusal, examine, size};
 use std::error::Error;
 use std::fmt;
 use std::ops::{AddAssign, RangeInclusive};
@@ -68,7 +68,7 @@ impl Counts {
     /// # Errors
     ///
     /// The refusal by 17 if a set has an outcome that is not below the header's outcomes. Nothing is added then.
-    pub fn add(&mut self, frames: &Frames, sets: &[Vec<u64>]) -> Answer {
+    pub fn add(&mut self, frames: &Frames, sets: &[Vec<u64>]) -> Result<(), Refusal> {
         frames.require_outcomes(sets)?;
         let parity = |set: &Vec<u64>| {
             let word = |place: usize| set.iter().fold(0, |sum, id| sum ^ frames.delta_row(size(*id))[place]);

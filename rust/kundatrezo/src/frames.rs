@@ -1,6 +1,6 @@
 //! Frames and deltas in memory of their own.
 
-use crate::{Answer, Examination, Number, Refusal, Rows, Source, examine, run};
+use crate::{Examination, Number, Refusal, Rows, Source, examine, run};
 use std::error::Error;
 use std::fmt;
 use std::ops::BitXorAssign;
@@ -44,7 +44,7 @@ impl Frames {
     /// # Errors
     ///
     /// The refusal by a test of the job, 13 (too few noiseless words), 26 or 14.
-    pub fn of_run(job: &[u8], noiseless: &[u64], draws: impl Source) -> Answer<Self> {
+    pub fn of_run(job: &[u8], noiseless: &[u64], draws: impl Source) -> Result<Self, Refusal> {
         let mut frames = Self::new();
         frames.run(job, noiseless, draws)?;
         Ok(frames)
@@ -56,7 +56,7 @@ impl Frames {
     /// # Errors
     ///
     /// The refusal by a test of the job, 13 (too few noiseless words), 26 or 14.
-    pub fn run(&mut self, job: &[u8], noiseless: &[u64], draws: impl Source) -> Answer {
+    pub fn run(&mut self, job: &[u8], noiseless: &[u64], draws: impl Source) -> Result<(), Refusal> {
         let examined = examine(job);
         self.lend(examined.unwrap_or_default());
         examined?;
@@ -70,7 +70,7 @@ impl Frames {
         job: &[u8],
         noiseless: &[u64],
         draws: impl Source,
-    ) -> Answer {
+    ) -> Result<(), Refusal> {
         self.lend(numbers);
         self.run_in(job, noiseless, draws)
     }
@@ -89,7 +89,7 @@ impl Frames {
         }
     }
 
-    fn run_in(&mut self, job: &[u8], noiseless: &[u64], draws: impl Source) -> Answer {
+    fn run_in(&mut self, job: &[u8], noiseless: &[u64], draws: impl Source) -> Result<(), Refusal> {
         let rows = Rows::new(&mut self.x, &mut self.z, &mut self.deltas).with_totals(&mut self.totals);
         run(job, rows, noiseless, draws)
     }
@@ -185,7 +185,7 @@ impl Frames {
     /// # Errors
     ///
     /// The refusal by 17 if a set has an outcome that is not below the header's outcomes.
-    pub fn sums(&self, sets: &[Vec<u64>], out: &mut Vec<u64>) -> Answer {
+    pub fn sums(&self, sets: &[Vec<u64>], out: &mut Vec<u64>) -> Result<(), Refusal> {
         self.require_outcomes(sets)?;
         let words = self.job.words_per_row();
         out.clear();
@@ -199,9 +199,9 @@ impl Frames {
     }
 
     /// Refuse sets with an outcome that has no row.
-    pub(crate) fn require_outcomes(&self, sets: &[Vec<u64>]) -> Answer {
+    pub(crate) fn require_outcomes(&self, sets: &[Vec<u64>]) -> Result<(), Refusal> {
         if sets.iter().flatten().any(|id| *id >= self.job.outcomes as u64) {
-            return Err(Refusal { number: Number::WALK, line: 0, figure: 0 });
+            return Err(Refusal { number: Number::WALK, line: 0, bytes_needed: 0 });
         }
         Ok(())
     }

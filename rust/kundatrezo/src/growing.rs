@@ -1,7 +1,7 @@
 //! Lists of words that are made as far as a call needs them.
 
 use crate::sampler::{List, MOST_WORDS};
-use crate::{Answer, Circuit, Draws, MAX_SHOTS, Number, Refusal, Xorshift, examine};
+use crate::{Circuit, Draws, MAX_SHOTS, Number, Refusal, Xorshift, examine};
 
 /// Where a list has its words from.
 #[derive(Debug, Clone, Copy)]
@@ -77,7 +77,7 @@ impl<'a> GrowingDraws<'a> {
     /// # Errors
     ///
     /// The refusal of the call; 14 if the list is lent, or if the line reads past 2^28 words.
-    pub fn call<T>(&mut self, job: &[u8], mut call: impl FnMut(Draws<'_>) -> Answer<T>) -> Answer<T> {
+    pub fn call<T>(&mut self, job: &[u8], mut call: impl FnMut(Draws<'_>) -> Result<T, Refusal>) -> Result<T, Refusal> {
         loop {
             match call(Draws::new(self.main.words()).with_second(self.second.words(), self.base)) {
                 Err(refusal) if refusal.number == Number::DRAWS && self.grow(&refusal, job) => {}

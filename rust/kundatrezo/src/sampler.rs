@@ -3,9 +3,8 @@
 use crate::counts::{DRAWS, Sample, crc32, fault};
 use crate::instructions::write_job;
 use crate::{
-    Answer, Circuit, Counts, CountsError, Draws, Examination, Frames, Header, Instruction, MAX_BYTES, MAX_SHOTS, Noise,
-    Number, PauliDistribution, Refusal, SamplerError, SavedCounts, SparsePauli, Xorshift, bit, by_outcome, examine,
-    size,
+    Circuit, Counts, CountsError, Draws, Examination, Frames, Header, Instruction, MAX_BYTES, MAX_SHOTS, Noise, Number,
+    PauliDistribution, Refusal, SamplerError, SavedCounts, SparsePauli, Xorshift, bit, by_outcome, examine, size,
 };
 use std::collections::BTreeSet;
 use std::error::Error;
@@ -145,7 +144,7 @@ impl Sampler {
     /// # Errors
     ///
     /// The refusal by a test of the job.
-    pub fn with_named(job: &[u8], shots: u64, seed: u64, named: Named) -> Answer<Self> {
+    pub fn with_named(job: &[u8], shots: u64, seed: u64, named: Named) -> Result<Self, Refusal> {
         let examined = examine(job)?;
         let circuit = Circuit::read_accepted(job);
         let blocks = shots.div_ceil(BLOCK);
@@ -243,7 +242,7 @@ impl Sampler {
     /// # Errors
     ///
     /// The refusal of the run: by a test of the job (10 where the whole has no such shot as a line names), or by 14 for a correlation past 2^28 words.
-    pub fn run<'a>(&self, block: u64, bench: &'a mut Bench) -> Answer<&'a Frames> {
+    pub fn run<'a>(&self, block: u64, bench: &'a mut Bench) -> Result<&'a Frames, Refusal> {
         let words = self.row_words(block);
         bench.noiseless.clear();
         bench.noiseless.resize(self.job.outcomes * words, 0);
@@ -262,7 +261,7 @@ impl Sampler {
     /// # Errors
     ///
     /// As [`run`](Self::run), and 13 where there are too few noiseless bits.
-    pub fn run_lent<'a>(&self, block: u64, bench: &'a mut Bench) -> Answer<&'a Frames> {
+    pub fn run_lent<'a>(&self, block: u64, bench: &'a mut Bench) -> Result<&'a Frames, Refusal> {
         let Range { start, end } = self.shots_of(block);
         let shots = usize::try_from(end - start).unwrap_or(MAX_SHOTS);
         let text = self.text(block);
@@ -283,7 +282,7 @@ impl Sampler {
     /// # Errors
     ///
     /// As [`run`](Self::run), and 13 if there are too few bytes.
-    pub fn run_packed<'a>(&self, block: u64, bytes: &[u8], bench: &'a mut Bench) -> Answer<&'a Frames> {
+    pub fn run_packed<'a>(&self, block: u64, bytes: &[u8], bench: &'a mut Bench) -> Result<&'a Frames, Refusal> {
         let Range { start, end } = self.shots_of(block);
         let outcomes = self.job.outcomes;
         let word = |bytes: &[u8]| bytes.iter().rev().fold(0, |word, byte| word << 8 | u64::from(*byte));
@@ -361,11 +360,11 @@ impl Sampler {
     /// # Errors
     ///
     /// The refusal by 17 of a set that does not rise strictly or has an outcome that is not recorded; else as [`run`](Self::run).
-    pub fn counts(&self, sets: &[Vec<u64>], threads: usize) -> Answer<Counts> {
+    pub fn counts(&self, sets: &[Vec<u64>], threads: usize) -> Result<Counts, Refusal> {
         self.counts_of(0..self.blocks(), sets, threads)
     }
 
-    fn counts_of(&self, blocks: Range<u64>, sets: &[Vec<u64>], threads: usize) -> Answer<Counts> {
+    fn counts_of(&self, blocks: Range<u64>, sets: &[Vec<u64>], threads: usize) -> Result<Counts, Refusal> {
         sets.iter().try_for_each(|set| self.job.test_set(set))?;
         let start = || (Bench::new(), Counts::default());
         let made =

@@ -1,7 +1,7 @@
 //! Callers with shares of one main list.
 
 use crate::draws::sealed;
-use crate::{Answer, Rows, Source, settle, size, sys};
+use crate::{Refusal, Rows, Source, settle, size, sys};
 use std::error::Error;
 use std::fmt::{self, Write};
 
@@ -56,12 +56,12 @@ impl<'a> SharedDraws<'a> {
     /// # Errors
     ///
     /// The refusal by 25: no shares, more than [`MAX_CALLERS`], or more words than the list has.
-    pub fn new(main: &'a [u64], shares: &[u64]) -> Answer<Self> {
+    pub fn new(main: &'a [u64], shares: &[u64]) -> Result<Self, Refusal> {
         Self { main, shares: shares.to_vec(), marks: vec![0; shares.len() + 1] }.tested()
     }
 
     /// These, if the engine takes them.
-    fn tested(mut self) -> Answer<Self> {
+    fn tested(mut self) -> Result<Self, Refusal> {
         settle(NOTHING, &[], self.caller(0), &mut [0; NOTHING.len()])?;
         Ok(self)
     }

@@ -1,7 +1,7 @@
 //! A job's shots on several benches.
 
 use crate::instructions::write_job;
-use crate::{Answer, Circuit, walk};
+use crate::{Circuit, Refusal, walk};
 use std::ops::Range;
 
 /// A part of a job: its shots, and the job that a bench runs for them.
@@ -39,7 +39,7 @@ pub struct Part {
 /// assert_eq!(sum.deltas(), whole.deltas());
 /// # Ok::<(), kundatrezo::Refusal>(())
 /// ```
-pub fn split(job: &[u8], parts: usize) -> Answer<Vec<Part>> {
+pub fn split(job: &[u8], parts: usize) -> Result<Vec<Part>, Refusal> {
     let circuit = settled_circuit(job)?;
     let shots = circuit.header.shots;
     let part = |place: usize| {
@@ -71,12 +71,12 @@ pub fn split(job: &[u8], parts: usize) -> Answer<Vec<Part>> {
 /// assert_eq!((refusal.number, refusal.line), (Number::NOISE, 2));
 /// # Ok::<(), kundatrezo::Refusal>(())
 /// ```
-pub fn restricted(job: &[u8], is_kept: impl Fn(usize) -> bool) -> Answer<Vec<u8>> {
+pub fn restricted(job: &[u8], is_kept: impl Fn(usize) -> bool) -> Result<Vec<u8>, Refusal> {
     Ok(kept_lines(&settled_circuit(job)?, is_kept))
 }
 
 /// The circuit of a job that passes the tests and has no noise, which the walk of no outcome tests.
-fn settled_circuit(job: &[u8]) -> Answer<Circuit> {
+fn settled_circuit(job: &[u8]) -> Result<Circuit, Refusal> {
     walk(job, 0, &[])?;
     Ok(Circuit::read_accepted(job))
 }

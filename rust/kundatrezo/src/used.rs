@@ -1,7 +1,7 @@
 //! How many words of the lists are read.
 
 use crate::{
-    Answer, Circuit, Draws, Examination, Frames, Noise, Number, PauliDistribution, SharedDraws, bit, settle, size,
+    Circuit, Draws, Examination, Frames, Noise, Number, PauliDistribution, Refusal, SharedDraws, bit, settle, size,
 };
 
 /// How many words a run or settling reads.
@@ -34,7 +34,7 @@ impl Draws<'_> {
     /// assert_eq!(draws.used(job, &[])?.main, 3);
     /// # Ok::<(), kundatrezo::Refusal>(())
     /// ```
-    pub fn used(&self, job: &[u8], noiseless: &[u64]) -> Answer<Used> {
+    pub fn used(&self, job: &[u8], noiseless: &[u64]) -> Result<Used, Refusal> {
         let mut common = SharedDraws::new(self.main, &[0])?;
         let frames = Frames::of_run(job, noiseless, common.caller(0).with_second(self.second, self.base))?;
         let second_is = |words: usize| enough(job, noiseless, Draws { second: &self.second[..words], ..*self }).is_ok();
@@ -45,7 +45,7 @@ impl Draws<'_> {
 }
 
 /// Settling with no room for the text: where it refuses by 15 alone, the words were enough.
-fn enough(job: &[u8], noiseless: &[u64], draws: Draws<'_>) -> Answer {
+fn enough(job: &[u8], noiseless: &[u64], draws: Draws<'_>) -> Result<(), Refusal> {
     match settle(job, noiseless, draws, &mut []) {
         Err(refusal) if refusal.number != Number::ROOM => Err(refusal),
         _ => Ok(()),

@@ -1,7 +1,7 @@
 //! Words made from a seed.
 
-use crate::refusal::answer_of;
-use crate::{Answer, sys};
+use crate::refusal::result_of;
+use crate::{Refusal, sys};
 
 /// Fill a list with the words of a seed, by Marsaglia's 64-bit xorshift: each step changes the state, at first the seed, by exclusive or with itself shifted
 /// left 13, then right 7, then left 17, and the new state is the word. [`Xorshift`] has these words as a stream.
@@ -19,8 +19,8 @@ use crate::{Answer, sys};
 /// assert_eq!(fill(0, &mut words).unwrap_err().number, Number::SEED);
 /// # Ok::<(), kundatrezo::Refusal>(())
 /// ```
-pub fn fill(seed: u64, words: &mut [u64]) -> Answer {
-    answer_of(&sys::fill(seed, words), 0).map(drop)
+pub fn fill(seed: u64, words: &mut [u64]) -> Result<(), Refusal> {
+    result_of(&sys::fill(seed, words), 0).map(drop)
 }
 
 /// Words for callers who have none of their own: the stream of [`fill`], Marsaglia's 64-bit xorshift ("Xorshift RNGs", Journal of Statistical Software 8(14),
@@ -85,7 +85,7 @@ impl Xorshift {
     ///
     /// Streams of small states begin alike: the first words from 1 are small, and those from 2 are their doubles. A series of runs from states 1, 2, 3
     /// and so on would fault far too often in its first shots; [`new`](Self::new) is free of this.
-    pub fn from_state(state: u64) -> Answer<Self> {
+    pub fn from_state(state: u64) -> Result<Self, Refusal> {
         fill(state, &mut []).map(|()| Self { state })
     }
 

@@ -3,7 +3,7 @@
 use crate::arguments::{Arguments, Flag};
 use crate::commands::{examined, outcomes, write_out};
 use crate::{Failure, say};
-use kundatrezo::{Answer, MAX_BYTES, MAX_GROUPS, Number, Refusal};
+use kundatrezo::{MAX_BYTES, MAX_GROUPS, Number, Refusal};
 
 const GROUP: Flag =
     Flag { name: "--group", value: "L..", text: "a group of outcomes, with commas between; - for an empty one" };
@@ -71,7 +71,7 @@ fn groups(arguments: &Arguments, flag: &Flag) -> Result<Vec<Vec<u64>>, Failure> 
 fn called<T>(
     arguments: &Arguments,
     groups: &[(&str, &[Vec<u64>])],
-    call: impl FnOnce(&[u8]) -> Answer<T>,
+    call: impl FnOnce(&[u8]) -> Result<T, Refusal>,
 ) -> Result<T, Failure> {
     let (job, examined) = examined(arguments)?;
     let refused = || {

@@ -40,8 +40,8 @@ impl Failure {
     /// The refusal of a job, with the text of its line and what to do about it: what the command knows of that, or what the line shows.
     fn refused(refusal: &Refusal, job: &[u8], remedy: Option<String>) -> Self {
         let line = refusal.line_of(job).map(|line| format!(": {}", shortened(line))).unwrap_or_default();
-        let need = match (refusal.number, refusal.figure) {
-            (Number::ROOM, 1..) => format!("; the text needs {} bytes", refusal.figure),
+        let need = match (refusal.number, refusal.bytes_needed) {
+            (Number::ROOM, 1..) => format!("; the text needs {} bytes", refusal.bytes_needed),
             _ => String::new(),
         };
         let remedy = remedy.or_else(|| refusal.hint(job)).map(|text| format!("\nhint: {text}"));

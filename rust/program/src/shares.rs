@@ -5,7 +5,7 @@ use crate::commands::{OUTPUT, list, write_out};
 use crate::files::shown;
 use crate::words::{self, List};
 use crate::{Failure, files};
-use kundatrezo::{AccountError, Answer, Caller, FileId, MAX_CALLERS, Number, Refusal, SharedDraws, written_path};
+use kundatrezo::{AccountError, Caller, FileId, MAX_CALLERS, Number, Refusal, SharedDraws, written_path};
 use std::ffi::{OsStr, OsString};
 use std::fs::{self, File, OpenOptions, Permissions, TryLockError};
 use std::io::{self, ErrorKind, Read};
@@ -156,8 +156,8 @@ impl Share {
     pub fn call<T>(
         &self,
         main: &[u64],
-        call: impl FnOnce(Caller<'_>) -> Answer<T>,
-    ) -> Result<(Answer<T>, Left), Failure> {
+        call: impl FnOnce(Caller<'_>) -> Result<T, Refusal>,
+    ) -> Result<(Result<T, Refusal>, Left), Failure> {
         let mut draws = SharedDraws::resumed(main, &self.account).map_err(|error| self.fault(&error))?;
         let is_caller = self.caller < draws.callers();
         let before = draws.marks().to_vec();

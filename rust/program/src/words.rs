@@ -4,7 +4,7 @@ use crate::arguments::{Arguments, FILE, Flag};
 use crate::commands::longer;
 use crate::shares::Share;
 use crate::{Failure, files};
-use kundatrezo::{Answer, Caller, Circuit, Draws, Examination, Number, Refusal, Source as Drawn, Used, Xorshift};
+use kundatrezo::{Caller, Circuit, Draws, Examination, Number, Refusal, Source as Drawn, Used, Xorshift};
 use std::ffi::OsString;
 use std::io::Read;
 
@@ -265,7 +265,10 @@ impl<'a> Lent<'a> {
 
     /// Make a call. Where it needs more words than the lists have so far, more are read or made and it is called again: the words before them are
     /// the same, so the answer is that of a list which was long enough from the start.
-    pub fn call<T>(&mut self, mut call: impl FnMut(&[u64], &mut dyn Drawn) -> Answer<T>) -> Result<T, Failure> {
+    pub fn call<T>(
+        &mut self,
+        mut call: impl FnMut(&[u64], &mut dyn Drawn) -> Result<T, Refusal>,
+    ) -> Result<T, Failure> {
         loop {
             let (answer, left) = match &self.share {
                 None => (call(&self.noiseless, &mut self.draws()), None),

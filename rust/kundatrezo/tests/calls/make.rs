@@ -125,7 +125,7 @@ fn refusals_come_in_their_order() {
     let refused = |asked: JobParameters, room: usize| {
         let mut out = vec![7; room];
         let refusal = make(asked, &mut out).expect_err("it is refused");
-        assert!(out.iter().all(|byte| *byte == 7) && refusal.figure == 0 && refusal.line == 0);
+        assert!(out.iter().all(|byte| *byte == 7) && refusal.bytes_needed == 0 && refusal.line == 0);
         refusal.number
     };
     let out_of_range = [

@@ -1,7 +1,7 @@
 //! Every refusal number, what a refusal leaves in lent memory, and that each parameter of a call arrives where it belongs.
 
 use kundatrezo::{
-    Answer, Draws, Frames, MAX_BYTES, Number, Rows, annotate, annotated, check, correlation, examine, fault_table,
+    Draws, Frames, MAX_BYTES, Number, Refusal, Rows, annotate, annotated, check, correlation, examine, fault_table,
     locations, run, settle, settled, walk,
 };
 
@@ -9,9 +9,9 @@ const HEADER: &str = "op=job qubits=2 outcomes=1 shots=1\n";
 const ONE: &str = "3ff0000000000000";
 
 /// The number and line of a refusal, with every figure but settling's 15 found to be 0.
-fn refused<T: std::fmt::Debug>(answer: Answer<T>) -> (u64, u64) {
+fn refused<T: std::fmt::Debug>(answer: Result<T, Refusal>) -> (u64, u64) {
     let refusal = answer.expect_err("the call refuses");
-    assert!(refusal.figure == 0 || refusal.number == Number::ROOM);
+    assert!(refusal.bytes_needed == 0 || refusal.number == Number::ROOM);
     (refusal.number.get(), refusal.line)
 }
 
@@ -104,7 +104,7 @@ fn refusals_leave_lent_memory() {
     let draws = Draws::new(&[0]);
     let refusal = settle(&noisy, &[0], draws, &mut out).expect_err("the text is longer");
     assert_eq!(refusal.number, Number::ROOM);
-    assert_eq!(refusal.figure, settled(&noisy, &[0], draws).expect("there is room").len() as u64);
+    assert_eq!(refusal.bytes_needed, settled(&noisy, &[0], draws).expect("there is room").len() as u64);
     assert_eq!(out, [7; 60]);
 }
 
@@ -123,8 +123,8 @@ fn the_figure_of_a_text_above_32_bits() {
     let refusal = settle(job.as_bytes(), &[], draws, &mut []).expect_err("the text is longer");
     assert_eq!(refusal.number, Number::ROOM);
     let injections: usize = (0..SHOTS).map(|shot| format!("op=i shot={shot} x={qubits} z={qubits}\n").len()).sum();
-    assert_eq!(refusal.figure, (header.len() + LINES * injections) as u64);
-    assert!(refusal.figure > 1 << 32);
+    assert_eq!(refusal.bytes_needed, (header.len() + LINES * injections) as u64);
+    assert!(refusal.bytes_needed > 1 << 32);
 }
 
 /// Noise by condition and correlation tells noiseless bits, the main list, the second one and the base apart.

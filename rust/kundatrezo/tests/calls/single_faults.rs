@@ -131,7 +131,7 @@ fn groups_are_tested() {
     let refused = |job: &str, groups: &[u64]| {
         let mut out = [7; 3000];
         let refusal = write_fault_table(job.as_bytes(), groups, &mut out).expect_err("it is refused");
-        assert_eq!((out, refusal.figure), ([7; 3000], 0));
+        assert_eq!((out, refusal.bytes_needed), ([7; 3000], 0));
         (refusal.number, refusal.line)
     };
     for groups in [&[1][..], &[2, 0], &[u64::MAX, 0], &[1, 0, 1], &[2, 1, 0], &[2, 1, 1], &[1, 5], &[1, u64::MAX]] {
