@@ -138,7 +138,7 @@ calls! {
             list.sort_unstable();
             let members: Vec<String> = list.iter().map(u64::to_string).collect();
             let hint = || job.outcomes_hint(&format!("the {what} {}", members.join(",")));
-            job.test_set(&list).map_err(|refusal| Failure::walk(&refusal, 1, &hint()))?;
+            job.check_set(&list).map_err(|refusal| Failure::walk(&refusal, 1, &hint()))?;
             given.words.push(list.len() as u64);
             given.words.extend(list);
         }
@@ -208,7 +208,7 @@ calls! {
     /// each set.
     fn kundatrezo_edge_counts_read(text: Bytes, job: Bytes) {
         let saved = read(text)?;
-        if !job.is_empty() && !saved.is_of(job) {
+        if !job.is_empty() && !saved.is_for(job) {
             return Err(Failure::fault("these are counts of another job"));
         }
         let counts = saved.counts();
@@ -218,7 +218,7 @@ calls! {
             words.push(list.len() as u64);
             words.extend(list);
         }
-        let missing = saved.check_whole().err().map_or_else(String::new, |missing| missing.to_string());
+        let missing = saved.check_complete().err().map_or_else(String::new, |missing| missing.to_string());
         Ok(Given { words, ..Given::text(missing) })
     }
 

@@ -1,7 +1,7 @@
 //! Counts of shots, and the text by which they are saved, read again and added.
 
 use crate::sampler::part_blocks;
-use crate::{Frames, MAX_OUTCOMES, MAX_SHOTS, Named, Refusal, examine, size};
+use crate::{Frames, MAX_OUTCOMES, MAX_SHOTS, NamedShots, Refusal, examine, size};
 use std::error::Error;
 use std::fmt;
 use std::ops::{AddAssign, RangeInclusive};
@@ -136,7 +136,7 @@ pub struct SavedCounts {
     pub(crate) draws: String,
     /// Whole samples, which are one entry, then those of which parts are missing, by their seeds.
     pub(crate) samples: Vec<Sample>,
-    pub(crate) named: Option<Named>,
+    pub(crate) named: Option<NamedShots>,
     pub(crate) noiseless: Option<String>,
     pub(crate) sets: Vec<Vec<u64>>,
     pub(crate) counts: Counts,
@@ -160,9 +160,9 @@ impl SavedCounts {
         self.samples.iter().flat_map(|sample| sample.seeds.iter().copied())
     }
 
-    /// Whether these are counts of this job.
+    /// Whether the counts are for this job.
     #[must_use]
-    pub fn is_of(&self, job: &[u8]) -> bool {
+    pub fn is_for(&self, job: &[u8]) -> bool {
         let numbers = (self.qubits, self.outcomes, self.recorded);
         self.job == crc32(job.iter().copied())
             && examine(job).is_ok_and(|job| (job.qubits, job.outcomes, job.recorded) == numbers)
@@ -182,9 +182,9 @@ impl SavedCounts {
         Ok(self)
     }
 
-    /// Say that noiseless bits were lent for each shot.
+    /// The same counts, marked as made with noiseless bits for each shot.
     #[must_use]
-    pub fn with_lent_noiseless(self) -> Self {
+    pub fn with_noiseless_per_shot(self) -> Self {
         Self { noiseless: Some(LENT.into()), ..self }
     }
 
@@ -205,7 +205,7 @@ impl SavedCounts {
             u8::from(counted.is_some()),
             self.job,
             self.draws,
-            option("named", self.named.map(Named::name)),
+            option("named", self.named.map(NamedShots::name)),
             option("noiseless", self.noiseless.as_deref()),
         );
         for (name, total) in self.rows() {
@@ -256,7 +256,7 @@ impl SavedCounts {
         if sampled != Some(header.shots) {
             return fault("the shots of its first line do not match its parts");
         }
-        let named = field(second, "named").map(|name| Named::of_name(name).ok_or(changed(2))).transpose()?;
+        let named = field(second, "named").map(|name| NamedShots::from_name(name).ok_or(changed(2))).transpose()?;
         Ok(Self {
             qubits: header.qubits,
             outcomes: header.outcomes,
@@ -313,12 +313,12 @@ impl SavedCounts {
         Ok(Self { samples, counts, ..self.clone() })
     }
 
-    /// That no part of a sample is missing.
+    /// Check that no part of a sample is missing.
     ///
     /// # Errors
     ///
     /// Says which parts are.
-    pub fn check_whole(&self) -> Result<(), CountsError> {
+    pub fn check_complete(&self) -> Result<(), CountsError> {
         let Some(sample) = self.samples.iter().find(|sample| !sample.is_whole()) else {
             return Ok(());
         };
@@ -624,10 +624,12 @@ mod tests {
     #[test]
     fn texts_are_read_back() {
         let whole = saved(1, (1, 1));
-        for saved in [whole.clone(), counted(whole.clone(), 7), whole.clone().with_lent_noiseless(), saved(3, (2, 7))] {
+        for saved in
+            [whole.clone(), counted(whole.clone(), 7), whole.clone().with_noiseless_per_shot(), saved(3, (2, 7))]
+        {
             assert_eq!(SavedCounts::read(&saved.text()), Ok(saved));
         }
-        let block = Sampler::with_named(JOB, 10, 1, Named::Block).expect("it is accepted");
+        let block = Sampler::with_named_shots(JOB, 10, 1, NamedShots::InEachBlock).expect("it is accepted");
         let text = block.sample(&[], (1, 1), 1).expect("it runs").text();
         assert!(text.contains(" named=block\n") && SavedCounts::read(&text).is_ok());
     }
@@ -692,19 +694,19 @@ mod tests {
             places.extend((0..all.len()).filter(|place| !places.contains(place)).collect::<Vec<usize>>());
             let mut sum = all[places[0]].clone();
             for place in &places[1..] {
-                said(sum.check_whole(), "these are missing: ");
+                said(sum.check_complete(), "these are missing: ");
                 sum = sum.checked_add(&all[*place]).expect("another part");
                 assert_eq!(SavedCounts::read(&sum.text()), Ok(sum.clone()), "a sum of some parts is saved, too");
             }
-            assert_eq!((sum.check_whole(), &sum), (Ok(()), &saved(5, (1, 1))));
+            assert_eq!((sum.check_complete(), &sum), (Ok(()), &saved(5, (1, 1))));
         }
         let some = saved(5, (1, 9)).checked_add(&saved(5, (2, 9))).expect("another part");
         let some = some.checked_add(&saved(5, (5, 9))).expect("another part");
         assert!(some.text().contains(" seed=5 part=1-2,5/9 of=20000\n"), "{}", some.text());
-        said(some.check_whole(), "of the 9 parts of seed 5 these are missing: 3, 4, 6, 7, 8, 9");
+        said(some.check_complete(), "of the 9 parts of seed 5 these are missing: 3, 4, 6, 7, 8, 9");
         let last =
             saved(5, (u64::MAX - 1, u64::MAX)).checked_add(&saved(5, (u64::MAX, u64::MAX))).expect("another part");
-        said(last.check_whole(), "these are missing: 1, 2, 3, 4, 5, 6, 7, 8, 9, 10, ..");
+        said(last.check_complete(), "these are missing: 1, 2, 3, 4, 5, 6, 7, 8, 9, 10, ..");
         assert_eq!(SavedCounts::read(&last.text()), Ok(last));
         said(some.checked_add(&saved(5, (2, 9))), "part 2/9 of seed 5 is counted twice");
         said(some.checked_add(&saved(5, (3, 8))), "not parts of one sample");

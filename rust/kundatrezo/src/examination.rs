@@ -47,7 +47,7 @@ impl Examination {
         self.outcomes * self.words_per_row()
     }
 
-    /// What a list of outcomes that [`test_set`](Self::test_set) refuses must be; `what` names the list.
+    /// What a list of outcomes that [`check_set`](Self::check_set) refuses must be; `what` names the list.
     #[must_use]
     pub fn outcomes_hint(&self, what: &str) -> String {
         match self.recorded {
@@ -72,11 +72,11 @@ impl Examination {
     /// use kundatrezo::{Number, examine};
     ///
     /// let job = examine(b"op=job qubits=2 outcomes=5 shots=100\nop=o x=- z=0 id=0\nop=o x=- z=1 id=1\n")?;
-    /// assert_eq!(job.test_set(&[0, 1]), Ok(()));
-    /// assert!([vec![1, 0], vec![0, 0], vec![2]].iter().all(|set| job.test_set(set).unwrap_err().number == Number::WALK));
+    /// assert_eq!(job.check_set(&[0, 1]), Ok(()));
+    /// assert!([vec![1, 0], vec![0, 0], vec![2]].iter().all(|set| job.check_set(set).unwrap_err().number == Number::WALK));
     /// # Ok::<(), kundatrezo::Refusal>(())
     /// ```
-    pub fn test_set(&self, set: &[u64]) -> Result<(), Refusal> {
+    pub fn check_set(&self, set: &[u64]) -> Result<(), Refusal> {
         let lines: String = (0..self.recorded).map(|id| format!("op=r id={id} angle=0\n")).collect();
         let recording = format!("op=job qubits=1 outcomes={} shots=1\n{lines}", self.recorded);
         walk(recording.as_bytes(), 0, set).map(drop)

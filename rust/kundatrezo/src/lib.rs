@@ -114,6 +114,8 @@ mod single_faults;
 mod split;
 #[doc(hidden)]
 pub mod sys;
+#[doc(hidden)]
+pub mod threads;
 mod used;
 mod xorshift;
 
@@ -132,7 +134,7 @@ pub use make::{JobParameters, make, make_job};
 pub use noise_sizes::{UnknownSizeError, with_sizes};
 pub use output::{FileId, OutputFile, WrittenFile, write_file, written_path};
 pub use refusal::{Number, Refusal};
-pub use sampler::{Bench, Named, NoiselessSizeError, Sampler, condition_notes, conditions, first_named, named_fault};
+pub use sampler::{NamedShots, NoiselessSizeError, Sampler, Workspace, condition_notes, named_shot_message};
 pub use sampler_error::SamplerError;
 pub use shares::{AccountError, Caller, MAX_CALLERS, SharedDraws};
 pub use single_faults::{FaultTable, MAX_GROUPS, SingleFault, fault_table, write_fault_table};

@@ -76,7 +76,7 @@ fn called<T>(
     let (job, examined) = examined(arguments)?;
     let refused = || {
         let mut all = groups.iter().flat_map(|(what, groups)| groups.iter().map(move |group| (what, group)));
-        let (what, group) = all.find(|(_, group)| examined.test_set(group).is_err())?;
+        let (what, group) = all.find(|(_, group)| examined.check_set(group).is_err())?;
         let members: Vec<String> = group.iter().map(u64::to_string).collect();
         Some(examined.outcomes_hint(&format!("the {what} {}", members.join(","))))
     };

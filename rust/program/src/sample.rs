@@ -6,7 +6,10 @@ use crate::files::{self, Output, shown};
 use crate::progress::Progress;
 use crate::turns::Turns;
 use crate::{Failure, print, say, shots};
-use kundatrezo::{Bench, Counts, Examination, Frames, MAX_OUTCOMES, Named, Refusal, Sampler, SamplerError, by_shot};
+use kundatrezo::threads::for_each_block;
+use kundatrezo::{
+    Counts, Examination, Frames, MAX_OUTCOMES, NamedShots, Refusal, Sampler, SamplerError, Workspace, by_shot,
+};
 use std::ffi::OsStr;
 use std::fs::File;
 use std::io::{IsTerminal, stdout};
@@ -179,22 +182,23 @@ fn sets(arguments: &Arguments, job: Examination) -> Result<Vec<Vec<u64>>, Failur
     let set = |(place, text): &(String, String)| {
         let fault = || format!("{place}a set is to be {SET_IS}, not '{}'", text.escape_default());
         let set = outcomes(text).ok_or_else(|| Failure::Other(fault()))?;
-        job.test_set(&set).map_err(|_| Failure::refused_list(&job.outcomes_hint(&format!("{place}the set {text}"))))?;
+        job.check_set(&set)
+            .map_err(|_| Failure::refused_list(&job.outcomes_hint(&format!("{place}the set {text}"))))?;
         Ok(set)
     };
     given.iter().map(set).collect()
 }
 
 fn sampler(arguments: &Arguments, asked: Asked, job: &[u8]) -> Result<Sampler, Failure> {
-    let sampler = match arguments.parsed(NAMED.name, "'whole' or 'block'", Named::of_name)? {
-        Some(named) => Sampler::with_named(job, asked.shots, asked.seed, named).map_err(SamplerError::from),
+    let sampler = match arguments.parsed(NAMED.name, "'whole' or 'block'", NamedShots::from_name)? {
+        Some(named) => Sampler::with_named_shots(job, asked.shots, asked.seed, named).map_err(SamplerError::from),
         None => Sampler::new(job, asked.shots, asked.seed),
     };
     sampler.map_err(|error| match error {
         SamplerError::Refused(refusal) => Failure::refused(&refusal, job, None),
         SamplerError::NamedShot { line } => {
             let [whole, block] = ["whole", "block"].map(|value| format!("{} {value}", NAMED.name));
-            Failure::Other(kundatrezo::named_fault(line, &whole, &block))
+            Failure::Other(kundatrezo::named_shot_message(line, &whole, &block))
         }
         other => Failure::Other(other.to_string()),
     })
@@ -265,7 +269,7 @@ const MOST_WORDS: usize = 1 << 29;
 /// The memory of a thread, and what it has counted.
 #[derive(Default)]
 struct Memory {
-    bench: Bench,
+    workspace: Workspace,
     counts: Counts,
     parities: Vec<u64>,
     rows: Vec<u64>,
@@ -288,7 +292,7 @@ impl Whole<'_> {
     fn text(&self, counts: Counts) -> Result<String, Failure> {
         let saved = self.sampler.saved(counts, &self.sets, self.asked.part);
         let saved = saved.map_err(|error| Failure::Other(error.to_string()))?;
-        let saved = if self.given.is_some() { saved.with_lent_noiseless() } else { saved };
+        let saved = if self.given.is_some() { saved.with_noiseless_per_shot() } else { saved };
         let is_table = match self.asked.format {
             Format::Table => true,
             Format::Counts => false,
@@ -307,10 +311,10 @@ impl Whole<'_> {
         };
         let turns = Turns::new(blocks.start, Output::create(path)?);
         let progress = Progress::new(shots, format.has_rows() && path.is_none());
-        let made = Sampler::each(blocks, self.threads(), Memory::default, |memory, block| {
+        let made = for_each_block(blocks, self.threads(), Memory::default, |memory, block| {
             let done = self.block(memory, block, &turns);
             match &done {
-                Ok(()) => progress.add(memory.bench.frames().job().shots as u64),
+                Ok(()) => progress.add(memory.workspace.frames().job().shots as u64),
                 Err(_) => turns.stop(),
             }
             done
@@ -323,7 +327,7 @@ impl Whole<'_> {
             }
             other => other,
         })?;
-        let mut counts = self.sampler.no_counts(&self.sets);
+        let mut counts = self.sampler.zero_counts(&self.sets);
         made.iter().for_each(|memory| counts += &memory.counts);
         Ok((turns.into_output(), counts))
     }
@@ -335,10 +339,10 @@ impl Whole<'_> {
     }
 
     fn block(&self, memory: &mut Memory, block: u64, turns: &Turns) -> Result<(), Failure> {
-        let Memory { bench, counts, parities, rows, bytes } = memory;
+        let Memory { workspace, counts, parities, rows, bytes } = memory;
         let frames = match &self.given {
-            None => self.sampler.run(block, bench).map_err(|refusal| self.refused(&refusal))?,
-            Some(given) => self.run_given(given, block, bytes, bench)?,
+            None => self.sampler.run(block, workspace).map_err(|refusal| self.refused(&refusal))?,
+            Some(given) => self.run_given(given, block, bytes, workspace)?,
         };
         counts.add(frames, &self.sets).map_err(|refusal| self.refused(&refusal))?;
         if !self.asked.format.has_rows() {
@@ -368,13 +372,13 @@ impl Whole<'_> {
         (file, name): &GivenShots,
         block: u64,
         bytes: &mut Vec<u8>,
-        bench: &'a mut Bench,
+        workspace: &'a mut Workspace,
     ) -> Result<&'a Frames, Failure> {
         let Range { start, end } = self.sampler.shots_of(block);
         let row = self.sampler.job().outcomes.div_ceil(8);
         bytes.resize(row * usize::try_from(end - start).unwrap_or_default(), 0);
         file.read_exact_at(bytes, start * row as u64).map_err(|error| Failure::Other(format!("{name}: {error}")))?;
-        self.sampler.run_packed(block, bytes, bench).map_err(|refusal| self.refused(&refusal))
+        self.sampler.run_packed(block, bytes, workspace).map_err(|refusal| self.refused(&refusal))
     }
 
     /// The refusal of a block, whose lines are those of the job.
