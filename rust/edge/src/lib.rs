@@ -268,7 +268,7 @@ fn drawn<T>(
     base: u64,
     mut call: impl FnMut(kundatrezo::Draws<'_>) -> Result<T, kundatrezo::Refusal>,
 ) -> Result<T, Failure> {
-    let [main, second] = lists.map(|(words, seed)| words.map_or(WordSource::Seed(seed), WordSource::Lent));
+    let [main, second] = lists.map(|(words, seed)| words.map_or(WordSource::Seed(seed), WordSource::Slice));
     let mut draws = GrowingDraws::new(main, second, base);
     draws.call(job, &mut call).map_err(|refusal| {
         let spent = refusal.number == Number::DRAWS;

@@ -153,7 +153,7 @@ impl Sampling {
             (frames.job().outcomes, frames.deltas())
         } else {
             frames
-                .sums(&self.sets, &mut self.parities)
+                .parities(&self.sets, &mut self.parities)
                 .map_err(|refusal| Failure::refused(&refusal, &self.job, None))?;
             (self.sets.len(), self.parities.as_slice())
         };

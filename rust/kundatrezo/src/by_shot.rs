@@ -43,7 +43,7 @@ pub fn by_outcome(outcomes: u64, shots: u64, rows: &[u64], out: &mut [u64]) -> R
 /// use kundatrezo::{Draws, Frames, Shots, bit};
 ///
 /// let job = b"op=job qubits=1 outcomes=2 shots=3\nop=i shot=1 x=0 z=-\nop=o x=- z=0 id=0\nop=r id=1 angle=0\n";
-/// let shots = Shots::of_frames(&Frames::of_run(job, &[0; 2], Draws::default())?);
+/// let shots = Shots::from_frames(&Frames::from_run(job, &[0; 2], Draws::default())?);
 /// let flipped: Vec<Vec<bool>> = shots.iter().map(|row| (0..2).map(|id| bit(row, id)).collect()).collect();
 /// assert_eq!(flipped, [[false, false], [true, false], [false, false]]);
 /// # Ok::<(), kundatrezo::Refusal>(())
@@ -70,7 +70,7 @@ impl Shots {
 
     /// The deltas that a run left, by shot; no rows where there was no run.
     #[must_use]
-    pub fn of_frames(frames: &Frames) -> Self {
+    pub fn from_frames(frames: &Frames) -> Self {
         let job = frames.job();
         Self::new(job.outcomes, job.shots, frames.deltas()).unwrap_or_default()
     }

@@ -50,7 +50,7 @@
 //!
 //! let job = include_bytes!(concat!(env!("CARGO_MANIFEST_DIR"), "/../../examples/bell.job"));
 //! let noiseless = [0, 0];
-//! let frames = Frames::of_run(job, &noiseless, Draws::default())?;
+//! let frames = Frames::from_run(job, &noiseless, Draws::default())?;
 //! assert_eq!(frames.deltas(), [0b010, 0b100]);
 //!
 //! // in every shot the deltas of a set sum, modulo 2, to the count of the walk on the settled job
@@ -71,7 +71,7 @@
 //! let job = annotated(job, 0.01)?;
 //! let noiseless = vec![0; examine(&job)?.outcome_words()];
 //! let words: Vec<u64> = Xorshift::new(2026).take(100_000).collect();
-//! let frames = Frames::of_run(&job, &noiseless, Draws::new(&words))?;
+//! let frames = Frames::from_run(&job, &noiseless, Draws::new(&words))?;
 //! let flipped = frames.totals()[0];
 //! // of 15 Paulis on the two qubits 8 flip the outcome, and there are two such noise lines
 //! assert!((flipped as f64 / 4096.0 - 2.0 * 0.01 * 8.0 / 15.0).abs() < 0.005);
@@ -116,13 +116,13 @@ mod split;
 pub mod sys;
 #[doc(hidden)]
 pub mod threads;
-mod used;
+mod words_read;
 mod xorshift;
 
 pub use by_shot::{Shots, by_outcome, by_shot};
 pub use clifford::{MAX_CLIFFORD_QUBITS, clifford_line};
 pub use counts::{Counts, CountsError, DRAWS, SavedCounts, wilson};
-pub use draws::{Draws, Source};
+pub use draws::{DrawSource, Draws};
 pub use error_model::{ErrorModel, Fault, Mechanism, error_model, single_faults};
 pub use examination::{Examination, examine};
 pub use frames::{FrameSizeError, Frames, bit};
@@ -138,8 +138,8 @@ pub use sampler::{NamedShots, NoiselessSizeError, Sampler, Workspace, condition_
 pub use sampler_error::SamplerError;
 pub use shares::{AccountError, Caller, MAX_CALLERS, SharedDraws};
 pub use single_faults::{FaultTable, MAX_GROUPS, SingleFault, fault_table, write_fault_table};
-pub use split::{Part, restricted, split};
-pub use used::Used;
+pub use split::{Part, keep_shots, split};
+pub use words_read::WordsRead;
 pub use xorshift::{Xorshift, fill};
 
 use refusal::result_of;
@@ -216,7 +216,7 @@ pub fn check(job: &[u8]) -> Result<(), Refusal> {
 /// assert_eq!((x, z, deltas, totals), ([0b10], [0], [0b10], [1]));
 /// # Ok::<(), kundatrezo::Refusal>(())
 /// ```
-pub fn run(job: &[u8], rows: Rows<'_>, noiseless: &[u64], mut draws: impl Source) -> Result<(), Refusal> {
+pub fn run(job: &[u8], rows: Rows<'_>, noiseless: &[u64], mut draws: impl DrawSource) -> Result<(), Refusal> {
     result_of(&draws.run(job, rows, noiseless), 0).map(drop)
 }
 
@@ -244,7 +244,7 @@ pub fn run(job: &[u8], rows: Rows<'_>, noiseless: &[u64], mut draws: impl Source
 /// assert_eq!(refusal.bytes_needed, bytes as u64);
 /// # Ok::<(), kundatrezo::Refusal>(())
 /// ```
-pub fn settle(job: &[u8], noiseless: &[u64], mut draws: impl Source, out: &mut [u8]) -> Result<usize, Refusal> {
+pub fn settle(job: &[u8], noiseless: &[u64], mut draws: impl DrawSource, out: &mut [u8]) -> Result<usize, Refusal> {
     let reply = draws.settle(job, noiseless, out);
     result_of(&reply.answer, reply.figure).map(size)
 }
@@ -262,7 +262,7 @@ pub fn settle(job: &[u8], noiseless: &[u64], mut draws: impl Source, out: &mut [
 /// assert_eq!(settled(job, &[], Draws::default())?, job);
 /// # Ok::<(), kundatrezo::Refusal>(())
 /// ```
-pub fn settled(job: &[u8], noiseless: &[u64], draws: impl Source) -> Result<Vec<u8>, Refusal> {
+pub fn settled(job: &[u8], noiseless: &[u64], draws: impl DrawSource) -> Result<Vec<u8>, Refusal> {
     let mut out = vec![0; job.len()];
     settle_into(job, noiseless, draws, &mut out)?;
     Ok(out)
@@ -284,7 +284,12 @@ pub fn settled(job: &[u8], noiseless: &[u64], draws: impl Source) -> Result<Vec<
 /// assert_eq!(out, job);
 /// # Ok::<(), kundatrezo::Refusal>(())
 /// ```
-pub fn settle_into(job: &[u8], noiseless: &[u64], mut draws: impl Source, out: &mut Vec<u8>) -> Result<usize, Refusal> {
+pub fn settle_into(
+    job: &[u8],
+    noiseless: &[u64],
+    mut draws: impl DrawSource,
+    out: &mut Vec<u8>,
+) -> Result<usize, Refusal> {
     let bytes = match settle(job, noiseless, &mut draws, out) {
         Err(refusal) if refusal.number == Number::ROOM && refusal.bytes_needed <= MAX_BYTES as u64 => {
             out.resize(size(refusal.bytes_needed), 0);

@@ -615,7 +615,7 @@ op=t shot=0 id=1
             let row = usize::try_from(shots).expect("small").div_ceil(64);
             let noiseless: Vec<u64> = noiseless.chunks(64).flat_map(|words| words[..row].to_vec()).collect();
             let draws = Draws::new(&main).with_second(&second, 0);
-            let frames = Frames::of_run(text.as_bytes(), &noiseless, draws).expect("the words are enough");
+            let frames = Frames::from_run(text.as_bytes(), &noiseless, draws).expect("the words are enough");
             let sampled = sampler.run(block, &mut workspace).expect("it runs");
             assert_eq!((sampled.deltas(), sampled.totals()), (frames.deltas(), frames.totals()), "{block}");
             assert_eq!(sampler.block_job(block).split(|byte| *byte == b'\n').count(), 8);

@@ -28,7 +28,7 @@ pub fn fill(seed: u64, words: &mut [u64]) -> Result<(), Refusal> {
 ///
 /// [`new`](Self::new) makes a first state from a seed, so that every seed is a good one, 0 and small ones too. [`from_state`](Self::from_state) takes the
 /// state itself, which is the seed of [`fill`]. All states lie on one cycle of 2^64 - 1 words, and no word is zero. For the next run of a series read the same
-/// words on, by the number that [`Draws::used`](crate::Draws::used) says. To [`fill`](Self::fill) a list is faster than to take its words one by one.
+/// words on, by the number that [`Draws::words_read`](crate::Draws::words_read) returns. To [`fill`](Self::fill) a list is faster than to take its words one by one.
 ///
 /// ```
 /// use kundatrezo::Xorshift;

@@ -340,7 +340,7 @@ fn run(arguments: &Arguments) -> Result<(), Failure> {
     let mut lent = Lent::read(arguments, &job, examined)?;
     let mut frames = Frames::new();
     lent.call(|noiseless, draws| frames.run(&job, noiseless, draws))?;
-    let by_shot = Shots::of_frames(&frames);
+    let by_shot = Shots::from_frames(&frames);
     for flag in ROW_FILES {
         if let Some(path) = arguments.value(flag.name) {
             outputs.write(path, &row_file(flag, &frames, &by_shot))?;

@@ -351,7 +351,7 @@ impl Whole<'_> {
         let (count, deltas) = match self.sets.as_slice() {
             [] => (frames.job().outcomes, frames.deltas()),
             sets => {
-                frames.sums(sets, parities).map_err(|refusal| self.refused(&refusal))?;
+                frames.parities(sets, parities).map_err(|refusal| self.refused(&refusal))?;
                 (sets.len(), parities.as_slice())
             }
         };

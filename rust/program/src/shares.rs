@@ -158,7 +158,7 @@ impl Share {
         main: &[u64],
         call: impl FnOnce(Caller<'_>) -> Result<T, Refusal>,
     ) -> Result<(Result<T, Refusal>, Left), Failure> {
-        let mut draws = SharedDraws::resumed(main, &self.account).map_err(|error| self.fault(&error))?;
+        let mut draws = SharedDraws::from_account(main, &self.account).map_err(|error| self.fault(&error))?;
         let is_caller = self.caller < draws.callers();
         let before = draws.marks().to_vec();
         let available = if is_caller { draws.available(self.caller).concat() } else { Vec::new() };

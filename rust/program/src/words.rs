@@ -4,7 +4,7 @@ use crate::arguments::{Arguments, FILE, Flag};
 use crate::commands::longer;
 use crate::shares::Share;
 use crate::{Failure, files};
-use kundatrezo::{Caller, Circuit, Draws, Examination, Number, Refusal, Source as Drawn, Used, Xorshift};
+use kundatrezo::{Caller, Circuit, DrawSource, Draws, Examination, Number, Refusal, WordsRead, Xorshift};
 use std::ffi::OsString;
 use std::io::Read;
 
@@ -267,7 +267,7 @@ impl<'a> Lent<'a> {
     /// the same, so the answer is that of a list which was long enough from the start.
     pub fn call<T>(
         &mut self,
-        mut call: impl FnMut(&[u64], &mut dyn Drawn) -> Result<T, Refusal>,
+        mut call: impl FnMut(&[u64], &mut dyn DrawSource) -> Result<T, Refusal>,
     ) -> Result<T, Failure> {
         loop {
             let (answer, left) = match &self.share {
@@ -348,8 +348,8 @@ impl<'a> Lent<'a> {
         }
         let main = self.share.as_ref().map_or(&self.main.words, |share| &share.available);
         let draws = Draws::new(main).with_second(&self.second.words, self.base);
-        let used = draws.used(self.job, &self.noiseless);
-        let Used { main, second, .. } = used.map_err(|refusal| Failure::refused(&refusal, self.job, None))?;
+        let read = draws.words_read(self.job, &self.noiseless);
+        let WordsRead { main, second, .. } = read.map_err(|refusal| Failure::refused(&refusal, self.job, None))?;
         let skip = self.skipped.saturating_add(main as u64);
         let words = match &self.share {
             Some(share) => share.report.clone(),

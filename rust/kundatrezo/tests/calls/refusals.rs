@@ -64,8 +64,8 @@ fn numbers_of_the_calls() {
     let fault = |corr: &str, kind: &str| format!("op=n p={ONE} corr={corr} cond=- parity=0 {kind}");
     let none = Draws::default();
     let noisy = job(&format!("op=z q=0\n{}", fault("-", "d=1 x=0 z=- size=1")));
-    assert_eq!(refused(Frames::of_run(&noisy, &[], none)), (13, 0));
-    assert_eq!(refused(Frames::of_run(&noisy, &[0], none)), (14, 3));
+    assert_eq!(refused(Frames::from_run(&noisy, &[], none)), (13, 0));
+    assert_eq!(refused(Frames::from_run(&noisy, &[0], none)), (14, 3));
     assert_eq!(refused(settled(&noisy, &[], none)), (13, 0));
     assert_eq!(refused(settled(&noisy, &[0], none)), (14, 3));
     assert_eq!(refused(settle(&noisy, &[0], Draws::new(&[0]), &mut [0; 60])), (15, 0));
@@ -144,12 +144,12 @@ op=o x=0 z=- id=2
     // place 4 + 1 of the second list.
     let noiseless = [0b01, 0b10, 0b11];
     let draws = Draws::new(&[9, 9, 2]).with_second(&[2, 2, 2, 2, 2, 9, 0, 9, 1], 4);
-    let frames = Frames::of_run(job, &noiseless, draws).expect("the job runs");
+    let frames = Frames::from_run(job, &noiseless, draws).expect("the job runs");
     assert_eq!(Ok(frames.job()), examine(job));
     let numbers = frames.job();
     assert_eq!((numbers.qubits, numbers.outcomes, numbers.shots), (2, 3, 2));
     assert_eq!((numbers.recorded, numbers.lines), (3, 6));
-    let used = draws.used(job, &noiseless).expect("the job settles");
+    let used = draws.words_read(job, &noiseless).expect("the job settles");
     assert_eq!((used.main, used.second), (3, 9));
     assert_eq!((frames.x(), frames.z()), ([0b10, 0b01].as_slice(), [0b10, 0b10].as_slice()));
     assert_eq!((frames.deltas(), frames.delta_row(2)), ([0, 0, 0b10].as_slice(), [0b10].as_slice()));
@@ -158,7 +158,7 @@ op=o x=0 z=- id=2
     let injections: Vec<&[u8]> = text.split(|byte| *byte == b'\n').filter(|line| line.starts_with(b"op=i")).collect();
     let expected = ["op=i shot=1 x=0 z=0", "op=i shot=0 x=1 z=-", "op=i shot=1 x=- z=1"];
     assert_eq!(injections, expected.map(str::as_bytes));
-    let again = Frames::of_run(&text, &noiseless, Draws::default()).expect("the settled job runs");
+    let again = Frames::from_run(&text, &noiseless, Draws::default()).expect("the settled job runs");
     assert_eq!((again.x(), again.z(), again.deltas()), (frames.x(), frames.z(), frames.deltas()));
     assert_eq!((walk(&text, 0, &[2]), walk(&text, 1, &[2]), walk(&text, 1, &[])), (Ok(0), Ok(1), Ok(0)));
     assert_eq!(locations(job), Ok(2));

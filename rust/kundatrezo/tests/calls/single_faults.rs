@@ -108,7 +108,7 @@ pub fn compare_with_forward_runs(job: &str) {
     let groups: Vec<Vec<u64>> = groups.iter().filter(|group| group.iter().all(|id| *id < recorded)).cloned().collect();
     let (alone, faults) = forwards(job);
     let words = examine(alone.as_bytes()).expect("it passes").outcome_words();
-    let frames = Frames::of_run(alone.as_bytes(), &vec![0; words], Draws::default()).expect("it runs");
+    let frames = Frames::from_run(alone.as_bytes(), &vec![0; words], Draws::default()).expect("it runs");
     let table = fault_table(job.as_bytes(), &groups).expect("a table");
     assert_eq!((table.groups(), table.iter().count()), (groups.len(), faults.len()));
     for (shot, (fault, place)) in table.iter().zip(&faults).enumerate() {
@@ -382,7 +382,7 @@ fn a_model_of_exclusive_elements_is_near() {
     for _ in 0..16 {
         stream.fill(&mut words);
         frames.run(job.as_bytes(), &vec![0; 7 * MAX_SHOTS / 64], Draws::new(&words)).expect("it runs");
-        for row in Shots::of_frames(&frames).iter() {
+        for row in Shots::from_frames(&frames).iter() {
             let sum = |group: &Vec<u64>| group.iter().fold(false, |sum, id| sum ^ bit(row, *id as usize));
             let syndrome: usize =
                 detectors.iter().enumerate().map(|(place, group)| usize::from(sum(group)) << place).sum();
