@@ -2,7 +2,7 @@
 
 use crate::arguments::{Arguments, Flag};
 use crate::commands::{examined, outcomes, write_out};
-use crate::{Failure, say};
+use crate::{Failure, print_stderr};
 use kundatrezo::{MAX_BYTES, MAX_GROUPS, Number, Refusal};
 
 const GROUP: Flag =
@@ -52,10 +52,10 @@ pub fn model(arguments: &Arguments) -> Result<(), Failure> {
     let model = called(arguments, &named, |job| kundatrezo::error_model(job, &detectors, &observables))?;
     write_out(arguments, model.to_string().as_bytes())?;
     if model.mechanisms().iter().any(|mechanism| mechanism.has_condition) {
-        say("note: noise with a condition has the probability of shots in which it holds");
+        print_stderr("note: noise with a condition has the probability of shots in which it holds");
     }
     for correlation in model.mixed_correlations() {
-        say(&format!(
+        print_stderr(&format!(
             "note: lines with corr={correlation} differ in p, condition, kind or size, and are taken for independent"
         ));
     }

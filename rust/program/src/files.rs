@@ -61,15 +61,15 @@ pub fn append_words(path: &OsStr, source: &mut dyn Read, count: usize, words: &m
     let mut bytes = Vec::with_capacity(PIECE);
     while words.len() < end {
         bytes.clear();
-        let wanted = (end - words.len()).saturating_mul(8).min(PIECE);
-        source.take(wanted as u64).read_to_end(&mut bytes).map_err(|error| fault(path, &error))?;
+        let length = (end - words.len()).saturating_mul(8).min(PIECE);
+        source.take(length as u64).read_to_end(&mut bytes).map_err(|error| fault(path, &error))?;
         let (whole, rest) = bytes.as_chunks();
         if !rest.is_empty() {
             let text = format!("{}: its bytes are no whole number of 64-bit words", shown(path));
             return Err(Failure::Other(text));
         }
         words.extend(whole.iter().map(|word| u64::from_le_bytes(*word)));
-        if bytes.len() < wanted {
+        if bytes.len() < length {
             break;
         }
     }

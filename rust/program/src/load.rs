@@ -39,8 +39,8 @@ pub fn write_job(arguments: &Arguments) -> Result<(), Failure> {
     }
     let [qubits, outcomes, shots, lines, seed] = numbers;
     let mut out = room(arguments)?;
-    let asked = JobParameters { qubits, outcomes, shots, lines, seed };
-    let bytes = kundatrezo::make(asked, &mut out).map_err(|refusal| {
+    let parameters = JobParameters { qubits, outcomes, shots, lines, seed };
+    let bytes = kundatrezo::make(parameters, &mut out).map_err(|refusal| {
         let limits =
             format!("a header has 1 to {MAX_QUBITS} qubits, 0 to {MAX_OUTCOMES} outcomes, 1 to {MAX_SHOTS} shots");
         let shorter = format!(

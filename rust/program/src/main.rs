@@ -9,6 +9,7 @@ mod files;
 mod load;
 mod manual;
 mod numbers;
+mod ordered_output;
 mod progress;
 mod rates;
 mod sample;
@@ -16,7 +17,6 @@ mod shares;
 mod shots;
 mod sizes;
 mod spelling;
-mod turns;
 mod words;
 
 use arguments::Arguments;
@@ -76,21 +76,21 @@ impl From<io::Error> for Failure {
 
 fn main() -> ExitCode {
     let arguments: Vec<OsString> = std::env::args_os().skip(1).collect();
-    match obey(&arguments) {
+    match run_command(&arguments) {
         Ok(()) => ExitCode::SUCCESS,
         Err(Failure::Refused(text)) => {
-            say(&text);
+            print_stderr(&text);
             ExitCode::from(1)
         }
         Err(Failure::Other(text)) => {
-            say(&format!("kundatrezo: {text}"));
+            print_stderr(&format!("kundatrezo: {text}"));
             ExitCode::from(2)
         }
         Err(Failure::Unread) => ExitCode::from(2),
     }
 }
 
-fn obey(arguments: &[OsString]) -> Result<(), Failure> {
+fn run_command(arguments: &[OsString]) -> Result<(), Failure> {
     let Some((first, rest)) = arguments.split_first() else {
         return Err(Failure::Other(format!("a command is missing\n\n{}", manual::help().trim_end())));
     };
@@ -102,7 +102,7 @@ fn obey(arguments: &[OsString]) -> Result<(), Failure> {
     match Arguments::read(command, rest) {
         Ok(Some(arguments)) => {
             arguments.names(command).test()?;
-            (command.obey)(&arguments)
+            (command.run)(&arguments)
         }
         Ok(None) => print(command.help()),
         Err(text) => Err(Failure::Other(format!("{text}; see 'kundatrezo {name} --help'"))),
@@ -110,7 +110,7 @@ fn obey(arguments: &[OsString]) -> Result<(), Failure> {
 }
 
 /// Write a line to standard error. If it can't be written, the status tells all the same.
-fn say(line: &str) {
+fn print_stderr(line: &str) {
     _ = writeln!(io::stderr(), "{line}");
 }
 
