@@ -23,7 +23,7 @@ use kundatrezo::{
     Counts, GrowingDraws, JobParameters, Number, Rows, SavedCounts, WordSource, Xorshift, annotated, condition_notes,
     correlation, error_model, examine, locations, make_job, run, settled, single_faults, walk, wilson,
 };
-use lists::{Failure, Given, Lent, OnJob};
+use lists::{Argument, Failure, Given, OnJob};
 use sampling::{Plan, Sampling};
 
 /// Declares calls: each parameter is bound as the call uses it, and no panic leaves the body.
@@ -38,7 +38,7 @@ macro_rules! calls {
         #[unsafe(no_mangle)]
         pub unsafe extern "C" fn $name($($parameter: $kind),*) -> Reply {
             // SAFETY: the caller's promise
-            $(let $parameter = unsafe { $parameter.lent() };)*
+            $(let $parameter = unsafe { $parameter.value() };)*
             Reply::of(move || $body)
         }
     )*
@@ -323,8 +323,8 @@ mod tests {
     fn taken(reply: Reply) -> (u64, u64, u64, String, Vec<u64>) {
         // SAFETY: the lists of a reply
         let (text, words) = unsafe {
-            let text = Bytes { first: reply.text, len: reply.text_len }.lent();
-            let words = Words { first: reply.words, len: reply.words_len }.lent();
+            let text = Bytes { first: reply.text, len: reply.text_len }.value();
+            let words = Words { first: reply.words, len: reply.words_len }.value();
             (String::from_utf8_lossy(text).into_owned(), words.to_vec())
         };
         let taken = (reply.number, reply.line, reply.count, text, words);

@@ -1,4 +1,4 @@
-//! What passes through the C interface: lists that the caller lends, and the reply of a call.
+//! What passes through the C interface: the arguments and the reply of a call.
 
 use kundatrezo::{Number, Refusal};
 use std::any::Any;
@@ -45,26 +45,26 @@ pub struct GivenBytes(pub Bytes);
 #[derive(Debug, Clone, Copy)]
 pub struct GivenWords(pub Words);
 
-/// A parameter of a call, as the call uses it.
-pub trait Lent {
-    /// A slice of a list, or the number itself.
-    type Used;
+/// An argument of a call through the C interface.
+pub trait Argument {
+    /// What the call works with: a slice of a list, or the number itself.
+    type Value;
 
-    /// Take what the caller lends.
+    /// The argument as this value.
     ///
     /// # Safety
     ///
     /// The list has as many initialised elements as it says, is not null unless it is empty, and is aligned; if it is written, nothing else uses it
     /// meanwhile.
-    unsafe fn lent(self) -> Self::Used;
+    unsafe fn value(self) -> Self::Value;
 }
 
-macro_rules! lent_lists {
-    ($($list:ident: $used:ty, $make:ident;)*) => {$(
-        impl Lent for $list {
-            type Used = $used;
+macro_rules! list_arguments {
+    ($($list:ident: $value:ty, $make:ident;)*) => {$(
+        impl Argument for $list {
+            type Value = $value;
 
-            unsafe fn lent(self) -> Self::Used {
+            unsafe fn value(self) -> Self::Value {
                 if self.len == 0 {
                     return Default::default();
                 }
@@ -75,34 +75,34 @@ macro_rules! lent_lists {
     )*};
 }
 
-lent_lists! {
+list_arguments! {
     Bytes: &'static [u8], from_raw_parts;
     Words: &'static [u64], from_raw_parts;
     WordsMut: &'static mut [u64], from_raw_parts_mut;
 }
 
-macro_rules! given_lists {
-    ($($list:ident: $used:ty;)*) => {$(
-        impl Lent for $list {
-            type Used = Option<$used>;
+macro_rules! optional_arguments {
+    ($($list:ident: $value:ty;)*) => {$(
+        impl Argument for $list {
+            type Value = Option<$value>;
 
-            unsafe fn lent(self) -> Self::Used {
+            unsafe fn value(self) -> Self::Value {
                 // SAFETY: the caller's promise
-                (!self.0.first.is_null()).then(|| unsafe { self.0.lent() })
+                (!self.0.first.is_null()).then(|| unsafe { self.0.value() })
             }
         }
     )*};
 }
 
-given_lists! {
+optional_arguments! {
     GivenBytes: &'static [u8];
     GivenWords: &'static [u64];
 }
 
-impl Lent for u64 {
-    type Used = Self;
+impl Argument for u64 {
+    type Value = Self;
 
-    unsafe fn lent(self) -> Self {
+    unsafe fn value(self) -> Self {
         self
     }
 }

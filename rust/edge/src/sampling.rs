@@ -1,6 +1,6 @@
 //! Samples: a sampler with the memory of one thread.
 
-use crate::lists::{Failure, Given, Lent};
+use crate::lists::{Argument, Failure, Given};
 use kundatrezo::{Counts, Frames, NamedShots, Sampler, SamplerError, Workspace, by_shot};
 use std::ops::Range;
 
@@ -28,10 +28,10 @@ impl Handle {
     }
 }
 
-impl Lent for Handle {
-    type Used = &'static mut Sampling;
+impl Argument for Handle {
+    type Value = &'static mut Sampling;
 
-    unsafe fn lent(self) -> Self::Used {
+    unsafe fn value(self) -> Self::Value {
         // SAFETY: the caller's promise
         unsafe { &mut *self.0 }
     }
@@ -162,12 +162,12 @@ impl Sampling {
     }
 
     /// The text of counts that were added up.
-    pub fn text(&self, sums: &[u64], is_counted: bool, is_lent: bool) -> Result<String, Failure> {
+    pub fn text(&self, sums: &[u64], is_counted: bool, is_per_shot: bool) -> Result<String, Failure> {
         self.require_sums(sums.len())?;
         let (totals, sets) = sums[2..].split_at(self.sampler.job().outcomes);
         let counted = is_counted.then_some(sums[1]);
         let counts = Counts { shots: sums[0], totals: totals.to_vec(), sets: sets.to_vec(), counted };
         let saved = self.sampler.saved(counts, &self.sets, self.part).map_err(Failure::fault)?;
-        Ok(if is_lent { saved.with_noiseless_per_shot().text() } else { saved.text() })
+        Ok(if is_per_shot { saved.with_noiseless_per_shot().text() } else { saved.text() })
     }
 }
