@@ -134,7 +134,7 @@ pub struct SavedCounts {
     /// The CRC-32 of the job's bytes.
     pub(crate) job: u32,
     pub(crate) draws: String,
-    /// Whole samples, which are one entry, then those of which parts are missing, by their seeds.
+    /// Complete samples, which are one entry, then those with missing parts, by their seeds.
     pub(crate) samples: Vec<Sample>,
     pub(crate) named: Option<NamedShots>,
     pub(crate) noiseless: Option<String>,
@@ -442,7 +442,7 @@ pub(crate) struct Sample {
 }
 
 impl Sample {
-    /// One part, from 1, of so many.
+    /// A part, numbered from 1, and the number of parts.
     pub(crate) fn part(seed: u64, (place, parts): (u64, u64), whole: u64) -> Self {
         Self { seeds: vec![seed], places: vec![place..=place], parts, whole }
     }
@@ -518,7 +518,7 @@ impl fmt::Display for Sample {
     }
 }
 
-/// Samples in the order of a text, whole ones as one; none where these have 2^64 shots or more.
+/// Samples in the order of a text, whole ones as one; `None` if these have 2^64 shots or more.
 fn ordered(samples: Vec<Sample>) -> Option<Vec<Sample>> {
     let (whole, mut rest): (Vec<Sample>, Vec<Sample>) = samples.into_iter().partition(Sample::is_whole);
     rest.sort_by(|one, other| one.seeds.cmp(&other.seeds));
@@ -532,7 +532,7 @@ fn ordered(samples: Vec<Sample>) -> Option<Vec<Sample>> {
     Some([vec![one], rest].concat())
 }
 
-/// The samples of the second line of a text; none where they have no form.
+/// The samples of the second line of a text; `None` if it has another form.
 fn samples(line: &str) -> Option<Vec<Sample>> {
     let fields: Vec<(&str, &str)> = line.split(' ').filter_map(|field| field.split_once('=')).collect();
     let start = fields.iter().position(|(key, _)| *key == "seed")?;

@@ -77,7 +77,7 @@ numbers! {
 }
 
 impl Number {
-    /// The number that a C caller has; none where this crate does not know it.
+    /// The number of the C interface; `None` if this crate does not know it.
     #[must_use]
     pub fn new(number: u64) -> Option<Self> {
         Self::ALL.iter().copied().find(|known| known.0 == number)
@@ -132,7 +132,7 @@ pub struct Refusal {
 }
 
 impl Refusal {
-    /// The refused line of the job that was handed over, without its LF; none where no line fits.
+    /// The refused line of the job, without its LF; `None` if the refusal is of no line.
     #[must_use]
     pub fn line_of<'a>(&self, job: &'a [u8]) -> Option<&'a [u8]> {
         let part = crate::sys::line(job, self.line);

@@ -68,11 +68,11 @@ impl fmt::Display for NoiselessSizeError {
 
 impl Error for NoiselessSizeError {}
 
-/// Any number of shots of a job, in runs of [`MAX_SHOTS`] and a last one of what is left: *blocks*. The header's number of shots is replaced.
+/// Any number of shots of a job, in *blocks*: runs of [`MAX_SHOTS`] shots each, and a last one of the rest. The header's number of shots is replaced.
 ///
-/// Each block has a main and a second list of its own, the words of [`Xorshift::of_block`], and the base of its second list is 0. So what a block leaves
-/// depends on the job, the seed, the number of the block and that of its shots alone, and what all blocks leave does not depend on how they are shared among
-/// threads, processes or machines. This loop is tested, not proved: each run is a call of the library, which is.
+/// Each block has a main and a second list of its own, the words of [`Xorshift::of_block`], and the base of its second list is 0. So the result of a
+/// block depends on the job, the seed, the block's number and the number of its shots alone, and the result of a sample does not depend on how its
+/// blocks are shared among threads, processes or machines. This loop is tested, not proved. Each run is a call of the library, which is proved.
 ///
 /// ```
 /// use kundatrezo::Sampler;
@@ -106,7 +106,7 @@ pub struct Sampler {
     shots: u64,
     seed: u64,
     named: Option<NamedShots>,
-    /// Noiseless bits of the job's own shots, which come again and again; none where all are zero.
+    /// Noiseless bits of the job's own shots, repeated cyclically; empty if all are zero.
     noiseless: Vec<u64>,
     /// The CRC-32 of these, if they were given.
     noiseless_sum: Option<u32>,
@@ -171,12 +171,12 @@ impl Sampler {
         })
     }
 
-    /// Noiseless bits in the layout of a run, for the shots of the job's own header, that come again and again: shot s of the whole has those of s mod
-    /// the header's shots. Without this all are zero.
+    /// The same with noiseless bits, in the layout of a run, for the shots of the job's own header. They are repeated cyclically: shot s of the
+    /// sample has those of s mod the header's shots. Without this all are zero.
     ///
     /// # Errors
     ///
-    /// There are not just as many words as the header's outcomes have in its shots, [`Examination::outcome_words`].
+    /// The number of words is not that of the header's outcomes and shots, [`Examination::outcome_words`].
     pub fn with_noiseless(self, rows: &[u64]) -> Result<Self, NoiselessSizeError> {
         let (shots, outcomes) = (self.own_shots, self.job.outcomes);
         let period = shots.div_ceil(64);
@@ -196,19 +196,19 @@ impl Sampler {
         Ok(Self { noiseless, noiseless_sum, ..self })
     }
 
-    /// The numbers of the job, with those of the shots of a whole block.
+    /// The job's numbers, with the shots of a full block.
     #[must_use]
     pub fn job(&self) -> Examination {
         self.job
     }
 
-    /// How many shots the whole has.
+    /// The number of shots in the sample.
     #[must_use]
     pub fn shots(&self) -> u64 {
         self.shots
     }
 
-    /// How many blocks the whole has.
+    /// The number of blocks in the sample.
     #[must_use]
     pub fn blocks(&self) -> u64 {
         self.shots.div_ceil(BLOCK)
@@ -220,7 +220,8 @@ impl Sampler {
         shots_of(self.shots, block)
     }
 
-    /// The blocks of a part of the whole: of `parts`, as many blocks each or one more or less, that with this place, from 0; none where there is no such part.
+    /// The blocks of one of `parts` parts of the sample, which differ by one block at most. `place` counts from 0; the range is empty if there is no
+    /// such part.
     #[must_use]
     pub fn part(&self, place: u64, parts: u64) -> Range<u64> {
         part_blocks(self.blocks(), place, parts)
@@ -239,7 +240,8 @@ impl Sampler {
     ///
     /// # Errors
     ///
-    /// The refusal of the run: by a test of the job (10 if a line names a shot that the sample does not have), or by 14 for a correlation past 2^28 words.
+    /// The refusal of the run: by a test of the job (10 if a line names a shot that the sample does not have), or by 14 for a correlation past 2^28
+    /// words.
     pub fn run<'a>(&self, block: u64, workspace: &'a mut Workspace) -> Result<&'a Frames, Refusal> {
         let words = self.row_words(block);
         workspace.noiseless.clear();
@@ -426,7 +428,8 @@ fn first_named_shot(job: &[u8]) -> Option<u64> {
     circuit.numbered().find(|(_, instruction)| instruction.shot().is_some()).map(|(line, _)| line as u64)
 }
 
-/// The message of [`SamplerError::NamedShot`] for an interface of its own; `whole` and `block` are its ways to write the two values of [`NamedShots`].
+/// The message of [`SamplerError::NamedShot`] for an interface of its own; `whole` and `block` are its ways to write the two values of
+/// [`NamedShots`].
 #[must_use]
 pub fn named_shot_message(line: u64, whole: &str, block: &str) -> String {
     format!(

@@ -17,9 +17,9 @@ pub struct WordsRead {
 impl Draws<'_> {
     /// How many words a run of this job, or its settling, reads.
     ///
-    /// For the main list the engine counts: a run by one caller, for whom all words are common, leaves the number in its mark. For the second list it is
-    /// the shortest length that is enough: [`settle`] accepts that length, and refuses one word less by 14. This takes the time of a run, and of about three
-    /// settlings if there is a second list.
+    /// For the main list the engine counts: a run by one caller, for whom all words are common, leaves the number in its mark. For the second list it
+    /// is the shortest length that is enough: [`settle`] accepts that length, and refuses one word less by 14. This takes the time of a run, and of
+    /// about three settlings if there is a second list.
     ///
     /// # Errors
     ///

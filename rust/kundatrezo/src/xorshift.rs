@@ -26,9 +26,10 @@ pub fn fill(seed: u64, words: &mut [u64]) -> Result<(), Refusal> {
 /// Words for callers who have none of their own: the stream of [`fill`], Marsaglia's 64-bit xorshift ("Xorshift RNGs", Journal of Statistical Software 8(14),
 /// 2003). The engine makes them.
 ///
-/// [`new`](Self::new) makes a first state from a seed, so that every seed is a good one, 0 and small ones too. [`from_state`](Self::from_state) takes the
-/// state itself, which is the seed of [`fill`]. All states lie on one cycle of 2^64 - 1 words, and no word is zero. For the next run of a series read the same
-/// words on, by the number that [`Draws::words_read`](crate::Draws::words_read) returns. To [`fill`](Self::fill) a list is faster than to take its words one by one.
+/// [`new`](Self::new) makes a first state from a seed, so that every seed is a good one, 0 and small ones too. [`from_state`](Self::from_state) takes
+/// the state itself, which is the seed of [`fill`]. All states lie on one cycle of 2^64 - 1 words, and no word is zero. For the next run of a series
+/// read the same words on, by the number that [`Draws::words_read`](crate::Draws::words_read) returns. To [`fill`](Self::fill) a list is faster than
+/// to take its words one by one.
 ///
 /// ```
 /// use kundatrezo::Xorshift;
