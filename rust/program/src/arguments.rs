@@ -265,8 +265,8 @@ impl Arguments {
         let parsed = |value: &OsString| {
             let fault = || {
                 let digits = value.to_str().and_then(digits).filter(|digits| parse(digits).is_some());
-                let remedy = digits.map_or_else(String::new, |digits| format!(": write {digits}"));
-                Failure::Other(format!("the value of {name} is to be {what}, not '{}'{remedy}", shown(value)))
+                let hint = digits.map_or_else(String::new, |digits| format!(": write {digits}"));
+                Failure::Other(format!("the value of {name} is to be {what}, not '{}'{hint}", shown(value)))
             };
             value.to_str().and_then(parse).ok_or_else(fault)
         };

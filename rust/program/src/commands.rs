@@ -414,8 +414,8 @@ fn annotate(arguments: &Arguments) -> Result<(), Failure> {
     let mut out = room(arguments)?;
     let bytes = kundatrezo::annotate(&job, p, &mut out).map_err(|refusal| {
         let own = refusal.number == Number::PROBABILITY && refusal.line == 0;
-        let remedy = own.then(|| format!("the probability of {} or {} is {p:?}", P.name, P_BITS.name));
-        Failure::refused(&refusal, &job, remedy.or_else(|| longer(&refusal)))
+        let hint = own.then(|| format!("the probability of {} or {} is {p:?}", P.name, P_BITS.name));
+        Failure::refused(&refusal, &job, hint.or_else(|| room_hint(&refusal)))
     })?;
     write_out(arguments, &out[..bytes])?;
     if p < 0.0 {
@@ -447,9 +447,8 @@ fn split(arguments: &Arguments) -> Result<(), Failure> {
     })?;
     let parts = kundatrezo::split(&job, parts).map_err(|refusal| {
         let noisy = refusal.number == Number::NOISE;
-        let remedy =
-            noisy.then(|| "settle the job first ('kundatrezo settle --help'), and split the settled job".into());
-        Failure::refused(&refusal, &job, remedy)
+        let hint = noisy.then(|| "settle the job first ('kundatrezo settle --help'), and split the settled job".into());
+        Failure::refused(&refusal, &job, hint)
     })?;
     let path = |place: usize| {
         let mut path = prefix.to_owned();
@@ -457,7 +456,7 @@ fn split(arguments: &Arguments) -> Result<(), Failure> {
         path
     };
     let paths: Vec<OsString> = (0..parts.len()).map(path).collect();
-    Names { inputs: vec![arguments.operand().to_owned()], outputs: paths.clone() }.test()?;
+    Names { inputs: vec![arguments.operand().to_owned()], outputs: paths.clone() }.check()?;
     let mut outputs = Outputs::default();
     let mut lines = String::new();
     for (path, part) in paths.iter().zip(parts) {
@@ -497,10 +496,10 @@ fn refused(job: &[u8]) -> impl FnOnce(Refusal) -> Failure {
 }
 
 /// What to do about a text that does not fit.
-pub fn longer(refusal: &Refusal) -> Option<String> {
-    let remedy =
+pub fn room_hint(refusal: &Refusal) -> Option<String> {
+    let hint =
         format!("leave out {}, if it is given; a text of more than {MAX_BYTES} bytes wants a smaller job", ROOM.name);
-    (refusal.number == Number::ROOM).then_some(remedy)
+    (refusal.number == Number::ROOM).then_some(hint)
 }
 
 /// The header's numbers, as a session prints them: without the edition.

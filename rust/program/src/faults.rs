@@ -39,7 +39,7 @@ shots in which it holds. docs/FAULTS.md has more.";
 
 pub fn table(arguments: &Arguments) -> Result<(), Failure> {
     let groups = groups(arguments, &GROUP)?;
-    let table = called(arguments, &[("group", &groups)], |job| kundatrezo::fault_table(job, &groups))?;
+    let table = call_with_groups(arguments, &[("group", &groups)], |job| kundatrezo::fault_table(job, &groups))?;
     write_out(arguments, table.text().as_bytes())
 }
 
@@ -49,7 +49,7 @@ pub fn model(arguments: &Arguments) -> Result<(), Failure> {
         return Err(Failure::Other(format!("{} or {} is wanted", DETECTOR.name, OBSERVABLE.name)));
     }
     let named = [("detector", detectors.as_slice()), ("observable", &observables)];
-    let model = called(arguments, &named, |job| kundatrezo::error_model(job, &detectors, &observables))?;
+    let model = call_with_groups(arguments, &named, |job| kundatrezo::error_model(job, &detectors, &observables))?;
     write_out(arguments, model.to_string().as_bytes())?;
     if model.mechanisms().iter().any(|mechanism| mechanism.has_condition) {
         print_stderr("note: noise with a condition has the probability of shots in which it holds");
@@ -67,8 +67,8 @@ fn groups(arguments: &Arguments, flag: &Flag) -> Result<Vec<Vec<u64>>, Failure> 
     arguments.all_parsed(flag.name, "numbers with commas between, or -", outcomes)
 }
 
-/// Make a call on the job with these groups, and say what to do where it refuses.
-fn called<T>(
+/// Make a call on the job with these groups. A refusal has a hint.
+fn call_with_groups<T>(
     arguments: &Arguments,
     groups: &[(&str, &[Vec<u64>])],
     call: impl FnOnce(&[u8]) -> Result<T, Refusal>,
@@ -80,7 +80,7 @@ fn called<T>(
         let members: Vec<String> = group.iter().map(u64::to_string).collect();
         Some(examined.outcomes_hint(&format!("the {what} {}", members.join(","))))
     };
-    let remedy = |refusal: &Refusal| match refusal.number {
+    let hint = |refusal: &Refusal| match refusal.number {
         Number::GROUPS if refusal.line == 0 => {
             Some(format!("each {} is a group, and a table has 1 to {MAX_GROUPS} of them", GROUP.name))
         }
@@ -90,7 +90,7 @@ fn called<T>(
         _ => None,
     };
     call(&job).map_err(|refusal| match refused().filter(|_| refusal.number == Number::WALK) {
-        Some(remedy) => Failure::refused_list(&remedy),
-        None => Failure::refused(&refusal, &job, remedy(&refusal)),
+        Some(hint) => Failure::refused_list(&hint),
+        None => Failure::refused(&refusal, &job, hint(&refusal)),
     })
 }

@@ -197,8 +197,8 @@ pub struct Names {
 }
 
 impl Names {
-    /// That no output is an input too, or is named twice: one would destroy the other. Pipes and devices may be.
-    pub fn test(&self) -> Result<(), Failure> {
+    /// Check that no output is an input too, or is named twice: one would destroy the other. Pipes and devices may be.
+    pub fn check(&self) -> Result<(), Failure> {
         let refused = |path: &OsStr, what: &str| Err(Failure::Other(format!("{}: {what}", shown(path))));
         let inputs: Vec<FileId> = self.inputs.iter().filter_map(|path| input_id(path)).collect();
         let printed = [standard(io::stdout()), standard(io::stderr())];

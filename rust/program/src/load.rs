@@ -47,12 +47,12 @@ pub fn write_job(arguments: &Arguments) -> Result<(), Failure> {
             "leave out --room, if it is given; a text of more than {MAX_BYTES} bytes wants fewer {}",
             LINES.name
         );
-        let remedy = match refusal.number {
+        let hint = match refusal.number {
             Number::HEADER => Some(limits),
             Number::ROOM => Some(shorter),
             _ => None,
         };
-        Failure::refused(&refusal, b"", remedy)
+        Failure::refused(&refusal, b"", hint)
     })?;
     write_out(arguments, &out[..bytes])
 }

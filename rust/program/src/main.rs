@@ -38,30 +38,30 @@ enum Failure {
 
 impl Failure {
     /// The refusal of a job, with the text of its line and what to do about it: what the command knows of that, or what the line shows.
-    fn refused(refusal: &Refusal, job: &[u8], remedy: Option<String>) -> Self {
+    fn refused(refusal: &Refusal, job: &[u8], hint: Option<String>) -> Self {
         let line = refusal.line_of(job).map(|line| format!(": {}", shortened(line))).unwrap_or_default();
         let need = match (refusal.number, refusal.bytes_needed) {
             (Number::ROOM, 1..) => format!("; the text needs {} bytes", refusal.bytes_needed),
             _ => String::new(),
         };
-        let remedy = remedy.or_else(|| refusal.hint(job)).map(|text| format!("\nhint: {text}"));
-        Self::Refused(format!("{refusal}{line}{need}{}", remedy.unwrap_or_default()))
+        let hint = hint.or_else(|| refusal.hint(job)).map(|text| format!("\nhint: {text}"));
+        Self::Refused(format!("{refusal}{line}{need}{}", hint.unwrap_or_default()))
     }
 
     /// The refusal by 17 of the shot of a walk.
-    fn refused_shot(remedy: &str) -> Self {
-        Self::by_cause(Number::WALK, 0, remedy)
+    fn refused_shot(hint: &str) -> Self {
+        Self::by_cause(Number::WALK, 0, hint)
     }
 
     /// The refusal by 17 of a list of outcomes, which need not be that of a walk.
-    fn refused_list(remedy: &str) -> Self {
-        Self::by_cause(Number::WALK, 1, remedy)
+    fn refused_list(hint: &str) -> Self {
+        Self::by_cause(Number::WALK, 1, hint)
     }
 
     /// A refusal by one of the causes that a number's words have.
-    fn by_cause(number: Number, cause: usize, remedy: &str) -> Self {
+    fn by_cause(number: Number, cause: usize, hint: &str) -> Self {
         let words = number.cause(cause);
-        Self::Refused(format!("refused: {} ({words})\nhint: {remedy}", number.get()))
+        Self::Refused(format!("refused: {} ({words})\nhint: {hint}", number.get()))
     }
 }
 
@@ -101,7 +101,7 @@ fn run_command(arguments: &[OsString]) -> Result<(), Failure> {
     let command = commands::command(&name)?;
     match Arguments::read(command, rest) {
         Ok(Some(arguments)) => {
-            arguments.names(command).test()?;
+            arguments.names(command).check()?;
             (command.run)(&arguments)
         }
         Ok(None) => print(command.help()),

@@ -1,7 +1,7 @@
 //! The words that a run or settling draws from: read from files as far as they are needed, or made from seeds.
 
 use crate::arguments::{Arguments, FILE, Flag};
-use crate::commands::longer;
+use crate::commands::room_hint;
 use crate::shares::Share;
 use crate::{Failure, files};
 use kundatrezo::{Caller, Circuit, DrawSource, Draws, Examination, Number, Refusal, WordsRead, Xorshift};
@@ -135,7 +135,7 @@ impl List {
 
     /// The main list to its end, or as long as options say.
     pub fn whole(arguments: &Arguments) -> Result<Self, Failure> {
-        Self::main(arguments)?.grown_whole(arguments)
+        Self::main(arguments)?.grown_to_end(arguments)
     }
 
     /// The words that `fill` writes.
@@ -143,10 +143,10 @@ impl List {
         if [FILL_STATE, RUN_SEED].iter().all(|flag| arguments.value(flag.name).is_none()) {
             return Err(Failure::Other(format!("{} or {} is wanted", FILL_STATE.name, RUN_SEED.name)));
         }
-        Self::first(arguments, None, &RUN_SEED)?.grown_whole(arguments)
+        Self::first(arguments, None, &RUN_SEED)?.grown_to_end(arguments)
     }
 
-    fn grown_whole(mut self, arguments: &Arguments) -> Result<Self, Failure> {
+    fn grown_to_end(mut self, arguments: &Arguments) -> Result<Self, Failure> {
         if matches!(self.source, ListSource::Made(_)) && arguments.value(WORDS.name).is_none() {
             return Err(Failure::Other(format!("{} is wanted for words that are made", WORDS.name)));
         }
@@ -190,7 +190,7 @@ impl List {
     }
 
     /// What to do if the list is too short. A line that reads the second list does so from `place` on.
-    fn remedy(&self, name: &str, place: Option<u64>) -> String {
+    fn hint(&self, name: &str, place: Option<u64>) -> String {
         let (words, seed, most) = (self.words.len(), self.seed, self.most);
         match (&self.source, place) {
             (ListSource::None, _) => format!("there is no {name} list: {seed} N makes as many words as are needed"),
@@ -284,7 +284,7 @@ impl<'a> CallInputs<'a> {
                 Err(refusal) if refusal.number == Number::DRAWS && self.make_more(&refusal)? => {}
                 answer => {
                     self.share.as_mut().zip(left).map(|(share, left)| share.keep(left)).transpose()?;
-                    return answer.map_err(|refusal| Failure::refused(&refusal, self.job, self.remedy(&refusal)));
+                    return answer.map_err(|refusal| Failure::refused(&refusal, self.job, self.hint(&refusal)));
                 }
             }
         }
@@ -320,10 +320,10 @@ impl<'a> CallInputs<'a> {
     }
 
     /// What to do about a refusal by 13, 14, 15 or 26.
-    fn remedy(&self, refusal: &Refusal) -> Option<String> {
+    fn hint(&self, refusal: &Refusal) -> Option<String> {
         let correlation = self.correlation(refusal).filter(|_| refusal.number == Number::DRAWS);
         let reads_main = correlation.is_none();
-        let of_share = self.share.as_ref().filter(|_| reads_main).and_then(|share| share.remedy(refusal));
+        let of_share = self.share.as_ref().filter(|_| reads_main).and_then(|share| share.hint(refusal));
         if of_share.is_some() {
             return of_share;
         }
@@ -334,9 +334,9 @@ impl<'a> CallInputs<'a> {
                 self.noiseless.len(),
                 self.examined.outcome_words()
             )),
-            Number::DRAWS if reads_main => Some(self.main.remedy("main", None)),
-            Number::DRAWS => Some(self.second.remedy("second", correlation.map(|own| self.place(own)))),
-            _ => longer(refusal),
+            Number::DRAWS if reads_main => Some(self.main.hint("main", None)),
+            Number::DRAWS => Some(self.second.hint("second", correlation.map(|own| self.place(own)))),
+            _ => room_hint(refusal),
         }
     }
 
