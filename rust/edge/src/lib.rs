@@ -24,7 +24,7 @@ use kundatrezo::{
     WordSource, Xorshift, annotated, condition_notes, correlation, error_model, examine, locations, make_job, run,
     settled, single_faults, walk, wilson,
 };
-use lists::{Failure, Given, Lent, OnJob};
+use lists::{Argument, Failure, Given, OnJob};
 use sampling::{Plan, Sampling};
 
 /// Declares calls: each parameter is bound as the call uses it, and no panic leaves the body.
@@ -39,7 +39,7 @@ macro_rules! calls {
         #[unsafe(no_mangle)]
         pub unsafe extern "C" fn $name($($parameter: $kind),*) -> Reply {
             // SAFETY: the caller's promise
-            $(let $parameter = unsafe { $parameter.lent() };)*
+            $(let $parameter = unsafe { $parameter.value() };)*
             Reply::of(move || $body)
         }
     )*
@@ -165,7 +165,7 @@ calls! {
             list.sort_unstable();
             let members: Vec<String> = list.iter().map(u64::to_string).collect();
             let hint = || job.outcomes_hint(&format!("the {what} {}", members.join(",")));
-            job.test_set(&list).map_err(|refusal| Failure::walk(&refusal, 1, &hint()))?;
+            job.check_set(&list).map_err(|refusal| Failure::walk(&refusal, 1, &hint()))?;
             given.words.push(list.len() as u64);
             given.words.extend(list);
         }
@@ -235,7 +235,7 @@ calls! {
     /// each set.
     fn kundatrezo_edge_counts_read(text: Bytes, job: Bytes) {
         let saved = read(text)?;
-        if !job.is_empty() && !saved.is_of(job) {
+        if !job.is_empty() && !saved.is_for(job) {
             return Err(Failure::fault("these are counts of another job"));
         }
         let counts = saved.counts();
@@ -245,7 +245,7 @@ calls! {
             words.push(list.len() as u64);
             words.extend(list);
         }
-        let missing = saved.check_whole().err().map_or_else(String::new, |missing| missing.to_string());
+        let missing = saved.check_complete().err().map_or_else(String::new, |missing| missing.to_string());
         Ok(Given { words, ..Given::text(missing) })
     }
 
@@ -293,9 +293,9 @@ fn drawn<T>(
     job: &[u8],
     lists: [(Option<&[u64]>, u64); 2],
     base: u64,
-    mut call: impl FnMut(kundatrezo::Draws<'_>) -> kundatrezo::Answer<T>,
+    mut call: impl FnMut(kundatrezo::Draws<'_>) -> Result<T, kundatrezo::Refusal>,
 ) -> Result<T, Failure> {
-    let [main, second] = lists.map(|(words, seed)| words.map_or(WordSource::Seed(seed), WordSource::Lent));
+    let [main, second] = lists.map(|(words, seed)| words.map_or(WordSource::Seed(seed), WordSource::Slice));
     let mut draws = GrowingDraws::new(main, second, base);
     draws.call(job, &mut call).map_err(|refusal| {
         let spent = refusal.number == Number::DRAWS;
@@ -350,8 +350,8 @@ mod tests {
     fn taken(reply: Reply) -> (u64, u64, u64, String, Vec<u64>) {
         // SAFETY: the lists of a reply
         let (text, words) = unsafe {
-            let text = Bytes { first: reply.text, len: reply.text_len }.lent();
-            let words = Words { first: reply.words, len: reply.words_len }.lent();
+            let text = Bytes { first: reply.text, len: reply.text_len }.value();
+            let words = Words { first: reply.words, len: reply.words_len }.value();
             (String::from_utf8_lossy(text).into_owned(), words.to_vec())
         };
         let taken = (reply.number, reply.line, reply.count, text, words);
