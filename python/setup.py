@@ -1,4 +1,4 @@
-"""Builds the package: cargo builds libkundatrezo_edge.so, which it calls, from the Rust crate of the repository and the archive libkundatrezo.a.
+"""Builds the package: cargo builds libkundatrezo_edge.so, which it calls, and the program, from the repository's Rust crates and libkundatrezo.a.
 
 The archive lies in the folder that the environment variable KUNDATREZO_LIB_DIR names, or in target/library of the repository, where ./setup puts it.
 """
@@ -12,17 +12,24 @@ from pathlib import Path
 from setuptools import Distribution, setup
 from setuptools.command.build_py import build_py
 
+try:
+    from setuptools.command.bdist_wheel import bdist_wheel
+except ImportError:  # before setuptools 70.1
+    from wheel.bdist_wheel import bdist_wheel
+from distutils.command.build_scripts import build_scripts
+
 HERE = Path(__file__).resolve().parent
 RUST = (HERE.parent / "rust").resolve()
-LIBRARY = "libkundatrezo_edge.so"
+LIBRARY, PROGRAM = "libkundatrezo_edge.so", "kundatrezo"
 
 
 def archive() -> Path:
-    """The archive that the library is linked from."""
+    """The archive that library and program are linked from."""
     folder = os.environ.get("KUNDATREZO_LIB_DIR")
     found = Path(folder) / "libkundatrezo.a" if folder else HERE.parent / "target/library/libkundatrezo.a"
     if not found.is_file():
-        raise SystemExit(f"there is no {found}: './setup --library' in the repository's folder puts it there; KUNDATREZO_LIB_DIR names another folder")
+        remedy = "'./setup --library' in the repository's folder puts it there; KUNDATREZO_LIB_DIR names another folder"
+        raise SystemExit(f"there is no {found}: {remedy}")
     return found.resolve()
 
 
@@ -30,7 +37,7 @@ def require_cargo() -> None:
     """That there is a cargo, and that it is not too old."""
     if not (RUST / "Cargo.toml").is_file():
         raise SystemExit(f"there is no {RUST / 'Cargo.toml'}: the package is built in the repository's folder, beside the Rust crate")
-    wanted = re.search(r'^rust-version = "(\d+)\.(\d+)"', (RUST / "Cargo.toml").read_text(), re.MULTILINE).groups()
+    wanted = re.findall(r'^rust-version = "(\d+)\.(\d+)"', (RUST / "Cargo.toml").read_text(), re.MULTILINE)[0]
     try:
         said = subprocess.run(["cargo", "--version"], capture_output=True, text=True, check=True).stdout
     except (OSError, subprocess.CalledProcessError) as error:
@@ -40,13 +47,13 @@ def require_cargo() -> None:
         raise SystemExit(f"the package is built by cargo {'.'.join(wanted)} or later, and this one is older: {said.strip()}")
 
 
-def build_library(folder: Path) -> None:
-    """Put the library into a folder."""
+def built(package: str, file: str) -> Path:
+    """What cargo builds of a package of the Rust workspace."""
     require_cargo()
     target = RUST / "target"
-    command = ["cargo", "build", "--offline", "--quiet", "--release", "--package", "kundatrezo-edge", "--target-dir", str(target)]
+    command = ["cargo", "build", "--offline", "--quiet", "--release", "--package", package, "--target-dir", str(target)]
     subprocess.run(command, cwd=RUST, env={**os.environ, "KUNDATREZO_LIB_DIR": str(archive().parent)}, check=True)
-    shutil.copy(target / "release" / LIBRARY, folder)
+    return target / "release" / file
 
 
 class Build(build_py):
@@ -56,7 +63,25 @@ class Build(build_py):
         super().run()
         folder = HERE / "kundatrezo" if self.editable_mode else Path(self.build_lib) / "kundatrezo"
         folder.mkdir(parents=True, exist_ok=True)
-        build_library(folder)
+        shutil.copy(built("kundatrezo-edge", LIBRARY), folder)
+
+
+class BuildProgram(build_scripts):
+    """Puts the program among the scripts. It is no text, whose first line would be changed."""
+
+    def run(self) -> None:
+        Path(self.build_dir).mkdir(parents=True, exist_ok=True)
+        shutil.copy(built("kundatrezo-program", PROGRAM), self.build_dir)
+
+    def get_source_files(self) -> list[str]:
+        return []
+
+
+class Wheel(bdist_wheel):
+    """A wheel for every Python 3 of a platform: the library is called by ctypes, and not by the interpreter's own interface."""
+
+    def get_tag(self) -> tuple[str, str, str]:
+        return "py3", "none", super().get_tag()[2]
 
 
 class Binary(Distribution):
@@ -66,4 +91,4 @@ class Binary(Distribution):
         return True
 
 
-setup(cmdclass={"build_py": Build}, distclass=Binary)
+setup(cmdclass={"build_py": Build, "build_scripts": BuildProgram, "bdist_wheel": Wheel}, distclass=Binary, scripts=[PROGRAM])

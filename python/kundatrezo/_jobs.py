@@ -12,6 +12,7 @@ from warnings import warn
 import numpy as np
 import numpy.typing as npt
 
+from . import _circuit
 from ._library import Given, Lendable, Words, binary64, bits, call, read_words, whole, written_words
 
 Lists = Sequence[Sequence[int]]
@@ -47,7 +48,8 @@ class Rows:
     @staticmethod
     def of(job: Job) -> Rows:
         """Cleared rows for a job. Further runs of it, and of other jobs of the same shape, can use them again."""
-        return Rows(*(np.zeros(shape, dtype=np.uint64) for shape in Rows._shapes(job)))
+        x, z, deltas, totals = (np.zeros(shape, dtype=np.uint64) for shape in Rows._shapes(job))
+        return Rows(x, z, deltas, totals)
 
     @staticmethod
     def _shapes(job: Job) -> list[tuple[int, ...]]:
@@ -72,6 +74,7 @@ class FaultTable(NamedTuple):
     flips: npt.NDArray[np.bool_]
 
 
+@dataclass(frozen=True, init=False, repr=False)
 class Job:
     """A job that passed the checks; one that does not is refused by `Refused`. docs/JOBS.md has the language of jobs.
 
@@ -100,9 +103,6 @@ class Job:
         for name, value in zip(self.__slots__, (given, *numbers)):
             object.__setattr__(self, name, value)
 
-    def __setattr__(self, name: str, value: object) -> None:
-        raise AttributeError("a job does not change: make another")
-
     @staticmethod
     def read(path: Union[str, os.PathLike[str]]) -> Job:
         """The job of a file."""
@@ -114,12 +114,6 @@ class Job:
     def __str__(self) -> str:
         return self.text.decode()
 
-    def __eq__(self, other: object) -> bool:
-        return isinstance(other, Job) and self.text == other.text
-
-    def __hash__(self) -> int:
-        return hash(self.text)
-
     def __reduce__(self) -> tuple[type[Job], tuple[bytes]]:
         return Job, (self.text,)
 
@@ -128,10 +122,13 @@ class Job:
         """The words of a row of bits, one for each shot."""
         return -(-self.shots // 64)
 
+    def circuit(self) -> _circuit.Circuit:
+        """The lines as a builder, to which more can be added. Its `job()` has the very bytes of this one."""
+        return _circuit.Circuit(self)
+
     def with_shots(self, shots: int) -> Job:
         """The same job with another number of shots in its header."""
-        header, _, rest = self.text.partition(b"\n")
-        return Job(header[: header.rindex(b"=") + 1] + b"%d\n" % shots + rest)
+        return self.circuit().job(shots)
 
     def run(
         self, words: Lendable = (), *, seed: Seed = None, second: Lendable = (), second_seed: Seed = None, base: int = 0,
@@ -158,7 +155,7 @@ class Job:
     def _draws(self, words: Lendable, seed: Seed, second: Lendable, second_seed: Seed, noiseless: Optional[Lendable]) -> list[Any]:
         """What a call draws from: noiseless bits, and the words of each list, or None, and its seed."""
         shape = (self.outcomes, self.row_words)
-        if np.ndim(noiseless) > 1 and np.shape(noiseless) != shape:
+        if noiseless is not None and np.ndim(noiseless) > 1 and np.shape(noiseless) != shape:
             raise ValueError(f"noiseless bits have shape {np.shape(noiseless)}, and this job needs {shape}")
         if any(number is not None and np.size(list_) for list_, number in ((words, seed), (second, second_seed))):
             raise ValueError("a list is given, or made from a seed, not both")

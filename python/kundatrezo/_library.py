@@ -11,9 +11,10 @@ import operator
 import os
 import re
 import struct
-from ctypes import c_size_t, c_uint64, c_void_p
+from ctypes import c_char_p, c_size_t, c_uint64, c_void_p
+from dataclasses import dataclass
 from pathlib import Path
-from typing import Any, NamedTuple, Optional, Sequence, Union
+from typing import Any, Optional, Sequence, Union
 
 import numpy as np
 import numpy.typing as npt
@@ -32,18 +33,17 @@ class _List(ctypes.Structure):
 
 
 class _Reply(ctypes.Structure):
-    _fields_ = [("number", c_uint64), ("line", c_uint64), ("count", c_uint64)]
-    _fields_ += [("text", c_void_p), ("text_len", c_size_t), ("words", c_void_p), ("words_len", c_size_t)]
+    _fields_ = [("number", c_uint64), ("line", c_uint64), ("count", c_uint64), ("text", c_void_p), ("text_len", c_size_t), ("words", c_void_p),
+                ("words_len", c_size_t)]  # fmt: skip
 
 
 # The calls that the package makes. What they take, the library says.
-_NAMES = """declarations refusals examine run settle walk annotate locations correlation by_shot by_outcome fill state_of_seed state_of_block make
-    outcomes fault_table error_model condition_notes sampling_open sampling_run sampling_text sampling_close counts_read counts_add rates
-    free""".split()
+_NAMES = """declarations refusals gates forms examine circuit run settle walk annotate locations correlation by_shot by_outcome fill state_of_seed
+    state_of_block make outcomes fault_table error_model condition_notes sampling_open sampling_run sampling_text sampling_close counts_read
+    counts_add rates free""".split()
 
 PATH = Path(os.environ.get("KUNDATREZO_LIBRARY") or Path(__file__).with_name("libkundatrezo_edge.so")).absolute()
-"""The library's file: that beside this one, or the one that KUNDATREZO_LIBRARY names. This variable is trusted: the code is run in this process. The
-path is made absolute, since a bare name would be looked for in the system's folders."""
+"""The library's file. KUNDATREZO_LIBRARY is trusted: its code is run in this process. An absolute path, since a bare name would be searched for."""
 
 
 def _loaded() -> dict[str, Any]:
@@ -89,7 +89,8 @@ class Refused(ValueError):
         return f"{self.number} ({self.text}){line}{hint}"
 
 
-class Given(NamedTuple):
+@dataclass(frozen=True)
+class Given:
     """What a call gives."""
 
     count: int
@@ -97,20 +98,18 @@ class Given(NamedTuple):
     words: Words
 
 
-def call(name: str, *arguments: Union[int, bytes, np.ndarray, None]) -> Given:
+def call(name: str, *arguments: Union[int, bytes, npt.NDArray[Any], None]) -> Given:
     """Make a call: bytes and arrays are lent where they lie; None is a list that is not given. The interpreter's lock is released meanwhile."""
     lent: list[Any] = []
-    arrays: list[tuple[bool, np.ndarray]] = []
+    arrays: list[tuple[bool, npt.NDArray[Any]]] = []
     for kind, argument in zip(_kinds[name], arguments, strict=True):
         if isinstance(argument, np.ndarray):
             arrays.append((kind == "WordsMut", argument))
             lent.append(_List(argument.ctypes.data, argument.size))
         elif isinstance(argument, bytes):
-            lent.append(_List(ctypes.cast(argument, c_void_p), len(argument)))
-        elif argument is None:
-            lent.append(_List(None, 0))
+            lent.append(_List(ctypes.cast(c_char_p(argument), c_void_p), len(argument)))
         else:
-            lent.append(whole(argument))
+            lent.append(_List(None, 0) if argument is None else whole(argument))
     for place, (is_written, one) in enumerate(arrays):
         if any((is_written or other_is) and np.may_share_memory(one, other) for other_is, other in arrays[place + 1 :]):
             raise ValueError("an array that a call writes overlaps another that it is lent")
@@ -146,7 +145,7 @@ def whole(number: int, name: str = "an argument", least: int = 0) -> int:
         given = operator.index(number)
     except TypeError:
         # such as 1e6
-        remedy = f": write {number:.0f}" if isinstance(number, float) and number.is_integer() and number < 2**64 else ""
+        remedy = f": write {number:.0f}" if isinstance(number, float) and float(number).is_integer() and number < 2**64 else ""
         raise TypeError(f"{name} is to be a whole number, not {number!r}{remedy}") from None
     if not least <= given < 2**64:
         raise ValueError(f"{name} is to be from {least} to below 2^64, not {given}")
@@ -156,7 +155,7 @@ def whole(number: int, name: str = "an argument", least: int = 0) -> int:
 def binary64(number: float) -> int:
     """The bits of a probability or weight that a caller gives."""
     try:
-        return struct.unpack("<Q", struct.pack("<d", number))[0]
+        return int.from_bytes(struct.pack("<d", number), "little")
     except struct.error:
         raise TypeError(f"a probability or weight is a number, not {number!r}") from None
 
@@ -235,8 +234,6 @@ def bits(rows: Words, count: int) -> npt.NDArray[np.bool_]:
         raise ValueError(f"rows are to be an array with a row of words each, not of shape {given.shape}")
     if not 0 <= (count := whole(count, "count")) <= 64 * given.shape[1]:
         raise ValueError(f"a row of {given.shape[1]} words has {64 * given.shape[1]} bits, not {count}")
-    if given.shape[1] == 0:
-        return np.zeros((len(given), 0), dtype=bool)
     packed = read_words(rows).astype("<u8", copy=False).reshape(given.shape)
     return np.unpackbits(packed.view(np.uint8), axis=1, count=count, bitorder="little").view(bool)
 

@@ -108,7 +108,7 @@ class Counts:
     def _counted_rates(self) -> list[float]:
         if self.counted is None:
             raise ValueError("no function counted these shots: `sample` takes one as count=")
-        return _rates([self.counted], self.shots)[0].tolist()
+        return [float(number) for number in _rates([self.counted], self.shots)[0]]
 
     @property
     def counted_rate(self) -> float:
@@ -122,7 +122,7 @@ class Counts:
         return low, high
 
     def __eq__(self, other: object) -> bool:
-        return self.saved == other.saved if isinstance(other, Counts) else NotImplemented
+        return isinstance(other, Counts) and self.saved == other.saved
 
     def __hash__(self) -> int:
         return hash(self.saved)
@@ -133,9 +133,9 @@ class Counts:
             return NotImplemented
         return Counts.of_text(call("counts_add", self.saved.encode(), other.saved.encode()).text.decode(), self.job or other.job)
 
-    def __radd__(self, other: object) -> Counts:
+    def __radd__(self, other: Any) -> Counts:
         # `sum` begins with 0
-        return self if isinstance(other, int) and other == 0 else NotImplemented
+        return self if isinstance(other, int) and other == 0 else self.__add__(other)
 
 
 def sample(
@@ -173,7 +173,7 @@ def sample(
 def sample_shots(
     job: Job, shots: int, seed: int, sets: Lists = (), *, packed: bool = False, part: Part = (1, 1),
     named: Optional[str] = None, noiseless: Optional[Lendable] = None, noiseless_shots: Optional[Bytes] = None,
-) -> Iterator[np.ndarray]:  # fmt: skip
+) -> Iterator[npt.NDArray[Any]]:  # fmt: skip
     """The shots of the same sample, or of its part, block by block, as decoders read them: an array with a row for each shot, and in it a boolean for
     each set, or for each outcome if there are no sets; `packed`, bytes that have eight of them each, the lowest first."""
     plan, given = _planned(job, shots, seed, sets, part, named, noiseless, noiseless_shots)
@@ -191,10 +191,9 @@ def _planned(
     shots, seed = whole(shots, "shots", least=1), whole(seed, "a seed")
     if not (isinstance(part, tuple) and len(part) == 2 and 1 <= whole(part[0], "part") <= whole(part[1], "part")):
         raise ValueError(f"part is to be (I, K), with I from 1 to K, not {part!r}")
-    rows, needed, row = None if noiseless is None else read_words(noiseless), (job.outcomes, job.row_words), ceil(job.outcomes / 8)
-    if rows is not None and (rows.size != needed[0] * needed[1] or (np.ndim(noiseless) > 1 and np.shape(noiseless) != needed)):
-        header = f"the header's outcomes={job.outcomes} and shots={job.shots} need exactly {needed[0] * needed[1]}, shape {needed}"
-        raise ValueError(f"noiseless bits of {rows.size} words, shape {np.shape(noiseless)}, but {header}")
+    rows, row = None if noiseless is None else read_words(noiseless), ceil(job.outcomes / 8)
+    if noiseless is not None and np.ndim(noiseless) > 1 and np.shape(noiseless) != (shape := (job.outcomes, job.row_words)):
+        raise ValueError(f"noiseless bits have shape {np.shape(noiseless)}, and this job needs {shape}")
     plan = (job.text, shots, seed, (named or "").encode(), rows, rising, *part)
     if shots_bits is None:
         for note in call("condition_notes", job.text, int(noiseless is not None)).text.decode().splitlines():

@@ -41,7 +41,7 @@ def circuits(draw: st.DrawFn) -> Circuit:
     circuit.shots = shots  # type: ignore[attr-defined]
     outcomes = 0
     kinds = ["gate", "gate", "two", "two", "pauli", "exponential", "clifford", "permute", "measure", "measure", "random", "conditional", "reset"]
-    kinds += ["depolarize", "depolarize", "fault", "choose", "weighted", "barrier", "inject", "flip"]
+    kinds += ["depolarize", "depolarize", "fault", "choose", "weighted", "barrier", "inject", "flip", "controlled"]
     for kind in draw(st.lists(st.sampled_from(kinds), max_size=25)):
         pair = draw(st.permutations(range(4)))[:2]
         recorded = draw(st.sets(st.integers(0, outcomes - 1), max_size=3)) if outcomes else set()
@@ -56,12 +56,14 @@ def circuits(draw: st.DrawFn) -> Circuit:
         elif kind == "clifford":
             one, other = pair
             circuit.clifford(pair, [{one: "X", other: "X"}, {other: "X"}], [{one: "Z"}, {one: "Z", other: "Z"}])
+        elif kind == "controlled":
+            circuit.controlled({pair[0]: draw(st.sampled_from("XYZ"))}, {pair[1]: draw(st.sampled_from("XYZ"))})
         elif kind == "permute":
             circuit.permute(draw(st.permutations(range(3))), draw(st.permutations(range(4)))[:3])
         elif kind == "measure":
             outcomes = circuit.measure(draw(PAULIS)) + 1
         elif kind == "random":
-            outcomes = circuit.random() + 1
+            outcomes = circuit.random(angle=draw(st.booleans())) + 1
         elif kind == "conditional":
             circuit.conditional(draw(PAULIS), recorded)
         elif kind == "reset":

@@ -17,7 +17,7 @@ from hypothesis import strategies as st
 
 import kundatrezo
 from kundatrezo import Circuit, Job, Refused, Rows, bits, by_outcome, by_shot, error_model, fill, pack_bits
-from kundatrezo import _library
+from kundatrezo import _circuit, _library
 
 BELL = Job.read(REPOSITORY / "examples/bell.job")
 SYNDROME = Job.read(REPOSITORY / "examples/syndrome.job")
@@ -94,6 +94,12 @@ def test_names_of_gates_are_those_of_the_language():
     section = (REPOSITORY / "docs/JOBS.md").read_text().partition("### Gates")[2].partition("###")[0]
     table = re.findall(r"^\| (\d+) \| (\w+) \| ", section, re.MULTILINE)
     assert {name: int(code) for code, name in table} == kundatrezo.GATES
+
+
+def test_the_builder_writes_every_form():
+    """Those of the crate's table."""
+    source = (_library.PATH.parent / "_circuit.py").read_text()
+    assert len(_circuit._FORMS) >= 21 and all(f'"{form}"' in source for form in _circuit._FORMS)
 
 
 @given(jobs())
@@ -405,6 +411,43 @@ def test_builders_write_jobs(circuit):
     assert program("check", "-", job=job).decode() == printed
 
 
+def same_bytes(job):
+    """Whether the circuit of a job writes the job's very bytes, and with other shots, all but them."""
+    header, _, lines = job.text.partition(b"\n")
+    other = job.circuit().text(4000).encode()
+    return job.circuit().job() == job and other == header[: header.rindex(b"=") + 1] + b"4000\n" + lines
+
+
+@settings(max_examples=300)
+@given(jobs())
+def test_circuits_of_built_jobs(job):
+    assert same_bytes(job)
+    circuit = job.circuit()
+    assert circuit.measure("Z0") == job.recorded
+    circuit.gate("CY", 0, 5)
+    more = circuit.job()
+    assert (more.qubits, more.outcomes, more.shots, more.lines) == (max(job.qubits, 6), job.recorded + 1, job.shots, job.lines + 2)
+
+
+def test_circuits_of_made_jobs_and_examples():
+    made = [kundatrezo.make_job(1 + seed % 80, seed % 9, 1 + seed % 70, seed % 130, seed) for seed in range(1, 501)]
+    examples = [Job.read(path) for path in sorted((REPOSITORY / "examples").glob("*.job"))]
+    assert len(examples) >= 5 and all(map(same_bytes, made + examples))
+
+
+def test_a_circuit_keeps_the_header_of_its_job():
+    """Its edition, and qubits and outcomes that no line names; lines that are added follow those of the job."""
+    text = "op=job edition=1 qubits=5 outcomes=4 shots=7\nop=n p=bfe0000000000000 corr=- cond=- parity=0 d=1 x=- z=- size=1\nop=o x=- z=0 id=0\n"
+    circuit = Job(text).circuit()
+    assert (repr(circuit), circuit.text()) == ("<Circuit of 2 lines>", text)
+    assert circuit.random() == 1 and circuit.text() == f"{text}op=r id=1 angle=0\n"
+    lines = circuit.barrier(6).job(9).text.decode().splitlines()
+    assert (lines[0], lines[-1]) == ("op=job edition=2 qubits=7 outcomes=4 shots=9", "op=b q=6")
+    with pytest.raises(Refused) as refusal:
+        Job(text).with_shots(4097)
+    assert (refusal.value.number, refusal.value.line) == (3, 1)
+
+
 def test_a_refused_circuit_shows_its_text():
     circuit = Circuit().gate("ControlledX", 0, 0)
     assert circuit.text(3) == "op=job qubits=1 outcomes=0 shots=3\nop=u g=11 q=0,0\n"
@@ -477,8 +520,10 @@ def test_wrong_calls_leave_nothing(call, error, text):
 
 
 def test_gates_that_there_are():
-    with pytest.raises(ValueError, match="there is no gate 'cx'; those that there are: I, X, .*ControlledX, .*; and for short H, S, .*CX, CNOT, "):
-        Circuit().gate("cx", 0, 1)
+    with pytest.raises(ValueError, match="there is no gate 'ccx'; those that there are: I, X, .*ControlledX, .*; and for short Id, H, S, .*CX, CNOT, "):
+        Circuit().gate("ccx", 0, 1)
+    names = {"CX": 11, "cnot": 11, "SWAP": 13, "swap": 13, "sdg": 6, "SXdg": 8, "hadamard": 4, "CY": 15}
+    assert {name: Circuit().gate(name, 0).text().splitlines()[1] for name in names} == {name: f"op=u g={code} q=0" for name, code in names.items()}
 
 
 def test_numbers_of_numpy():

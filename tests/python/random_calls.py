@@ -124,6 +124,7 @@ class Calls:
         self.make("mechanisms", lambda: kundatrezo.mechanisms(job, [ids, []]))
         self.make("sample", lambda: kundatrezo.sample(job, shots=choose([1, 64, 5000]), seed=self.number(9), sets=[ids]).text())
         self.make("sample_shots", lambda: [block.sum() for block in kundatrezo.sample_shots(job, shots=70, seed=3)])
+        self.make("circuit", lambda: job.circuit().job())
         self.make("with_shots", lambda: job.with_shots(self.number(70)))
         self.make("fill", lambda: kundatrezo.fill(self.number(9), self.words(self.near(6))))
         self.make("make_job", lambda: kundatrezo.make_job(self.number(9), self.number(9), self.number(70), self.number(30), self.number(9)))
@@ -152,6 +153,7 @@ class Calls:
         counts_text = kundatrezo.sample(counted.job(), 70, self.number(9), [[0]], part=(1, self.random.choice([1, 3]))).text().encode()
         arguments = {
             "examine": [text, self.random.randrange(2)],
+            "circuit": [text],
             "run": [text, *(list_(self.near(need)) for need in (frames, frames, outcomes, job.outcomes)), *draws],
             "settle": [text, *draws],
             "walk": [text, self.number(job.shots), np.array(ids, dtype=np.uint64)],
@@ -172,6 +174,8 @@ class Calls:
             "counts_add": [counts_text, self.damaged(counts_text)],
             "rates": [list_(self.near(3)), self.number(9)],
             "refusals": [],
+            "gates": [],
+            "forms": [],
             "declarations": [],
         }
         for name, given in arguments.items():

@@ -20,10 +20,11 @@ pub use lists::{Bytes, FAULT, GivenBytes, GivenWords, PANIC, Reply, Words, Words
 pub use sampling::Handle;
 
 use kundatrezo::{
-    Counts, GrowingDraws, JobParameters, Number, Rows, SavedCounts, WordSource, Xorshift, annotated, condition_notes,
-    correlation, error_model, examine, locations, make_job, run, settled, single_faults, walk, wilson,
+    Circuit, Counts, Form, Gate, GrowingDraws, Header, Instruction, JobParameters, Number, Rows, SavedCounts,
+    WordSource, Xorshift, annotated, condition_notes, correlation, error_model, examine, locations, make_job, run,
+    settled, single_faults, walk, wilson,
 };
-use lists::{Failure, Given, Lent, OnJob};
+use lists::{Argument, Failure, Given, OnJob};
 use sampling::{Plan, Sampling};
 
 /// Declares calls: each parameter is bound as the call uses it, and no panic leaves the body.
@@ -38,7 +39,7 @@ macro_rules! calls {
         #[unsafe(no_mangle)]
         pub unsafe extern "C" fn $name($($parameter: $kind),*) -> Reply {
             // SAFETY: the caller's promise
-            $(let $parameter = unsafe { $parameter.lent() };)*
+            $(let $parameter = unsafe { $parameter.value() };)*
             Reply::of(move || $body)
         }
     )*
@@ -56,6 +57,32 @@ calls! {
         let hint = is_path.then(|| "Job(text) takes the text of a job: Job.read(path) reads a file".to_owned());
         let found = examine(job).map_err(|refusal| Failure::refused(&refusal, job, hint))?;
         Ok(Given::words([found.qubits, found.outcomes, found.shots, found.recorded, found.lines].map(|number| number as u64)))
+    }
+
+    /// Read a job into instructions. Text: their lines, without a line end after the last. Words: the edition, 0 if the header has none, qubits,
+    /// outcomes, shots, recorded.
+    fn kundatrezo_edge_circuit(job: Bytes) {
+        let circuit = Circuit::read(job).on(job)?;
+        let Header { edition, qubits, outcomes, shots } = circuit.header;
+        let numbers = [qubits, outcomes, shots, circuit.recorded()].map(|number| number as u64);
+        let lines: Vec<String> = circuit.instructions.iter().map(Instruction::to_string).collect();
+        let words = [edition.unwrap_or(0)].into_iter().chain(numbers).collect();
+        Ok(Given { words, ..Given::text(lines.join("\n")) })
+    }
+
+    /// The table of gates: a line each, with the code, the first edition that has the gate, its name and its aliases.
+    fn kundatrezo_edge_gates() {
+        let line = |gate: &Gate| {
+            let names: Vec<&str> = gate.names().collect();
+            format!("{} {} {}\n", gate.code(), gate.edition(), names.join(" "))
+        };
+        Ok(Given::text(Gate::ALL.iter().map(line).collect::<String>()))
+    }
+
+    /// The table of forms: a line each, with the name and the template.
+    fn kundatrezo_edge_forms() {
+        let line = |form: &Form| format!("{form:?} {}\n", form.template());
+        Ok(Given::text(Form::ALL.iter().map(line).collect::<String>()))
     }
 
     /// Run a job. A list that isn't given is made from its seed.
@@ -138,7 +165,7 @@ calls! {
             list.sort_unstable();
             let members: Vec<String> = list.iter().map(u64::to_string).collect();
             let hint = || job.outcomes_hint(&format!("the {what} {}", members.join(",")));
-            job.test_set(&list).map_err(|refusal| Failure::walk(&refusal, 1, &hint()))?;
+            job.check_set(&list).map_err(|refusal| Failure::walk(&refusal, 1, &hint()))?;
             given.words.push(list.len() as u64);
             given.words.extend(list);
         }
@@ -208,7 +235,7 @@ calls! {
     /// each set.
     fn kundatrezo_edge_counts_read(text: Bytes, job: Bytes) {
         let saved = read(text)?;
-        if !job.is_empty() && !saved.is_of(job) {
+        if !job.is_empty() && !saved.is_for(job) {
             return Err(Failure::fault("these are counts of another job"));
         }
         let counts = saved.counts();
@@ -218,7 +245,7 @@ calls! {
             words.push(list.len() as u64);
             words.extend(list);
         }
-        let missing = saved.check_whole().err().map_or_else(String::new, |missing| missing.to_string());
+        let missing = saved.check_complete().err().map_or_else(String::new, |missing| missing.to_string());
         Ok(Given { words, ..Given::text(missing) })
     }
 
@@ -266,9 +293,9 @@ fn drawn<T>(
     job: &[u8],
     lists: [(Option<&[u64]>, u64); 2],
     base: u64,
-    mut call: impl FnMut(kundatrezo::Draws<'_>) -> kundatrezo::Answer<T>,
+    mut call: impl FnMut(kundatrezo::Draws<'_>) -> Result<T, kundatrezo::Refusal>,
 ) -> Result<T, Failure> {
-    let [main, second] = lists.map(|(words, seed)| words.map_or(WordSource::Seed(seed), WordSource::Lent));
+    let [main, second] = lists.map(|(words, seed)| words.map_or(WordSource::Seed(seed), WordSource::Slice));
     let mut draws = GrowingDraws::new(main, second, base);
     draws.call(job, &mut call).map_err(|refusal| {
         let spent = refusal.number == Number::DRAWS;
@@ -323,8 +350,8 @@ mod tests {
     fn taken(reply: Reply) -> (u64, u64, u64, String, Vec<u64>) {
         // SAFETY: the lists of a reply
         let (text, words) = unsafe {
-            let text = Bytes { first: reply.text, len: reply.text_len }.lent();
-            let words = Words { first: reply.words, len: reply.words_len }.lent();
+            let text = Bytes { first: reply.text, len: reply.text_len }.value();
+            let words = Words { first: reply.words, len: reply.words_len }.value();
             (String::from_utf8_lossy(text).into_owned(), words.to_vec())
         };
         let taken = (reply.number, reply.line, reply.count, text, words);
@@ -354,6 +381,20 @@ mod tests {
         assert_eq!((cut.0, cut.3.as_str()), (FAULT, "a list of lists is cut short"));
         let broken = taken(Reply::of(|| panic!("broken")));
         assert_eq!((broken.0, broken.3.as_str()), (PANIC, "broken"));
+    }
+
+    /// The lines of a circuit are those of its job, and the numbers those of the header.
+    #[test]
+    fn a_circuit_has_the_lines_of_its_job() {
+        let text = String::from_utf8_lossy(JOB);
+        let (header, lines) = text.split_once('\n').expect("it has a header");
+        let (number, _, _, found, numbers) = taken(unsafe { kundatrezo_edge_circuit(bytes(JOB)) });
+        let job = examine(JOB).expect("it is accepted");
+        let own = [0, job.qubits, job.outcomes, job.shots, job.recorded].map(|number| number as u64);
+        assert!(!header.contains("edition"));
+        assert_eq!((number, format!("{found}\n").as_str(), numbers), (0, lines, own.to_vec()));
+        let refused = taken(unsafe { kundatrezo_edge_circuit(bytes(&JOB[1..])) });
+        assert_eq!((refused.0, refused.1), (2, 1));
     }
 
     /// The counts of blocks, added up, are those of the crate's sampler, and so is their text.

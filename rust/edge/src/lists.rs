@@ -1,6 +1,6 @@
-//! What passes through the C interface: lists that the caller lends, and the reply of a call.
+//! What passes through the C interface: the arguments and the reply of a call.
 
-use kundatrezo::{Answer, Number, Refusal};
+use kundatrezo::{Number, Refusal};
 use std::any::Any;
 use std::panic::{AssertUnwindSafe, catch_unwind};
 use std::{ptr, slice};
@@ -45,26 +45,26 @@ pub struct GivenBytes(pub Bytes);
 #[derive(Debug, Clone, Copy)]
 pub struct GivenWords(pub Words);
 
-/// A parameter of a call, as the call uses it.
-pub trait Lent {
-    /// A slice of a list, or the number itself.
-    type Used;
+/// An argument of a call through the C interface.
+pub trait Argument {
+    /// What the call works with: a slice of a list, or the number itself.
+    type Value;
 
-    /// Take what the caller lends.
+    /// The argument as this value.
     ///
     /// # Safety
     ///
     /// The list has as many initialised elements as it says, is not null unless it is empty, and is aligned; if it is written, nothing else uses it
     /// meanwhile.
-    unsafe fn lent(self) -> Self::Used;
+    unsafe fn value(self) -> Self::Value;
 }
 
-macro_rules! lent_lists {
-    ($($list:ident: $used:ty, $make:ident;)*) => {$(
-        impl Lent for $list {
-            type Used = $used;
+macro_rules! list_arguments {
+    ($($list:ident: $value:ty, $make:ident;)*) => {$(
+        impl Argument for $list {
+            type Value = $value;
 
-            unsafe fn lent(self) -> Self::Used {
+            unsafe fn value(self) -> Self::Value {
                 if self.len == 0 {
                     return Default::default();
                 }
@@ -75,34 +75,34 @@ macro_rules! lent_lists {
     )*};
 }
 
-lent_lists! {
+list_arguments! {
     Bytes: &'static [u8], from_raw_parts;
     Words: &'static [u64], from_raw_parts;
     WordsMut: &'static mut [u64], from_raw_parts_mut;
 }
 
-macro_rules! given_lists {
-    ($($list:ident: $used:ty;)*) => {$(
-        impl Lent for $list {
-            type Used = Option<$used>;
+macro_rules! optional_arguments {
+    ($($list:ident: $value:ty;)*) => {$(
+        impl Argument for $list {
+            type Value = Option<$value>;
 
-            unsafe fn lent(self) -> Self::Used {
+            unsafe fn value(self) -> Self::Value {
                 // SAFETY: the caller's promise
-                (!self.0.first.is_null()).then(|| unsafe { self.0.lent() })
+                (!self.0.first.is_null()).then(|| unsafe { self.0.value() })
             }
         }
     )*};
 }
 
-given_lists! {
+optional_arguments! {
     GivenBytes: &'static [u8];
     GivenWords: &'static [u64];
 }
 
-impl Lent for u64 {
-    type Used = Self;
+impl Argument for u64 {
+    type Value = Self;
 
-    unsafe fn lent(self) -> Self {
+    unsafe fn value(self) -> Self {
         self
     }
 }
@@ -179,7 +179,7 @@ impl Failure {
 
     fn by_parts(refusal: &Refusal, cause: &str, hint: &str, line: &[u8]) -> Self {
         let text = [cause.as_bytes(), hint.as_bytes(), line].join(&0);
-        Self::Refused { number: refusal.number.get(), line: refusal.line, needed: refusal.figure, text }
+        Self::Refused { number: refusal.number.get(), line: refusal.line, needed: refusal.bytes_needed, text }
     }
 
     pub fn fault(text: impl ToString) -> Self {
@@ -193,7 +193,7 @@ pub trait OnJob<T> {
     fn on(self, job: &[u8]) -> Result<T, Failure>;
 }
 
-impl<T> OnJob<T> for Answer<T> {
+impl<T> OnJob<T> for Result<T, Refusal> {
     fn on(self, job: &[u8]) -> Result<T, Failure> {
         self.map_err(|refusal| Failure::refused(&refusal, job, None))
     }

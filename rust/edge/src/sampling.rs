@@ -1,7 +1,7 @@
 //! Samples: a sampler with the memory of one thread.
 
-use crate::lists::{Failure, Given, Lent};
-use kundatrezo::{Bench, Counts, Frames, Named, Sampler, SamplerError, by_shot};
+use crate::lists::{Argument, Failure, Given};
+use kundatrezo::{Counts, Frames, NamedShots, Sampler, SamplerError, Workspace, by_shot};
 use std::ops::Range;
 
 /// A sampler, the memory in which it runs blocks, and the sets whose parities are counted.
@@ -9,7 +9,7 @@ use std::ops::Range;
 pub struct Sampling {
     job: Vec<u8>,
     sampler: Sampler,
-    bench: Bench,
+    workspace: Workspace,
     sets: Vec<Vec<u64>>,
     parities: Vec<u64>,
     part: (u64, u64),
@@ -28,10 +28,10 @@ impl Handle {
     }
 }
 
-impl Lent for Handle {
-    type Used = &'static mut Sampling;
+impl Argument for Handle {
+    type Value = &'static mut Sampling;
 
-    unsafe fn lent(self) -> Self::Used {
+    unsafe fn value(self) -> Self::Value {
         // SAFETY: the caller's promise
         unsafe { &mut *self.0 }
     }
@@ -57,14 +57,18 @@ impl Sampling {
     /// A sampling of a plan.
     pub fn open(plan: Plan<'_>) -> Result<Self, Failure> {
         let named = std::str::from_utf8(plan.named).ok();
-        let sampler = match named.and_then(Named::of_name) {
-            Some(named) => Sampler::with_named(plan.job, plan.shots, plan.seed, named).map_err(SamplerError::from),
+        let sampler = match named.and_then(NamedShots::from_name) {
+            Some(named) => {
+                Sampler::with_named_shots(plan.job, plan.shots, plan.seed, named).map_err(SamplerError::from)
+            }
             None if !plan.named.is_empty() => return Err(Failure::fault("named is to be 'whole' or 'block'")),
             None => Sampler::new(plan.job, plan.shots, plan.seed),
         };
         let sampler = sampler.map_err(|error| match error {
             SamplerError::Refused(refusal) => Failure::refused(&refusal, plan.job, None),
-            SamplerError::NamedShot { line } => Failure::fault(kundatrezo::named_fault(line, NAMED[0], NAMED[1])),
+            SamplerError::NamedShot { line } => {
+                Failure::fault(kundatrezo::named_shot_message(line, NAMED[0], NAMED[1]))
+            }
             other => Failure::fault(other),
         })?;
         let sampler = match plan.noiseless {
@@ -72,7 +76,7 @@ impl Sampling {
             None => sampler,
         };
         let Plan { sets, part, .. } = plan;
-        Ok(Self { job: plan.job.to_vec(), sampler, bench: Bench::new(), sets, parities: Vec::new(), part })
+        Ok(Self { job: plan.job.to_vec(), sampler, workspace: Workspace::new(), sets, parities: Vec::new(), part })
     }
 
     /// A pointer for the caller, as a number.
@@ -118,7 +122,7 @@ impl Sampling {
         rows: &mut [u64],
     ) -> Result<Given, Failure> {
         self.require_sums(sums.len())?;
-        let mut counts = self.sampler.no_counts(&self.sets);
+        let mut counts = self.sampler.zero_counts(&self.sets);
         let mut rest = packed;
         let row_bytes = self.sampler.job().outcomes.div_ceil(8) as u64;
         for block in blocks {
@@ -127,8 +131,8 @@ impl Sampling {
             let given = rest.map(|rest| rest.split_at(bytes.min(rest.len())));
             rest = given.map(|(_, rest)| rest);
             let ran = match given {
-                None => self.sampler.run(block, &mut self.bench),
-                Some((bytes, _)) => self.sampler.run_packed(block, bytes, &mut self.bench),
+                None => self.sampler.run(block, &mut self.workspace),
+                Some((bytes, _)) => self.sampler.run_packed(block, bytes, &mut self.workspace),
             };
             let hint = |refusal: &_| self.sampler.hint(refusal);
             let frames = ran.map_err(|refusal| Failure::refused(&refusal, &self.job, hint(&refusal)))?;
@@ -144,12 +148,12 @@ impl Sampling {
 
     /// The shots of the last block: a bit for each set, or for each outcome if there are no sets.
     fn write_rows(&mut self, rows: &mut [u64]) -> Result<(), Failure> {
-        let frames: &Frames = self.bench.frames();
+        let frames: &Frames = self.workspace.frames();
         let (count, deltas) = if self.sets.is_empty() {
             (frames.job().outcomes, frames.deltas())
         } else {
             frames
-                .sums(&self.sets, &mut self.parities)
+                .parities(&self.sets, &mut self.parities)
                 .map_err(|refusal| Failure::refused(&refusal, &self.job, None))?;
             (self.sets.len(), self.parities.as_slice())
         };
@@ -158,12 +162,12 @@ impl Sampling {
     }
 
     /// The text of counts that were added up.
-    pub fn text(&self, sums: &[u64], is_counted: bool, is_lent: bool) -> Result<String, Failure> {
+    pub fn text(&self, sums: &[u64], is_counted: bool, is_per_shot: bool) -> Result<String, Failure> {
         self.require_sums(sums.len())?;
         let (totals, sets) = sums[2..].split_at(self.sampler.job().outcomes);
         let counted = is_counted.then_some(sums[1]);
         let counts = Counts { shots: sums[0], totals: totals.to_vec(), sets: sets.to_vec(), counted };
         let saved = self.sampler.saved(counts, &self.sets, self.part).map_err(Failure::fault)?;
-        Ok(if is_lent { saved.with_lent_noiseless().text() } else { saved.text() })
+        Ok(if is_per_shot { saved.with_noiseless_per_shot().text() } else { saved.text() })
     }
 }

@@ -61,7 +61,7 @@ mod tests {
         let words: Vec<u64> = Xorshift::new(2026).take(WORDS).collect();
         let bench = |from: usize| -> Vec<u64> {
             let own = words[from..].chunks(2_000).take(JOBS[0]);
-            let run = |part: &[u64]| Frames::of_run(JOB, &[0; 16], kundatrezo::Draws::new(part)).expect("it runs");
+            let run = |part: &[u64]| Frames::from_run(JOB, &[0; 16], kundatrezo::Draws::new(part)).expect("it runs");
             own.map(|part| run(part).totals()[0]).collect()
         };
         for _ in 0..20 {

@@ -1,7 +1,7 @@
 //! Outcomes by shot: a row for each shot, as decoders read them.
 
-use crate::refusal::answer_of;
-use crate::{Answer, Frames, sys};
+use crate::refusal::result_of;
+use crate::{Frames, Refusal, sys};
 
 /// Write deltas, a row of ceil(shots / 64) words for each outcome, as rows by shot at the front of `out`: a row of ceil(outcomes / 64) words for each shot,
 /// in order. Outcome o is bit o mod 64 of word o / 64; bits past the last outcome are zero, and words beyond the rows stay.
@@ -24,8 +24,8 @@ use crate::{Answer, Frames, sys};
 /// assert_eq!(back, deltas);
 /// # Ok::<(), kundatrezo::Refusal>(())
 /// ```
-pub fn by_shot(outcomes: u64, shots: u64, deltas: &[u64], out: &mut [u64]) -> Answer {
-    answer_of(&sys::by_shot(outcomes, shots, deltas, out), 0).map(drop)
+pub fn by_shot(outcomes: u64, shots: u64, deltas: &[u64], out: &mut [u64]) -> Result<(), Refusal> {
+    result_of(&sys::by_shot(outcomes, shots, deltas, out), 0).map(drop)
 }
 
 /// The way back: write rows by shot as deltas at the front of `out`. Bits of a row past the last outcome go nowhere.
@@ -33,8 +33,8 @@ pub fn by_shot(outcomes: u64, shots: u64, deltas: &[u64], out: &mut [u64]) -> An
 /// # Errors
 ///
 /// As [`by_shot`].
-pub fn by_outcome(outcomes: u64, shots: u64, rows: &[u64], out: &mut [u64]) -> Answer {
-    answer_of(&sys::by_outcome(outcomes, shots, rows, out), 0).map(drop)
+pub fn by_outcome(outcomes: u64, shots: u64, rows: &[u64], out: &mut [u64]) -> Result<(), Refusal> {
+    result_of(&sys::by_outcome(outcomes, shots, rows, out), 0).map(drop)
 }
 
 /// Deltas by shot, in memory of their own: a row for each shot.
@@ -43,7 +43,7 @@ pub fn by_outcome(outcomes: u64, shots: u64, rows: &[u64], out: &mut [u64]) -> A
 /// use kundatrezo::{Draws, Frames, Shots, bit};
 ///
 /// let job = b"op=job qubits=1 outcomes=2 shots=3\nop=i shot=1 x=0 z=-\nop=o x=- z=0 id=0\nop=r id=1 angle=0\n";
-/// let shots = Shots::of_frames(&Frames::of_run(job, &[0; 2], Draws::default())?);
+/// let shots = Shots::from_frames(&Frames::from_run(job, &[0; 2], Draws::default())?);
 /// let flipped: Vec<Vec<bool>> = shots.iter().map(|row| (0..2).map(|id| bit(row, id)).collect()).collect();
 /// assert_eq!(flipped, [[false, false], [true, false], [false, false]]);
 /// # Ok::<(), kundatrezo::Refusal>(())
@@ -61,7 +61,7 @@ impl Shots {
     /// # Errors
     ///
     /// The refusal by 3 (counts that a header may not hold) or 13 (too few deltas).
-    pub fn new(outcomes: usize, shots: usize, deltas: &[u64]) -> Answer<Self> {
+    pub fn new(outcomes: usize, shots: usize, deltas: &[u64]) -> Result<Self, Refusal> {
         let most = crate::MAX_SHOTS * crate::MAX_OUTCOMES.div_ceil(64);
         let mut words = vec![0; shots.saturating_mul(outcomes.div_ceil(64)).min(most)];
         by_shot(outcomes as u64, shots as u64, deltas, &mut words)?;
@@ -70,7 +70,7 @@ impl Shots {
 
     /// The deltas that a run left, by shot; no rows where there was no run.
     #[must_use]
-    pub fn of_frames(frames: &Frames) -> Self {
+    pub fn from_frames(frames: &Frames) -> Self {
         let job = frames.job();
         Self::new(job.outcomes, job.shots, frames.deltas()).unwrap_or_default()
     }

@@ -1,7 +1,7 @@
 //! Counts of shots, and the text by which they are saved, read again and added.
 
 use crate::sampler::part_blocks;
-use crate::{Answer, Frames, MAX_OUTCOMES, MAX_SHOTS, Named, examine, size};
+use crate::{Frames, MAX_OUTCOMES, MAX_SHOTS, NamedShots, Refusal, examine, size};
 use std::error::Error;
 use std::fmt;
 use std::ops::{AddAssign, RangeInclusive};
@@ -68,7 +68,7 @@ impl Counts {
     /// # Errors
     ///
     /// The refusal by 17 if a set has an outcome that is not below the header's outcomes. Nothing is added then.
-    pub fn add(&mut self, frames: &Frames, sets: &[Vec<u64>]) -> Answer {
+    pub fn add(&mut self, frames: &Frames, sets: &[Vec<u64>]) -> Result<(), Refusal> {
         frames.require_outcomes(sets)?;
         let parity = |set: &Vec<u64>| {
             let word = |place: usize| set.iter().fold(0, |sum, id| sum ^ frames.delta_row(size(*id))[place]);
@@ -134,9 +134,9 @@ pub struct SavedCounts {
     /// The CRC-32 of the job's bytes.
     pub(crate) job: u32,
     pub(crate) draws: String,
-    /// Whole samples, which are one entry, then those of which parts are missing, by their seeds.
+    /// Complete samples, which are one entry, then those with missing parts, by their seeds.
     pub(crate) samples: Vec<Sample>,
-    pub(crate) named: Option<Named>,
+    pub(crate) named: Option<NamedShots>,
     pub(crate) noiseless: Option<String>,
     pub(crate) sets: Vec<Vec<u64>>,
     pub(crate) counts: Counts,
@@ -160,9 +160,9 @@ impl SavedCounts {
         self.samples.iter().flat_map(|sample| sample.seeds.iter().copied())
     }
 
-    /// Whether these are counts of this job.
+    /// Whether the counts are for this job.
     #[must_use]
-    pub fn is_of(&self, job: &[u8]) -> bool {
+    pub fn is_for(&self, job: &[u8]) -> bool {
         let numbers = (self.qubits, self.outcomes, self.recorded);
         self.job == crc32(job.iter().copied())
             && examine(job).is_ok_and(|job| (job.qubits, job.outcomes, job.recorded) == numbers)
@@ -182,9 +182,9 @@ impl SavedCounts {
         Ok(self)
     }
 
-    /// Say that noiseless bits were lent for each shot.
+    /// The same counts, marked as made with noiseless bits for each shot.
     #[must_use]
-    pub fn with_lent_noiseless(self) -> Self {
+    pub fn with_noiseless_per_shot(self) -> Self {
         Self { noiseless: Some(LENT.into()), ..self }
     }
 
@@ -205,7 +205,7 @@ impl SavedCounts {
             u8::from(counted.is_some()),
             self.job,
             self.draws,
-            option("named", self.named.map(Named::name)),
+            option("named", self.named.map(NamedShots::name)),
             option("noiseless", self.noiseless.as_deref()),
         );
         for (name, total) in self.rows() {
@@ -256,7 +256,7 @@ impl SavedCounts {
         if sampled != Some(header.shots) {
             return fault("the shots of its first line do not match its parts");
         }
-        let named = field(second, "named").map(|name| Named::of_name(name).ok_or(changed(2))).transpose()?;
+        let named = field(second, "named").map(|name| NamedShots::from_name(name).ok_or(changed(2))).transpose()?;
         Ok(Self {
             qubits: header.qubits,
             outcomes: header.outcomes,
@@ -313,12 +313,12 @@ impl SavedCounts {
         Ok(Self { samples, counts, ..self.clone() })
     }
 
-    /// That no part of a sample is missing.
+    /// Check that no part of a sample is missing.
     ///
     /// # Errors
     ///
     /// Says which parts are.
-    pub fn check_whole(&self) -> Result<(), CountsError> {
+    pub fn check_complete(&self) -> Result<(), CountsError> {
         let Some(sample) = self.samples.iter().find(|sample| !sample.is_whole()) else {
             return Ok(());
         };
@@ -442,7 +442,7 @@ pub(crate) struct Sample {
 }
 
 impl Sample {
-    /// One part, from 1, of so many.
+    /// A part, numbered from 1, and the number of parts.
     pub(crate) fn part(seed: u64, (place, parts): (u64, u64), whole: u64) -> Self {
         Self { seeds: vec![seed], places: vec![place..=place], parts, whole }
     }
@@ -518,7 +518,7 @@ impl fmt::Display for Sample {
     }
 }
 
-/// Samples in the order of a text, whole ones as one; none where these have 2^64 shots or more.
+/// Samples in the order of a text, whole ones as one; `None` if these have 2^64 shots or more.
 fn ordered(samples: Vec<Sample>) -> Option<Vec<Sample>> {
     let (whole, mut rest): (Vec<Sample>, Vec<Sample>) = samples.into_iter().partition(Sample::is_whole);
     rest.sort_by(|one, other| one.seeds.cmp(&other.seeds));
@@ -532,7 +532,7 @@ fn ordered(samples: Vec<Sample>) -> Option<Vec<Sample>> {
     Some([vec![one], rest].concat())
 }
 
-/// The samples of the second line of a text; none where they have no form.
+/// The samples of the second line of a text; `None` if it has another form.
 fn samples(line: &str) -> Option<Vec<Sample>> {
     let fields: Vec<(&str, &str)> = line.split(' ').filter_map(|field| field.split_once('=')).collect();
     let start = fields.iter().position(|(key, _)| *key == "seed")?;
@@ -586,9 +586,9 @@ mod tests {
         saved.with_counted(counted).expect("there are more shots")
     }
 
-    fn said<T: fmt::Debug>(answer: Result<T, CountsError>, part: &str) {
-        let said = answer.expect_err("it is refused").to_string();
-        assert!(said.contains(part), "{said}");
+    fn assert_refused<T: fmt::Debug>(answer: Result<T, CountsError>, part: &str) {
+        let text = answer.expect_err("it is refused").to_string();
+        assert!(text.contains(part), "{text}");
     }
 
     #[test]
@@ -600,10 +600,10 @@ mod tests {
     #[test]
     fn wrong_sizes_are_refused() {
         let whole = saved(1, (1, 1));
-        said(whole.clone().with_counted(20_001), "20001 shots are counted, and there are 20000");
+        assert_refused(whole.clone().with_counted(20_001), "20001 shots are counted, and there are 20000");
         let sampler = Sampler::new(JOB, 20_000, 1).expect("it is accepted");
         for (part, text) in [((0, 1), "no part 0 of 1"), ((3, 2), "no part 3 of 2"), ((1, 0), "no part 1 of 0")] {
-            said(sampler.saved(whole.counts.clone(), &whole.sets, part), text);
+            assert_refused(sampler.saved(whole.counts.clone(), &whole.sets, part), text);
             let error = sampler.sample(&[], part, 1).unwrap_err();
             assert!(error.to_string().contains(text), "{error}");
         }
@@ -611,10 +611,10 @@ mod tests {
         let mut few = whole.counts.clone();
         few.totals.pop();
         let given = "counts of shots=20000 outcomes=6 sets=2";
-        said(sampler.saved(few, &whole.sets, (1, 1)), &format!("{given}, {needed}"));
-        said(sampler.saved(Counts::default(), &whole.sets, (1, 1)), needed);
-        said(sampler.saved(whole.counts.clone(), &whole.sets[..1], (1, 1)), "outcomes=7 sets=1");
-        said(sampler.saved(whole.counts.clone(), &whole.sets, (1, 2)), "but part 1/2 has shots=8192 ");
+        assert_refused(sampler.saved(few, &whole.sets, (1, 1)), &format!("{given}, {needed}"));
+        assert_refused(sampler.saved(Counts::default(), &whole.sets, (1, 1)), needed);
+        assert_refused(sampler.saved(whole.counts.clone(), &whole.sets[..1], (1, 1)), "outcomes=7 sets=1");
+        assert_refused(sampler.saved(whole.counts.clone(), &whole.sets, (1, 2)), "but part 1/2 has shots=8192 ");
 
         let mut counts = Counts::default();
         let refusal = counts.add(&Frames::new(), &[vec![0]]).unwrap_err();
@@ -624,10 +624,12 @@ mod tests {
     #[test]
     fn texts_are_read_back() {
         let whole = saved(1, (1, 1));
-        for saved in [whole.clone(), counted(whole.clone(), 7), whole.clone().with_lent_noiseless(), saved(3, (2, 7))] {
+        for saved in
+            [whole.clone(), counted(whole.clone(), 7), whole.clone().with_noiseless_per_shot(), saved(3, (2, 7))]
+        {
             assert_eq!(SavedCounts::read(&saved.text()), Ok(saved));
         }
-        let block = Sampler::with_named(JOB, 10, 1, Named::Block).expect("it is accepted");
+        let block = Sampler::with_named_shots(JOB, 10, 1, NamedShots::InEachBlock).expect("it is accepted");
         let text = block.sample(&[], (1, 1), 1).expect("it runs").text();
         assert!(text.contains(" named=block\n") && SavedCounts::read(&text).is_ok());
     }
@@ -638,16 +640,16 @@ mod tests {
         let lines: Vec<&str> = text.split_inclusive('\n').collect();
         for count in 2..lines.len() {
             let there = format!("its first line says 10 lines of counts, and there are {}", count - 2);
-            said(SavedCounts::read(&lines[..count].concat()), &there);
+            assert_refused(SavedCounts::read(&lines[..count].concat()), &there);
         }
-        said(SavedCounts::read(&text[..text.len() - 1]), "cut off");
-        said(SavedCounts::read(&text[..text.len() - 9]), "cut off");
-        said(
+        assert_refused(SavedCounts::read(&text[..text.len() - 1]), "cut off");
+        assert_refused(SavedCounts::read(&text[..text.len() - 9]), "cut off");
+        assert_refused(
             SavedCounts::read(&format!("{text}id=7 total=0\n")),
             "its first line says 10 lines of counts, and there are 11",
         );
         for nothing in ["", "ok=1\n", "op=job qubits=1 outcomes=0 shots=1\n", lines[0], "\0\0\0"] {
-            said(SavedCounts::read(nothing), "no counts as");
+            assert_refused(SavedCounts::read(nothing), "no counts as");
         }
         for (from, to, part) in [
             ("seed=1 ", "seed=1,2 ", ""),
@@ -667,7 +669,7 @@ mod tests {
             if let Ok(read) = SavedCounts::read(&changed) {
                 assert_eq!((read.text(), part), (changed, ""), "another true text");
             } else {
-                said(SavedCounts::read(&changed), part);
+                assert_refused(SavedCounts::read(&changed), part);
             }
         }
     }
@@ -692,23 +694,23 @@ mod tests {
             places.extend((0..all.len()).filter(|place| !places.contains(place)).collect::<Vec<usize>>());
             let mut sum = all[places[0]].clone();
             for place in &places[1..] {
-                said(sum.check_whole(), "these are missing: ");
+                assert_refused(sum.check_complete(), "these are missing: ");
                 sum = sum.checked_add(&all[*place]).expect("another part");
                 assert_eq!(SavedCounts::read(&sum.text()), Ok(sum.clone()), "a sum of some parts is saved, too");
             }
-            assert_eq!((sum.check_whole(), &sum), (Ok(()), &saved(5, (1, 1))));
+            assert_eq!((sum.check_complete(), &sum), (Ok(()), &saved(5, (1, 1))));
         }
         let some = saved(5, (1, 9)).checked_add(&saved(5, (2, 9))).expect("another part");
         let some = some.checked_add(&saved(5, (5, 9))).expect("another part");
         assert!(some.text().contains(" seed=5 part=1-2,5/9 of=20000\n"), "{}", some.text());
-        said(some.check_whole(), "of the 9 parts of seed 5 these are missing: 3, 4, 6, 7, 8, 9");
+        assert_refused(some.check_complete(), "of the 9 parts of seed 5 these are missing: 3, 4, 6, 7, 8, 9");
         let last =
             saved(5, (u64::MAX - 1, u64::MAX)).checked_add(&saved(5, (u64::MAX, u64::MAX))).expect("another part");
-        said(last.check_whole(), "these are missing: 1, 2, 3, 4, 5, 6, 7, 8, 9, 10, ..");
+        assert_refused(last.check_complete(), "these are missing: 1, 2, 3, 4, 5, 6, 7, 8, 9, 10, ..");
         assert_eq!(SavedCounts::read(&last.text()), Ok(last));
-        said(some.checked_add(&saved(5, (2, 9))), "part 2/9 of seed 5 is counted twice");
-        said(some.checked_add(&saved(5, (3, 8))), "not parts of one sample");
-        said(some.checked_add(&saved(5, (1, 1))), "not parts of one sample");
+        assert_refused(some.checked_add(&saved(5, (2, 9))), "part 2/9 of seed 5 is counted twice");
+        assert_refused(some.checked_add(&saved(5, (3, 8))), "not parts of one sample");
+        assert_refused(some.checked_add(&saved(5, (1, 1))), "not parts of one sample");
     }
 
     #[test]
@@ -722,7 +724,7 @@ mod tests {
         let some = both.checked_add(&part).expect("another seed");
         assert!(some.text().contains(" seed=1,2 part=1/1 of=40000 seed=3 part=1/2 of=20000\n"), "{}", some.text());
         assert_eq!(SavedCounts::read(&some.text()), Ok(some));
-        said(both.checked_add(&one), "both have seed 1");
+        assert_refused(both.checked_add(&one), "both have seed 1");
     }
 
     #[test]
@@ -730,15 +732,15 @@ mod tests {
         let one = saved(1, (1, 1));
         let other = saved(2, (1, 1));
         let with = |from: &str, to: &str| SavedCounts::read(&other.text().replacen(from, to, 1)).expect("a text");
-        said(
+        assert_refused(
             one.checked_add(&with("draws=xorshift", "draws=skips")),
             "sampled by the rule of draws 'skips', others by 'xorshift'",
         );
-        said(one.checked_add(&with("job=1", "job=2")), "another job");
-        said(one.checked_add(&with("\nid=0", " named=block\nid=0")), "other options");
-        said(one.checked_add(&with("\nid=0", " noiseless=shots\nid=0")), "other options");
-        said(one.checked_add(&with("set=4,5,6", "set=4,5")), "other sets");
-        said(one.checked_add(&counted(other.clone(), 3)), "only one of the two");
+        assert_refused(one.checked_add(&with("job=1", "job=2")), "another job");
+        assert_refused(one.checked_add(&with("\nid=0", " named=block\nid=0")), "other options");
+        assert_refused(one.checked_add(&with("\nid=0", " noiseless=shots\nid=0")), "other options");
+        assert_refused(one.checked_add(&with("set=4,5,6", "set=4,5")), "other sets");
+        assert_refused(one.checked_add(&counted(other.clone(), 3)), "only one of the two");
         let sum = counted(one.clone(), 4).checked_add(&counted(other, 3)).expect("both are counted");
         assert_eq!(sum.counts().counted, Some(7));
     }

@@ -68,7 +68,7 @@ fn number(value: f64) -> String {
 #[cfg(test)]
 mod tests {
     use super::*;
-    use crate::Named;
+    use crate::NamedShots;
     use crate::counts::{Counts, DRAWS, Sample};
 
     fn saved(counts: Counts, recorded: usize, sets: Vec<Vec<u64>>, sample: Sample) -> SavedCounts {
@@ -101,7 +101,11 @@ outcome 1                  20  0.020000   0.012984 to 0.030690
 counted                     3  0.0030000  0.0010208 to 0.0087830
 ";
         assert_eq!(sample.table(), table);
-        let part = SavedCounts { samples: vec![Sample::part(5, (2, 3), 3000)], named: Some(Named::Block), ..sample };
+        let part = SavedCounts {
+            samples: vec![Sample::part(5, (2, 3), 3000)],
+            named: Some(NamedShots::InEachBlock),
+            ..sample
+        };
         let first = "3 qubits, 3 outcomes, 1000 shots, seed 5 (part 2/3 of 3000 shots), named shots of the block\n";
         assert!(part.table().starts_with(first), "{}", part.table());
     }

@@ -2,23 +2,23 @@
 
 use crate::{Rows, sys};
 
-/// Where the noise lines of a run or of settling have their words from: lists of a caller's own ([`Draws`]), or a share of a list that others draw from, too
+/// Where noise lines take their words from in a run or settling: lists of the caller's own ([`Draws`]), or a share of a list from which others draw too
 /// ([`Caller`](crate::Caller)).
-pub trait Source: sealed::Source {}
+pub trait DrawSource: sealed::DrawSource {}
 
 pub(crate) mod sealed {
     use super::{Rows, sys};
 
     /// The calls that draw.
-    pub trait Source {
+    pub trait DrawSource {
         fn run(&mut self, job: &[u8], rows: Rows<'_>, noiseless: &[u64]) -> sys::Answer;
         fn settle(&mut self, job: &[u8], noiseless: &[u64], out: &mut [u8]) -> sys::TextAnswer;
     }
 }
 
-impl<S: Source + ?Sized> Source for &mut S {}
+impl<S: DrawSource + ?Sized> DrawSource for &mut S {}
 
-impl<S: Source + ?Sized> sealed::Source for &mut S {
+impl<S: DrawSource + ?Sized> sealed::DrawSource for &mut S {
     fn run(&mut self, job: &[u8], rows: Rows<'_>, noiseless: &[u64]) -> sys::Answer {
         S::run(self, job, rows, noiseless)
     }
@@ -66,9 +66,9 @@ impl<'a> Draws<'a> {
     }
 }
 
-impl Source for Draws<'_> {}
+impl DrawSource for Draws<'_> {}
 
-impl sealed::Source for Draws<'_> {
+impl sealed::DrawSource for Draws<'_> {
     fn run(&mut self, job: &[u8], rows: Rows<'_>, noiseless: &[u64]) -> sys::Answer {
         sys::run(job, rows, noiseless, *self)
     }

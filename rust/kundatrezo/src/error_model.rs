@@ -1,7 +1,7 @@
 //! A job's noise as a detector error model.
 
 use crate::{
-    Answer, Circuit, Form, Instruction, MAX_GROUPS, Noise, Number, OutcomeCondition, PauliDistribution, fault_table,
+    Circuit, Form, Instruction, MAX_GROUPS, Noise, Number, OutcomeCondition, PauliDistribution, Refusal, fault_table,
 };
 use std::collections::{BTreeSet, HashMap};
 use std::fmt;
@@ -32,7 +32,7 @@ use std::ops::Range;
 /// assert_eq!(model.to_string(), "error(0.1) D0 L0\nerror(0.1) D0 D1\nerror(0.1) D1\n");
 /// # Ok::<(), kundatrezo::Refusal>(())
 /// ```
-pub fn error_model(job: &[u8], detectors: &[Vec<u64>], observables: &[Vec<u64>]) -> Answer<ErrorModel> {
+pub fn error_model(job: &[u8], detectors: &[Vec<u64>], observables: &[Vec<u64>]) -> Result<ErrorModel, Refusal> {
     let circuit = Circuit::read(job)?;
     let mut flips = all_flips(&circuit, &[detectors, observables].concat())?.into_iter();
     let mut mechanisms: Vec<Mechanism> = Vec::new();
@@ -76,7 +76,7 @@ pub fn error_model(job: &[u8], detectors: &[Vec<u64>], observables: &[Vec<u64>])
 /// assert!(faults[1].flips.is_empty());
 /// # Ok::<(), kundatrezo::Refusal>(())
 /// ```
-pub fn single_faults(job: &[u8], groups: &[Vec<u64>]) -> Answer<Vec<Fault>> {
+pub fn single_faults(job: &[u8], groups: &[Vec<u64>]) -> Result<Vec<Fault>, Refusal> {
     let circuit = Circuit::read(job)?;
     let flips = all_flips(&circuit, groups)?;
     let places = circuit
@@ -99,7 +99,7 @@ pub struct Fault {
 
 /// The groups that each element of a circuit's noise flips, line by line. Tables are made for sixteen groups at a time. If one is too long, they are made
 /// for each half of the noise lines by itself: noise in other lines counts as absent, so that a job without it has the same rows.
-fn all_flips(circuit: &Circuit, groups: &[Vec<u64>]) -> Answer<Vec<Vec<usize>>> {
+fn all_flips(circuit: &Circuit, groups: &[Vec<u64>]) -> Result<Vec<Vec<usize>>, Refusal> {
     let job = circuit.to_job();
     let lines = circuit.noise().count();
     let mut all: Vec<Vec<usize>> = Vec::new();
@@ -109,7 +109,7 @@ fn all_flips(circuit: &Circuit, groups: &[Vec<u64>]) -> Answer<Vec<Vec<usize>>> 
             Err(refusal) if refusal.number == Number::ROOM && lines > 1 => {
                 let halves =
                     [0..lines / 2, lines / 2..lines].map(|kept| all_flips(&with_noise(circuit, &kept), groups));
-                return halves.into_iter().collect::<Answer<Vec<_>>>().map(|halves| halves.concat());
+                return halves.into_iter().collect::<Result<Vec<_>, Refusal>>().map(|halves| halves.concat());
             }
             table => table?,
         };

@@ -1,7 +1,7 @@
 //! What a job asks of its caller.
 
-use crate::refusal::answer_of;
-use crate::{Answer, sys, walk};
+use crate::refusal::result_of;
+use crate::{Refusal, sys, walk};
 
 /// The numbers of an accepted job, which say how many words a run needs. The default, all zero, is that of no job.
 ///
@@ -47,7 +47,7 @@ impl Examination {
         self.outcomes * self.words_per_row()
     }
 
-    /// What a list of outcomes that [`test_set`](Self::test_set) refuses must be; `what` names the list.
+    /// What a list of outcomes that [`check_set`](Self::check_set) refuses must be; `what` names the list.
     #[must_use]
     pub fn outcomes_hint(&self, what: &str) -> String {
         match self.recorded {
@@ -72,11 +72,11 @@ impl Examination {
     /// use kundatrezo::{Number, examine};
     ///
     /// let job = examine(b"op=job qubits=2 outcomes=5 shots=100\nop=o x=- z=0 id=0\nop=o x=- z=1 id=1\n")?;
-    /// assert_eq!(job.test_set(&[0, 1]), Ok(()));
-    /// assert!([vec![1, 0], vec![0, 0], vec![2]].iter().all(|set| job.test_set(set).unwrap_err().number == Number::WALK));
+    /// assert_eq!(job.check_set(&[0, 1]), Ok(()));
+    /// assert!([vec![1, 0], vec![0, 0], vec![2]].iter().all(|set| job.check_set(set).unwrap_err().number == Number::WALK));
     /// # Ok::<(), kundatrezo::Refusal>(())
     /// ```
-    pub fn test_set(&self, set: &[u64]) -> Answer {
+    pub fn check_set(&self, set: &[u64]) -> Result<(), Refusal> {
         let lines: String = (0..self.recorded).map(|id| format!("op=r id={id} angle=0\n")).collect();
         let recording = format!("op=job qubits=1 outcomes={} shots=1\n{lines}", self.recorded);
         walk(recording.as_bytes(), 0, set).map(drop)
@@ -88,11 +88,11 @@ impl Examination {
 /// # Errors
 ///
 /// The refusal, at the first bad line and with its lowest number.
-pub fn examine(job: &[u8]) -> Answer<Examination> {
-    let said = sys::examine(job);
-    answer_of(&said.answer, 0)?;
+pub fn examine(job: &[u8]) -> Result<Examination, Refusal> {
+    let reply = sys::examine(job);
+    result_of(&reply.answer, 0)?;
     let [qubits, outcomes, shots, recorded, lines] =
-        [said.qubits, said.outcomes, said.shots, said.recorded, said.lines].map(crate::size);
+        [reply.qubits, reply.outcomes, reply.shots, reply.recorded, reply.lines].map(crate::size);
     Ok(Examination { qubits, outcomes, shots, recorded, lines })
 }
 

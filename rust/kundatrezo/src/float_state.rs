@@ -23,30 +23,30 @@ pub fn in_default_state<T>(call: impl FnOnce() -> T) -> T {
 /// One block of assembly sets the register, makes the call and restores it, so that the state changes at no place that the compiler does not know of:
 /// the block as a whole leaves it.
 pub fn in_state<T, F: FnOnce() -> T>(state: u32, call: F) -> T {
-    let mut task = Task { call: Some(call), answer: None };
+    let mut task = Task { call: Some(call), result: None };
     let mut before = 0_u32;
-    // SAFETY: `obey` is called by the C ABI with the one argument that it takes, a pointer to a task that lives through the block. The block may use
+    // SAFETY: `run_task` is called by the C ABI with the one argument that it takes, a pointer to a task that lives through the block. The block may use
     // the stack, which is aligned for a call; r12 and r13 are kept by the callee, and what it does not keep is named as lost. MXCSR is restored.
     unsafe {
         asm!(
             "stmxcsr [r12]",
             "ldmxcsr [r13]",
-            "call {obey}",
+            "call {run_task}",
             "ldmxcsr [r12]",
-            obey = sym obey::<T, F>,
+            run_task = sym run_task::<T, F>,
             in("rdi") &raw mut task,
             in("r12") &raw mut before,
             in("r13") &raw const state,
             clobber_abi("C"),
         );
     }
-    task.answer.expect("the task is done")
+    task.result.expect("the task is done")
 }
 
-/// A call to make, and what it gave.
+/// A call to make, and its result.
 struct Task<T, F> {
     call: Option<F>,
-    answer: Option<T>,
+    result: Option<T>,
 }
 
 /// Make the call of a task.
@@ -54,10 +54,10 @@ struct Task<T, F> {
 /// # Safety
 ///
 /// The pointer is that of a task which nothing else uses.
-unsafe extern "C" fn obey<T, F: FnOnce() -> T>(task: *mut Task<T, F>) {
+unsafe extern "C" fn run_task<T, F: FnOnce() -> T>(task: *mut Task<T, F>) {
     // SAFETY: as above.
     let task = unsafe { &mut *task };
-    task.answer = task.call.take().map(|call| call());
+    task.result = task.call.take().map(|call| call());
 }
 
 #[cfg(test)]

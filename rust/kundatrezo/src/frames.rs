@@ -1,6 +1,6 @@
 //! Frames and deltas in memory of their own.
 
-use crate::{Answer, Examination, Number, Refusal, Rows, Source, examine, run};
+use crate::{DrawSource, Examination, Number, Refusal, Rows, examine, run};
 use std::error::Error;
 use std::fmt;
 use std::ops::BitXorAssign;
@@ -17,7 +17,7 @@ use std::ops::BitXorAssign;
 /// ";
 /// let words = [0; 70];
 /// let noiseless = [0; 2];
-/// let frames = Frames::of_run(job, &noiseless, Draws::new(&words))?;
+/// let frames = Frames::from_run(job, &noiseless, Draws::new(&words))?;
 /// assert_eq!(frames.delta_row(0), [u64::MAX, 0x3f]);
 /// assert_eq!(frames.totals(), [70]);
 /// assert!(bit(frames.x_row(0), 69) && !bit(frames.z_row(0), 69));
@@ -44,7 +44,7 @@ impl Frames {
     /// # Errors
     ///
     /// The refusal by a test of the job, 13 (too few noiseless words), 26 or 14.
-    pub fn of_run(job: &[u8], noiseless: &[u64], draws: impl Source) -> Answer<Self> {
+    pub fn from_run(job: &[u8], noiseless: &[u64], draws: impl DrawSource) -> Result<Self, Refusal> {
         let mut frames = Self::new();
         frames.run(job, noiseless, draws)?;
         Ok(frames)
@@ -56,7 +56,7 @@ impl Frames {
     /// # Errors
     ///
     /// The refusal by a test of the job, 13 (too few noiseless words), 26 or 14.
-    pub fn run(&mut self, job: &[u8], noiseless: &[u64], draws: impl Source) -> Answer {
+    pub fn run(&mut self, job: &[u8], noiseless: &[u64], draws: impl DrawSource) -> Result<(), Refusal> {
         let examined = examine(job);
         self.lend(examined.unwrap_or_default());
         examined?;
@@ -69,8 +69,8 @@ impl Frames {
         numbers: Examination,
         job: &[u8],
         noiseless: &[u64],
-        draws: impl Source,
-    ) -> Answer {
+        draws: impl DrawSource,
+    ) -> Result<(), Refusal> {
         self.lend(numbers);
         self.run_in(job, noiseless, draws)
     }
@@ -89,7 +89,7 @@ impl Frames {
         }
     }
 
-    fn run_in(&mut self, job: &[u8], noiseless: &[u64], draws: impl Source) -> Answer {
+    fn run_in(&mut self, job: &[u8], noiseless: &[u64], draws: impl DrawSource) -> Result<(), Refusal> {
         let rows = Rows::new(&mut self.x, &mut self.z, &mut self.deltas).with_totals(&mut self.totals);
         run(job, rows, noiseless, draws)
     }
@@ -180,12 +180,12 @@ impl Frames {
         Ok(())
     }
 
-    /// For each set of outcomes the sum of its delta rows, modulo 2, one after the other in the place of what `out` held.
+    /// The parity row of each set of outcomes: the sum of its delta rows, modulo 2. The rows replace what `out` held.
     ///
     /// # Errors
     ///
     /// The refusal by 17 if a set has an outcome that is not below the header's outcomes.
-    pub fn sums(&self, sets: &[Vec<u64>], out: &mut Vec<u64>) -> Answer {
+    pub fn parities(&self, sets: &[Vec<u64>], out: &mut Vec<u64>) -> Result<(), Refusal> {
         self.require_outcomes(sets)?;
         let words = self.job.words_per_row();
         out.clear();
@@ -199,9 +199,9 @@ impl Frames {
     }
 
     /// Refuse sets with an outcome that has no row.
-    pub(crate) fn require_outcomes(&self, sets: &[Vec<u64>]) -> Answer {
+    pub(crate) fn require_outcomes(&self, sets: &[Vec<u64>]) -> Result<(), Refusal> {
         if sets.iter().flatten().any(|id| *id >= self.job.outcomes as u64) {
-            return Err(Refusal { number: Number::WALK, line: 0, figure: 0 });
+            return Err(Refusal { number: Number::WALK, line: 0, bytes_needed: 0 });
         }
         Ok(())
     }
@@ -246,7 +246,7 @@ impl Error for FrameSizeError {}
 /// let run = |faults: [&str; 2]| {
 ///     let [first, second] = faults;
 ///     let job = format!("op=job qubits=1 outcomes=2 shots=2\n{first}op=o x=- z=0 id=0\nop=z q=0\n{second}op=o x=- z=0 id=1\n");
-///     Frames::of_run(job.as_bytes(), &[0, 0], Draws::default())
+///     Frames::from_run(job.as_bytes(), &[0, 0], Draws::default())
 /// };
 /// let (x, y) = ("op=i shot=0 x=0 z=-\n", "op=i shot=1 x=0 z=0\n");
 /// let mut sum = run([x, y])?;
@@ -282,7 +282,7 @@ mod tests {
 
     #[test]
     fn frames_of_other_sizes_are_not_added() {
-        let run = |header: &str| Frames::of_run(header.as_bytes(), &[0; 9], Draws::default()).expect("it runs");
+        let run = |header: &str| Frames::from_run(header.as_bytes(), &[0; 9], Draws::default()).expect("it runs");
         let own = run("op=job qubits=1 outcomes=2 shots=3\n");
         let mut sum = own.clone();
         for header in ["qubits=2 outcomes=2 shots=3", "qubits=1 outcomes=1 shots=3", "qubits=1 outcomes=2 shots=4"] {

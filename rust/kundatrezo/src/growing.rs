@@ -1,13 +1,13 @@
-//! Lists of words that are made as far as a call needs them.
+//! Lists of words that grow as far as a call needs them.
 
 use crate::sampler::{List, MOST_WORDS};
-use crate::{Answer, Circuit, Draws, MAX_SHOTS, Number, Refusal, Xorshift, examine};
+use crate::{Circuit, Draws, MAX_SHOTS, Number, Refusal, Xorshift, examine};
 
-/// Where a list has its words from.
+/// Where a list takes its words from.
 #[derive(Debug, Clone, Copy)]
 pub enum WordSource<'a> {
     /// A list of the caller's.
-    Lent(&'a [u64]),
+    Slice(&'a [u64]),
     /// The words of [`Xorshift::new`] of a seed, as many as are needed.
     Seed(u64),
 }
@@ -19,7 +19,7 @@ pub enum WordSource<'a> {
 /// use kundatrezo::{Draws, GrowingDraws, WordSource, Xorshift, settled};
 ///
 /// let job = b"op=job qubits=1 outcomes=0 shots=9\nop=n p=3fe0000000000000 corr=- cond=- parity=0 d=2 q=0 size=3\n";
-/// let mut draws = GrowingDraws::new(WordSource::Seed(1), WordSource::Lent(&[]), 0);
+/// let mut draws = GrowingDraws::new(WordSource::Seed(1), WordSource::Slice(&[]), 0);
 /// let words: Vec<u64> = Xorshift::new(1).take(100).collect();
 /// assert_eq!(draws.call(job, |draws| settled(job, &[], draws))?, settled(job, &[], Draws::new(&words))?);
 /// # Ok::<(), kundatrezo::Refusal>(())
@@ -33,34 +33,34 @@ pub struct GrowingDraws<'a> {
 
 #[derive(Debug)]
 enum Growing<'a> {
-    Lent(&'a [u64]),
-    Made(List),
+    Slice(&'a [u64]),
+    Seeded(List),
 }
 
 impl<'a> Growing<'a> {
     fn new(source: WordSource<'a>) -> Self {
         match source {
-            WordSource::Lent(words) => Self::Lent(words),
+            WordSource::Slice(words) => Self::Slice(words),
             WordSource::Seed(seed) => {
                 let mut list = List::default();
                 list.begin(Xorshift::new(seed), 0);
-                Self::Made(list)
+                Self::Seeded(list)
             }
         }
     }
 
     fn words(&self) -> &[u64] {
         match self {
-            Self::Lent(words) => words,
-            Self::Made(list) => &list.words,
+            Self::Slice(words) => words,
+            Self::Seeded(list) => &list.words,
         }
     }
 
     /// Make the list as long as this, or twice as long if that is more; whether it has grown.
     fn grow(&mut self, words: usize) -> bool {
         match self {
-            Self::Lent(_) => false,
-            Self::Made(list) => list.grow(words.max(2 * list.words.len())),
+            Self::Slice(_) => false,
+            Self::Seeded(list) => list.grow(words.max(2 * list.words.len())),
         }
     }
 }
@@ -76,8 +76,8 @@ impl<'a> GrowingDraws<'a> {
     ///
     /// # Errors
     ///
-    /// The refusal of the call; 14 if the list is lent, or if the line reads past 2^28 words.
-    pub fn call<T>(&mut self, job: &[u8], mut call: impl FnMut(Draws<'_>) -> Answer<T>) -> Answer<T> {
+    /// The refusal of the call; 14 if the list is the caller's, or if the line reads past 2^28 words.
+    pub fn call<T>(&mut self, job: &[u8], mut call: impl FnMut(Draws<'_>) -> Result<T, Refusal>) -> Result<T, Refusal> {
         loop {
             match call(Draws::new(self.main.words()).with_second(self.second.words(), self.base)) {
                 Err(refusal) if refusal.number == Number::DRAWS && self.grow(&refusal, job) => {}
@@ -113,10 +113,10 @@ impl<'a> GrowingDraws<'a> {
             Some(_) => (&self.second, second),
         };
         match (list, self.place(refusal, job)) {
-            (Growing::Lent(words), _) if !words.is_empty() => {
+            (Growing::Slice(words), _) if !words.is_empty() => {
                 format!("the list has {} words and this line needs more", words.len())
             }
-            (Growing::Made(_), _) | (_, Some(None)) => {
+            (Growing::Seeded(_), _) | (_, Some(None)) => {
                 format!("a list has at most {MOST_WORDS} words, and place base + corr of this line lies past it")
             }
             _ => format!("{option} makes as many words as are needed"),

@@ -185,9 +185,9 @@ impl Job<'_> {
     /// A table of another number of words than its qubits ask for.
     fn words_of_table(&self) -> Option<String> {
         let (qubits, words) = (members(self.line, "q")?, members(self.line, "t")?);
-        let wanted = (4 * qubits * qubits).div_ceil(64);
-        let (qubits, has) = (counted(qubits, "qubit"), counted(wanted, "word"));
-        (words != wanted).then(|| format!("the table of a Clifford on {qubits} has {has}, and t= has {words}"))
+        let needed = (4 * qubits * qubits).div_ceil(64);
+        let (qubits, has) = (counted(qubits, "qubit"), counted(needed, "word"));
+        (words != needed).then(|| format!("the table of a Clifford on {qubits} has {has}, and t= has {words}"))
     }
 
     fn elements(&self) -> Option<String> {
@@ -201,10 +201,10 @@ impl Job<'_> {
         })
     }
 
-    /// The kind of the noise line that wants this line for an element, which one of them this is, from 1, and how many there are.
+    /// The kind of the noise line before this element line, the place of this line among its elements, from 1, and their number.
     fn due(&self) -> Option<(&str, u64, u64)> {
         let noise = self.last_op()?;
-        let (kind, count) = wanted(self.before[noise])?;
+        let (kind, count) = element_count(self.before[noise])?;
         let place = (self.before.len() - noise) as u64;
         (place <= count).then_some((kind, place, count))
     }
@@ -257,7 +257,8 @@ impl Job<'_> {
         let fault = fields(self.line, &form.fields().collect::<Vec<Field>>(), &format!("op=n with d={kind}"));
         let condition =
             || (field(self.line, "cond")? == "-").then(|| "without a condition (cond=-) parity is 0".into());
-        let ends = || wanted(self.line).map(|(_, count)| format!("the job ends before the {count} element lines"));
+        let ends =
+            || element_count(self.line).map(|(_, count)| format!("the job ends before the {count} element lines"));
         let parity = field(self.line, "parity") == Some("1");
         fault.or_else(|| if parity { condition() } else { None }).or_else(|| if self.is_last { ends() } else { None })
     }
@@ -286,8 +287,8 @@ pub(crate) fn distribution_size(line: &str) -> Option<u64> {
     }
 }
 
-/// The kind of a noise line that wants element lines, and how many.
-fn wanted(line: &str) -> Option<(&str, u64)> {
+/// The kind of a noise line that needs element lines, and their number.
+fn element_count(line: &str) -> Option<(&str, u64)> {
     let kind = field(line, "d").filter(|kind| line.starts_with("op=n ") && ["3", "4"].contains(kind))?;
     Some((kind, field(line, "n")?.parse().ok().filter(|count| *count > 0)?))
 }

@@ -9,7 +9,7 @@ pub use forms::Form;
 pub use gates::Gate;
 pub(crate) use writer::write_job;
 
-use crate::{Answer, check};
+use crate::{Refusal, check};
 
 /// A job as a header and a list of instructions. All values are as they are written, so that [`to_job`](Self::to_job) gives the bytes that
 /// [`read`](Self::read) was given.
@@ -193,7 +193,7 @@ impl Circuit {
     /// # Errors
     ///
     /// The refusal by a test of the job, as [`check`] returns it.
-    pub fn read(job: &[u8]) -> Answer<Self> {
+    pub fn read(job: &[u8]) -> Result<Self, Refusal> {
         check(job)?;
         Ok(Self::read_accepted(job))
     }

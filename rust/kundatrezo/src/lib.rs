@@ -50,7 +50,7 @@
 //!
 //! let job = include_bytes!(concat!(env!("CARGO_MANIFEST_DIR"), "/../../examples/bell.job"));
 //! let noiseless = [0, 0];
-//! let frames = Frames::of_run(job, &noiseless, Draws::default())?;
+//! let frames = Frames::from_run(job, &noiseless, Draws::default())?;
 //! assert_eq!(frames.deltas(), [0b010, 0b100]);
 //!
 //! // in every shot the deltas of a set sum, modulo 2, to the count of the walk on the settled job
@@ -71,7 +71,7 @@
 //! let job = annotated(job, 0.01)?;
 //! let noiseless = vec![0; examine(&job)?.outcome_words()];
 //! let words: Vec<u64> = Xorshift::new(2026).take(100_000).collect();
-//! let frames = Frames::of_run(&job, &noiseless, Draws::new(&words))?;
+//! let frames = Frames::from_run(&job, &noiseless, Draws::new(&words))?;
 //! let flipped = frames.totals()[0];
 //! // of 15 Paulis on the two qubits 8 flip the outcome, and there are two such noise lines
 //! assert!((flipped as f64 / 4096.0 - 2.0 * 0.01 * 8.0 / 15.0).abs() < 0.005);
@@ -114,13 +114,15 @@ mod single_faults;
 mod split;
 #[doc(hidden)]
 pub mod sys;
-mod used;
+#[doc(hidden)]
+pub mod threads;
+mod words_read;
 mod xorshift;
 
 pub use by_shot::{Shots, by_outcome, by_shot};
 pub use clifford::{MAX_CLIFFORD_QUBITS, clifford_line};
 pub use counts::{Counts, CountsError, DRAWS, SavedCounts, wilson};
-pub use draws::{Draws, Source};
+pub use draws::{DrawSource, Draws};
 pub use error_model::{ErrorModel, Fault, Mechanism, error_model, single_faults};
 pub use examination::{Examination, examine};
 pub use frames::{FrameSizeError, Frames, bit};
@@ -131,16 +133,16 @@ pub use instructions::{
 pub use make::{JobParameters, make, make_job};
 pub use noise_sizes::{UnknownSizeError, with_sizes};
 pub use output::{FileId, OutputFile, WrittenFile, write_file, written_path};
-pub use refusal::{Answer, Number, Refusal};
-pub use sampler::{Bench, Named, NoiselessSizeError, Sampler, condition_notes, conditions, first_named, named_fault};
+pub use refusal::{Number, Refusal};
+pub use sampler::{NamedShots, NoiselessSizeError, Sampler, Workspace, condition_notes, named_shot_message};
 pub use sampler_error::SamplerError;
 pub use shares::{AccountError, Caller, MAX_CALLERS, SharedDraws};
 pub use single_faults::{FaultTable, MAX_GROUPS, SingleFault, fault_table, write_fault_table};
-pub use split::{Part, restricted, split};
-pub use used::Used;
+pub use split::{Part, keep_shots, split};
+pub use words_read::WordsRead;
 pub use xorshift::{Xorshift, fill};
 
-use refusal::answer_of;
+use refusal::result_of;
 
 /// The longest job, and the longest text that a call writes, in bytes.
 pub const MAX_BYTES: usize = 1_048_576;
@@ -191,8 +193,8 @@ impl<'a> Rows<'a> {
 /// assert_eq!(check(b"op=job qubits=1 outcomes=0 shots=1\nop=z q=0\n"), Ok(()));
 /// assert_eq!(check(b"").unwrap_err().number, Number::LENGTH);
 /// ```
-pub fn check(job: &[u8]) -> Answer {
-    answer_of(&sys::check(job), 0).map(drop)
+pub fn check(job: &[u8]) -> Result<(), Refusal> {
+    result_of(&sys::check(job), 0).map(drop)
 }
 
 /// Run a job to its end in all of its shots: the final frames, the outcome deltas and their totals are left in `rows`, whatever was there before. The total
@@ -214,8 +216,8 @@ pub fn check(job: &[u8]) -> Answer {
 /// assert_eq!((x, z, deltas, totals), ([0b10], [0], [0b10], [1]));
 /// # Ok::<(), kundatrezo::Refusal>(())
 /// ```
-pub fn run(job: &[u8], rows: Rows<'_>, noiseless: &[u64], mut draws: impl Source) -> Answer {
-    answer_of(&draws.run(job, rows, noiseless), 0).map(drop)
+pub fn run(job: &[u8], rows: Rows<'_>, noiseless: &[u64], mut draws: impl DrawSource) -> Result<(), Refusal> {
+    result_of(&draws.run(job, rows, noiseless), 0).map(drop)
 }
 
 /// Write the settled job at the front of `out`, and say how many bytes it has: each noise line is replaced by the injections that a run with the same
@@ -224,7 +226,7 @@ pub fn run(job: &[u8], rows: Rows<'_>, noiseless: &[u64], mut draws: impl Source
 /// # Errors
 ///
 /// The refusal by a test of the job, 13 (too few noiseless words), 26 (of a [`Caller`]: there is none of this number), 14 or 15 (the text does not fit;
-/// [`Refusal::figure`] is then exactly the bytes that it takes, also above [`MAX_BYTES`]). Nothing is written then.
+/// [`Refusal::bytes_needed`] is then exactly the bytes that it takes, also above [`MAX_BYTES`]). Nothing is written then.
 ///
 /// ```
 /// use kundatrezo::{Draws, Number, settle};
@@ -239,12 +241,12 @@ pub fn run(job: &[u8], rows: Rows<'_>, noiseless: &[u64], mut draws: impl Source
 ///
 /// let refusal = settle(job.as_bytes(), &[], draws, &mut []).unwrap_err();
 /// assert_eq!(refusal.number, Number::ROOM);
-/// assert_eq!(refusal.figure, bytes as u64);
+/// assert_eq!(refusal.bytes_needed, bytes as u64);
 /// # Ok::<(), kundatrezo::Refusal>(())
 /// ```
-pub fn settle(job: &[u8], noiseless: &[u64], mut draws: impl Source, out: &mut [u8]) -> Answer<usize> {
-    let said = draws.settle(job, noiseless, out);
-    answer_of(&said.answer, said.figure).map(size)
+pub fn settle(job: &[u8], noiseless: &[u64], mut draws: impl DrawSource, out: &mut [u8]) -> Result<usize, Refusal> {
+    let reply = draws.settle(job, noiseless, out);
+    result_of(&reply.answer, reply.figure).map(size)
 }
 
 /// The settled job, in memory of its own.
@@ -260,7 +262,7 @@ pub fn settle(job: &[u8], noiseless: &[u64], mut draws: impl Source, out: &mut [
 /// assert_eq!(settled(job, &[], Draws::default())?, job);
 /// # Ok::<(), kundatrezo::Refusal>(())
 /// ```
-pub fn settled(job: &[u8], noiseless: &[u64], draws: impl Source) -> Answer<Vec<u8>> {
+pub fn settled(job: &[u8], noiseless: &[u64], draws: impl DrawSource) -> Result<Vec<u8>, Refusal> {
     let mut out = vec![0; job.len()];
     settle_into(job, noiseless, draws, &mut out)?;
     Ok(out)
@@ -282,10 +284,15 @@ pub fn settled(job: &[u8], noiseless: &[u64], draws: impl Source) -> Answer<Vec<
 /// assert_eq!(out, job);
 /// # Ok::<(), kundatrezo::Refusal>(())
 /// ```
-pub fn settle_into(job: &[u8], noiseless: &[u64], mut draws: impl Source, out: &mut Vec<u8>) -> Answer<usize> {
+pub fn settle_into(
+    job: &[u8],
+    noiseless: &[u64],
+    mut draws: impl DrawSource,
+    out: &mut Vec<u8>,
+) -> Result<usize, Refusal> {
     let bytes = match settle(job, noiseless, &mut draws, out) {
-        Err(refusal) if refusal.number == Number::ROOM && refusal.figure <= MAX_BYTES as u64 => {
-            out.resize(size(refusal.figure), 0);
+        Err(refusal) if refusal.number == Number::ROOM && refusal.bytes_needed <= MAX_BYTES as u64 => {
+            out.resize(size(refusal.bytes_needed), 0);
             settle(job, noiseless, &mut draws, out)?
         }
         answer => answer?,
@@ -308,9 +315,9 @@ pub fn settle_into(job: &[u8], noiseless: &[u64], mut draws: impl Source, out: &
 /// assert_eq!((walk(job, 0, &[0])?, walk(job, 1, &[0])?), (0, 1));
 /// # Ok::<(), kundatrezo::Refusal>(())
 /// ```
-pub fn walk(job: &[u8], shot: u64, set: &[u64]) -> Answer<u64> {
-    let said = sys::walk(job, shot, set);
-    answer_of(&said.answer, said.count)
+pub fn walk(job: &[u8], shot: u64, set: &[u64]) -> Result<u64, Refusal> {
+    let reply = sys::walk(job, shot, set);
+    result_of(&reply.answer, reply.count)
 }
 
 /// Write the job with depolarizing noise of probability `p` before each measurement and after each gate at the front of `out`, and say how many bytes
@@ -330,9 +337,9 @@ pub fn walk(job: &[u8], shot: u64, set: &[u64]) -> Answer<u64> {
 /// assert_eq!(out[..bytes], *format!("{job}{noise}").as_bytes());
 /// # Ok::<(), kundatrezo::Refusal>(())
 /// ```
-pub fn annotate(job: &[u8], p: f64, out: &mut [u8]) -> Answer<usize> {
-    let said = sys::annotate(job, p.to_bits(), out);
-    answer_of(&said.answer, said.figure).map(size)
+pub fn annotate(job: &[u8], p: f64, out: &mut [u8]) -> Result<usize, Refusal> {
+    let reply = sys::annotate(job, p.to_bits(), out);
+    result_of(&reply.answer, reply.figure).map(size)
 }
 
 /// The annotated job, in memory of its own.
@@ -350,7 +357,7 @@ pub fn annotate(job: &[u8], p: f64, out: &mut [u8]) -> Answer<usize> {
 /// assert_eq!(locations(job)?, 4);
 /// # Ok::<(), kundatrezo::Refusal>(())
 /// ```
-pub fn annotated(job: &[u8], p: f64) -> Answer<Vec<u8>> {
+pub fn annotated(job: &[u8], p: f64) -> Result<Vec<u8>, Refusal> {
     text(|out| annotate(job, p, out))
 }
 
@@ -366,9 +373,9 @@ pub fn annotated(job: &[u8], p: f64) -> Answer<Vec<u8>> {
 ///
 /// assert_eq!(locations(b"op=job qubits=2 outcomes=0 shots=1\nop=u g=11 q=0,1\nop=z q=0\n"), Ok(4));
 /// ```
-pub fn locations(job: &[u8]) -> Answer<u64> {
-    let said = sys::locations(job);
-    answer_of(&said.answer, said.count)
+pub fn locations(job: &[u8]) -> Result<u64, Refusal> {
+    let reply = sys::locations(job);
+    result_of(&reply.answer, reply.count)
 }
 
 /// Check that noise lines of one correlation have one size, as their field `size=` says it: 1, 4^k - 1 over k qubits, or the number of elements.
@@ -387,12 +394,12 @@ pub fn locations(job: &[u8]) -> Answer<u64> {
 /// let refusal = correlation(job).unwrap_err();
 /// assert_eq!((refusal.number, refusal.line), (Number::SIZES, 3));
 /// ```
-pub fn correlation(job: &[u8]) -> Answer {
-    answer_of(&sys::correlation(job), 0).map(drop)
+pub fn correlation(job: &[u8]) -> Result<(), Refusal> {
+    result_of(&sys::correlation(job), 0).map(drop)
 }
 
 /// The text that a call writes, which is never longer than `MAX_BYTES`.
-fn text(call: impl FnOnce(&mut [u8]) -> Answer<usize>) -> Answer<Vec<u8>> {
+fn text(call: impl FnOnce(&mut [u8]) -> Result<usize, Refusal>) -> Result<Vec<u8>, Refusal> {
     let mut out = vec![0; MAX_BYTES];
     let bytes = call(&mut out)?;
     out.truncate(bytes);

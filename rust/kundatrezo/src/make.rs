@@ -1,7 +1,7 @@
 //! Jobs made from a seed.
 
-use crate::refusal::answer_of;
-use crate::{Answer, sys};
+use crate::refusal::result_of;
+use crate::{Refusal, sys};
 
 /// What a made job is to have.
 #[derive(Debug, Clone, Copy, PartialEq, Eq, Hash)]
@@ -37,10 +37,10 @@ pub struct JobParameters {
 /// assert_eq!(check(&out[..bytes]), Ok(()));
 /// # Ok::<(), kundatrezo::Refusal>(())
 /// ```
-pub fn make(asked: JobParameters, out: &mut [u8]) -> Answer<usize> {
+pub fn make(asked: JobParameters, out: &mut [u8]) -> Result<usize, Refusal> {
     let JobParameters { qubits, outcomes, shots, lines, seed } = asked;
-    let said = sys::make(qubits, outcomes, shots, lines, seed, out);
-    answer_of(&said.answer, said.figure).map(crate::size)
+    let reply = sys::make(qubits, outcomes, shots, lines, seed, out);
+    result_of(&reply.answer, reply.figure).map(crate::size)
 }
 
 /// The job of these parameters, in memory of its own.
@@ -61,6 +61,6 @@ pub fn make(asked: JobParameters, out: &mut [u8]) -> Answer<usize> {
 /// assert_eq!(make_job(JobParameters { shots: 0, ..asked }).unwrap_err().number, Number::HEADER);
 /// # Ok::<(), kundatrezo::Refusal>(())
 /// ```
-pub fn make_job(asked: JobParameters) -> Answer<Vec<u8>> {
+pub fn make_job(asked: JobParameters) -> Result<Vec<u8>, Refusal> {
     crate::text(|out| make(asked, out))
 }

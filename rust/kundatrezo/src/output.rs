@@ -54,7 +54,7 @@ impl OutputFile {
         };
         let whole = match old {
             Some(_) => fs::canonicalize(path)?,
-            None => new_place(path)?,
+            None => new_path(path)?,
         };
         if old.is_some() {
             // a rename would replace a protected file, too
@@ -62,7 +62,7 @@ impl OutputFile {
         }
         let (file, partial) = Partial::create(whole, if old.is_some() { 0o600 } else { 0o666 })?;
         if let Some(old) = &old {
-            hand_on(old, &file)?;
+            copy_permissions(old, &file)?;
         }
         Ok(Self { file, partial: Some(partial) })
     }
@@ -181,7 +181,7 @@ fn partial_path(whole: &Path) -> PathBuf {
 }
 
 /// Give a new file the mode of an old one, and its owner and group if the process may.
-fn hand_on(old: &Metadata, file: &File) -> io::Result<()> {
+fn copy_permissions(old: &Metadata, file: &File) -> io::Result<()> {
     let own = file.metadata()?;
     if (own.uid(), own.gid()) != (old.uid(), old.gid()) {
         _ = fchown(file, Some(old.uid()), Some(old.gid()));
@@ -204,13 +204,13 @@ fn sync_folder(folder: &Path) -> io::Result<()> {
 pub fn written_path(path: impl AsRef<Path>) -> io::Result<PathBuf> {
     let path = path.as_ref();
     match fs::canonicalize(path) {
-        Err(error) if error.kind() == ErrorKind::NotFound => new_place(path),
+        Err(error) if error.kind() == ErrorKind::NotFound => new_path(path),
         found => found,
     }
 }
 
 /// The path of a file that is not there yet, without links: the name may be a link to it.
-fn new_place(path: &Path) -> io::Result<PathBuf> {
+fn new_path(path: &Path) -> io::Result<PathBuf> {
     const MOST_LINKS: usize = 40;
     let mut path = path.to_owned();
     for _ in 0..MOST_LINKS {
@@ -254,7 +254,7 @@ impl FileId {
         let path = path.as_ref();
         match fs::metadata(path) {
             Ok(found) => Self::of_metadata(&found),
-            Err(_) => Some(Self(Id::New(new_place(path).unwrap_or_else(|_| path.to_owned())))),
+            Err(_) => Some(Self(Id::New(new_path(path).unwrap_or_else(|_| path.to_owned())))),
         }
     }
 

@@ -1,10 +1,7 @@
-//! What a call says when it says no.
+//! Why a call refuses its work.
 
 use std::error::Error;
 use std::fmt;
-
-/// What a call says: the finished work, or why not.
-pub type Answer<T = ()> = Result<T, Refusal>;
 
 /// The number of a refusal. Names and words are those of include/kundatrezo.h; docs/REFUSALS.md has an example and a remedy for each.
 ///
@@ -80,7 +77,7 @@ numbers! {
 }
 
 impl Number {
-    /// The number that a C caller has; none where this crate does not know it.
+    /// The number of the C interface; `None` if this crate does not know it.
     #[must_use]
     pub fn new(number: u64) -> Option<Self> {
         Self::ALL.iter().copied().find(|known| known.0 == number)
@@ -111,7 +108,7 @@ impl fmt::Display for Number {
     }
 }
 
-/// Why a call says no. The first bad line counts, and its lowest number.
+/// Why a call refuses: the first bad line, and the lowest number that applies to it.
 ///
 /// ```
 /// use kundatrezo::{Number, check};
@@ -130,12 +127,12 @@ pub struct Refusal {
     pub number: Number,
     /// The line of the job, from 1; 0 where none fits.
     pub line: u64,
-    /// With [`Number::ROOM`] of settling, the bytes that the settled text needs; else 0.
-    pub figure: u64,
+    /// With [`Number::ROOM`] from settling, the bytes that the settled text needs; else 0.
+    pub bytes_needed: u64,
 }
 
 impl Refusal {
-    /// The refused line of the job that was handed over, without its LF; none where no line fits.
+    /// The refused line of the job, without its LF; `None` if the refusal is of no line.
     #[must_use]
     pub fn line_of<'a>(&self, job: &'a [u8]) -> Option<&'a [u8]> {
         let part = crate::sys::line(job, self.line);
@@ -169,8 +166,8 @@ impl fmt::Display for Refusal {
 impl fmt::Debug for Refusal {
     fn fmt(&self, f: &mut fmt::Formatter<'_>) -> fmt::Result {
         write!(f, "{self}")?;
-        if self.figure != 0 {
-            write!(f, "; the figure is {}", self.figure)?;
+        if self.bytes_needed != 0 {
+            write!(f, "; the text needs {} bytes", self.bytes_needed)?;
         }
         Ok(())
     }
@@ -178,10 +175,10 @@ impl fmt::Debug for Refusal {
 
 impl Error for Refusal {}
 
-/// What the library said, with a count or figure that goes with success.
-pub(crate) fn answer_of(answer: &crate::sys::Answer, figure: u64) -> Answer<u64> {
+/// An answer of the library as a result. `figure` is the count or size of a success, and the bytes needed of a refusal for lack of room.
+pub(crate) fn result_of(answer: &crate::sys::Answer, figure: u64) -> Result<u64, Refusal> {
     match answer.number {
         0 => Ok(figure),
-        number => Err(Refusal { number: Number(number), line: answer.line, figure }),
+        number => Err(Refusal { number: Number(number), line: answer.line, bytes_needed: figure }),
     }
 }

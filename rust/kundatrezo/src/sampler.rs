@@ -2,45 +2,43 @@
 
 use crate::counts::{DRAWS, Sample, crc32, fault};
 use crate::instructions::write_job;
+use crate::threads::for_each_block;
 use crate::{
-    Answer, Circuit, Counts, CountsError, Draws, Examination, Frames, Header, Instruction, MAX_BYTES, MAX_SHOTS, Noise,
-    Number, PauliDistribution, Refusal, SamplerError, SavedCounts, SparsePauli, Xorshift, bit, by_outcome, examine,
-    size,
+    Circuit, Counts, CountsError, Draws, Examination, Frames, Header, Instruction, MAX_BYTES, MAX_SHOTS, Noise, Number,
+    PauliDistribution, Refusal, SamplerError, SavedCounts, SparsePauli, Xorshift, bit, by_outcome, examine, size,
 };
 use std::collections::BTreeSet;
 use std::error::Error;
 use std::fmt;
 use std::ops::Range;
-use std::sync::atomic::{AtomicBool, AtomicU64, Ordering};
-use std::thread;
 
 /// Most words of a list of a block, 2 GiB: no job of main-list noise needs as many.
 pub(crate) const MOST_WORDS: usize = 1 << 28;
 
-/// In which shots of the whole the injections and flips of a job stand.
+/// Where the shots are that injections and flips name: how a sample of more shots than the job's header has counts them.
 #[derive(Debug, Clone, Copy, Default, PartialEq, Eq, Hash)]
-pub enum Named {
-    /// In the shots that they name, counted through the whole: in the first block alone.
+pub enum NamedShots {
+    /// In the whole sample: such a line acts once, in the first block.
     #[default]
-    Whole,
-    /// In the shots that they name of each block, as far as it has them.
-    Block,
+    InSample,
+    /// In each block: such a line acts once in each block that has this shot.
+    InEachBlock,
 }
 
-impl Named {
-    /// How a text of counts and the program's option name it.
+impl NamedShots {
+    /// Its name in a text of counts and in the program's option.
     #[must_use]
     pub const fn name(self) -> &'static str {
         match self {
-            Self::Whole => "whole",
-            Self::Block => "block",
+            Self::InSample => "whole",
+            Self::InEachBlock => "block",
         }
     }
 
-    /// That of a name.
+    /// The one with this name.
     #[must_use]
-    pub fn of_name(name: &str) -> Option<Self> {
-        [Self::Whole, Self::Block].into_iter().find(|named| named.name() == name)
+    pub fn from_name(name: &str) -> Option<Self> {
+        [Self::InSample, Self::InEachBlock].into_iter().find(|named| named.name() == name)
     }
 }
 
@@ -70,11 +68,11 @@ impl fmt::Display for NoiselessSizeError {
 
 impl Error for NoiselessSizeError {}
 
-/// Any number of shots of a job, in runs of [`MAX_SHOTS`] and a last one of what is left: *blocks*. The header's number of shots is replaced.
+/// Any number of shots of a job, in *blocks*: runs of [`MAX_SHOTS`] shots each, and a last one of the rest. The header's number of shots is replaced.
 ///
-/// Each block has a main and a second list of its own, the words of [`Xorshift::of_block`], and the base of its second list is 0. So what a block leaves
-/// depends on the job, the seed, the number of the block and that of its shots alone, and what all blocks leave does not depend on how they are shared among
-/// threads, processes or machines. This loop is tested, not proved: each run is a call of the library, which is.
+/// Each block has a main and a second list of its own, the words of [`Xorshift::of_block`], and the base of its second list is 0. So the result of a
+/// block depends on the job, the seed, the block's number and the number of its shots alone, and the result of a sample does not depend on how its
+/// blocks are shared among threads, processes or machines. This loop is tested, not proved. Each run is a call of the library, which is proved.
 ///
 /// ```
 /// use kundatrezo::Sampler;
@@ -107,8 +105,8 @@ pub struct Sampler {
     sum: u32,
     shots: u64,
     seed: u64,
-    named: Option<Named>,
-    /// Noiseless bits of the job's own shots, which come again and again; none where all are zero.
+    named: Option<NamedShots>,
+    /// Noiseless bits of the job's own shots, repeated cyclically; empty if all are zero.
     noiseless: Vec<u64>,
     /// The CRC-32 of these, if they were given.
     noiseless_sum: Option<u32>,
@@ -120,40 +118,40 @@ impl Sampler {
     ///
     /// # Errors
     ///
-    /// The refusal by a test of the job, or the first injection or flip, which stands in a shot that it names: [`with_named`](Self::with_named) says
-    /// where these stand.
+    /// The refusal by a test of the job, or the first line that names a shot, an injection or a flip. Such a job needs
+    /// [`with_named_shots`](Self::with_named_shots).
     ///
     /// ```
-    /// use kundatrezo::{Named, Sampler, SamplerError};
+    /// use kundatrezo::{NamedShots, Sampler, SamplerError};
     ///
     /// let job = b"op=job qubits=1 outcomes=1 shots=9\nop=i shot=4 x=0 z=-\nop=o x=- z=0 id=0\n";
     /// let error = Sampler::new(job, 100_000, 1).map(drop).unwrap_err();
     /// assert_eq!(error, SamplerError::NamedShot { line: 2 });
-    /// let sampler = Sampler::with_named(job, 100_000, 1, Named::Whole)?;
+    /// let sampler = Sampler::with_named_shots(job, 100_000, 1, NamedShots::InSample)?;
     /// assert_eq!(sampler.counts(&[], 1)?.totals, [1]);
     /// # Ok::<(), kundatrezo::Refusal>(())
     /// ```
     pub fn new(job: &[u8], shots: u64, seed: u64) -> Result<Self, SamplerError> {
-        match first_named(job) {
+        match first_named_shot(job) {
             Some(line) => Err(SamplerError::NamedShot { line }),
-            None => Ok(Self { named: None, ..Self::with_named(job, shots, seed, Named::Whole)? }),
+            None => Ok(Self { named: None, ..Self::with_named_shots(job, shots, seed, NamedShots::InSample)? }),
         }
     }
 
-    /// The same, and in which shots of the whole injections and flips stand.
+    /// The same for a job with injections or flips; `named` says where the shots are that these name.
     ///
     /// # Errors
     ///
     /// The refusal by a test of the job.
-    pub fn with_named(job: &[u8], shots: u64, seed: u64, named: Named) -> Answer<Self> {
+    pub fn with_named_shots(job: &[u8], shots: u64, seed: u64, named: NamedShots) -> Result<Self, Refusal> {
         let examined = examine(job)?;
         let circuit = Circuit::read_accepted(job);
         let blocks = shots.div_ceil(BLOCK);
         let text = |block: u64| {
             let shots = shots_of(shots, block);
             let stands = |shot: u64| match named {
-                Named::Whole => block == 0,
-                Named::Block => shot < shots.end - shots.start,
+                NamedShots::InSample => block == 0,
+                NamedShots::InEachBlock => shot < shots.end - shots.start,
             };
             block_text(&circuit, shots.end - shots.start, stands)
         };
@@ -173,12 +171,12 @@ impl Sampler {
         })
     }
 
-    /// Noiseless bits in the layout of a run, for the shots of the job's own header, that come again and again: shot s of the whole has those of s mod
-    /// the header's shots. Without this all are zero.
+    /// The same with noiseless bits, in the layout of a run, for the shots of the job's own header. They are repeated cyclically: shot s of the
+    /// sample has those of s mod the header's shots. Without this all are zero.
     ///
     /// # Errors
     ///
-    /// There are not just as many words as the header's outcomes have in its shots, [`Examination::outcome_words`].
+    /// The number of words is not that of the header's outcomes and shots, [`Examination::outcome_words`].
     pub fn with_noiseless(self, rows: &[u64]) -> Result<Self, NoiselessSizeError> {
         let (shots, outcomes) = (self.own_shots, self.job.outcomes);
         let period = shots.div_ceil(64);
@@ -198,19 +196,19 @@ impl Sampler {
         Ok(Self { noiseless, noiseless_sum, ..self })
     }
 
-    /// The numbers of the job, with those of the shots of a whole block.
+    /// The job's numbers, with the shots of a full block.
     #[must_use]
     pub fn job(&self) -> Examination {
         self.job
     }
 
-    /// How many shots the whole has.
+    /// The number of shots in the sample.
     #[must_use]
     pub fn shots(&self) -> u64 {
         self.shots
     }
 
-    /// How many blocks the whole has.
+    /// The number of blocks in the sample.
     #[must_use]
     pub fn blocks(&self) -> u64 {
         self.shots.div_ceil(BLOCK)
@@ -222,15 +220,15 @@ impl Sampler {
         shots_of(self.shots, block)
     }
 
-    /// The blocks of a part of the whole: of `parts`, as many blocks each or one more or less, that with this place, from 0; none where there is no such part.
+    /// The blocks of one of `parts` parts of the sample, which differ by one block at most. `place` counts from 0; the range is empty if there is no
+    /// such part.
     #[must_use]
     pub fn part(&self, place: u64, parts: u64) -> Range<u64> {
         part_blocks(self.blocks(), place, parts)
     }
 
     /// The job as a block runs it.
-    #[must_use]
-    pub fn text(&self, block: u64) -> &[u8] {
+    fn block_job(&self, block: u64) -> &[u8] {
         match block {
             _ if block.checked_add(1) == Some(self.blocks()) => &self.last,
             0 => &self.first,
@@ -238,42 +236,39 @@ impl Sampler {
         }
     }
 
-    /// Run a block in the memory of a bench, with the noiseless bits of this sampler, and leave its frames, deltas and totals there.
+    /// Run a block in a workspace, with the noiseless bits of this sampler. Returns its frames, deltas and totals.
     ///
     /// # Errors
     ///
-    /// The refusal of the run: by a test of the job (10 where the whole has no such shot as a line names), or by 14 for a correlation past 2^28 words.
-    pub fn run<'a>(&self, block: u64, bench: &'a mut Bench) -> Answer<&'a Frames> {
+    /// The refusal of the run: by a test of the job (10 if a line names a shot that the sample does not have), or by 14 for a correlation past 2^28
+    /// words.
+    pub fn run<'a>(&self, block: u64, workspace: &'a mut Workspace) -> Result<&'a Frames, Refusal> {
         let words = self.row_words(block);
-        bench.noiseless.clear();
-        bench.noiseless.resize(self.job.outcomes * words, 0);
+        workspace.noiseless.clear();
+        workspace.noiseless.resize(self.job.outcomes * words, 0);
         let period = self.noiseless.len() / self.job.outcomes.max(1);
         if period > 0 && words > 0 {
             let start = size(block % period as u64) * (MAX_SHOTS / 64) % period;
-            for (row, given) in bench.noiseless.chunks_exact_mut(words).zip(self.noiseless.chunks_exact(period)) {
+            for (row, given) in workspace.noiseless.chunks_exact_mut(words).zip(self.noiseless.chunks_exact(period)) {
                 row.iter_mut().zip(given.iter().cycle().skip(start)).for_each(|(word, given)| *word = *given);
             }
         }
-        self.run_lent(block, bench)
+        self.run_in(block, workspace)
     }
 
-    /// Run a block with the noiseless bits that [`Bench::noiseless`] has.
-    ///
-    /// # Errors
-    ///
-    /// As [`run`](Self::run), and 13 where there are too few noiseless bits.
-    pub fn run_lent<'a>(&self, block: u64, bench: &'a mut Bench) -> Answer<&'a Frames> {
+    /// Run a block with the noiseless bits of the workspace.
+    fn run_in<'a>(&self, block: u64, workspace: &'a mut Workspace) -> Result<&'a Frames, Refusal> {
         let Range { start, end } = self.shots_of(block);
         let shots = usize::try_from(end - start).unwrap_or(MAX_SHOTS);
-        let text = self.text(block);
-        bench.main.begin(Xorshift::of_block(self.seed, block, 0), self.need.main(shots));
-        bench.second.begin(Xorshift::of_block(self.seed, block, 1), self.need.second(shots));
+        let text = self.block_job(block);
+        workspace.main.begin(Xorshift::of_block(self.seed, block, 0), self.need.main(shots));
+        workspace.second.begin(Xorshift::of_block(self.seed, block, 1), self.need.second(shots));
         let job = Examination { shots, ..self.job };
         loop {
-            let draws = Draws::new(&bench.main.words).with_second(&bench.second.words, 0);
-            match bench.frames.run_examined(job, text, &bench.noiseless, draws) {
-                Err(refusal) if refusal.number == Number::DRAWS && bench.grow(&refusal, text, shots) => {}
-                answer => return answer.map(|()| &bench.frames),
+            let draws = Draws::new(&workspace.main.words).with_second(&workspace.second.words, 0);
+            match workspace.frames.run_examined(job, text, &workspace.noiseless, draws) {
+                Err(refusal) if refusal.number == Number::DRAWS && workspace.grow(&refusal, text, shots) => {}
+                answer => return answer.map(|()| &workspace.frames),
             }
         }
     }
@@ -283,15 +278,20 @@ impl Sampler {
     /// # Errors
     ///
     /// As [`run`](Self::run), and 13 if there are too few bytes.
-    pub fn run_packed<'a>(&self, block: u64, bytes: &[u8], bench: &'a mut Bench) -> Answer<&'a Frames> {
+    pub fn run_packed<'a>(
+        &self,
+        block: u64,
+        bytes: &[u8],
+        workspace: &'a mut Workspace,
+    ) -> Result<&'a Frames, Refusal> {
         let Range { start, end } = self.shots_of(block);
         let outcomes = self.job.outcomes;
         let word = |bytes: &[u8]| bytes.iter().rev().fold(0, |word, byte| word << 8 | u64::from(*byte));
         let rows: Vec<u64> =
             bytes.chunks_exact(outcomes.div_ceil(8).max(1)).flat_map(|row| row.chunks(8).map(word)).collect();
-        bench.noiseless.resize(outcomes * self.row_words(block), 0);
-        by_outcome(outcomes as u64, end - start, &rows, &mut bench.noiseless)?;
-        self.run_lent(block, bench)
+        workspace.noiseless.resize(outcomes * self.row_words(block), 0);
+        by_outcome(outcomes as u64, end - start, &rows, &mut workspace.noiseless)?;
+        self.run_in(block, workspace)
     }
 
     /// What a user may do about the refusal of a block, if that can be said.
@@ -307,77 +307,41 @@ impl Sampler {
         }
     }
 
-    /// How many words the lists of a whole block have, as far as its noise lines tell: the memory of a [`Bench`] is mostly these.
+    /// The words that a full block's lists are expected to have: most of the memory of a [`Workspace`].
     #[must_use]
     pub fn list_words(&self) -> usize {
         self.need.main(MAX_SHOTS) + self.need.second(MAX_SHOTS)
     }
 
     /// The words of a row of a block.
-    #[must_use]
-    pub fn row_words(&self, block: u64) -> usize {
+    fn row_words(&self, block: u64) -> usize {
         let Range { start, end } = self.shots_of(block);
         usize::try_from((end - start).div_ceil(64)).unwrap_or_default()
     }
 
-    /// Do some work on each of these blocks, shared among threads: each begins with what `start` gives, takes the next block that nobody has taken until
-    /// there are none, and gives back what it has made of it all. With an error the threads stop after the blocks that they are at.
-    ///
-    /// # Errors
-    ///
-    /// The error of the first thread that has one.
-    pub fn each<S: Send, E: Send>(
-        blocks: Range<u64>,
-        threads: usize,
-        start: impl Fn() -> S + Sync,
-        work: impl Fn(&mut S, u64) -> Result<(), E> + Sync,
-    ) -> Result<Vec<S>, E> {
-        let next = AtomicU64::new(blocks.start);
-        let failed = AtomicBool::new(false);
-        let obey = || {
-            let mut made = start();
-            while !failed.load(Ordering::Relaxed) {
-                let block = next.fetch_add(1, Ordering::Relaxed);
-                if block >= blocks.end {
-                    break;
-                }
-                work(&mut made, block).inspect_err(|_| failed.store(true, Ordering::Relaxed))?;
-            }
-            Ok(made)
-        };
-        let wanted = usize::try_from(blocks.end.saturating_sub(blocks.start)).unwrap_or(usize::MAX);
-        thread::scope(|scope| {
-            // no more than the system has
-            let spawned = |_| thread::Builder::new().spawn_scoped(scope, obey).ok();
-            let others: Vec<_> = (1..threads.min(wanted)).map_while(spawned).collect();
-            let own = obey();
-            let joined = others.into_iter().map(|thread| thread.join().expect("a thread ends by itself"));
-            [own].into_iter().chain(joined).collect()
-        })
-    }
-
-    /// The totals of all outcomes of the header and of the parities of sets of outcomes, over the whole, by so many threads.
+    /// The totals of all outcomes of the header and of the parities of sets of outcomes, over the whole sample, on `threads` threads.
     ///
     /// # Errors
     ///
     /// The refusal by 17 of a set that does not rise strictly or has an outcome that is not recorded; else as [`run`](Self::run).
-    pub fn counts(&self, sets: &[Vec<u64>], threads: usize) -> Answer<Counts> {
+    pub fn counts(&self, sets: &[Vec<u64>], threads: usize) -> Result<Counts, Refusal> {
         self.counts_of(0..self.blocks(), sets, threads)
     }
 
-    fn counts_of(&self, blocks: Range<u64>, sets: &[Vec<u64>], threads: usize) -> Answer<Counts> {
-        sets.iter().try_for_each(|set| self.job.test_set(set))?;
-        let start = || (Bench::new(), Counts::default());
-        let made =
-            Self::each(blocks, threads, start, |(bench, counts), block| counts.add(self.run(block, bench)?, sets))?;
-        let mut sum = self.no_counts(sets);
+    fn counts_of(&self, blocks: Range<u64>, sets: &[Vec<u64>], threads: usize) -> Result<Counts, Refusal> {
+        sets.iter().try_for_each(|set| self.job.check_set(set))?;
+        let start = || (Workspace::new(), Counts::default());
+        let made = for_each_block(blocks, threads, start, |(workspace, counts), block| {
+            counts.add(self.run(block, workspace)?, sets)
+        })?;
+        let mut sum = self.zero_counts(sets);
         made.iter().for_each(|(_, counts)| sum += counts);
         Ok(sum)
     }
 
     /// The counts of no shots, with a zero for each outcome of the header and each set.
     #[must_use]
-    pub fn no_counts(&self, sets: &[Vec<u64>]) -> Counts {
+    pub fn zero_counts(&self, sets: &[Vec<u64>]) -> Counts {
         Counts { totals: vec![0; self.job.outcomes], sets: vec![0; sets.len()], ..Counts::default() }
     }
 
@@ -437,7 +401,7 @@ fn shots_of(shots: u64, block: u64) -> Range<u64> {
     start..start.saturating_add(BLOCK).min(shots)
 }
 
-/// The blocks of a part, from 0, of so many parts.
+/// The blocks of one of `parts` parts, which are numbered from 0.
 pub(crate) fn part_blocks(blocks: u64, place: u64, parts: u64) -> Range<u64> {
     let until = |place: u64| u128::from(blocks) * u128::from(place.min(parts)) / u128::from(parts.max(1));
     let number = |until: u128| u64::try_from(until).unwrap_or(blocks);
@@ -458,17 +422,16 @@ fn block_text(circuit: &Circuit, shots: u64, stands: impl Fn(u64) -> bool) -> Ve
     write_job(&header, lines)
 }
 
-/// The first line of an accepted job, from 1, that stands in a shot which it names: an injection or a flip.
-#[must_use]
-pub fn first_named(job: &[u8]) -> Option<u64> {
+/// The first line of an accepted job, from 1, that names a shot: an injection or a flip.
+fn first_named_shot(job: &[u8]) -> Option<u64> {
     let circuit = Circuit::read(job).ok()?;
     circuit.numbered().find(|(_, instruction)| instruction.shot().is_some()).map(|(line, _)| line as u64)
 }
 
-/// Why a job with a line that stands in a shot which it names, such as [`first_named`] finds, isn't sampled unless an option says where these lines
-/// stand; `whole` and `block` are the ways to write this option.
+/// The message of [`SamplerError::NamedShot`] for an interface of its own; `whole` and `block` are its ways to write the two values of
+/// [`NamedShots`].
 #[must_use]
-pub fn named_fault(line: u64, whole: &str, block: &str) -> String {
+pub fn named_shot_message(line: u64, whole: &str, block: &str) -> String {
     format!(
         "line {line} stands in a shot that it names. With {whole} it stands in that shot of the whole sample, with {block} in that shot of each \
          block of {MAX_SHOTS}; for a fault in every shot write noise of p = 1"
@@ -497,14 +460,7 @@ pub fn condition_notes(job: &[u8], is_given: bool, own: &str, each: &str) -> Vec
 
 /// The noise lines of an accepted job that look at noiseless bits and can fall: the number of each, from 1, and the first outcome of its condition that
 /// an `op=r` line records, if there is one. The noiseless bit of that is random in every shot.
-///
-/// ```
-/// let noise = "op=n p=3fe0000000000000 corr=- cond=0 parity=1 d=1 x=0 z=- size=1\n";
-/// let job = format!("op=job qubits=1 outcomes=1 shots=1\nop=r id=0 angle=0\n{noise}");
-/// assert_eq!(kundatrezo::conditions(job.as_bytes()), [(3, Some(0))]);
-/// ```
-#[must_use]
-pub fn conditions(job: &[u8]) -> Vec<(u64, Option<usize>)> {
+fn conditions(job: &[u8]) -> Vec<(u64, Option<usize>)> {
     let Ok(circuit) = Circuit::read(job) else {
         return Vec::new();
     };
@@ -560,24 +516,24 @@ impl Need {
     }
 }
 
-/// The memory of a thread that runs blocks: rows and words, which are used again.
+/// The memory in which a thread runs blocks, one after the other: rows and words.
 #[derive(Debug, Clone, Default)]
-pub struct Bench {
+pub struct Workspace {
     frames: Frames,
     main: List,
     second: List,
-    /// The noiseless bits of the next block, in the layout of a run, for [`Sampler::run_lent`].
-    pub noiseless: Vec<u64>,
+    /// The noiseless bits of the next block, in the layout of a run.
+    noiseless: Vec<u64>,
 }
 
-impl Bench {
-    /// A bench without memory, which grows as blocks need it.
+impl Workspace {
+    /// An empty workspace, which grows as blocks need it.
     #[must_use]
     pub fn new() -> Self {
         Self::default()
     }
 
-    /// What the last run left.
+    /// The frames of the last run.
     #[must_use]
     pub fn frames(&self) -> &Frames {
         &self.frames
@@ -637,7 +593,7 @@ op=t shot=0 id=1
 ";
 
     fn sampler(job: &str, shots: u64, seed: u64) -> Sampler {
-        Sampler::with_named(job.as_bytes(), shots, seed, Named::Whole).expect("it is accepted")
+        Sampler::with_named_shots(job.as_bytes(), shots, seed, NamedShots::InSample).expect("it is accepted")
     }
 
     /// Blocks are runs of the job with other shots and the words of the block.
@@ -645,7 +601,7 @@ op=t shot=0 id=1
     fn blocks_are_runs() {
         let sampler = sampler(JOB, 10_000, 3);
         let sampler = sampler.with_noiseless(&[0b10110, 0]).expect("a row for each outcome");
-        let mut bench = Bench::new();
+        let mut workspace = Workspace::new();
         for block in [2, 0, 1] {
             let shots = if block == 2 { 10_000 - 2 * 4096 } else { 4096 };
             let mut text = JOB.replace("shots=5", &format!("shots={shots}"));
@@ -662,10 +618,10 @@ op=t shot=0 id=1
             let row = usize::try_from(shots).expect("small").div_ceil(64);
             let noiseless: Vec<u64> = noiseless.chunks(64).flat_map(|words| words[..row].to_vec()).collect();
             let draws = Draws::new(&main).with_second(&second, 0);
-            let frames = Frames::of_run(text.as_bytes(), &noiseless, draws).expect("the words are enough");
-            let sampled = sampler.run(block, &mut bench).expect("it runs");
+            let frames = Frames::from_run(text.as_bytes(), &noiseless, draws).expect("the words are enough");
+            let sampled = sampler.run(block, &mut workspace).expect("it runs");
             assert_eq!((sampled.deltas(), sampled.totals()), (frames.deltas(), frames.totals()), "{block}");
-            assert_eq!(sampler.text(block).split(|byte| *byte == b'\n').count(), 8);
+            assert_eq!(sampler.block_job(block).split(|byte| *byte == b'\n').count(), 8);
         }
     }
 
@@ -715,7 +671,7 @@ op=t shot=0 id=1
         let lent = sampler.clone().with_noiseless(&[0b10110, 0]).expect("a row for each outcome");
         for block in [sampler.blocks(), u64::MAX - 1, u64::MAX] {
             for sampler in [&sampler, &lent] {
-                let refusal = sampler.run(block, &mut Bench::new()).map(drop).unwrap_err();
+                let refusal = sampler.run(block, &mut Workspace::new()).map(drop).unwrap_err();
                 assert_eq!(refusal.number, Number::WORDS, "{block}");
             }
         }
@@ -726,8 +682,8 @@ op=t shot=0 id=1
     fn named_shots_are_not_guessed() {
         let error = Sampler::new(JOB.as_bytes(), 9_000, 1).map(drop).unwrap_err();
         assert_eq!(error, SamplerError::NamedShot { line: 4 });
-        let sentence = "line 4 stands in a shot that it names. With Named::Whole it stands in that shot of the whole sample, with \
-                        Named::Block in that shot of each block of 4096; for a fault in every shot write noise of p = 1";
+        let sentence = "line 4 stands in a shot that it names. With NamedShots::InSample it stands in that shot of the whole sample, with \
+                        NamedShots::InEachBlock in that shot of each block of 4096; for a fault in every shot write noise of p = 1";
         assert_eq!(error.to_string(), sentence);
         let error = Sampler::new(b"op=job\n", 9_000, 1).map(drop).unwrap_err();
         assert_eq!(error.to_string(), format!("refused: {} at line 1", Number::FORM));
@@ -736,18 +692,21 @@ op=t shot=0 id=1
     #[test]
     fn named_shots_stand_where_they_are_said_to() {
         let job = b"op=job qubits=1 outcomes=1 shots=70\nop=i shot=69 x=0 z=-\nop=o x=- z=0 id=0\n";
-        assert_eq!(first_named(job), Some(2));
+        assert_eq!(first_named_shot(job), Some(2));
         let count = |shots, named| {
-            Sampler::with_named(job, shots, 0, named)
+            Sampler::with_named_shots(job, shots, 0, named)
                 .and_then(|sampler| sampler.counts(&[], 2))
                 .map(|counts| counts.totals[0])
         };
-        assert_eq!(count(3 * 4096 + 70, Named::Whole), Ok(1));
-        assert_eq!(count(3 * 4096 + 70, Named::Block), Ok(4));
-        assert_eq!(count(3 * 4096 + 69, Named::Block), Ok(3));
-        assert_eq!(count(69, Named::Block), Ok(0));
-        assert_eq!(count(69, Named::Whole).map_err(|refusal| (refusal.number, refusal.line)), Err((Number::SHOT, 2)));
-        assert_eq!(first_named(b"op=job qubits=1 outcomes=1 shots=70\n"), None);
+        assert_eq!(count(3 * 4096 + 70, NamedShots::InSample), Ok(1));
+        assert_eq!(count(3 * 4096 + 70, NamedShots::InEachBlock), Ok(4));
+        assert_eq!(count(3 * 4096 + 69, NamedShots::InEachBlock), Ok(3));
+        assert_eq!(count(69, NamedShots::InEachBlock), Ok(0));
+        assert_eq!(
+            count(69, NamedShots::InSample).map_err(|refusal| (refusal.number, refusal.line)),
+            Err((Number::SHOT, 2))
+        );
+        assert_eq!(first_named_shot(b"op=job qubits=1 outcomes=1 shots=70\n"), None);
     }
 
     #[test]
@@ -762,29 +721,5 @@ op=t shot=0 id=1
             let last = sampler.blocks().saturating_sub(1);
             assert_eq!(sampler.shots_of(last).end, shots);
         }
-    }
-
-    #[test]
-    fn threads_stop_where_one_fails() {
-        let answer = Sampler::each(
-            0..1_000_000_000,
-            3,
-            || 0,
-            |done, block| {
-                *done += 1;
-                if block == 100 { Err(block) } else { Ok(()) }
-            },
-        );
-        assert_eq!(answer, Err(100));
-        let all = Sampler::each(
-            5..25,
-            4,
-            || 0,
-            |sum, block| {
-                *sum += block;
-                Ok::<(), ()>(())
-            },
-        );
-        assert_eq!(all.map(|sums| sums.iter().sum::<u64>()), Ok((5..25).sum()));
     }
 }

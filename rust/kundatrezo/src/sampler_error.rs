@@ -1,6 +1,6 @@
 //! Why a sampler does not do its work.
 
-use crate::{CountsError, Refusal, named_fault};
+use crate::{CountsError, Refusal, named_shot_message};
 use std::error::Error;
 use std::fmt;
 
@@ -10,7 +10,7 @@ use std::fmt;
 pub enum SamplerError {
     /// A call of the engine refuses.
     Refused(Refusal),
-    /// The job has an injection or a flip, and nothing says where these stand in the sample. [`Sampler::with_named`](crate::Sampler::with_named) does.
+    /// The job has an injection or a flip, and nothing says where these stand in the sample. [`Sampler::with_named_shots`](crate::Sampler::with_named_shots) does.
     NamedShot {
         /// The line of the first one, from 1.
         line: u64,
@@ -23,7 +23,9 @@ impl fmt::Display for SamplerError {
     fn fmt(&self, f: &mut fmt::Formatter<'_>) -> fmt::Result {
         match self {
             Self::Refused(refusal) => refusal.fmt(f),
-            Self::NamedShot { line } => f.write_str(&named_fault(*line, "Named::Whole", "Named::Block")),
+            Self::NamedShot { line } => {
+                f.write_str(&named_shot_message(*line, "NamedShots::InSample", "NamedShots::InEachBlock"))
+            }
             Self::Counts(error) => error.fmt(f),
         }
     }

@@ -1,7 +1,7 @@
 //! Callers with shares of one main list.
 
 use crate::draws::sealed;
-use crate::{Answer, Rows, Source, settle, size, sys};
+use crate::{DrawSource, Refusal, Rows, settle, size, sys};
 use std::error::Error;
 use std::fmt::{self, Write};
 
@@ -28,9 +28,9 @@ pub const MAX_CALLERS: usize = 8;
 /// let mut draws = SharedDraws::new(&words, &[4, 6])?;
 ///
 /// // caller 1 takes words 4 to 7, then 8, 9 and two of the common part, 10 and 11; caller 0 takes 0 to 3
-/// let first = Frames::of_run(job, &[], draws.caller(1))?;
-/// let second = Frames::of_run(job, &[], draws.caller(1))?;
-/// let other = Frames::of_run(job, &[], draws.caller(0))?;
+/// let first = Frames::from_run(job, &[], draws.caller(1))?;
+/// let second = Frames::from_run(job, &[], draws.caller(1))?;
+/// let other = Frames::from_run(job, &[], draws.caller(0))?;
 /// assert_eq!((first.x(), second.x(), other.x()), (&[0b1111][..], &[0b0000][..], &[0b1111][..]));
 /// assert_eq!(draws.marks(), [4, 6, 2]);
 /// assert_eq!((draws.own_left(0), draws.own_left(1), draws.common_left()), (0, 0, 4));
@@ -56,12 +56,12 @@ impl<'a> SharedDraws<'a> {
     /// # Errors
     ///
     /// The refusal by 25: no shares, more than [`MAX_CALLERS`], or more words than the list has.
-    pub fn new(main: &'a [u64], shares: &[u64]) -> Answer<Self> {
-        Self { main, shares: shares.to_vec(), marks: vec![0; shares.len() + 1] }.tested()
+    pub fn new(main: &'a [u64], shares: &[u64]) -> Result<Self, Refusal> {
+        Self { main, shares: shares.to_vec(), marks: vec![0; shares.len() + 1] }.checked()
     }
 
-    /// These, if the engine takes them.
-    fn tested(mut self) -> Answer<Self> {
+    /// The same, if the engine accepts them.
+    fn checked(mut self) -> Result<Self, Refusal> {
         settle(NOTHING, &[], self.caller(0), &mut [0; NOTHING.len()])?;
         Ok(self)
     }
@@ -84,13 +84,13 @@ impl<'a> SharedDraws<'a> {
         &self.shares
     }
 
-    /// How many words are taken of each stretch, and behind these how many of the common part.
+    /// How many words are taken of each stretch, and after these how many of the common part.
     #[must_use]
     pub fn marks(&self) -> &[u64] {
         &self.marks
     }
 
-    /// The words that a caller's next job may take: what is left of the stretch, and behind it what is left of the common part. The job does what it would with
+    /// The words that a caller's next job may take: what is left of the stretch, and after it what is left of the common part. The job does what it would with
     /// a main list of the two, one after the other (`shared-run-is-plain`).
     ///
     /// # Panics
@@ -150,17 +150,17 @@ impl<'a> SharedDraws<'a> {
     /// let account = draws.to_string();
     /// let lines = "list=5 sum=a73c4fcedb1fd5a4\ncaller=0 share=2 taken=0\ncaller=1 share=1 taken=0\ncommon=2 taken=0\n";
     /// assert_eq!(account, format!("{lines}seal=a5339cb1b6887c7a\n"));
-    /// assert_eq!(SharedDraws::resumed(&words, &account).as_ref(), Ok(&draws));
-    /// assert_eq!(SharedDraws::resumed(&[1, 2, 3, 4, 6], &account), Err(AccountError::OtherList));
-    /// assert_eq!(SharedDraws::resumed(&words, &account.replace("taken=0", "taken=1")), Err(AccountError::Edited));
+    /// assert_eq!(SharedDraws::from_account(&words, &account).as_ref(), Ok(&draws));
+    /// assert_eq!(SharedDraws::from_account(&[1, 2, 3, 4, 6], &account), Err(AccountError::OtherList));
+    /// assert_eq!(SharedDraws::from_account(&words, &account.replace("taken=0", "taken=1")), Err(AccountError::Edited));
     /// # Ok::<(), kundatrezo::Refusal>(())
     /// ```
-    pub fn resumed(main: &'a [u64], account: &str) -> Result<Self, AccountError> {
-        let said = Account::read(account)?;
-        if said.list != main.len() as u64 || said.sum != sum(main) {
+    pub fn from_account(main: &'a [u64], account: &str) -> Result<Self, AccountError> {
+        let read = Account::read(account)?;
+        if read.list != main.len() as u64 || read.sum != sum(main) {
             return Err(AccountError::OtherList);
         }
-        let draws = Self { main, shares: said.shares, marks: said.marks }.tested();
+        let draws = Self { main, shares: read.shares, marks: read.marks }.checked();
         draws.ok().filter(|draws| draws.to_string() == account).ok_or(AccountError::Form)
     }
 
@@ -189,7 +189,7 @@ impl<'a> SharedDraws<'a> {
 }
 
 /// The account: the list's length and check sum, then each stretch and the common part with what is taken of it, and last the seal, a check sum of
-/// the lines before it. [`SharedDraws::resumed`] reads it. The seal shows an edit by mistake. It is no secret: whoever wants to cheat can compute it.
+/// the lines before it. [`SharedDraws::from_account`] reads it. The seal shows an edit by mistake. It is no secret: whoever wants to cheat can compute it.
 impl fmt::Display for SharedDraws<'_> {
     fn fmt(&self, f: &mut fmt::Formatter<'_>) -> fmt::Result {
         let mut lines = format!("list={} sum={:016x}\n", self.main.len(), sum(self.main));
@@ -243,7 +243,7 @@ fn hash(bytes: impl Iterator<Item = u8>) -> u64 {
     bytes.fold(0xcbf2_9ce4_8422_2325, |sum, byte| (sum ^ u64::from(byte)).wrapping_mul(0x0100_0000_01b3))
 }
 
-/// Why [`SharedDraws::resumed`] gives no list.
+/// Why [`SharedDraws::from_account`] gives no list.
 #[derive(Debug, Clone, Copy, PartialEq, Eq)]
 #[non_exhaustive]
 pub enum AccountError {
@@ -287,9 +287,9 @@ impl<'a> Caller<'a> {
     }
 }
 
-impl Source for Caller<'_> {}
+impl DrawSource for Caller<'_> {}
 
-impl sealed::Source for Caller<'_> {
+impl sealed::DrawSource for Caller<'_> {
     fn run(&mut self, job: &[u8], rows: Rows<'_>, noiseless: &[u64]) -> sys::Answer {
         sys::run_shared(job, rows, noiseless, &mut self.lent())
     }

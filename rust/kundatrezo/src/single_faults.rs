@@ -1,7 +1,7 @@
 //! The table of single faults.
 
-use crate::refusal::answer_of;
-use crate::{Answer, sys};
+use crate::refusal::result_of;
+use crate::{Refusal, sys};
 
 /// Most groups of outcomes of a table of single faults.
 pub const MAX_GROUPS: usize = 16;
@@ -36,7 +36,7 @@ pub const MAX_GROUPS: usize = 16;
 /// assert!(table.iter().all(|fault| !fault.flips(1)));
 /// # Ok::<(), kundatrezo::Refusal>(())
 /// ```
-pub fn fault_table(job: &[u8], groups: &[Vec<u64>]) -> Answer<FaultTable> {
+pub fn fault_table(job: &[u8], groups: &[Vec<u64>]) -> Result<FaultTable, Refusal> {
     let list: Vec<u64> = groups.iter().flat_map(|group| [&[group.len() as u64], group.as_slice()].concat()).collect();
     let text = crate::text(|out| write_fault_table(job, &list, out))?;
     Ok(FaultTable { groups: groups.len(), text: String::from_utf8(text).expect("a table is in plain letters") })
@@ -63,9 +63,9 @@ pub fn fault_table(job: &[u8], groups: &[Vec<u64>]) -> Answer<FaultTable> {
 /// assert_eq!(write_fault_table(job, &[2, 0], &mut out).unwrap_err().number, Number::WALK);
 /// # Ok::<(), kundatrezo::Refusal>(())
 /// ```
-pub fn write_fault_table(job: &[u8], groups: &[u64], out: &mut [u8]) -> Answer<usize> {
-    let said = sys::fault_table(job, groups, out);
-    answer_of(&said.answer, said.figure).map(crate::size)
+pub fn write_fault_table(job: &[u8], groups: &[u64], out: &mut [u8]) -> Result<usize, Refusal> {
+    let reply = sys::fault_table(job, groups, out);
+    result_of(&reply.answer, reply.figure).map(crate::size)
 }
 
 /// The table of single faults of a job, by [`fault_table`].

@@ -427,7 +427,7 @@ mod tests {
         {
             let draws = Draws::new(&[0, u64::MAX]);
             let (fault, accepted, chosen) = in_state(state, || {
-                let fault = Frames::of_run(&p, &[], draws);
+                let fault = Frames::from_run(&p, &[], draws);
                 let accepted = [&weight, &total].map(|job| crate::check(job));
                 let chosen = [&weight, &total].map(|job| crate::settled(job, &[], draws));
                 (fault, accepted, chosen)

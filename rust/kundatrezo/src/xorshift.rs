@@ -1,7 +1,7 @@
 //! Words made from a seed.
 
-use crate::refusal::answer_of;
-use crate::{Answer, sys};
+use crate::refusal::result_of;
+use crate::{Refusal, sys};
 
 /// Fill a list with the words of a seed, by Marsaglia's 64-bit xorshift: each step changes the state, at first the seed, by exclusive or with itself shifted
 /// left 13, then right 7, then left 17, and the new state is the word. [`Xorshift`] has these words as a stream.
@@ -19,16 +19,17 @@ use crate::{Answer, sys};
 /// assert_eq!(fill(0, &mut words).unwrap_err().number, Number::SEED);
 /// # Ok::<(), kundatrezo::Refusal>(())
 /// ```
-pub fn fill(seed: u64, words: &mut [u64]) -> Answer {
-    answer_of(&sys::fill(seed, words), 0).map(drop)
+pub fn fill(seed: u64, words: &mut [u64]) -> Result<(), Refusal> {
+    result_of(&sys::fill(seed, words), 0).map(drop)
 }
 
 /// Words for callers who have none of their own: the stream of [`fill`], Marsaglia's 64-bit xorshift ("Xorshift RNGs", Journal of Statistical Software 8(14),
 /// 2003). The engine makes them.
 ///
-/// [`new`](Self::new) makes a first state from a seed, so that every seed is a good one, 0 and small ones too. [`from_state`](Self::from_state) takes the
-/// state itself, which is the seed of [`fill`]. All states lie on one cycle of 2^64 - 1 words, and no word is zero. For the next run of a series read the same
-/// words on, by the number that [`Draws::used`](crate::Draws::used) says. To [`fill`](Self::fill) a list is faster than to take its words one by one.
+/// [`new`](Self::new) makes a first state from a seed, so that every seed is a good one, 0 and small ones too. [`from_state`](Self::from_state) takes
+/// the state itself, which is the seed of [`fill`]. All states lie on one cycle of 2^64 - 1 words, and no word is zero. For the next run of a series
+/// read the same words on, by the number that [`Draws::words_read`](crate::Draws::words_read) returns. To [`fill`](Self::fill) a list is faster than
+/// to take its words one by one.
 ///
 /// ```
 /// use kundatrezo::Xorshift;
@@ -85,7 +86,7 @@ impl Xorshift {
     ///
     /// Streams of small states begin alike: the first words from 1 are small, and those from 2 are their doubles. A series of runs from states 1, 2, 3
     /// and so on would fault far too often in its first shots; [`new`](Self::new) is free of this.
-    pub fn from_state(state: u64) -> Answer<Self> {
+    pub fn from_state(state: u64) -> Result<Self, Refusal> {
         fill(state, &mut []).map(|()| Self { state })
     }
 

@@ -18,7 +18,7 @@ pub struct Command {
     pub details: &'static [&'static str],
     /// Its options, in groups.
     pub options: &'static [&'static [Flag]],
-    pub obey: fn(&Arguments) -> Result<(), Failure>,
+    pub run: fn(&Arguments) -> Result<(), Failure>,
 }
 
 /// A group of commands, under a heading of its own in the help and the manual page.
@@ -205,8 +205,8 @@ impl Arguments {
 
     /// That there are as many operands as the command takes.
     fn count(&self, command: &Command) -> Result<(), String> {
-        let surplus = |place: usize, wanted: &str| match self.operands.get(place) {
-            Some(other) => Err(format!("{wanted}, and '{}' is one more", shown(other))),
+        let surplus = |place: usize, expected: &str| match self.operands.get(place) {
+            Some(other) => Err(format!("{expected}, and '{}' is one more", shown(other))),
             None => Ok(()),
         };
         match (command.operand, self.operands.first()) {
@@ -265,8 +265,8 @@ impl Arguments {
         let parsed = |value: &OsString| {
             let fault = || {
                 let digits = value.to_str().and_then(digits).filter(|digits| parse(digits).is_some());
-                let remedy = digits.map_or_else(String::new, |digits| format!(": write {digits}"));
-                Failure::Other(format!("the value of {name} is to be {what}, not '{}'{remedy}", shown(value)))
+                let hint = digits.map_or_else(String::new, |digits| format!(": write {digits}"));
+                Failure::Other(format!("the value of {name} is to be {what}, not '{}'{hint}", shown(value)))
             };
             value.to_str().and_then(parse).ok_or_else(fault)
         };
@@ -274,8 +274,9 @@ impl Arguments {
     }
 
     /// What to say where options that are wanted are not all given: the missing ones.
-    pub fn missing(&self, wanted: &[&Flag]) -> Failure {
-        let names: Vec<&str> = wanted.iter().map(|flag| flag.name).filter(|name| self.value(name).is_none()).collect();
+    pub fn missing(&self, required: &[&Flag]) -> Failure {
+        let names: Vec<&str> =
+            required.iter().map(|flag| flag.name).filter(|name| self.value(name).is_none()).collect();
         Failure::Other(match names.as_slice() {
             [others @ .., last] if !others.is_empty() => format!("{} and {last} are wanted", others.join(", ")),
             names => format!("{} is wanted", names.concat()),

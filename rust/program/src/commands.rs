@@ -4,8 +4,10 @@ use crate::arguments::{Arguments, Command, FILE, Flag, Group, NEW_FILE, Operand,
 use crate::completions::{self, SHELLS};
 use crate::files::{Names, Outputs, shown};
 use crate::spelling::nearest;
-use crate::words::{self, Lent};
-use crate::{Failure, counts, faults, files, load, manual, numbers, print, rates, sample, say, shares, shots, sizes};
+use crate::words::{self, CallInputs};
+use crate::{
+    Failure, counts, faults, files, load, manual, numbers, print, print_stderr, rates, sample, shares, shots, sizes,
+};
 use kundatrezo::{Examination, Frames, MAX_BYTES, Number, Refusal, Shots, bit};
 use std::ffi::{OsStr, OsString};
 use std::fmt::Write;
@@ -61,7 +63,7 @@ pub const COMMANDS: &[Command] = &[
 Makes the tests of a job. Prints 'ok=1', the qubits, outcomes and shots of its header, 'recorded=' with
 the number of outcomes that it records, and 'lines=' with that of its lines."],
         options: &[],
-        obey: check,
+        run: check,
     },
     Command {
         name: "run",
@@ -80,7 +82,7 @@ and 'delta=' for each recorded outcome, with a digit for each shot, shot 0 first
             shares::DETAILS,
         ],
         options: &[words::FLAGS, shares::FLAGS, ROW_FILES],
-        obey: run,
+        run,
     },
     Command {
         name: "settle",
@@ -93,7 +95,7 @@ and 'delta=' for each recorded outcome, with a digit for each shot, shot 0 first
             shares::DETAILS,
         ],
         options: &[words::FLAGS, shares::FLAGS, &[OUTPUT, ROOM]],
-        obey: settle,
+        run: settle,
     },
     Command {
         name: "walk",
@@ -105,7 +107,7 @@ Carries the observable of a set of recorded outcomes back through a job without 
 first). Prints 'ok=1 count=' and the number of the shot's faults that flip the set's parity. --shot and
 --set are wanted."],
         options: &[&[SHOT, SET]],
-        obey: walk,
+        run: walk,
     },
     Command {
         name: "annotate",
@@ -116,7 +118,7 @@ first). Prints 'ok=1 count=' and the number of the shot's faults that flip the s
 Writes the job with a line of depolarizing noise before each measurement and after each gate. Either --p
 or --p-bits is wanted."],
         options: &[&[P, P_BITS, OUTPUT, ROOM]],
-        obey: annotate,
+        run: annotate,
     },
     Command {
         name: "locations",
@@ -127,7 +129,7 @@ or --p-bits is wanted."],
 Prints 'ok=1 locations=' and twice the qubits of the lines that annotation gives noise, summed over the
 job. A qubit that control and target share counts for both."],
         options: &[],
-        obey: locations,
+        run: locations,
     },
     Command {
         name: "correlation",
@@ -138,7 +140,7 @@ job. A qubit that control and target share counts for both."],
             "Prints 'ok=1' if the noise lines of each correlation have one size, as their field 'size=' says it.",
         ],
         options: &[],
-        obey: correlation,
+        run: correlation,
     },
     Command {
         name: "faults",
@@ -147,7 +149,7 @@ job. A qubit that control and target share counts for both."],
         summary: "the table of single faults: which groups of outcomes each flips",
         details: &[faults::TABLE],
         options: &[faults::TABLE_FLAGS, &[OUTPUT]],
-        obey: faults::table,
+        run: faults::table,
     },
     Command {
         name: "dem",
@@ -156,7 +158,7 @@ job. A qubit that control and target share counts for both."],
         summary: "the job's noise as a detector error model, for a decoder",
         details: &[faults::MODEL, faults::APPROXIMATION],
         options: &[faults::MODEL_FLAGS, &[OUTPUT]],
-        obey: faults::model,
+        run: faults::model,
     },
     Command {
         name: "sample",
@@ -165,7 +167,7 @@ job. A qubit that control and target share counts for both."],
         summary: "the rates of any number of shots, with their intervals, or the shots by row",
         details: sample::DETAILS,
         options: &[sample::FLAGS],
-        obey: sample::sample,
+        run: sample::sample,
     },
     Command {
         name: "merge",
@@ -174,7 +176,7 @@ job. A qubit that control and target share counts for both."],
         summary: "the sum of the counts of several samples",
         details: &[counts::DETAILS],
         options: &[counts::FLAGS],
-        obey: counts::merge,
+        run: counts::merge,
     },
     Command {
         name: "share",
@@ -183,7 +185,7 @@ job. A qubit that control and target share counts for both."],
         summary: "the account of a main list that several callers have shares of",
         details: &[shares::NEW],
         options: &[words::MAIN_FLAGS, shares::NEW_FLAGS, &[OUTPUT]],
-        obey: shares::print_account,
+        run: shares::print_account,
     },
     Command {
         name: "split",
@@ -197,7 +199,7 @@ file and 'first=' and 'last=' with its shots. Run each of them, and 'add' the fi
 write: the sum is what a run of the whole job writes. In its own shots each run has the whole job's bits.
 --parts and --prefix are wanted."],
         options: &[&[PARTS, PREFIX]],
-        obey: split,
+        run: split,
     },
     Command {
         name: "add",
@@ -209,7 +211,7 @@ Adds files of rows, X, Z or deltas, by exclusive or. Where the jobs are without 
 header and the same lines but for injections and flips, the sum is what a run of a job writes that holds
 the injections and flips of all, each among the same lines, and twice where two hold it there."],
         options: &[&[load::OUTPUT_WORDS]],
-        obey: add,
+        run: add,
     },
     Command {
         name: "make",
@@ -218,7 +220,7 @@ the injections and flips of all, each among the same lines, and twice where two 
         summary: "a job from a seed, the same on every machine",
         details: &[load::JOB],
         options: &[load::JOB_FLAGS, &[OUTPUT, ROOM]],
-        obey: load::write_job,
+        run: load::write_job,
     },
     Command {
         name: "fill",
@@ -227,7 +229,7 @@ the injections and flips of all, each among the same lines, and twice where two 
         summary: "words from a state or a seed, the same on every machine",
         details: &[load::WORDS],
         options: &[words::FILL_FLAGS, &[load::OUTPUT_WORDS]],
-        obey: load::write_words,
+        run: load::write_words,
     },
     Command {
         name: "sizes",
@@ -236,7 +238,7 @@ the injections and flips of all, each among the same lines, and twice where two 
         summary: "the job with the size of the distribution on each noise line",
         details: &[sizes::DETAILS],
         options: &[&[OUTPUT]],
-        obey: |arguments| write_out(arguments, &sizes::added(&files::job(arguments.operand())?)?),
+        run: |arguments| write_out(arguments, &sizes::added(&files::job(arguments.operand())?)?),
     },
     Command {
         name: "bits",
@@ -245,7 +247,7 @@ the injections and flips of all, each among the same lines, and twice where two 
         summary: "the bits of probabilities or weights, as jobs have them, from decimal",
         details: &[numbers::BITS],
         options: &[],
-        obey: numbers::print_bits,
+        run: numbers::print_bits,
     },
     Command {
         name: "decimal",
@@ -254,7 +256,7 @@ the injections and flips of all, each among the same lines, and twice where two 
         summary: "probabilities or weights in decimal, from their bits",
         details: &[numbers::DECIMAL],
         options: &[],
-        obey: numbers::print_decimal,
+        run: numbers::print_decimal,
     },
     Command {
         name: "help",
@@ -263,7 +265,7 @@ the injections and flips of all, each among the same lines, and twice where two 
         summary: "what the program or one of its commands does",
         details: &["Prints the help of a command, as its --help does, or of the whole program."],
         options: &[],
-        obey: help,
+        run: help,
     },
     Command {
         name: "completions",
@@ -272,7 +274,7 @@ the injections and flips of all, each among the same lines, and twice where two 
         summary: "a script that lets a shell complete commands and options",
         details: &[completions::DETAILS],
         options: &[],
-        obey: completions::print_script,
+        run: completions::print_script,
     },
     Command {
         name: "man",
@@ -281,7 +283,7 @@ the injections and flips of all, each among the same lines, and twice where two 
         summary: "the manual page of this program",
         details: &["Prints the manual page, for man: 'kundatrezo man >kundatrezo.1'."],
         options: &[],
-        obey: |_| print(manual::page()),
+        run: |_| print(manual::page()),
     },
 ];
 
@@ -337,10 +339,10 @@ fn run(arguments: &Arguments) -> Result<(), Failure> {
     }
     let (job, examined) = examined(arguments)?;
     let mut outputs = Outputs::create(ROW_FILES.iter().filter_map(|flag| arguments.value(flag.name)))?;
-    let mut lent = Lent::read(arguments, &job, examined)?;
+    let mut inputs = CallInputs::read(arguments, &job, examined)?;
     let mut frames = Frames::new();
-    lent.call(|noiseless, draws| frames.run(&job, noiseless, draws))?;
-    let by_shot = Shots::of_frames(&frames);
+    inputs.call(|noiseless, draws| frames.run(&job, noiseless, draws))?;
+    let by_shot = Shots::from_frames(&frames);
     for flag in ROW_FILES {
         if let Some(path) = arguments.value(flag.name) {
             outputs.write(path, &row_file(flag, &frames, &by_shot))?;
@@ -349,7 +351,7 @@ fn run(arguments: &Arguments) -> Result<(), Failure> {
     let written = [DELTAS, SHOTS, PACKED, TOTALS].iter().any(|flag| arguments.value(flag.name).is_some());
     let printed = if written { 0 } else { examined.recorded };
     // what can't be printed leaves no file, as the status says
-    print(session(&frames, printed) + &lent.report()?)?;
+    print(session(&frames, printed) + &inputs.report()?)?;
     outputs.finish()
 }
 
@@ -371,12 +373,12 @@ fn row_file(flag: &Flag, frames: &Frames, by_shot: &Shots) -> Vec<u8> {
 fn settle(arguments: &Arguments) -> Result<(), Failure> {
     let (job, examined) = examined(arguments)?;
     let mut outputs = Outputs::create(arguments.value(OUTPUT.name))?;
-    let mut lent = Lent::read(arguments, &job, examined)?;
+    let mut inputs = CallInputs::read(arguments, &job, examined)?;
     let mut out = match arguments.value(ROOM.name) {
         Some(_) => room(arguments)?,
         None => Vec::new(),
     };
-    let bytes = lent.call(|noiseless, draws| match arguments.value(ROOM.name) {
+    let bytes = inputs.call(|noiseless, draws| match arguments.value(ROOM.name) {
         Some(_) => kundatrezo::settle(&job, noiseless, draws, &mut out),
         None => kundatrezo::settle_into(&job, noiseless, draws, &mut out),
     })?;
@@ -412,12 +414,12 @@ fn annotate(arguments: &Arguments) -> Result<(), Failure> {
     let mut out = room(arguments)?;
     let bytes = kundatrezo::annotate(&job, p, &mut out).map_err(|refusal| {
         let own = refusal.number == Number::PROBABILITY && refusal.line == 0;
-        let remedy = own.then(|| format!("the probability of {} or {} is {p:?}", P.name, P_BITS.name));
-        Failure::refused(&refusal, &job, remedy.or_else(|| longer(&refusal)))
+        let hint = own.then(|| format!("the probability of {} or {} is {p:?}", P.name, P_BITS.name));
+        Failure::refused(&refusal, &job, hint.or_else(|| room_hint(&refusal)))
     })?;
     write_out(arguments, &out[..bytes])?;
     if p < 0.0 {
-        say("note: p is below zero: no fault will fall");
+        print_stderr("note: p is below zero: no fault will fall");
     }
     Ok(())
 }
@@ -445,9 +447,8 @@ fn split(arguments: &Arguments) -> Result<(), Failure> {
     })?;
     let parts = kundatrezo::split(&job, parts).map_err(|refusal| {
         let noisy = refusal.number == Number::NOISE;
-        let remedy =
-            noisy.then(|| "settle the job first ('kundatrezo settle --help'), and split the settled job".into());
-        Failure::refused(&refusal, &job, remedy)
+        let hint = noisy.then(|| "settle the job first ('kundatrezo settle --help'), and split the settled job".into());
+        Failure::refused(&refusal, &job, hint)
     })?;
     let path = |place: usize| {
         let mut path = prefix.to_owned();
@@ -455,15 +456,15 @@ fn split(arguments: &Arguments) -> Result<(), Failure> {
         path
     };
     let paths: Vec<OsString> = (0..parts.len()).map(path).collect();
-    Names { inputs: vec![arguments.operand().to_owned()], outputs: paths.clone() }.test()?;
+    Names { inputs: vec![arguments.operand().to_owned()], outputs: paths.clone() }.check()?;
     let mut outputs = Outputs::default();
-    let mut said = String::new();
+    let mut lines = String::new();
     for (path, part) in paths.iter().zip(parts) {
         outputs.write(path, &part.job)?;
         let (first, last) = (part.shots.start, part.shots.end - 1);
-        writeln!(said, "job={} first={first} last={last}", shown(path)).expect("a string takes all");
+        writeln!(lines, "job={} first={first} last={last}", shown(path)).expect("a string takes all");
     }
-    print(said)?;
+    print(lines)?;
     outputs.finish()
 }
 
@@ -495,10 +496,10 @@ fn refused(job: &[u8]) -> impl FnOnce(Refusal) -> Failure {
 }
 
 /// What to do about a text that does not fit.
-pub fn longer(refusal: &Refusal) -> Option<String> {
-    let remedy =
+pub fn room_hint(refusal: &Refusal) -> Option<String> {
+    let hint =
         format!("leave out {}, if it is given; a text of more than {MAX_BYTES} bytes wants a smaller job", ROOM.name);
-    (refusal.number == Number::ROOM).then_some(remedy)
+    (refusal.number == Number::ROOM).then_some(hint)
 }
 
 /// The header's numbers, as a session prints them: without the edition.
@@ -518,7 +519,7 @@ fn session(frames: &Frames, outcomes: usize) -> String {
     text
 }
 
-/// The bytes that are lent for a text.
+/// The bytes that there are for a text.
 pub fn room(arguments: &Arguments) -> Result<Vec<u8>, Failure> {
     // More than the longest text makes no difference.
     let most = MAX_BYTES as u64;

@@ -30,7 +30,7 @@ pub fn merge(arguments: &Arguments) -> Result<(), Failure> {
         });
     }
     let sum = sum.ok_or_else(|| Failure::Other("there is nothing to merge".into()))?;
-    sum.check_whole().map_err(|error| Failure::Other(error.to_string()))?;
+    sum.check_complete().map_err(|error| Failure::Other(error.to_string()))?;
     let mut output = Output::create(arguments.value(OUTPUT.name))?;
     output.write(sum.text().as_bytes())?;
     output.finish()

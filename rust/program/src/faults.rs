@@ -2,8 +2,8 @@
 
 use crate::arguments::{Arguments, Flag};
 use crate::commands::{examined, outcomes, write_out};
-use crate::{Failure, say};
-use kundatrezo::{Answer, MAX_BYTES, MAX_GROUPS, Number, Refusal};
+use crate::{Failure, print_stderr};
+use kundatrezo::{MAX_BYTES, MAX_GROUPS, Number, Refusal};
 
 const GROUP: Flag =
     Flag { name: "--group", value: "L..", text: "a group of outcomes, with commas between; - for an empty one" };
@@ -39,7 +39,7 @@ shots in which it holds. docs/FAULTS.md has more.";
 
 pub fn table(arguments: &Arguments) -> Result<(), Failure> {
     let groups = groups(arguments, &GROUP)?;
-    let table = called(arguments, &[("group", &groups)], |job| kundatrezo::fault_table(job, &groups))?;
+    let table = call_with_groups(arguments, &[("group", &groups)], |job| kundatrezo::fault_table(job, &groups))?;
     write_out(arguments, table.text().as_bytes())
 }
 
@@ -49,13 +49,13 @@ pub fn model(arguments: &Arguments) -> Result<(), Failure> {
         return Err(Failure::Other(format!("{} or {} is wanted", DETECTOR.name, OBSERVABLE.name)));
     }
     let named = [("detector", detectors.as_slice()), ("observable", &observables)];
-    let model = called(arguments, &named, |job| kundatrezo::error_model(job, &detectors, &observables))?;
+    let model = call_with_groups(arguments, &named, |job| kundatrezo::error_model(job, &detectors, &observables))?;
     write_out(arguments, model.to_string().as_bytes())?;
     if model.mechanisms().iter().any(|mechanism| mechanism.has_condition) {
-        say("note: noise with a condition has the probability of shots in which it holds");
+        print_stderr("note: noise with a condition has the probability of shots in which it holds");
     }
     for correlation in model.mixed_correlations() {
-        say(&format!(
+        print_stderr(&format!(
             "note: lines with corr={correlation} differ in p, condition, kind or size, and are taken for independent"
         ));
     }
@@ -67,20 +67,20 @@ fn groups(arguments: &Arguments, flag: &Flag) -> Result<Vec<Vec<u64>>, Failure> 
     arguments.all_parsed(flag.name, "numbers with commas between, or -", outcomes)
 }
 
-/// Make a call on the job with these groups, and say what to do where it refuses.
-fn called<T>(
+/// Make a call on the job with these groups. A refusal has a hint.
+fn call_with_groups<T>(
     arguments: &Arguments,
     groups: &[(&str, &[Vec<u64>])],
-    call: impl FnOnce(&[u8]) -> Answer<T>,
+    call: impl FnOnce(&[u8]) -> Result<T, Refusal>,
 ) -> Result<T, Failure> {
     let (job, examined) = examined(arguments)?;
     let refused = || {
         let mut all = groups.iter().flat_map(|(what, groups)| groups.iter().map(move |group| (what, group)));
-        let (what, group) = all.find(|(_, group)| examined.test_set(group).is_err())?;
+        let (what, group) = all.find(|(_, group)| examined.check_set(group).is_err())?;
         let members: Vec<String> = group.iter().map(u64::to_string).collect();
         Some(examined.outcomes_hint(&format!("the {what} {}", members.join(","))))
     };
-    let remedy = |refusal: &Refusal| match refusal.number {
+    let hint = |refusal: &Refusal| match refusal.number {
         Number::GROUPS if refusal.line == 0 => {
             Some(format!("each {} is a group, and a table has 1 to {MAX_GROUPS} of them", GROUP.name))
         }
@@ -90,7 +90,7 @@ fn called<T>(
         _ => None,
     };
     call(&job).map_err(|refusal| match refused().filter(|_| refusal.number == Number::WALK) {
-        Some(remedy) => Failure::refused_list(&remedy),
-        None => Failure::refused(&refusal, &job, remedy(&refusal)),
+        Some(hint) => Failure::refused_list(&hint),
+        None => Failure::refused(&refusal, &job, hint(&refusal)),
     })
 }

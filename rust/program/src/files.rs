@@ -61,15 +61,15 @@ pub fn append_words(path: &OsStr, source: &mut dyn Read, count: usize, words: &m
     let mut bytes = Vec::with_capacity(PIECE);
     while words.len() < end {
         bytes.clear();
-        let wanted = (end - words.len()).saturating_mul(8).min(PIECE);
-        source.take(wanted as u64).read_to_end(&mut bytes).map_err(|error| fault(path, &error))?;
+        let length = (end - words.len()).saturating_mul(8).min(PIECE);
+        source.take(length as u64).read_to_end(&mut bytes).map_err(|error| fault(path, &error))?;
         let (whole, rest) = bytes.as_chunks();
         if !rest.is_empty() {
             let text = format!("{}: its bytes are no whole number of 64-bit words", shown(path));
             return Err(Failure::Other(text));
         }
         words.extend(whole.iter().map(|word| u64::from_le_bytes(*word)));
-        if bytes.len() < wanted {
+        if bytes.len() < length {
             break;
         }
     }
@@ -197,8 +197,8 @@ pub struct Names {
 }
 
 impl Names {
-    /// That no output is an input too, or is named twice: one would destroy the other. Pipes and devices may be.
-    pub fn test(&self) -> Result<(), Failure> {
+    /// Check that no output is an input too, or is named twice: one would destroy the other. Pipes and devices may be.
+    pub fn check(&self) -> Result<(), Failure> {
         let refused = |path: &OsStr, what: &str| Err(Failure::Other(format!("{}: {what}", shown(path))));
         let inputs: Vec<FileId> = self.inputs.iter().filter_map(|path| input_id(path)).collect();
         let printed = [standard(io::stdout()), standard(io::stderr())];

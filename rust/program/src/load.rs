@@ -39,20 +39,20 @@ pub fn write_job(arguments: &Arguments) -> Result<(), Failure> {
     }
     let [qubits, outcomes, shots, lines, seed] = numbers;
     let mut out = room(arguments)?;
-    let asked = JobParameters { qubits, outcomes, shots, lines, seed };
-    let bytes = kundatrezo::make(asked, &mut out).map_err(|refusal| {
+    let parameters = JobParameters { qubits, outcomes, shots, lines, seed };
+    let bytes = kundatrezo::make(parameters, &mut out).map_err(|refusal| {
         let limits =
             format!("a header has 1 to {MAX_QUBITS} qubits, 0 to {MAX_OUTCOMES} outcomes, 1 to {MAX_SHOTS} shots");
         let shorter = format!(
             "leave out --room, if it is given; a text of more than {MAX_BYTES} bytes wants fewer {}",
             LINES.name
         );
-        let remedy = match refusal.number {
+        let hint = match refusal.number {
             Number::HEADER => Some(limits),
             Number::ROOM => Some(shorter),
             _ => None,
         };
-        Failure::refused(&refusal, b"", remedy)
+        Failure::refused(&refusal, b"", hint)
     })?;
     write_out(arguments, &out[..bytes])
 }

@@ -9,6 +9,7 @@ mod files;
 mod load;
 mod manual;
 mod numbers;
+mod ordered_output;
 mod progress;
 mod rates;
 mod sample;
@@ -16,7 +17,6 @@ mod shares;
 mod shots;
 mod sizes;
 mod spelling;
-mod turns;
 mod words;
 
 use arguments::Arguments;
@@ -38,30 +38,30 @@ enum Failure {
 
 impl Failure {
     /// The refusal of a job, with the text of its line and what to do about it: what the command knows of that, or what the line shows.
-    fn refused(refusal: &Refusal, job: &[u8], remedy: Option<String>) -> Self {
+    fn refused(refusal: &Refusal, job: &[u8], hint: Option<String>) -> Self {
         let line = refusal.line_of(job).map(|line| format!(": {}", shortened(line))).unwrap_or_default();
-        let need = match (refusal.number, refusal.figure) {
-            (Number::ROOM, 1..) => format!("; the text needs {} bytes", refusal.figure),
+        let need = match (refusal.number, refusal.bytes_needed) {
+            (Number::ROOM, 1..) => format!("; the text needs {} bytes", refusal.bytes_needed),
             _ => String::new(),
         };
-        let remedy = remedy.or_else(|| refusal.hint(job)).map(|text| format!("\nhint: {text}"));
-        Self::Refused(format!("{refusal}{line}{need}{}", remedy.unwrap_or_default()))
+        let hint = hint.or_else(|| refusal.hint(job)).map(|text| format!("\nhint: {text}"));
+        Self::Refused(format!("{refusal}{line}{need}{}", hint.unwrap_or_default()))
     }
 
     /// The refusal by 17 of the shot of a walk.
-    fn refused_shot(remedy: &str) -> Self {
-        Self::by_cause(Number::WALK, 0, remedy)
+    fn refused_shot(hint: &str) -> Self {
+        Self::by_cause(Number::WALK, 0, hint)
     }
 
     /// The refusal by 17 of a list of outcomes, which need not be that of a walk.
-    fn refused_list(remedy: &str) -> Self {
-        Self::by_cause(Number::WALK, 1, remedy)
+    fn refused_list(hint: &str) -> Self {
+        Self::by_cause(Number::WALK, 1, hint)
     }
 
     /// A refusal by one of the causes that a number's words have.
-    fn by_cause(number: Number, cause: usize, remedy: &str) -> Self {
+    fn by_cause(number: Number, cause: usize, hint: &str) -> Self {
         let words = number.cause(cause);
-        Self::Refused(format!("refused: {} ({words})\nhint: {remedy}", number.get()))
+        Self::Refused(format!("refused: {} ({words})\nhint: {hint}", number.get()))
     }
 }
 
@@ -76,21 +76,21 @@ impl From<io::Error> for Failure {
 
 fn main() -> ExitCode {
     let arguments: Vec<OsString> = std::env::args_os().skip(1).collect();
-    match obey(&arguments) {
+    match run_command(&arguments) {
         Ok(()) => ExitCode::SUCCESS,
         Err(Failure::Refused(text)) => {
-            say(&text);
+            print_stderr(&text);
             ExitCode::from(1)
         }
         Err(Failure::Other(text)) => {
-            say(&format!("kundatrezo: {text}"));
+            print_stderr(&format!("kundatrezo: {text}"));
             ExitCode::from(2)
         }
         Err(Failure::Unread) => ExitCode::from(2),
     }
 }
 
-fn obey(arguments: &[OsString]) -> Result<(), Failure> {
+fn run_command(arguments: &[OsString]) -> Result<(), Failure> {
     let Some((first, rest)) = arguments.split_first() else {
         return Err(Failure::Other(format!("a command is missing\n\n{}", manual::help().trim_end())));
     };
@@ -101,8 +101,8 @@ fn obey(arguments: &[OsString]) -> Result<(), Failure> {
     let command = commands::command(&name)?;
     match Arguments::read(command, rest) {
         Ok(Some(arguments)) => {
-            arguments.names(command).test()?;
-            (command.obey)(&arguments)
+            arguments.names(command).check()?;
+            (command.run)(&arguments)
         }
         Ok(None) => print(command.help()),
         Err(text) => Err(Failure::Other(format!("{text}; see 'kundatrezo {name} --help'"))),
@@ -110,7 +110,7 @@ fn obey(arguments: &[OsString]) -> Result<(), Failure> {
 }
 
 /// Write a line to standard error. If it can't be written, the status tells all the same.
-fn say(line: &str) {
+fn print_stderr(line: &str) {
     _ = writeln!(io::stderr(), "{line}");
 }
 

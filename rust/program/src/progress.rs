@@ -8,23 +8,23 @@ use std::time::{Duration, Instant};
 /// How often the line is written anew.
 const PAUSE: Duration = Duration::from_millis(250);
 
-/// Shots that are done, of so many. Where standard error is a terminal a line there says how many, how fast, and how long the others take.
+/// The progress of a sample. If standard error is a terminal, a line there shows the shots done, the rate, and the time left.
 pub struct Progress {
     done: AtomicU64,
     shots: u64,
     start: Instant,
-    /// When the line was written, if it was; none where nobody reads it.
+    /// When the line was last written; `None` if nobody reads it.
     last: Option<Mutex<Option<Instant>>>,
 }
 
 impl Progress {
-    /// Progress of so many shots. Where rows are printed on a terminal, too, the line would stand between them.
+    /// The progress of this number of shots. If rows are printed on a terminal, too, the line would stand between them.
     pub fn new(shots: u64, prints: bool) -> Self {
         let is_read = io::stderr().is_terminal() && !(prints && io::stdout().is_terminal());
         Self { done: AtomicU64::new(0), shots, start: Instant::now(), last: is_read.then(Mutex::default) }
     }
 
-    /// So many more shots are done.
+    /// Count further shots as done.
     pub fn add(&self, shots: u64) {
         let done = self.done.fetch_add(shots, Ordering::Relaxed) + shots;
         if let Some(Ok(mut last)) = self.last.as_ref().map(Mutex::try_lock)

@@ -3,10 +3,13 @@
 use crate::arguments::{Arguments, FILE, Flag, NEW_FILE};
 use crate::commands::outcomes;
 use crate::files::{self, Output, shown};
+use crate::ordered_output::OrderedOutput;
 use crate::progress::Progress;
-use crate::turns::Turns;
-use crate::{Failure, print, say, shots};
-use kundatrezo::{Bench, Counts, Examination, Frames, MAX_OUTCOMES, Named, Refusal, Sampler, SamplerError, by_shot};
+use crate::{Failure, print, print_stderr, shots};
+use kundatrezo::threads::for_each_block;
+use kundatrezo::{
+    Counts, Examination, Frames, MAX_OUTCOMES, NamedShots, Refusal, Sampler, SamplerError, Workspace, by_shot,
+};
 use std::ffi::OsStr;
 use std::fs::File;
 use std::io::{IsTerminal, stdout};
@@ -82,13 +85,13 @@ for each shot of the whole. A note says where a condition looks at bits that are
 ];
 
 pub fn sample(arguments: &Arguments) -> Result<(), Failure> {
-    let asked = Asked::read(arguments)?;
+    let options = SampleOptions::read(arguments)?;
     let job = files::job(arguments.operand())?;
-    let whole = Whole::read(arguments, asked, &job)?;
+    let run = SampleRun::read(arguments, options, &job)?;
     note_conditions(arguments, &job);
-    let (mut output, counts) = whole.run(arguments.value(OUTPUT.name))?;
-    let text = whole.text(counts)?;
-    match (asked.format.has_rows(), arguments.value(OUTPUT.name)) {
+    let (mut output, counts) = run.run(arguments.value(OUTPUT.name))?;
+    let text = run.text(counts)?;
+    match (options.format.has_rows(), arguments.value(OUTPUT.name)) {
         (false, _) => {
             output.write(text.as_bytes())?;
             output.finish()
@@ -102,9 +105,9 @@ pub fn sample(arguments: &Arguments) -> Result<(), Failure> {
     }
 }
 
-/// What is asked for, whatever the job.
+/// What the options say, whatever the job.
 #[derive(Clone, Copy)]
-struct Asked {
+struct SampleOptions {
     shots: u64,
     seed: u64,
     format: Format,
@@ -113,7 +116,7 @@ struct Asked {
     threads: Option<usize>,
 }
 
-impl Asked {
+impl SampleOptions {
     fn read(arguments: &Arguments) -> Result<Self, Failure> {
         let (Some(shots), Some(seed)) = (arguments.number(SHOTS.name)?, arguments.number(SEED.name)?) else {
             return Err(arguments.missing(&[&SHOTS, &SEED]));
@@ -179,22 +182,23 @@ fn sets(arguments: &Arguments, job: Examination) -> Result<Vec<Vec<u64>>, Failur
     let set = |(place, text): &(String, String)| {
         let fault = || format!("{place}a set is to be {SET_IS}, not '{}'", text.escape_default());
         let set = outcomes(text).ok_or_else(|| Failure::Other(fault()))?;
-        job.test_set(&set).map_err(|_| Failure::refused_list(&job.outcomes_hint(&format!("{place}the set {text}"))))?;
+        job.check_set(&set)
+            .map_err(|_| Failure::refused_list(&job.outcomes_hint(&format!("{place}the set {text}"))))?;
         Ok(set)
     };
     given.iter().map(set).collect()
 }
 
-fn sampler(arguments: &Arguments, asked: Asked, job: &[u8]) -> Result<Sampler, Failure> {
-    let sampler = match arguments.parsed(NAMED.name, "'whole' or 'block'", Named::of_name)? {
-        Some(named) => Sampler::with_named(job, asked.shots, asked.seed, named).map_err(SamplerError::from),
-        None => Sampler::new(job, asked.shots, asked.seed),
+fn sampler(arguments: &Arguments, options: SampleOptions, job: &[u8]) -> Result<Sampler, Failure> {
+    let sampler = match arguments.parsed(NAMED.name, "'whole' or 'block'", NamedShots::from_name)? {
+        Some(named) => Sampler::with_named_shots(job, options.shots, options.seed, named).map_err(SamplerError::from),
+        None => Sampler::new(job, options.shots, options.seed),
     };
     sampler.map_err(|error| match error {
         SamplerError::Refused(refusal) => Failure::refused(&refusal, job, None),
         SamplerError::NamedShot { line } => {
             let [whole, block] = ["whole", "block"].map(|value| format!("{} {value}", NAMED.name));
-            Failure::Other(kundatrezo::named_fault(line, &whole, &block))
+            Failure::Other(kundatrezo::named_shot_message(line, &whole, &block))
         }
         other => Failure::Other(other.to_string()),
     })
@@ -245,13 +249,13 @@ fn note_conditions(arguments: &Arguments, job: &[u8]) {
     if arguments.value(NOISELESS_SHOTS.name).is_none() {
         let is_given = arguments.value(NOISELESS.name).is_some();
         let notes = kundatrezo::condition_notes(job, is_given, NOISELESS.name, NOISELESS_SHOTS.name);
-        notes.iter().for_each(|note| say(&format!("note: {note}")));
+        notes.iter().for_each(|note| print_stderr(&format!("note: {note}")));
     }
 }
 
-/// What is sampled.
-struct Whole<'a> {
-    asked: Asked,
+/// A job to sample, and how.
+struct SampleRun<'a> {
+    options: SampleOptions,
     job: &'a [u8],
     sampler: Sampler,
     sets: Vec<Vec<u64>>,
@@ -259,37 +263,37 @@ struct Whole<'a> {
     given: Option<GivenShots>,
 }
 
-/// Most words of all threads, where their number is not asked for: 4 GiB.
+/// Most words of all threads if no option gives their number: 4 GiB.
 const MOST_WORDS: usize = 1 << 29;
 
 /// The memory of a thread, and what it has counted.
 #[derive(Default)]
 struct Memory {
-    bench: Bench,
+    workspace: Workspace,
     counts: Counts,
     parities: Vec<u64>,
     rows: Vec<u64>,
     bytes: Vec<u8>,
 }
 
-impl Whole<'_> {
-    fn read<'a>(arguments: &Arguments, asked: Asked, job: &'a [u8]) -> Result<Whole<'a>, Failure> {
+impl SampleRun<'_> {
+    fn read<'a>(arguments: &Arguments, options: SampleOptions, job: &'a [u8]) -> Result<SampleRun<'a>, Failure> {
         let refused = |refusal: Refusal| Failure::refused(&refusal, job, None);
         let examined = kundatrezo::examine(job).map_err(refused)?;
         let sets = sets(arguments, examined)?;
-        if asked.format.has_rows() && sets.len() > MAX_OUTCOMES {
+        if options.format.has_rows() && sets.len() > MAX_OUTCOMES {
             return Err(Failure::Other(format!("a row has at most {MAX_OUTCOMES} sets")));
         }
-        let (sampler, given) = noiseless(arguments, sampler(arguments, asked, job)?, examined)?;
-        Ok(Whole { asked, job, sampler, sets, given })
+        let (sampler, given) = noiseless(arguments, sampler(arguments, options, job)?, examined)?;
+        Ok(SampleRun { options, job, sampler, sets, given })
     }
 
-    /// The counts as a table, or as the text that is merged. Those of rows in a file are printed as if rows were not asked for.
+    /// The counts as a table, or as the text that 'merge' reads. If rows go to a file, the counts are printed as if there were no rows.
     fn text(&self, counts: Counts) -> Result<String, Failure> {
-        let saved = self.sampler.saved(counts, &self.sets, self.asked.part);
+        let saved = self.sampler.saved(counts, &self.sets, self.options.part);
         let saved = saved.map_err(|error| Failure::Other(error.to_string()))?;
-        let saved = if self.given.is_some() { saved.with_lent_noiseless() } else { saved };
-        let is_table = match self.asked.format {
+        let saved = if self.given.is_some() { saved.with_noiseless_per_shot() } else { saved };
+        let is_table = match self.options.format {
             Format::Table => true,
             Format::Counts => false,
             Format::Digits | Format::Packed => stdout().is_terminal(),
@@ -297,57 +301,57 @@ impl Whole<'_> {
         Ok(if is_table { saved.table() } else { saved.text() })
     }
 
-    /// Run the blocks of the part that is asked for: rows go to a file or to standard output, in their order.
+    /// Run the blocks of the part. Rows go to a file or to standard output, in order.
     fn run(&self, path: Option<&OsStr>) -> Result<(Output, Counts), Failure> {
-        let Asked { format, part: (place, parts), .. } = self.asked;
+        let SampleOptions { format, part: (place, parts), .. } = self.options;
         let blocks = self.sampler.part(place - 1, parts);
         let shots: u64 = match (blocks.start, blocks.end) {
             (start, end) if start < end => self.sampler.shots_of(end - 1).end - self.sampler.shots_of(start).start,
             _ => 0,
         };
-        let turns = Turns::new(blocks.start, Output::create(path)?);
+        let output = OrderedOutput::new(blocks.start, Output::create(path)?);
         let progress = Progress::new(shots, format.has_rows() && path.is_none());
-        let made = Sampler::each(blocks, self.threads(), Memory::default, |memory, block| {
-            let done = self.block(memory, block, &turns);
+        let made = for_each_block(blocks, self.threads(), Memory::default, |memory, block| {
+            let done = self.block(memory, block, &output);
             match &done {
-                Ok(()) => progress.add(memory.bench.frames().job().shots as u64),
-                Err(_) => turns.stop(),
+                Ok(()) => progress.add(memory.workspace.frames().job().shots as u64),
+                Err(_) => output.stop(),
             }
             done
         });
         progress.end();
-        let written = self.sampler.shots_of(turns.next()).start;
+        let written = self.sampler.shots_of(output.next()).start;
         let made = made.map_err(|failure| match failure {
             Failure::Unread => {
                 Failure::Other(format!("standard output was closed before shot {written}: the rest is not written"))
             }
             other => other,
         })?;
-        let mut counts = self.sampler.no_counts(&self.sets);
+        let mut counts = self.sampler.zero_counts(&self.sets);
         made.iter().for_each(|memory| counts += &memory.counts);
-        Ok((turns.into_output(), counts))
+        Ok((output.into_output(), counts))
     }
 
-    /// As many threads as are asked for, or as there are processors, but no more than have room for their words.
+    /// The number of threads of the option, or else that of processors, but no more than have room for their words.
     fn threads(&self) -> usize {
         let processors = || available_parallelism().map_or(1, usize::from);
-        self.asked.threads.unwrap_or_else(|| processors().min(MOST_WORDS / self.sampler.list_words().max(1)).max(1))
+        self.options.threads.unwrap_or_else(|| processors().min(MOST_WORDS / self.sampler.list_words().max(1)).max(1))
     }
 
-    fn block(&self, memory: &mut Memory, block: u64, turns: &Turns) -> Result<(), Failure> {
-        let Memory { bench, counts, parities, rows, bytes } = memory;
+    fn block(&self, memory: &mut Memory, block: u64, output: &OrderedOutput) -> Result<(), Failure> {
+        let Memory { workspace, counts, parities, rows, bytes } = memory;
         let frames = match &self.given {
-            None => self.sampler.run(block, bench).map_err(|refusal| self.refused(&refusal))?,
-            Some(given) => self.run_given(given, block, bytes, bench)?,
+            None => self.sampler.run(block, workspace).map_err(|refusal| self.refused(&refusal))?,
+            Some(given) => self.run_given(given, block, bytes, workspace)?,
         };
         counts.add(frames, &self.sets).map_err(|refusal| self.refused(&refusal))?;
-        if !self.asked.format.has_rows() {
+        if !self.options.format.has_rows() {
             return Ok(());
         }
         let (count, deltas) = match self.sets.as_slice() {
             [] => (frames.job().outcomes, frames.deltas()),
             sets => {
-                frames.sums(sets, parities).map_err(|refusal| self.refused(&refusal))?;
+                frames.parities(sets, parities).map_err(|refusal| self.refused(&refusal))?;
                 (sets.len(), parities.as_slice())
             }
         };
@@ -355,11 +359,11 @@ impl Whole<'_> {
         rows.resize(shots * count.div_ceil(64), 0);
         by_shot(count as u64, shots as u64, deltas, rows).map_err(|refusal| self.refused(&refusal))?;
         bytes.clear();
-        match self.asked.format {
+        match self.options.format {
             Format::Digits => shots::write_digits(rows, shots, count, bytes),
             _ => shots::write_packed(rows, shots, count, bytes),
         }
-        turns.write(block, bytes)
+        output.write(block, bytes)
     }
 
     /// Run a block with the noiseless bits that a file has for each of its shots.
@@ -368,13 +372,13 @@ impl Whole<'_> {
         (file, name): &GivenShots,
         block: u64,
         bytes: &mut Vec<u8>,
-        bench: &'a mut Bench,
+        workspace: &'a mut Workspace,
     ) -> Result<&'a Frames, Failure> {
         let Range { start, end } = self.sampler.shots_of(block);
         let row = self.sampler.job().outcomes.div_ceil(8);
         bytes.resize(row * usize::try_from(end - start).unwrap_or_default(), 0);
         file.read_exact_at(bytes, start * row as u64).map_err(|error| Failure::Other(format!("{name}: {error}")))?;
-        self.sampler.run_packed(block, bytes, bench).map_err(|refusal| self.refused(&refusal))
+        self.sampler.run_packed(block, bytes, workspace).map_err(|refusal| self.refused(&refusal))
     }
 
     /// The refusal of a block, whose lines are those of the job.

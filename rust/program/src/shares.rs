@@ -5,7 +5,7 @@ use crate::commands::{OUTPUT, list, write_out};
 use crate::files::shown;
 use crate::words::{self, List};
 use crate::{Failure, files};
-use kundatrezo::{AccountError, Answer, Caller, FileId, MAX_CALLERS, Number, Refusal, SharedDraws, written_path};
+use kundatrezo::{AccountError, Caller, FileId, MAX_CALLERS, Number, Refusal, SharedDraws, written_path};
 use std::ffi::{OsStr, OsString};
 use std::fs::{self, File, OpenOptions, Permissions, TryLockError};
 use std::io::{self, ErrorKind, Read};
@@ -55,8 +55,8 @@ pub fn print_account(arguments: &Arguments) -> Result<(), Failure> {
     }
     let draws = SharedDraws::new(&main.words, &shares).map_err(|refusal| {
         let words = main.words.len();
-        let remedy = format!("1 to {MAX_CALLERS} shares, whose sum is at most the list's {words} words");
-        Failure::refused(&refusal, b"", Some(remedy))
+        let hint = format!("1 to {MAX_CALLERS} shares, whose sum is at most the list's {words} words");
+        Failure::refused(&refusal, b"", Some(hint))
     })?;
     // while the list was read, an account of this name may have been made and drawn from
     let lock = path.map(Lock::of).transpose()?;
@@ -143,22 +143,22 @@ impl Share {
     }
 
     fn fault(&self, error: &AccountError) -> Failure {
-        let remedy = match error {
+        let hint = match error {
             AccountError::OtherList => {
                 ": give the list as 'share' was given it, by --main, --seed or --state, and --skip"
             }
             _ => "",
         };
-        Failure::Other(format!("{}: {error}{remedy}", shown(&self.path)))
+        Failure::Other(format!("{}: {error}{hint}", shown(&self.path)))
     }
 
     /// Make a call that draws from the list, and say what it leaves. The account stays as it is until this is kept.
     pub fn call<T>(
         &self,
         main: &[u64],
-        call: impl FnOnce(Caller<'_>) -> Answer<T>,
-    ) -> Result<(Answer<T>, Left), Failure> {
-        let mut draws = SharedDraws::resumed(main, &self.account).map_err(|error| self.fault(&error))?;
+        call: impl FnOnce(Caller<'_>) -> Result<T, Refusal>,
+    ) -> Result<(Result<T, Refusal>, Left), Failure> {
+        let mut draws = SharedDraws::from_account(main, &self.account).map_err(|error| self.fault(&error))?;
         let is_caller = self.caller < draws.callers();
         let before = draws.marks().to_vec();
         let available = if is_caller { draws.available(self.caller).concat() } else { Vec::new() };
@@ -190,7 +190,7 @@ impl Share {
     }
 
     /// What to do about a refusal by 14 at a line that reads the main list, or by 26.
-    pub fn remedy(&self, refusal: &Refusal) -> Option<String> {
+    pub fn hint(&self, refusal: &Refusal) -> Option<String> {
         let callers = self.account.lines().filter(|line| line.starts_with("caller=")).count();
         match refusal.number {
             Number::CALLER => Some(format!("the callers of this account are 0 to {}", callers.saturating_sub(1))),

@@ -1,10 +1,10 @@
 //! The words that a run or settling draws from: read from files as far as they are needed, or made from seeds.
 
 use crate::arguments::{Arguments, FILE, Flag};
-use crate::commands::longer;
+use crate::commands::room_hint;
 use crate::shares::Share;
 use crate::{Failure, files};
-use kundatrezo::{Answer, Caller, Circuit, Draws, Examination, Number, Refusal, Source as Drawn, Used, Xorshift};
+use kundatrezo::{Caller, Circuit, DrawSource, Draws, Examination, Number, Refusal, WordsRead, Xorshift};
 use std::ffi::OsString;
 use std::io::Read;
 
@@ -76,8 +76,8 @@ pub const MOST: usize = 1 << 28;
 /// Most words of the second list unless an option says otherwise, 256 MiB: a short job may name a far place.
 const MOST_SECOND: usize = 1 << 25;
 
-/// Where a list has its words from.
-enum Source {
+/// Where a list takes its words from.
+enum ListSource {
     None,
     Made(Xorshift),
     File(OsString, Box<dyn Read>),
@@ -86,7 +86,7 @@ enum Source {
 /// A list of words, as long as it has been needed so far.
 pub struct List {
     pub words: Vec<u64>,
-    source: Source,
+    source: ListSource,
     most: usize,
     /// The option that a user who has no words may give.
     seed: &'static str,
@@ -99,11 +99,11 @@ impl List {
         let by_seed = arguments.number(seed.name)?;
         let by_state = arguments.number(state.name)?;
         let source = match (path, by_seed, by_state) {
-            (None, None, None) => Source::None,
-            (Some(path), None, None) => Source::File(path.to_owned(), files::open(path)?),
-            (None, Some(number), None) => Source::Made(Xorshift::new(number)),
+            (None, None, None) => ListSource::None,
+            (Some(path), None, None) => ListSource::File(path.to_owned(), files::open(path)?),
+            (None, Some(number), None) => ListSource::Made(Xorshift::new(number)),
             (None, None, Some(number)) => {
-                Source::Made(Xorshift::from_state(number).map_err(|refusal| Failure::refused(&refusal, b"", None))?)
+                ListSource::Made(Xorshift::from_state(number).map_err(|refusal| Failure::refused(&refusal, b"", None))?)
             }
             _ => {
                 let names: Vec<&str> = file.into_iter().chain([seed, state]).map(|flag| flag.name).collect();
@@ -135,7 +135,7 @@ impl List {
 
     /// The main list to its end, or as long as options say.
     pub fn whole(arguments: &Arguments) -> Result<Self, Failure> {
-        Self::main(arguments)?.grown_whole(arguments)
+        Self::main(arguments)?.grown_to_end(arguments)
     }
 
     /// The words that `fill` writes.
@@ -143,11 +143,11 @@ impl List {
         if [FILL_STATE, RUN_SEED].iter().all(|flag| arguments.value(flag.name).is_none()) {
             return Err(Failure::Other(format!("{} or {} is wanted", FILL_STATE.name, RUN_SEED.name)));
         }
-        Self::first(arguments, None, &RUN_SEED)?.grown_whole(arguments)
+        Self::first(arguments, None, &RUN_SEED)?.grown_to_end(arguments)
     }
 
-    fn grown_whole(mut self, arguments: &Arguments) -> Result<Self, Failure> {
-        if matches!(self.source, Source::Made(_)) && arguments.value(WORDS.name).is_none() {
+    fn grown_to_end(mut self, arguments: &Arguments) -> Result<Self, Failure> {
+        if matches!(self.source, ListSource::Made(_)) && arguments.value(WORDS.name).is_none() {
             return Err(Failure::Other(format!("{} is wanted for words that are made", WORDS.name)));
         }
         if arguments.number(WORDS.name)?.is_some_and(|words| words > MOST as u64) {
@@ -158,15 +158,15 @@ impl List {
     }
 
     pub fn is_given(&self) -> bool {
-        !matches!(self.source, Source::None) || !self.words.is_empty()
+        !matches!(self.source, ListSource::None) || !self.words.is_empty()
     }
 
     /// Leave out the first words.
     fn skip(&mut self, words: u64) -> Result<(), Failure> {
         match &mut self.source {
-            Source::Made(made) => made.advance(words),
-            Source::File(path, file) => files::skip_words(path, file, words)?,
-            Source::None => {
+            ListSource::Made(made) => made.advance(words),
+            ListSource::File(path, file) => files::skip_words(path, file, words)?,
+            ListSource::None => {
                 let text = format!("{} wants {}, {} or {}", SKIP.name, MAIN.name, SEED.name, STATE.name);
                 return Err(Failure::Other(text));
             }
@@ -179,21 +179,21 @@ impl List {
         let missing = length.min(self.most).saturating_sub(self.words.len());
         let before = self.words.len();
         match &mut self.source {
-            Source::None => {}
-            Source::Made(made) => {
+            ListSource::None => {}
+            ListSource::Made(made) => {
                 self.words.resize(before + missing, 0);
                 made.fill(&mut self.words[before..]);
             }
-            Source::File(path, file) => files::append_words(path, file, missing, &mut self.words)?,
+            ListSource::File(path, file) => files::append_words(path, file, missing, &mut self.words)?,
         }
         Ok(self.words.len() > before)
     }
 
     /// What to do if the list is too short. A line that reads the second list does so from `place` on.
-    fn remedy(&self, name: &str, place: Option<u64>) -> String {
+    fn hint(&self, name: &str, place: Option<u64>) -> String {
         let (words, seed, most) = (self.words.len(), self.seed, self.most);
         match (&self.source, place) {
-            (Source::None, _) => format!("there is no {name} list: {seed} N makes as many words as are needed"),
+            (ListSource::None, _) => format!("there is no {name} list: {seed} N makes as many words as are needed"),
             (_, Some(place)) if place >= MOST as u64 || words == MOST => {
                 format!("a list has at most {MOST} words, and this line, from place base + corr on, reads past them")
             }
@@ -214,8 +214,8 @@ fn most(arguments: &Arguments, flag: &Flag, default: usize) -> Result<usize, Fai
     Ok(arguments.number(flag.name)?.map_or(default, |words| usize::try_from(words).unwrap_or(MOST).min(MOST)))
 }
 
-/// What a run or settling is lent to draw from.
-pub struct Lent<'a> {
+/// What a run or settling reads beside its job: noiseless bits, and lists of words.
+pub struct CallInputs<'a> {
     job: &'a [u8],
     examined: Examination,
     pub noiseless: Vec<u64>,
@@ -226,8 +226,8 @@ pub struct Lent<'a> {
     share: Option<Share>,
 }
 
-impl<'a> Lent<'a> {
-    /// What a command's options lend for an accepted job.
+impl<'a> CallInputs<'a> {
+    /// The inputs that a command's options give for an accepted job.
     pub fn read(arguments: &Arguments, job: &'a [u8], examined: Examination) -> Result<Self, Failure> {
         let files = [MAIN, SECOND, NOISELESS].map(|flag| arguments.value(flag.name));
         let inputs = files.into_iter().flatten().chain([arguments.operand()]).filter(|path| *path == "-").count();
@@ -241,7 +241,7 @@ impl<'a> Lent<'a> {
         };
         let mut main = List::main(arguments)?;
         let second = List::second(arguments)?;
-        if let (Source::Made(main), Source::Made(second)) = (&main.source, &second.source)
+        if let (ListSource::Made(main), ListSource::Made(second)) = (&main.source, &second.source)
             && main == second
         {
             return Err(Failure::Other("the words of the two lists are to differ: give another seed".into()));
@@ -263,9 +263,12 @@ impl<'a> Lent<'a> {
         Draws::new(&self.main.words).with_second(&self.second.words, self.base)
     }
 
-    /// Make a call. Where it needs more words than the lists have so far, more are read or made and it is called again: the words before them are
-    /// the same, so the answer is that of a list which was long enough from the start.
-    pub fn call<T>(&mut self, mut call: impl FnMut(&[u64], &mut dyn Drawn) -> Answer<T>) -> Result<T, Failure> {
+    /// Make a call. If it needs more words than the lists have so far, read or make more and call again. The words before stay the same, so the result
+    /// is that of a list which was long enough from the start.
+    pub fn call<T>(
+        &mut self,
+        mut call: impl FnMut(&[u64], &mut dyn DrawSource) -> Result<T, Refusal>,
+    ) -> Result<T, Failure> {
         loop {
             let (answer, left) = match &self.share {
                 None => (call(&self.noiseless, &mut self.draws()), None),
@@ -281,7 +284,7 @@ impl<'a> Lent<'a> {
                 Err(refusal) if refusal.number == Number::DRAWS && self.make_more(&refusal)? => {}
                 answer => {
                     self.share.as_mut().zip(left).map(|(share, left)| share.keep(left)).transpose()?;
-                    return answer.map_err(|refusal| Failure::refused(&refusal, self.job, self.remedy(&refusal)));
+                    return answer.map_err(|refusal| Failure::refused(&refusal, self.job, self.hint(&refusal)));
                 }
             }
         }
@@ -317,10 +320,10 @@ impl<'a> Lent<'a> {
     }
 
     /// What to do about a refusal by 13, 14, 15 or 26.
-    fn remedy(&self, refusal: &Refusal) -> Option<String> {
+    fn hint(&self, refusal: &Refusal) -> Option<String> {
         let correlation = self.correlation(refusal).filter(|_| refusal.number == Number::DRAWS);
         let reads_main = correlation.is_none();
-        let of_share = self.share.as_ref().filter(|_| reads_main).and_then(|share| share.remedy(refusal));
+        let of_share = self.share.as_ref().filter(|_| reads_main).and_then(|share| share.hint(refusal));
         if of_share.is_some() {
             return of_share;
         }
@@ -331,9 +334,9 @@ impl<'a> Lent<'a> {
                 self.noiseless.len(),
                 self.examined.outcome_words()
             )),
-            Number::DRAWS if reads_main => Some(self.main.remedy("main", None)),
-            Number::DRAWS => Some(self.second.remedy("second", correlation.map(|own| self.place(own)))),
-            _ => longer(refusal),
+            Number::DRAWS if reads_main => Some(self.main.hint("main", None)),
+            Number::DRAWS => Some(self.second.hint("second", correlation.map(|own| self.place(own)))),
+            _ => room_hint(refusal),
         }
     }
 
@@ -345,16 +348,16 @@ impl<'a> Lent<'a> {
         }
         let main = self.share.as_ref().map_or(&self.main.words, |share| &share.available);
         let draws = Draws::new(main).with_second(&self.second.words, self.base);
-        let used = draws.used(self.job, &self.noiseless);
-        let Used { main, second, .. } = used.map_err(|refusal| Failure::refused(&refusal, self.job, None))?;
+        let read = draws.words_read(self.job, &self.noiseless);
+        let WordsRead { main, second, .. } = read.map_err(|refusal| Failure::refused(&refusal, self.job, None))?;
         let skip = self.skipped.saturating_add(main as u64);
         let words = match &self.share {
             Some(share) => share.report.clone(),
             None => format!("words={main} skip={skip}"),
         };
         let parts = [words, format!("second={second}")];
-        let said: Vec<String> =
+        let parts: Vec<String> =
             parts.into_iter().zip(given).filter(|(_, given)| *given).map(|(part, _)| part).collect();
-        Ok(format!("{}\n", said.join(" ")))
+        Ok(format!("{}\n", parts.join(" ")))
     }
 }

@@ -50,7 +50,7 @@ impl Value<'_> {
     }
 }
 
-/// Write a number in a base, with at least so many digits. Much faster than `write!`, and jobs are mostly numbers.
+/// Write a number in a base, with a least number of digits. Much faster than `write!`, and jobs are mostly numbers.
 fn push_digits(text: &mut String, number: u64, base: u64, least: u32) {
     if number >= base || least > 1 {
         push_digits(text, number / base, base, least.saturating_sub(1));

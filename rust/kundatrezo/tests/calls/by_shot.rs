@@ -45,8 +45,8 @@ fn counts_and_words_are_tested() {
 
 #[test]
 fn no_run_has_no_shots() {
-    assert_eq!(Shots::of_frames(&Frames::new()), Shots::default());
+    assert_eq!(Shots::from_frames(&Frames::new()), Shots::default());
     let job = b"op=job qubits=1 outcomes=0 shots=3\n";
-    let none = Shots::of_frames(&Frames::of_run(job, &[], Draws::default()).expect("it runs"));
+    let none = Shots::from_frames(&Frames::from_run(job, &[], Draws::default()).expect("it runs"));
     assert_eq!((none.shots(), none.row(2), none.words()), (3, [].as_slice(), [].as_slice()));
 }

@@ -60,7 +60,7 @@ fn parts(pauli: &str, qubits: &[usize]) -> String {
 
 fn run(job: &str) -> Frames {
     let words = examine(job.as_bytes()).expect("it passes").outcome_words();
-    Frames::of_run(job.as_bytes(), &vec![0; words], Draws::default()).expect("it runs")
+    Frames::from_run(job.as_bytes(), &vec![0; words], Draws::default()).expect("it runs")
 }
 
 /// Shot s of some outcomes, and that the walk finds the same.

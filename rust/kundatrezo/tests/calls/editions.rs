@@ -1,6 +1,6 @@
 //! Jobs of the second edition, beside jobs of the first that say the same.
 
-use kundatrezo::{Draws, Frames, Number, annotated, check, examine, locations, restricted, settled, split, walk};
+use kundatrezo::{Draws, Frames, Number, annotated, check, examine, keep_shots, locations, settled, split, walk};
 
 const PARITY: &str = include_str!("../../../../examples/parity.job");
 
@@ -23,7 +23,7 @@ fn in_first_edition(job: &str) -> String {
 
 fn run(job: &str) -> Frames {
     let words = examine(job.as_bytes()).expect("it passes").outcome_words();
-    Frames::of_run(job.as_bytes(), &vec![0; words], Draws::default()).expect("it runs")
+    Frames::from_run(job.as_bytes(), &vec![0; words], Draws::default()).expect("it runs")
 }
 
 /// The parity circuit, with every Pauli on every qubit before and behind each of its lines, a shot each.
@@ -81,7 +81,7 @@ fn headers_are_copied() {
         let texts = [
             settled(job.as_bytes(), &[0], Draws::default()).expect("it settles"),
             annotated(job.as_bytes(), 0.5).expect("it fits"),
-            restricted(job.as_bytes(), |shot| shot == 0).expect("it has no noise"),
+            keep_shots(job.as_bytes(), |shot| shot == 0).expect("it has no noise"),
         ];
         let parts = split(job.as_bytes(), 2).expect("it has no noise");
         for text in texts.into_iter().chain(parts.into_iter().map(|part| part.job)) {

@@ -125,7 +125,7 @@ fn refusals_come_in_their_order() {
     let refused = |asked: JobParameters, room: usize| {
         let mut out = vec![7; room];
         let refusal = make(asked, &mut out).expect_err("it is refused");
-        assert!(out.iter().all(|byte| *byte == 7) && refusal.figure == 0 && refusal.line == 0);
+        assert!(out.iter().all(|byte| *byte == 7) && refusal.bytes_needed == 0 && refusal.line == 0);
         refusal.number
     };
     let out_of_range = [
@@ -164,10 +164,10 @@ fn made_jobs_are_a_load_for_all_calls() {
         let numbers = examine(&job).expect("it passes");
         let noiseless = vec![0x5555_3333_0f0f_00ff; numbers.outcome_words()];
         let draws = Draws::new(&words).with_second(&words[20_000..], 0);
-        let frames = Frames::of_run(&job, &noiseless, draws).expect("there are words enough");
+        let frames = Frames::from_run(&job, &noiseless, draws).expect("there are words enough");
         let text = settled(&job, &noiseless, draws).expect("there is room");
         assert_eq!(lines(&text).iter().filter(|line| line.starts_with("op=n ")).count(), 0);
-        let again = Frames::of_run(&text, &noiseless, Draws::default()).expect("it runs");
+        let again = Frames::from_run(&text, &noiseless, Draws::default()).expect("it runs");
         assert_eq!((frames.deltas(), frames.totals()), (again.deltas(), again.totals()));
         if numbers.recorded > 0 {
             let count = walk(&text, 5, &[0]).expect("no noise");

@@ -1,7 +1,7 @@
 //! Every refusal number, what a refusal leaves in lent memory, and that each parameter of a call arrives where it belongs.
 
 use kundatrezo::{
-    Answer, Draws, Frames, MAX_BYTES, Number, Rows, annotate, annotated, check, correlation, examine, fault_table,
+    Draws, Frames, MAX_BYTES, Number, Refusal, Rows, annotate, annotated, check, correlation, examine, fault_table,
     locations, run, settle, settled, walk,
 };
 
@@ -9,9 +9,9 @@ const HEADER: &str = "op=job qubits=2 outcomes=1 shots=1\n";
 const ONE: &str = "3ff0000000000000";
 
 /// The number and line of a refusal, with every figure but settling's 15 found to be 0.
-fn refused<T: std::fmt::Debug>(answer: Answer<T>) -> (u64, u64) {
+fn refused<T: std::fmt::Debug>(answer: Result<T, Refusal>) -> (u64, u64) {
     let refusal = answer.expect_err("the call refuses");
-    assert!(refusal.figure == 0 || refusal.number == Number::ROOM);
+    assert!(refusal.bytes_needed == 0 || refusal.number == Number::ROOM);
     (refusal.number.get(), refusal.line)
 }
 
@@ -64,8 +64,8 @@ fn numbers_of_the_calls() {
     let fault = |corr: &str, kind: &str| format!("op=n p={ONE} corr={corr} cond=- parity=0 {kind}");
     let none = Draws::default();
     let noisy = job(&format!("op=z q=0\n{}", fault("-", "d=1 x=0 z=- size=1")));
-    assert_eq!(refused(Frames::of_run(&noisy, &[], none)), (13, 0));
-    assert_eq!(refused(Frames::of_run(&noisy, &[0], none)), (14, 3));
+    assert_eq!(refused(Frames::from_run(&noisy, &[], none)), (13, 0));
+    assert_eq!(refused(Frames::from_run(&noisy, &[0], none)), (14, 3));
     assert_eq!(refused(settled(&noisy, &[], none)), (13, 0));
     assert_eq!(refused(settled(&noisy, &[0], none)), (14, 3));
     assert_eq!(refused(settle(&noisy, &[0], Draws::new(&[0]), &mut [0; 60])), (15, 0));
@@ -104,7 +104,7 @@ fn refusals_leave_lent_memory() {
     let draws = Draws::new(&[0]);
     let refusal = settle(&noisy, &[0], draws, &mut out).expect_err("the text is longer");
     assert_eq!(refusal.number, Number::ROOM);
-    assert_eq!(refusal.figure, settled(&noisy, &[0], draws).expect("there is room").len() as u64);
+    assert_eq!(refusal.bytes_needed, settled(&noisy, &[0], draws).expect("there is room").len() as u64);
     assert_eq!(out, [7; 60]);
 }
 
@@ -123,8 +123,8 @@ fn the_figure_of_a_text_above_32_bits() {
     let refusal = settle(job.as_bytes(), &[], draws, &mut []).expect_err("the text is longer");
     assert_eq!(refusal.number, Number::ROOM);
     let injections: usize = (0..SHOTS).map(|shot| format!("op=i shot={shot} x={qubits} z={qubits}\n").len()).sum();
-    assert_eq!(refusal.figure, (header.len() + LINES * injections) as u64);
-    assert!(refusal.figure > 1 << 32);
+    assert_eq!(refusal.bytes_needed, (header.len() + LINES * injections) as u64);
+    assert!(refusal.bytes_needed > 1 << 32);
 }
 
 /// Noise by condition and correlation tells noiseless bits, the main list, the second one and the base apart.
@@ -144,12 +144,12 @@ op=o x=0 z=- id=2
     // place 4 + 1 of the second list.
     let noiseless = [0b01, 0b10, 0b11];
     let draws = Draws::new(&[9, 9, 2]).with_second(&[2, 2, 2, 2, 2, 9, 0, 9, 1], 4);
-    let frames = Frames::of_run(job, &noiseless, draws).expect("the job runs");
+    let frames = Frames::from_run(job, &noiseless, draws).expect("the job runs");
     assert_eq!(Ok(frames.job()), examine(job));
     let numbers = frames.job();
     assert_eq!((numbers.qubits, numbers.outcomes, numbers.shots), (2, 3, 2));
     assert_eq!((numbers.recorded, numbers.lines), (3, 6));
-    let used = draws.used(job, &noiseless).expect("the job settles");
+    let used = draws.words_read(job, &noiseless).expect("the job settles");
     assert_eq!((used.main, used.second), (3, 9));
     assert_eq!((frames.x(), frames.z()), ([0b10, 0b01].as_slice(), [0b10, 0b10].as_slice()));
     assert_eq!((frames.deltas(), frames.delta_row(2)), ([0, 0, 0b10].as_slice(), [0b10].as_slice()));
@@ -158,7 +158,7 @@ op=o x=0 z=- id=2
     let injections: Vec<&[u8]> = text.split(|byte| *byte == b'\n').filter(|line| line.starts_with(b"op=i")).collect();
     let expected = ["op=i shot=1 x=0 z=0", "op=i shot=0 x=1 z=-", "op=i shot=1 x=- z=1"];
     assert_eq!(injections, expected.map(str::as_bytes));
-    let again = Frames::of_run(&text, &noiseless, Draws::default()).expect("the settled job runs");
+    let again = Frames::from_run(&text, &noiseless, Draws::default()).expect("the settled job runs");
     assert_eq!((again.x(), again.z(), again.deltas()), (frames.x(), frames.z(), frames.deltas()));
     assert_eq!((walk(&text, 0, &[2]), walk(&text, 1, &[2]), walk(&text, 1, &[])), (Ok(0), Ok(1), Ok(0)));
     assert_eq!(locations(job), Ok(2));

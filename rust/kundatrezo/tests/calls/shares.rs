@@ -97,8 +97,8 @@ fn a_shared_call_is_a_plain_one_on_the_words_available() {
             let mut out = [vec![7; room], vec![7; room]];
             let refusal = if random.below(2) == 0 {
                 let shared =
-                    Frames::of_run(job.as_bytes(), &NOISELESS, draws.caller(caller).with_second(&second, base));
-                let alone = Frames::of_run(job.as_bytes(), &NOISELESS, plain);
+                    Frames::from_run(job.as_bytes(), &NOISELESS, draws.caller(caller).with_second(&second, base));
+                let alone = Frames::from_run(job.as_bytes(), &NOISELESS, plain);
                 assert_eq!(shared, alone);
                 shared.err()
             } else {
@@ -109,7 +109,7 @@ fn a_shared_call_is_a_plain_one_on_the_words_available() {
                 shared.err()
             };
             let taken = match refusal.map(|refusal| refusal.number) {
-                None => plain.used(job.as_bytes(), &NOISELESS).expect("it runs").main,
+                None => plain.words_read(job.as_bytes(), &NOISELESS).expect("it runs").main,
                 Some(Number::DRAWS) => taken_by_spent(&job, &NOISELESS, plain),
                 Some(number) => {
                     assert_eq!(number, Number::ROOM);
@@ -124,7 +124,7 @@ fn a_shared_call_is_a_plain_one_on_the_words_available() {
         let handed = model.handed.iter().filter(|handed| **handed).count() as u64;
         let left: u64 = (0..callers).map(|caller| draws.own_left(caller)).sum::<u64>() + draws.common_left();
         assert_eq!(handed + left, words.len() as u64);
-        assert_eq!(SharedDraws::resumed(&words, &draws.to_string()), Ok(draws));
+        assert_eq!(SharedDraws::from_account(&words, &draws.to_string()), Ok(draws));
     }
     assert!(seen.iter().all(|count| *count > 100), "{seen:?}");
 }
@@ -137,7 +137,7 @@ fn taken_by_spent(job: &str, noiseless: &[u64], draws: Draws<'_>) -> usize {
         return draws.main.len();
     }
     let before: String = job.lines().take(refusal.line as usize - 1).flat_map(|line| [line, "\n"]).collect();
-    draws.used(before.as_bytes(), noiseless).expect("it runs").main
+    draws.words_read(before.as_bytes(), noiseless).expect("it runs").main
 }
 
 /// A caller whose jobs stay within the own stretch gets the same whatever the others do.
@@ -150,9 +150,9 @@ fn the_others_do_not_disturb() {
         let mut others = others.iter();
         let one = |_| {
             for other in others.next().into_iter().chain(others.next()) {
-                _ = Frames::of_run(JOB.as_bytes(), &NOISELESS, draws.caller(*other).with_second(&second, 1));
+                _ = Frames::from_run(JOB.as_bytes(), &NOISELESS, draws.caller(*other).with_second(&second, 1));
             }
-            Frames::of_run(JOB.as_bytes(), &NOISELESS, draws.caller(1).with_second(&second, 1)).expect("it runs")
+            Frames::from_run(JOB.as_bytes(), &NOISELESS, draws.caller(1).with_second(&second, 1)).expect("it runs")
         };
         let frames = (0..4).map(one).collect();
         assert!(draws.own_left(1) > 0, "the caller stays within the stretch");
@@ -212,11 +212,11 @@ fn an_account_is_read_back_with_its_list_alone() {
         format!("{lines}seal={hash:016x}\n")
     };
     assert_eq!(sealed(lines), account);
-    assert_eq!(SharedDraws::resumed(&words, &account), Ok(draws));
+    assert_eq!(SharedDraws::from_account(&words, &account), Ok(draws));
     assert_eq!(SharedDraws::length_of(&account), Some(5));
     assert_eq!(SharedDraws::marks_of(&account), Ok(vec![0, 1, 2]));
     for other in [&[1, 2, 3, 4][..], &[1, 2, 3, 4, 5, 6], &[1, 2, 3, 5, 4], &[]] {
-        assert_eq!(SharedDraws::resumed(other, &account), Err(AccountError::OtherList));
+        assert_eq!(SharedDraws::from_account(other, &account), Err(AccountError::OtherList));
     }
     let edits = [
         ("taken=1", "taken=2"),
@@ -234,16 +234,16 @@ fn an_account_is_read_back_with_its_list_alone() {
     for (old, new) in edits {
         let edited = account.replacen(old, new, 1);
         assert_ne!(edited, account);
-        assert_eq!(SharedDraws::resumed(&words, &edited), Err(AccountError::Edited), "{edited}");
+        assert_eq!(SharedDraws::from_account(&words, &edited), Err(AccountError::Edited), "{edited}");
         let edited = sealed(&lines.replacen(old, new, 1));
-        assert_eq!(SharedDraws::resumed(&words, &edited), Err(AccountError::Form), "{edited}");
+        assert_eq!(SharedDraws::from_account(&words, &edited), Err(AccountError::Form), "{edited}");
     }
     let fewer = account.replace("taken=1", "taken=0");
-    assert_eq!(SharedDraws::resumed(&words, &fewer), Err(AccountError::Edited));
+    assert_eq!(SharedDraws::from_account(&words, &fewer), Err(AccountError::Edited));
     assert_eq!((SharedDraws::length_of(&fewer), SharedDraws::marks_of(&fewer)), (None, Err(AccountError::Edited)));
     for text in ["", lines, &account.replace('\n', "\r\n"), &account[..account.len() - 1], &format!("{account}\n")] {
-        assert!(SharedDraws::resumed(&words, text).is_err(), "{text:?}");
+        assert!(SharedDraws::from_account(&words, text).is_err(), "{text:?}");
     }
     assert_eq!(seal.len(), 17);
-    assert_eq!(SharedDraws::resumed(&words, lines), Err(AccountError::Form));
+    assert_eq!(SharedDraws::from_account(&words, lines), Err(AccountError::Form));
 }

@@ -1,13 +1,13 @@
 //! A job's shots split over several runs, and runs added.
 
-use kundatrezo::{Draws, Frames, MAX_SHOTS, Number, Xorshift, bit, examine, restricted, settled, split};
+use kundatrezo::{Draws, Frames, MAX_SHOTS, Number, Xorshift, bit, examine, keep_shots, settled, split};
 use std::panic::catch_unwind;
 
 const SYNDROME: &[u8] = include_bytes!("../../../../examples/syndrome.job");
 
 fn run(job: &[u8]) -> Frames {
     let words = examine(job).expect("it passes").outcome_words();
-    Frames::of_run(job, &vec![0; words], Draws::default()).expect("it runs")
+    Frames::from_run(job, &vec![0; words], Draws::default()).expect("it runs")
 }
 
 fn rows(frames: &Frames) -> [&[u64]; 3] {
@@ -58,7 +58,7 @@ fn parts_add_up_to_the_whole() {
 #[test]
 fn a_part_keeps_all_other_lines() {
     let job = settled_syndrome(64);
-    let kept = restricted(&job, |shot| shot % 3 == 1).expect("it has no noise");
+    let kept = keep_shots(&job, |shot| shot % 3 == 1).expect("it has no noise");
     let line_is_kept = |line: &&str| match line.split_once("shot=") {
         Some((_, rest)) => rest.split(' ').next().expect("a field").parse::<usize>().expect("a number") % 3 == 1,
         None => true,
@@ -66,8 +66,8 @@ fn a_part_keeps_all_other_lines() {
     let text = String::from_utf8(job.clone()).expect("text");
     let lines: Vec<&str> = text.lines().filter(line_is_kept).collect();
     assert_eq!(String::from_utf8(kept).expect("text"), lines.join("\n") + "\n");
-    assert_eq!(restricted(&job, |_| true).as_ref(), Ok(&job));
-    let none = restricted(&job, |_| false).expect("it has no noise");
+    assert_eq!(keep_shots(&job, |_| true).as_ref(), Ok(&job));
+    let none = keep_shots(&job, |_| false).expect("it has no noise");
     assert!(rows(&run(&none)).iter().all(|rows| rows.iter().all(|word| *word == 0)));
 }
 
@@ -75,7 +75,7 @@ fn a_part_keeps_all_other_lines() {
 fn no_part_of_a_job_that_is_not_settled() {
     let refused = |job: &[u8]| {
         let refusal = split(job, 2).expect_err("it is refused");
-        assert_eq!(restricted(job, |_| true), Err(refusal));
+        assert_eq!(keep_shots(job, |_| true), Err(refusal));
         (refusal.number, refusal.line)
     };
     assert_eq!(refused(SYNDROME), (Number::NOISE, 2));

@@ -108,7 +108,7 @@ pub fn compare_with_forward_runs(job: &str) {
     let groups: Vec<Vec<u64>> = groups.iter().filter(|group| group.iter().all(|id| *id < recorded)).cloned().collect();
     let (alone, faults) = forwards(job);
     let words = examine(alone.as_bytes()).expect("it passes").outcome_words();
-    let frames = Frames::of_run(alone.as_bytes(), &vec![0; words], Draws::default()).expect("it runs");
+    let frames = Frames::from_run(alone.as_bytes(), &vec![0; words], Draws::default()).expect("it runs");
     let table = fault_table(job.as_bytes(), &groups).expect("a table");
     assert_eq!((table.groups(), table.iter().count()), (groups.len(), faults.len()));
     for (shot, (fault, place)) in table.iter().zip(&faults).enumerate() {
@@ -131,7 +131,7 @@ fn groups_are_tested() {
     let refused = |job: &str, groups: &[u64]| {
         let mut out = [7; 3000];
         let refusal = write_fault_table(job.as_bytes(), groups, &mut out).expect_err("it is refused");
-        assert_eq!((out, refusal.figure), ([7; 3000], 0));
+        assert_eq!((out, refusal.bytes_needed), ([7; 3000], 0));
         (refusal.number, refusal.line)
     };
     for groups in [&[1][..], &[2, 0], &[u64::MAX, 0], &[1, 0, 1], &[2, 1, 0], &[2, 1, 1], &[1, 5], &[1, u64::MAX]] {
@@ -207,21 +207,21 @@ fn faults_that_fall_together_are_one_error() {
         let model = error_model(job.as_bytes(), &[vec![0], vec![1]], &[]).expect("a model");
         (model.to_string(), Vec::from_iter(model.mixed_correlations()))
     };
-    let said = |text: &str, mixed: &[u64]| (text.to_owned(), mixed.to_vec());
+    let expected = |text: &str, mixed: &[u64]| (text.to_owned(), mixed.to_vec());
     let (one, other) = ("3fe0000000000000", "3fd0000000000000");
-    assert_eq!(model([fault("9", one), fault("9", one)]), said("error(0.5) D0\ndetector D1\n", &[]));
-    let apart = said("error(0.5) D0 D1\nerror(0.5) D1\n", &[]);
+    assert_eq!(model([fault("9", one), fault("9", one)]), expected("error(0.5) D0\ndetector D1\n", &[]));
+    let apart = expected("error(0.5) D0 D1\nerror(0.5) D1\n", &[]);
     assert_eq!(model([fault("9", one), fault("8", one)]), apart);
     assert_eq!(model([fault("-", one), fault("-", one)]), apart);
-    assert_eq!(model([fault("9", one), fault("9", other)]), said("error(0.5) D0 D1\nerror(0.25) D1\n", &[9]));
-    assert_eq!(model([fault("9", one), fault("9", "bff0000000000000")]), said("error(0.5) D0 D1\n", &[]));
+    assert_eq!(model([fault("9", one), fault("9", other)]), expected("error(0.5) D0 D1\nerror(0.25) D1\n", &[9]));
+    assert_eq!(model([fault("9", one), fault("9", "bff0000000000000")]), expected("error(0.5) D0 D1\n", &[]));
     // all elements of one line fall together with those of the other, each with its own
     let two = |corr: &str| format!("op=n p={one} corr={corr} cond=- parity=0 d=3 n=2 size=2\nx=0 z=-\nx=- z=0\n");
-    assert_eq!(model([two("9"), two("9")]), said("error(0.25) D0\ndetector D1\n", &[]));
+    assert_eq!(model([two("9"), two("9")]), expected("error(0.25) D0\ndetector D1\n", &[]));
     // weights of 0 and -0 draw alike
     let weighted =
         |zero: &str| format!("op=n p={one} corr=9 cond=- parity=0 d=4 n=2 size=2\nw={zero} x=0 z=-\nw={one} x=0 z=-\n");
-    let together = said("error(0.5) D0\ndetector D1\n", &[]);
+    let together = expected("error(0.5) D0\ndetector D1\n", &[]);
     assert_eq!(model(["0000000000000000", "8000000000000000"].map(weighted)), together);
 }
 
@@ -382,7 +382,7 @@ fn a_model_of_exclusive_elements_is_near() {
     for _ in 0..16 {
         stream.fill(&mut words);
         frames.run(job.as_bytes(), &vec![0; 7 * MAX_SHOTS / 64], Draws::new(&words)).expect("it runs");
-        for row in Shots::of_frames(&frames).iter() {
+        for row in Shots::from_frames(&frames).iter() {
             let sum = |group: &Vec<u64>| group.iter().fold(false, |sum, id| sum ^ bit(row, *id as usize));
             let syndrome: usize =
                 detectors.iter().enumerate().map(|(place, group)| usize::from(sum(group)) << place).sum();

@@ -6,13 +6,13 @@ const SESSION: &[u8] = include_bytes!("../../../../examples/bell.job");
 
 /// The frame of qubit 0 as words of its X and Z rows, after a run of at most 64 shots without outcomes.
 fn frame(job: &str, main: &[u64]) -> Result<(u64, u64), Number> {
-    let frames = Frames::of_run(job.as_bytes(), &[], Draws::new(main));
+    let frames = Frames::from_run(job.as_bytes(), &[], Draws::new(main));
     frames.map(|frames| (frames.x_row(0)[0], frames.z_row(0)[0])).map_err(|refusal| refusal.number)
 }
 
 #[test]
 fn star_1_the_printed_session() {
-    let frames = Frames::of_run(SESSION, &[0; 2], Draws::default()).expect("the session runs");
+    let frames = Frames::from_run(SESSION, &[0; 2], Draws::default()).expect("the session runs");
     assert_eq!(frames.deltas(), [0b010, 0b100]);
 }
 
@@ -51,7 +51,7 @@ op=o x=- z=0 id=0
 op=f x=0 z=- id=0 parity=1
 op=o x=- z=0 id=1
 ";
-    let frames = Frames::of_run(job, &[0; 2], Draws::default()).expect("the job runs");
+    let frames = Frames::from_run(job, &[0; 2], Draws::default()).expect("the job runs");
     assert_eq!(frames.deltas(), [1, 0]);
     assert_eq!(walk(job, 0, &[1]), Ok(0));
 }

@@ -157,8 +157,8 @@ fn a_series_goes_on_where_the_last_run_stopped() {
     let whole = call("run - --seed 7", format!("{header}{}{}", part(0, 0), part(1, 1)));
     let first = call("run - --seed 7", format!("{header}{}", part(0, 0)));
     let printed = String::from_utf8(first.stdout).expect("text");
-    let (_, said) = printed.rsplit_once("words=").expect("it says how many");
-    let (words, skip) = said.trim_end().split_once(" skip=").expect("and how to go on");
+    let (_, report) = printed.rsplit_once("words=").expect("it says how many");
+    let (words, skip) = report.trim_end().split_once(" skip=").expect("and how to go on");
     assert_eq!(words, skip);
     assert!(words.parse::<u32>().is_ok_and(|words| (101..200).contains(&words)), "{words}");
     let second = call(&format!("run - --seed 7 --skip {skip}"), format!("{header}{}", part(1, 0)));
@@ -231,8 +231,8 @@ fn models_come_with_notes() {
 fn refusals_are_said_in_words() {
     let refused = |arguments: &str, job: &str, text: &str| {
         let done = call(arguments, job);
-        let (said, hint) = done.stderr.split_once("\nhint: ").expect("a hint");
-        assert_eq!((done.status, done.stdout.as_slice(), said), (1, b"".as_slice(), text));
+        let (report, hint) = done.stderr.split_once("\nhint: ").expect("a hint");
+        assert_eq!((done.status, done.stdout.as_slice(), report), (1, b"".as_slice(), text));
         hint.trim_end().to_owned()
     };
     let header = "op=job qubits=1 outcomes=1 shots=1\n";

@@ -142,6 +142,6 @@ fn the_printing_program() {
     assert_eq!(refused, Done::printed("ok=0 refusal=4 line=3\n"));
     let script = "exec \"$0\" >/dev/full";
     let full = finish(Command::new("sh").arg("-c").arg(script).arg(&print), job.as_bytes());
-    let said = "kundatrezo_print: the session could not be written whole\n";
-    assert_eq!(full, Done { status: 0, stdout: Vec::new(), stderr: said.into() });
+    let message = "kundatrezo_print: the session could not be written whole\n";
+    assert_eq!(full, Done { status: 0, stdout: Vec::new(), stderr: message.into() });
 }

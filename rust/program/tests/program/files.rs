@@ -183,17 +183,17 @@ fn no_output_is_an_input_or_named_twice() {
     ];
     let printed =
         ["run bell --deltas session >session", "run bell --deltas /dev/stdout >session", "run bell --x log 2>log"];
-    let said = [
+    let message = [
         "is read, too, and would be overwritten",
         "is named for two outputs",
         "standard output or standard error goes to",
     ];
-    for (cases, said) in [read_too.as_slice(), &twice, &printed].into_iter().zip(said) {
+    for (cases, message) in [read_too.as_slice(), &twice, &printed].into_iter().zip(message) {
         for arguments in cases {
             let done = call(&folder, arguments);
             let text = if arguments.contains("2>") { read(&folder, "log") } else { done.stderr.clone().into_bytes() };
             let text = String::from_utf8(text).expect("text");
-            assert!(done.status == 2 && text.contains(said), "{arguments}: {text}");
+            assert!(done.status == 2 && text.contains(message), "{arguments}: {text}");
         }
     }
     _ = ["session", "log"].map(|name| fs::remove_file(folder.join(name)));
@@ -258,9 +258,9 @@ fn names_are_shown_escaped() {
         ("sample noisy --shots 9 --seed 1 --sets \"$(printf 'a\\033')\"", gone("a\\u{1b}")),
         ("bits \"$(printf 'a\\033')\"", "kundatrezo: 'a\\u{1b}' is not a number in decimal\n".into()),
     ];
-    for (arguments, said) in cases {
+    for (arguments, message) in cases {
         let done = call(&folder, arguments);
-        assert_eq!((done.status, done.stderr), (2, said), "{arguments}");
+        assert_eq!((done.status, done.stderr), (2, message), "{arguments}");
     }
     let done = call(&folder, "\"$(printf 'a\\033')\"");
     assert!(done.status == 2 && done.stderr.starts_with("kundatrezo: there is no command 'a\\u{1b}'"), "{done:?}");

@@ -40,9 +40,13 @@ fn seeds_of_runs_are_mixed() {
     for arguments in ["fill --seed 12 --words 5", "fill --words 5 --seed=12", "fill --state 1 --seed"] {
         let done = call(arguments);
         assert_eq!((done.status, done.stdout.len()), (2, 0));
-        let said =
+        let message =
             "kundatrezo: 'fill' has no --seed, which would mean two things: --state N takes N as the state itself, ";
-        assert!(done.stderr.starts_with(said) && done.stderr.contains("--run-seed N mixes N first"), "{}", done.stderr);
+        assert!(
+            done.stderr.starts_with(message) && done.stderr.contains("--run-seed N mixes N first"),
+            "{}",
+            done.stderr
+        );
     }
     for command in ["run", "settle", "sample", "share"] {
         let help = String::from_utf8(call(&format!("{command} --help")).stdout).expect("text");

@@ -195,14 +195,14 @@ fn noiseless_bits_of_another_size_are_refused() {
         format!("sample - --shots 9000 --seed 3 --noiseless {}", rows.display())
     };
     assert!(text(printed(&sample(16), job)).contains("id=1 total=9000 "));
-    for (bytes, said) in [
+    for (bytes, message) in [
         (0, "rows: 0 words, but outcomes=2 and shots=10 need exactly 2\n"),
         (8, "rows: 1 words, but outcomes=2 and shots=10 need exactly 2\n"),
         (24, "rows: 3 words or more, but outcomes=2 and shots=10 need exactly 2\n"),
         (2 * 64 * 8, "rows: 3 words or more, but outcomes=2 and shots=10 need exactly 2\n"),
         (17, "rows: its bytes are no whole number of 64-bit words\n"),
     ] {
-        fails(&sample(bytes), job, 2, said);
+        fails(&sample(bytes), job, 2, message);
     }
     let endless = "sample - --shots 9000 --seed 3 --noiseless /dev/zero";
     fails(endless, job, 2, "/dev/zero: 3 words or more, but outcomes=2 and shots=10 need exactly 2");
@@ -244,14 +244,15 @@ fn what_merge_refuses() {
     };
     let (one, two) = (sample(1, ""), sample(2, ""));
     fs::write(path("one"), &one).expect("it can be written");
-    let merge = |other: &[u8], said: &str| {
+    let merge = |other: &[u8], message: &str| {
         fs::write(path("other"), other).expect("it can be written");
-        fails(&format!("merge {} {}", path("one"), path("other")), "", 2, &format!("{}: {said}", path("other")));
+        fails(&format!("merge {} {}", path("one"), path("other")), "", 2, &format!("{}: {message}", path("other")));
     };
     let lines: Vec<&str> = two.split_inclusive('\n').collect();
     for count in 2..lines.len() {
-        let said = format!("the text is cut off: its first line says 9 lines of counts, and there are {}\n", count - 2);
-        merge(lines[..count].concat().as_bytes(), &said);
+        let message =
+            format!("the text is cut off: its first line says 9 lines of counts, and there are {}\n", count - 2);
+        merge(lines[..count].concat().as_bytes(), &message);
     }
     merge(&two.as_bytes()[..two.len() - 4], "the text is cut off: ");
     let no_counts = "these are no counts as 'kundatrezo sample' writes them\n";
@@ -320,27 +321,27 @@ fn refusals_and_wrong_arguments() {
     let list =
         "refused: 17 (a set or group cut short, not strictly rising, or with an outcome that is not recorded)\nhint: ";
     for set in ["3,7", "3,1,3"] {
-        let said = format!("{list}the set {set}: it names recorded outcomes, 0 to 6, each once\n");
-        fails(&sample(&format!("--set {set}")), "", 1, &said);
+        let message = format!("{list}the set {set}: it names recorded outcomes, 0 to 6, each once\n");
+        fails(&sample(&format!("--set {set}")), "", 1, &message);
     }
     for (shots, digits) in
         [("1e6", "1000000"), ("1_000_000", "1000000"), ("1,000", "1000"), ("2.5e3", "2500"), ("10.0", "10")]
     {
-        let said = format!("the value of --shots is to be a number below 2^64, not '{shots}': write {digits}\n");
-        fails(&format!("sample {SYNDROME} --shots {shots} --seed 1"), "", 2, &said);
+        let message = format!("the value of --shots is to be a number below 2^64, not '{shots}': write {digits}\n");
+        fails(&format!("sample {SYNDROME} --shots {shots} --seed 1"), "", 2, &message);
     }
     for shots in ["1.5", "-3", "1e99", "a", "", "nan"] {
-        let said = format!("the value of --shots is to be a number below 2^64, not '{shots}'\n");
-        fails(&format!("sample {SYNDROME} --shots={shots} --seed 1"), "", 2, &said);
+        let message = format!("the value of --shots is to be a number below 2^64, not '{shots}'\n");
+        fails(&format!("sample {SYNDROME} --shots={shots} --seed 1"), "", 2, &message);
     }
     fails(&sample("--set a"), "", 2, "a set is to be numbers");
     let sets = folder("sample_refused_sets").join("sets").into_os_string().into_string().expect("a plain path");
-    for (text, status, said) in [
+    for (text, status, message) in [
         ("0\n\n", 2, ", line 2: a set is to be numbers with commas between, or -, not ''\n"),
         ("-\n0\n3,7\n", 1, ", line 3: the set 3,7: it names recorded outcomes, 0 to 6, each once\n"),
     ] {
         fs::write(&sets, text).expect("it can be written");
-        fails(&sample(&format!("--sets {sets}")), "", status, &format!("{sets}{said}"));
+        fails(&sample(&format!("--sets {sets}")), "", status, &format!("{sets}{message}"));
     }
     for part in ["0/2", "3/2", "1", "1/0", "-1/2"] {
         fails(&sample(&format!("--part {part}")), "", 2, "I/K, with I from 1 to K");
@@ -431,21 +432,21 @@ fn on_a_terminal_there_is_progress_and_a_table() {
     let printed = |options: &str| text(printed(&format!("sample {SYNDROME} --shots 100000 --seed 1 {options}"), ""));
     let folder = folder("sample_terminal");
     let path = |name: &str| folder.join(name).display().to_string();
-    let Some(said) = on_a_terminal("--set 4,5,6") else {
+    let Some(message) = on_a_terminal("--set 4,5,6") else {
         return;
     };
-    assert!(said.contains(" of 100000 shots, ") && said.contains(" left"), "{said}");
+    assert!(message.contains(" of 100000 shots, ") && message.contains(" left"), "{message}");
     let table = printed("--set 4,5,6 --format table");
-    assert!(said.ends_with(&table), "{said}");
+    assert!(message.ends_with(&table), "{message}");
     let names: Vec<&str> = table.lines().skip(1).filter_map(|line| line.split("  ").next()).collect();
     assert_eq!(names[..3], ["outcome or set", "set 4,5,6", "outcome 0"]);
     let counts = printed("--set 4,5,6");
     assert!(counts.starts_with("ok=1 ") && printed("--set 4,5,6 --format counts") == counts);
-    assert!(on_a_terminal("--set 4,5,6 --format counts").is_some_and(|said| said.ends_with(&counts)));
+    assert!(on_a_terminal("--set 4,5,6 --format counts").is_some_and(|message| message.ends_with(&counts)));
     assert!(on_a_terminal(&format!("--set 4,5,6 --output {}", path("counts"))).is_some());
     assert_eq!(fs::read_to_string(path("counts")).ok(), Some(counts.clone()));
     // counts beside rows in a file
     let rows = format!("--set 4,5,6 --format 01 --output {}", path("rows"));
-    assert!(on_a_terminal(&rows).is_some_and(|said| said.ends_with(&table)));
+    assert!(on_a_terminal(&rows).is_some_and(|message| message.ends_with(&table)));
     assert_eq!(printed(&rows), counts);
 }

@@ -86,9 +86,9 @@ fn accounts_are_kept() {
         ("run - --account /account --caller 0", "kundatrezo: "),
         ("run - --main /account --account /account --caller 0", "kundatrezo: "),
     ];
-    for (arguments, said) in refused {
+    for (arguments, message) in refused {
         let done = call(&folder, arguments);
-        assert!(done.status != 0 && done.stderr.starts_with(said), "{arguments}: {done:?}");
+        assert!(done.status != 0 && done.stderr.starts_with(message), "{arguments}: {done:?}");
         assert_eq!(fs::read(folder.join("account")).ok().as_ref(), Some(&account), "{arguments}");
     }
     // 14, of either list
@@ -195,8 +195,11 @@ fn runs_that_are_killed_or_lose_their_lock() {
     let robbed = Waiting::start(&folder, waits).until_locked();
     fs::remove_file(folder.join("account.lock")).expect("it is there");
     printed(call(&folder, run));
-    let (status, said) = robbed.fed(&sixty());
-    assert!(status == Some(2) && said.contains("the account or its lock was changed while the job ran"), "{said}");
+    let (status, message) = robbed.fed(&sixty());
+    assert!(
+        status == Some(2) && message.contains("the account or its lock was changed while the job ran"),
+        "{message}"
+    );
     assert_eq!((taken(&folder), folder.join("rows").exists()), (vec![10, 0, 10], false));
 
     // a restored or edited account, too
@@ -219,9 +222,9 @@ fn many_runs_at_once() {
     let run = || loop {
         let done = call(&folder, "run - --seed 5 --second-seed 6 --account /account --caller 0");
         if done.status == 0 {
-            let said = String::from_utf8(done.stdout).expect("text");
+            let message = String::from_utf8(done.stdout).expect("text");
             let left =
-                said.split_once("common-left=").and_then(|(_, rest)| rest.split_once(' ')).expect("what is left");
+                message.split_once("common-left=").and_then(|(_, rest)| rest.split_once(' ')).expect("what is left");
             return left.0.parse::<u64>().expect("a number");
         }
         assert!(done.stderr.contains("another run draws by this account"), "{done:?}");
@@ -242,8 +245,8 @@ fn an_account_that_is_drawn_from_meanwhile_stays() {
     let late = Waiting::start(&folder, "share --main - --shares 10,0 --output account");
     printed(call(&folder, "share --main /words --shares 10,0 --output /account"));
     printed(call(&folder, "run - --main /words --second-seed 6 --account /account --caller 0"));
-    let (status, said) = late.fed(&sixty());
-    assert!(status == Some(2) && said.contains("account: words of this account are taken"), "{said}");
+    let (status, message) = late.fed(&sixty());
+    assert!(status == Some(2) && message.contains("account: words of this account are taken"), "{message}");
     assert_eq!(taken(&folder), [10, 0, 0]);
 }
 
@@ -266,8 +269,8 @@ fn accounts_of_two_names_and_edited_ones() {
     for edited in [account.replace("taken=10", "taken=0"), account.replace('\n', "\r\n"), account[..50].to_owned()] {
         fs::write(folder.join("account"), &edited).expect("it can be written");
         let done = call(&folder, run);
-        let said = ["the account was edited or is not whole: its seal does not fit", "the text is no account"];
-        assert!(done.status == 2 && said.iter().any(|said| done.stderr.contains(said)), "{done:?}");
+        let message = ["the account was edited or is not whole: its seal does not fit", "the text is no account"];
+        assert!(done.status == 2 && message.iter().any(|message| done.stderr.contains(message)), "{done:?}");
         let done = call(&folder, share);
         assert!(done.status == 2 && done.stderr.contains("are taken, or it was edited"), "{done:?}");
         assert_eq!(fs::read_to_string(folder.join("account")).ok(), Some(edited));
@@ -294,9 +297,9 @@ fn accounts_come_first() {
     std::os::unix::fs::symlink("/dev/zero", folder.join("zero")).expect("it can be linked");
     let large = File::create(folder.join("large")).expect("it can be made");
     (&large).write_all(b"list=").and_then(|()| large.set_len(1 << 32)).expect("it can be long");
-    for (name, said) in [("zero", "an account is a plain file"), ("large", "the text has more than 1024 bytes")] {
+    for (name, message) in [("zero", "an account is a plain file"), ("large", "the text has more than 1024 bytes")] {
         let done = call(&folder, &format!("run - --seed 5 --account /{name} --caller 0"));
-        assert!(done.status == 2 && done.stderr.contains(said), "{done:?}");
+        assert!(done.status == 2 && done.stderr.contains(message), "{done:?}");
     }
     assert!(!Path::new("/dev/zero.lock").exists());
     let done = call(&folder, "share --seed 5 --words 60 --shares 10,0 --output /large");
@@ -353,8 +356,8 @@ fn no_account_in_use_is_written_over() {
         ("share --seed 5 --words 268435457 --shares 10,0", "a list has at most 268435456 words"),
         ("fill --state 5 --words 268435457", "a list has at most 268435456 words"),
     ];
-    for (arguments, said) in faults {
+    for (arguments, message) in faults {
         let done = call(&folder, arguments);
-        assert_eq!((done.status, done.stderr), (2, format!("kundatrezo: {said}\n")));
+        assert_eq!((done.status, done.stderr), (2, format!("kundatrezo: {message}\n")));
     }
 }

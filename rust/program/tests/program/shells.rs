@@ -59,8 +59,8 @@ fn bash_completes() {
         ("kundatrezo --v", "--version\n"),
     ];
     for (words, expected) in cases {
-        if let Some(said) = completed(words) {
-            assert_eq!(said, expected, "{words}");
+        if let Some(output) = completed(words) {
+            assert_eq!(output, expected, "{words}");
         }
     }
 }
@@ -76,8 +76,8 @@ fn zsh_and_fish_read_their_scripts() {
     }
     let ask = format!("source {fish}; complete -C 'kundatrezo run job --sec'");
     if let Some(done) = tried("fish", &["--no-config", "-c", &ask]) {
-        let said = String::from_utf8(done.stdout).expect("text");
-        let names: Vec<&str> = said.lines().filter_map(|line| line.split('\t').next()).collect();
+        let output = String::from_utf8(done.stdout).expect("text");
+        let names: Vec<&str> = output.lines().filter_map(|line| line.split('\t').next()).collect();
         assert_eq!(names, ["--second", "--second-seed", "--second-state"]);
     }
 }

@@ -40,9 +40,9 @@ fn parts_of_a_job_add_up() {
     for parts in [1, 2, 3, 70] {
         let done = call(&folder, &format!("split - --parts {parts} --prefix /part"));
         let last = format!("part{}.job first={} last=69\n", parts - 1, 70 * (parts - 1) / parts);
-        let said = String::from_utf8(done.stdout).expect("text");
-        assert!(said.starts_with("job=") && said.contains("/part0.job first=0 last="), "{said}");
-        assert!(said.ends_with(&last) && said.lines().count() == parts, "{said}");
+        let output = String::from_utf8(done.stdout).expect("text");
+        assert!(output.starts_with("job=") && output.contains("/part0.job first=0 last="), "{output}");
+        assert!(output.ends_with(&last) && output.lines().count() == parts, "{output}");
         for part in 0..parts {
             quiet(&folder, &format!("run /part{part}.job --x /x{part} --z /z{part} --deltas /deltas{part}"));
         }

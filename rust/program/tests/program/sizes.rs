@@ -120,7 +120,7 @@ fn a_job_may_become_too_long() {
     assert_eq!(added(filled(most).as_bytes()).stdout.len(), 1_048_576);
     for length in [most + 1, 1_048_576, 2_000_000] {
         let done = added(filled(length).as_bytes());
-        let said = "with its sizes the job is longer than 1,048,576 bytes, the most it may have\n";
-        assert_eq!(done, Done { status: 1, stdout: Vec::new(), stderr: said.into() });
+        let message = "with its sizes the job is longer than 1,048,576 bytes, the most it may have\n";
+        assert_eq!(done, Done { status: 1, stdout: Vec::new(), stderr: message.into() });
     }
 }

@@ -6,20 +6,20 @@ use std::io::Write;
 use std::process::{Command, Stdio};
 
 /// A call's answer with the count or byte figure that it gives.
-fn figured(outcome: kundatrezo::Answer<u64>) -> Answer {
+fn figured(outcome: Result<u64, kundatrezo::Refusal>) -> Answer {
     match outcome {
         Ok(figure) => Answer::success(figure),
-        Err(refusal) => Answer { number: refusal.number.get(), line: refusal.line, figure: refusal.figure },
+        Err(refusal) => Answer { number: refusal.number.get(), line: refusal.line, figure: refusal.bytes_needed },
     }
 }
 
 /// The answer of a call that gives nothing but success.
-fn plain(outcome: kundatrezo::Answer) -> Answer {
+fn plain(outcome: Result<(), kundatrezo::Refusal>) -> Answer {
     figured(outcome.map(|()| 0))
 }
 
 /// The answer of a call that writes a text.
-fn written(outcome: kundatrezo::Answer<usize>) -> Answer {
+fn written(outcome: Result<usize, kundatrezo::Refusal>) -> Answer {
     figured(outcome.map(|bytes| bytes as u64))
 }
 

@@ -1,13 +1,13 @@
-//! How many words of the lists are read.
+//! How many words of the lists a call reads.
 
 use crate::{
-    Answer, Circuit, Draws, Examination, Frames, Noise, Number, PauliDistribution, SharedDraws, bit, settle, size,
+    Circuit, Draws, Examination, Frames, Noise, Number, PauliDistribution, Refusal, SharedDraws, bit, settle, size,
 };
 
 /// How many words a run or settling reads.
 #[derive(Debug, Clone, Copy, Default, PartialEq, Eq, Hash)]
 #[non_exhaustive]
-pub struct Used {
+pub struct WordsRead {
     /// The first words of the main list that are read. A series of runs goes on with the words after them.
     pub main: usize,
     /// The second list is read at no place from this one on.
@@ -17,9 +17,9 @@ pub struct Used {
 impl Draws<'_> {
     /// How many words a run of this job, or its settling, reads.
     ///
-    /// Of the main list the engine says it: a run by one caller, for whom all words are common, leaves the number in its mark. Of the second list it is the
-    /// length of the shortest that is enough: that length is enough for [`settle`], and one less is refused by 14. This takes the time of a run, and of about
-    /// three settlings where there is a second list.
+    /// For the main list the engine counts: a run by one caller, for whom all words are common, leaves the number in its mark. For the second list it
+    /// is the shortest length that is enough: [`settle`] accepts that length, and refuses one word less by 14. This takes the time of a run, and of
+    /// about three settlings if there is a second list.
     ///
     /// # Errors
     ///
@@ -31,21 +31,21 @@ impl Draws<'_> {
     /// // two shots read a word each, and the fault in shot 0 another for the choice of its Pauli
     /// let job = b"op=job qubits=1 outcomes=0 shots=2\nop=n p=3fe0000000000000 corr=- cond=- parity=0 d=2 q=0 size=3\n";
     /// let draws = Draws::new(&[0, 1, u64::MAX, 8, 9]);
-    /// assert_eq!(draws.used(job, &[])?.main, 3);
+    /// assert_eq!(draws.words_read(job, &[])?.main, 3);
     /// # Ok::<(), kundatrezo::Refusal>(())
     /// ```
-    pub fn used(&self, job: &[u8], noiseless: &[u64]) -> Answer<Used> {
+    pub fn words_read(&self, job: &[u8], noiseless: &[u64]) -> Result<WordsRead, Refusal> {
         let mut common = SharedDraws::new(self.main, &[0])?;
-        let frames = Frames::of_run(job, noiseless, common.caller(0).with_second(self.second, self.base))?;
+        let frames = Frames::from_run(job, noiseless, common.caller(0).with_second(self.second, self.base))?;
         let second_is = |words: usize| enough(job, noiseless, Draws { second: &self.second[..words], ..*self }).is_ok();
         let guess = guess(job, frames.job(), noiseless, self).unwrap_or_default();
         let second = if self.second.is_empty() { 0 } else { least(self.second.len(), guess, second_is) };
-        Ok(Used { main: size(common.marks()[1]), second })
+        Ok(WordsRead { main: size(common.marks()[1]), second })
     }
 }
 
 /// Settling with no room for the text: where it refuses by 15 alone, the words were enough.
-fn enough(job: &[u8], noiseless: &[u64], draws: Draws<'_>) -> Answer {
+fn enough(job: &[u8], noiseless: &[u64], draws: Draws<'_>) -> Result<(), Refusal> {
     match settle(job, noiseless, draws, &mut []) {
         Err(refusal) if refusal.number != Number::ROOM => Err(refusal),
         _ => Ok(()),
@@ -167,13 +167,13 @@ op=n p=3ff0000000000000 corr=150 cond=- parity=0 d=2 q=1 size=3
             words.iter_mut().filter(|word| **word % 16 == 0).for_each(|word| *word = u64::MAX);
             let draws = Draws::new(&words).with_second(&words, 3);
             let numbers = examine(job).expect("the job is accepted");
-            let used = draws.used(job, &noiseless).expect("the job runs");
-            assert_eq!(guess(job, numbers, &noiseless, &draws), Some(used.second));
+            let read = draws.words_read(job, &noiseless).expect("the job runs");
+            assert_eq!(guess(job, numbers, &noiseless, &draws), Some(read.second));
             // of either list one word less is not enough
             let cut = |main: usize, second: usize| {
                 enough(job, &noiseless, Draws::new(&words[..main]).with_second(&words[..second], 3)).is_ok()
             };
-            let Used { main, second } = used;
+            let WordsRead { main, second } = read;
             assert_eq!((cut(main, second), cut(main - 1, second), cut(main, second - 1)), (true, false, false));
         }
     }
