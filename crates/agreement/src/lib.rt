@@ -1,5 +1,7 @@
 // A run, the settling of the same job and a walk back on the settled text, and whether they agree: the sum of a set's deltas in a shot equals modulo
 // 2 the count of the walk.
+#![tactic(auto)]
+
 ghost use Rattle.std.specs.Prelude.{◌≡◌, true, false};
 ghost use Rattle.job.specs.Job.{job_of, check_job};
 ghost use Rattle.rows.specs.Words.{words_per_row};
@@ -15,7 +17,7 @@ use totals::delta_sum;
 use walker::walk;
 
 // The calls, in their order.
-#[derive(Drop)]
+#[derive(Clone, Copy)]
 pub enum Call {
     Run,
     Settle,
@@ -24,7 +26,7 @@ pub enum Call {
 
 // The last call that was made, which is the first that refused, if any did, and its answer. Where none refused: the sum modulo 2 of the set's deltas
 // in the shot, the walk's count, and whether these are equal modulo 2. The figure is the byte figure of settling.
-#[derive(Drop)]
+#[derive(Clone, Copy)]
 pub struct Agreement {
     pub call: Call,
     pub answer: Answer,

@@ -60,7 +60,7 @@ fn noise_before(form: Form) -> bool
 }
 
 // How far annotation came: the line that it does not fit (0 for none), and the bytes of the text.
-#[derive(Drop)]
+#[derive(Clone, Copy)]
 pub struct Progress {
     pub unfit: u64,
     pub bytes: usize,

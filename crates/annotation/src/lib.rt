@@ -1,4 +1,6 @@
 // Annotation of a job with depolarizing noise, and the count of its fault locations.
+#![tactic(auto)]
+
 ghost use Rattle.std.specs.Prelude.{◌≡◌};
 ghost use Rattle.text.specs.Bytes.{lines as Bytes·lines};
 ghost use Rattle.job.specs.Job.{check_job};

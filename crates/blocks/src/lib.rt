@@ -2,6 +2,8 @@
 // A round of width h takes the rows and columns in groups of 2h, and in each square of 2h by 2h exchanges the two quarters of h by h off its
 // diagonal. After the rounds of widths 32 to h whole squares of h by h stand in their new places, with their inside as it was; after width 1 each bit
 // does. (H. S. Warren, Hacker's Delight, section 7-3.)
+#![tactic(auto)]
+
 ghost use Rattle.std.specs.Prelude.{◌≡◌, true, ◌+◌, ◌*◌, ◌/◌, ◌<◌, ◌≤◌, length, get_or};
 ghost use Rattle.rows.specs.Overwrite.{overwrite};
 ghost use Rattle.blocks.specs.Exchange.{Exchanged, Crossed, is_mask, crossed};

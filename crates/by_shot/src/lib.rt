@@ -1,6 +1,8 @@
 // Outcomes by shot, and the way back: rows and columns of a matrix of bits change places, block by block of 64 by 64.
 // Bits past the last column of the source go to rows of a block that are not stored. Rows of a block past the last row of the source are 0, and so
 // are the bits that they become.
+#![tactic(auto)]
+
 ghost use Rattle.std.specs.Prelude.{◌≡◌, ◌+◌, ◌*◌, ◌<◌, ◌≤◌, length};
 ghost use Rattle.rows.specs.Words.{words_per_row};
 ghost use Rattle.by_shot.specs.Reply.{transposed, may_hold_of, rearranged, by_shot_reply, by_outcome_reply};

@@ -1,5 +1,7 @@
 // Tests of the header, of noise lines and of their element lines; and of each other kind of line, but lines that are a Pauli alone, the number that
 // refuses it after 2 and 3, 0 where none does.
+#![tactic(auto)]
+
 ghost use Rattle.std.specs.Prelude.{◌≡◌, ◌&&◌, List, [], ◌∷◌, ℕ, ◌+◌, ◌^◌, ◌≤◌, ◌<◌, ltb};
 ghost use Rattle.std.proofs.Math.Option.{some};
 ghost use Rattle.text.specs.Template.{Value, list_at_of};

@@ -7,7 +7,7 @@ use job::{FIRST_EDITION, Header};
 
 // What the lines before say: whether there was a header, and its numbers; how many outcomes are recorded; how many element lines are due, whether
 // they have weights, and the sum of the weights so far.
-#[derive(Drop)]
+#[derive(Clone, Copy)]
 pub struct Context {
     pub begun: bool,
     pub header: Header,

@@ -5,7 +5,7 @@ ghost use Rattle.job.specs.Float.{float, is_probability, is_weight_of, is_total}
 ghost use Rattle.check_values.specs.Floats.{only_if};
 
 // A float that a job gave by its bits, or the refusal of it.
-#[derive(Drop)]
+#[derive(Clone, Copy)]
 pub enum Checked {
     Accepted(f64),
     Refused,

@@ -1,4 +1,6 @@
 // The tests of a job.
+#![tactic(auto)]
+
 ghost use Rattle.std.specs.Prelude.{◌≡◌, ◌+◌, ◌<◌, ◌^◌, true};
 ghost use Rattle.job.specs.Job.{well_ended_of, check_job};
 ghost use Rattle.template.specs.Values.{Whole};
@@ -30,7 +32,7 @@ fn well_ended(job: &[u8]) -> bool
 }
 
 // The answer of the tests of a job; of an accepted job also its header's numbers, how many outcomes it records, and how many lines it has.
-#[derive(Drop)]
+#[derive(Clone, Copy)]
 pub struct Examined {
     pub answer: Answer,
     pub header: Header,
@@ -56,7 +58,7 @@ fn refused(number: u64, line: u64) -> Examined
 }
 
 // A pass over a job's lines: the number of the test that failed, or 0; how many lines were read; whether there is another to read; what they say.
-#[derive(Drop)]
+#[derive(Clone, Copy)]
 struct Pass {
     pub number: u64,
     pub lines: u64,

@@ -1,4 +1,6 @@
 // The choice of an element. An element is known by its number, from 0.
+#![tactic(auto)]
+
 ghost use Rattle.std.specs.Prelude.{◌≡◌, ◌||◌, List, ◌++◌, ◌-◌, ◌<◌, ◌≤◌, length, drop};
 ghost use Rattle.job.specs.Float.{zero_float, total_from};
 ghost use Rattle.draws.specs.Draws.{limit_of, bounded, running_sums_of, is_positive};
@@ -11,7 +13,7 @@ use noise::words::{next_word, unit};
 use noise::{NextWord, PauliDistribution};
 
 // An element, with the position of the next word; or a word was needed past the end.
-#[derive(Drop)]
+#[derive(Clone, Copy)]
 pub enum Choice {
     Chosen { element: u64, position: usize },
     Spent,
@@ -19,7 +21,7 @@ pub enum Choice {
 
 // A distribution; for a choice in which each element is as likely as another also its bound, how many elements it is among, and its limit, which
 // takes a division.
-#[derive(Drop)]
+#[derive(Clone, Copy)]
 pub struct Chooser {
     pub distribution: PauliDistribution,
     pub bound: u64,

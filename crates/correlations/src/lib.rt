@@ -1,5 +1,7 @@
 // The correlation check: one size per corr. The correlations that were seen lie in a table of fixed size; where it is full, another round over the
 // rest of the job begins, with an empty table. Correlations with one remainder are linked, so that one is found without a look at the others.
+#![tactic(auto)]
+
 ghost use Rattle.std.specs.Prelude.{◌≡◌, ◌&&◌, true, List, [], ◌<◌, eqb, length, take};
 ghost use Rattle.text.specs.Bytes.{until};
 ghost use Rattle.text.specs.Template.{Value};
@@ -84,7 +86,7 @@ fn place(seen: &[u64], links: &[u16], correlation: u64) -> usize
 }
 
 // A line's correlation and size beside the table: whether they fit, and whether the correlation is new.
-#[derive(Drop)]
+#[derive(Clone, Copy)]
 struct Compared {
     fits: bool,
     fresh: bool,
@@ -151,7 +153,7 @@ fn remember(l: Compared, n: usize, seen: &mut [u64], sizes: &mut [u64], links: &
 
 // How far the table went: a line that differs (0 for none); or how many correlations it holds, and the line that it has no room for,
 // or the job's end.
-#[derive(Drop)]
+#[derive(Clone, Copy)]
 struct Collected {
     differing: u64,
     n: usize,
@@ -229,7 +231,7 @@ fn compare(job: &[u8], from: usize, number: u64, seen: &[u64], sizes: &[u64], li
 }
 
 // A line that differs (0 for none), and where the next round begins.
-#[derive(Drop)]
+#[derive(Clone, Copy)]
 struct Found {
     differing: u64,
     at: usize,

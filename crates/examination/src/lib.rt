@@ -1,4 +1,6 @@
 // The numbers of a job: what a caller has to know of it before it lends memory.
+#![tactic(auto)]
+
 ghost use Rattle.std.specs.Prelude.{◌≡◌};
 ghost use Rattle.examination.specs.Reply.{examine_reply};
 
@@ -7,7 +9,7 @@ use job::Answer;
 // The answer of the tests of a job; of an accepted job also its header's numbers, how many outcomes it records, and how many lines it has. Calls hand
 // it to C as it is.
 #[repr(C)]
-#[derive(Drop)]
+#[derive(Clone, Copy)]
 pub struct Examination {
     pub answered: Answer,
     pub qubits: u64,

@@ -101,7 +101,7 @@ pub fn inject_element(
 // ---- The faults of a line
 
 // The faults of all shots were injected, with the position of the next word; or a word was needed past the end.
-#[derive(Drop)]
+#[derive(Clone, Copy)]
 pub enum Drawn {
     Done { position: usize },
     Spent,

@@ -1,4 +1,6 @@
 // One instruction of an accepted job, executed on rows of words.
+#![tactic(auto)]
+
 ghost use Rattle.std.specs.Prelude.{◌++◌, ◌*◌, ◌≤◌, length};
 ghost use Rattle.totals.specs.Held.{TotalsHeld};
 ghost use Rattle.execution.specs.Steps.{RowsFor, NoiseReady, NoiseRoom, NoiseDone, StepReady, Stepped};
@@ -15,7 +17,7 @@ use rows::Shape;
 mod injection;
 
 // The place of the next instruction; or the draws were spent, and the main list was read up to a position.
-#[derive(Drop)]
+#[derive(Clone, Copy)]
 pub enum Moved {
     To(Place),
     Spent { position: usize },

@@ -1,6 +1,8 @@
 // Words gone over for the next one that brings a fault. A fault is decided by `is_fault`, which compares the word's u with p. Words without a fault are
 // passed over in blocks of eight, with one branch a block, by a whole number made from p, the threshold. In a block with a fault it also passes over
 // the words before the fault.
+#![tactic(auto)]
+
 ghost use Rattle.std.specs.Prelude.{◌≡◌, ◌+◌, ◌-◌, ◌^◌, ◌≤◌, min, true, false, ◌++◌, length, if◌then◌else◌, nat_le, slice_index, Float};
 ghost use Rattle.draws.specs.Draws.{falls};
 ghost use Rattle.fault_scan.specs.Scan.{threshold_of, Quiet, Passed, Stopped, Skipped};

@@ -12,7 +12,7 @@ use numbers::rising::is_rising;
 pub const GROUP_WORDS: usize = 24;
 
 // Refused by 17, or so many groups.
-#[derive(Drop)]
+#[derive(Clone, Copy)]
 pub enum Tested {
     Refused,
     Count(usize),

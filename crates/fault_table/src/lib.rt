@@ -1,5 +1,7 @@
 // The table of single faults. Each group is carried back one time for all elements: the job's lines are read from the last to the first, each once
 // for all groups, and the table is written from its end.
+#![tactic(auto)]
+
 ghost use Rattle.std.specs.Prelude.{◌≡◌, List, ℕ, ◌+◌, ◌^◌, ◌<◌, ◌≤◌, length};
 ghost use Rattle.text.specs.Bytes.{unlines};
 ghost use Rattle.text.specs.Template.{Value};
@@ -50,7 +52,7 @@ fn line_bytes(form: Form, f: &[u64], k: u64, groups: usize) -> usize
 }
 
 // The first line that is too wide, 0 for none, and the bytes of the table.
-#[derive(Drop)]
+#[derive(Clone, Copy)]
 struct Measured {
     wide: u64,
     bytes: usize,

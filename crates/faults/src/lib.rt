@@ -1,4 +1,6 @@
 // A noise line with its element lines, made ready for its draws: its values, its elements and the shots in which its condition is satisfied.
+#![tactic(auto)]
+
 ghost use Rattle.std.specs.Prelude.{List, ℕ, ◌+◌, ◌≤◌, length, take};
 ghost use Rattle.rows.specs.Words.{bit_in};
 ghost use Rattle.rows.specs.Listed.{RowsIn};
@@ -17,7 +19,7 @@ use noise::{OutcomeCondition, PauliFault};
 use reader::slots::OWN_LISTS;
 
 // A noise line by value, how many element lines follow it, and the place in the job behind them.
-#[derive(Drop)]
+#[derive(Clone, Copy)]
 pub struct Prepared {
     pub fault: PauliFault,
     pub element_lines: usize,

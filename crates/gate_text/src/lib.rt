@@ -1,5 +1,7 @@
 // A gate line that is known to have its form, as each line of a job that passed the tests has: its code and its operands are read in one pass over
 // their bytes, and nothing of the form is tested again.
+#![tactic(auto)]
+
 ghost use Rattle.std.specs.Prelude.{◌≡◌, true};
 ghost use Rattle.gate_text.specs.Gate.{ListThere, OperandsRead, GateBytes, GateLine, GateRead};
 
@@ -25,7 +27,7 @@ pub fn is_gate(line: &[u8]) -> bool
 }
 
 // The first two members of a list, the second 0 where there is none, and how many of the two there are.
-#[derive(Drop)]
+#[derive(Clone, Copy)]
 struct Operands {
     first: QubitId,
     second: QubitId,
@@ -54,7 +56,7 @@ fn read_operands(line: &[u8], from: usize) -> Operands
 }
 
 // What a gate line says: the gate's code and its first two operands, the second 0 where there is none, and how many of the two there are.
-#[derive(Drop)]
+#[derive(Clone, Copy)]
 pub struct Gate {
     pub code: u64,
     pub first: QubitId,

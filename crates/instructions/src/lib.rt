@@ -1,5 +1,7 @@
 // A line of a job that was read: its form, and how many element lines follow it. That an accepted job, read line by line, gives its instructions one
 // after the other is in specs/Ahead; the crate known_lines reads its lines. The layers above know a line by its form and its values, not by its text.
+#![tactic(auto)]
+
 ghost use Rattle.std.specs.Prelude.{◌≡◌, List};
 ghost use Rattle.std.proofs.Math.Option.{some};
 ghost use Rattle.text.specs.Template.{Value};
@@ -15,7 +17,7 @@ use reader::slots::ELEMENT_COUNT;
 use template::values::number;
 
 // A line that was read: its form, and the place of the LF that ends it. The next line begins after that.
-#[derive(Drop)]
+#[derive(Clone, Copy)]
 pub struct LineRead {
     pub form: Form,
     pub end: usize,

@@ -1,5 +1,7 @@
 // The definitions of a job, of its lines, its instructions and the tests of a job (specs/), the types that answers have, and the limits. The code of
 // the tests is in the crates job_numbers, reader, instructions, check_values, check_lines and checker.
+#![tactic(auto)]
+
 pub mod limits;
 pub mod refusals;
 
@@ -9,7 +11,7 @@ pub const FIRST_EDITION: u64 = 1;
 pub const SECOND_EDITION: u64 = 2;
 
 // The header's numbers.
-#[derive(Drop)]
+#[derive(Clone, Copy)]
 pub struct Header {
     pub edition: u64,
     pub qubits: u64,
@@ -19,7 +21,7 @@ pub struct Header {
 
 // What a call says: a refusal number, 0 for success, and a line, from 1, 0 where none fits. Calls hand it to C as it is.
 #[repr(C)]
-#[derive(Drop)]
+#[derive(Clone, Copy)]
 pub struct Answer {
     pub number: u64,
     pub line: u64,
@@ -27,7 +29,7 @@ pub struct Answer {
 
 // What a call that counts says: its answer, and the count, 0 where it refuses. Calls hand it to C as it is.
 #[repr(C)]
-#[derive(Drop)]
+#[derive(Clone, Copy)]
 pub struct CountReply {
     pub answered: Answer,
     pub count: u64,

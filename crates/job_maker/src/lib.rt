@@ -1,4 +1,6 @@
 // Whole jobs from a seed (document 02, note 7; docs/MAKING.md).
+#![tactic(auto)]
+
 ghost use Rattle.std.specs.Prelude.{◌≡◌, [], ◌∷◌, ◌++◌};
 ghost use Rattle.text.specs.Bytes.{LF};
 ghost use Rattle.job.specs.Grammar.{header_with};

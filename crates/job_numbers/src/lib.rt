@@ -1,4 +1,6 @@
 // What is asked of a job's numbers alone: whether a header may hold them, and how many elements depolarizing noise has.
+#![tactic(auto)]
+
 ghost use Rattle.std.specs.Prelude.{◌≡◌, ◌-◌, ◌^◌, ◌<◌};
 ghost use Rattle.job.specs.Checks.{in_range};
 

@@ -9,7 +9,7 @@ use job::{Answer, refusals};
 use rows::Shape;
 
 // How many words are lent of each list that a run tests.
-#[derive(Drop)]
+#[derive(Clone, Copy)]
 pub struct Lengths {
     pub x: usize,
     pub z: usize,

@@ -1,4 +1,6 @@
 // The tests of a job, and whether enough words are lent; of an accepted one the shape of its rows, and where its instructions begin.
+#![tactic(auto)]
+
 ghost use Rattle.std.specs.Prelude.{◌≡◌, true};
 ghost use Rattle.job_shape.specs.Tested.{Tests};
 ghost use Rattle.job_shape.specs.Header.{behind_header_of};
@@ -12,7 +14,7 @@ use rows::Shape;
 pub mod lent_words;
 
 // The answer to the tests. The shape is that of the job's rows where none refuses.
-#[derive(Drop)]
+#[derive(Clone, Copy)]
 pub struct Tested {
     pub answer: Answer,
     pub shape: Shape,

@@ -1,5 +1,7 @@
 // A line of an accepted job, read again. Of gate lines, element lines and controlled Paulis the form isn't tested once more; other lines are read as
 // for the tests.
+#![tactic(auto)]
+
 ghost use Rattle.std.specs.Prelude.{◌≡◌, true, ◌<◌, get_or};
 ghost use Rattle.template.specs.Values.{Whole};
 ghost use Rattle.line_reader.specs.Reading.{line_from_of};

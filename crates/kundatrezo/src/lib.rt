@@ -2,6 +2,8 @@
 //
 // A slice is a pointer and a length in elements, an answer a struct by value. No call requires anything: lists of any length and a job of any bytes
 // get an answer, and what is promised here is the whole of it.
+#![tactic(auto)]
+
 ghost use Rattle.std.specs.Prelude.{◌≡◌, List, ℕ, replicate};
 ghost use Rattle.job.specs.Job.{check_job};
 ghost use Rattle.examination.specs.Reply.{examine_reply};

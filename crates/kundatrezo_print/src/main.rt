@@ -1,4 +1,6 @@
 // Prints the session of the job on standard input: the deltas of its recorded outcomes in each shot, or its refusal.
+#![tactic(auto)]
+
 ghost use Rattle.std.specs.Prelude.{◌≡◌, length};
 
 mod printing;

@@ -1,11 +1,13 @@
 // A reader over a job's bytes, which hands out one line after another: a struct that holds the job and a place in it, and thin functions over a core
 // that takes a slice and numbers. A caller makes its reader in place, `Reader { job, at: 0 }`. A caller that keeps the place itself calls the core.
+#![tactic(auto)]
+
 ghost use Rattle.std.specs.Prelude.{◌≡◌, ◌-◌, ◌<◌, ◌≤◌, cond, ltb, length};
 ghost use Rattle.line_reader.specs.Reading.{line_from_of, behind, behind_lines, part_numbered};
 
 use numbers::pieces::{find, find_far};
 
-#[derive(Drop)]
+#[derive(Clone, Copy)]
 pub struct Reader<'a> {
     pub job: &'a [u8],
     pub at: usize,
@@ -79,7 +81,7 @@ fn nth_start(job: &[u8], count: u64) -> usize
 
 // Where a line lies in a job: its first byte, and how many bytes it has.
 #[repr(C)]
-#[derive(Drop)]
+#[derive(Clone, Copy)]
 pub struct LinePart {
     pub start: usize,
     pub len: usize,

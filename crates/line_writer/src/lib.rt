@@ -1,4 +1,6 @@
 // A line by its template, put as `template` reads it.
+#![tactic(auto)]
+
 ghost use Rattle.std.specs.Prelude.{◌≡◌, [], ◌+◌, ◌^◌, ◌<◌, length};
 ghost use Rattle.text.specs.Template.{Value, value_text, line_text};
 ghost use Rattle.writer.specs.Placed.{Puts};

@@ -1,5 +1,7 @@
 // Lines that are no noise, on the frames and deltas of many shots:
 // each kind of line, by its values in lent words (crate template), goes to the crates propagator and unitaries.
+#![tactic(auto)]
+
 ghost use Rattle.std.specs.Prelude.{◌≡◌, List, ℕ, ◌*◌, ◌≤◌, length};
 ghost use Rattle.job.specs.Line.{Line};
 ghost use Rattle.reader.specs.declared.Form.TheVariants as Forms;

@@ -1,4 +1,6 @@
 // Lines going back: each kind of line, as its values lie in lent words (crate template), on the observable, the set of outcomes and the count.
+#![tactic(auto)]
+
 ghost use Rattle.std.specs.Prelude.{◌≡◌, Bool, false, ℕ, ◌+◌, ◌^◌, ◌<◌, length};
 ghost use Rattle.pauli.specs.Bits.{Bits};
 ghost use Rattle.pauli.specs.Fixed.{in_set};
@@ -111,7 +113,7 @@ fn flip(values: &[u64], set: &[u64], shot: Shot) -> bool
 // ---- Any line
 
 // The observable that is carried back, the count, and the line of the first noise so far, 0 where there was none. The set of outcomes is lent.
-#[derive(Drop)]
+#[derive(Clone, Copy)]
 pub struct Walk {
     pub observable: Pauli,
     pub count: u64,

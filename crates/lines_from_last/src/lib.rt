@@ -1,4 +1,6 @@
 // A job's lines from the last to the first: where the line starts whose end is known.
+#![tactic(auto)]
+
 ghost use Rattle.std.specs.Prelude.{◌≡◌, false, ◌+◌, ◌≤◌, ◌<◌, length, get_or};
 ghost use Rattle.text.specs.Bytes.{LF};
 ghost use Rattle.text.specs.Written.{Free};

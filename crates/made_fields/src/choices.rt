@@ -6,14 +6,14 @@ ghost use Rattle.made_fields.specs.Chosen.{NumberIs, ListIs, Kept};
 use seed_words::step;
 
 // A number, and the state of the stream behind it.
-#[derive(Drop)]
+#[derive(Clone, Copy)]
 pub struct Number {
     pub value: u64,
     pub state: u64,
 }
 
 // How many numbers a lent list has from its first word on, and the state of the stream behind them.
-#[derive(Drop)]
+#[derive(Clone, Copy)]
 pub struct Numbers {
     pub count: usize,
     pub state: u64,

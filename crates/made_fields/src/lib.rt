@@ -1,4 +1,6 @@
 // The fields of made lines, put as they are chosen: they stand in a line in the order in which its values are chosen (docs/MAKING.md).
+#![tactic(auto)]
+
 ghost use Rattle.std.specs.Prelude.{◌≡◌, [], ◌∷◌, ◌+◌, ◌^◌, ◌≤◌, ◌<◌, length};
 ghost use Rattle.text.specs.Bytes.{LF};
 ghost use Rattle.text.specs.Number.{decimal};
@@ -12,7 +14,7 @@ use crate::choices::few;
 use writer::{put_byte, put_bytes, put_list, put_number};
 
 // Where the next byte of the text goes, how many outcomes are recorded, and the state of the stream.
-#[derive(Drop)]
+#[derive(Clone, Copy)]
 pub struct Making {
     pub at: usize,
     pub recorded: u64,

@@ -1,4 +1,6 @@
 // A made instruction: its kind by the ring of docs/MAKING.md, and its lines.
+#![tactic(auto)]
+
 ghost use Rattle.std.specs.Prelude.{◌≡◌, ℕ, ◌<◌, length};
 ghost use Rattle.made.specs.Making.{ring, instruction};
 ghost use Rattle.made_fields.specs.Lines.{MadeIs, Ready};

@@ -1,4 +1,6 @@
 // A run of a job over exactly the words that it needs: its instructions one after the other.
+#![tactic(auto)]
+
 ghost use Rattle.std.specs.Prelude.{◌≡◌, ◌++◌, ℕ, length};
 ghost use Rattle.rows.specs.Overwrite.{cleared};
 ghost use Rattle.run.specs.Run.{Source};
@@ -20,7 +22,7 @@ use template::values::{KEPT, VALUE_WORDS};
 const SCRATCH_WORDS: usize = KEPT * MAX_WIDTH;
 
 // An answer, and how many words of the main list were taken for it.
-#[derive(Drop)]
+#[derive(Clone, Copy)]
 pub struct Answered {
     pub answer: Answer,
     pub taken: usize,

@@ -1,4 +1,6 @@
 // The injections that stand for a noise line, put into lent bytes as lines.
+#![tactic(auto)]
+
 ghost use Rattle.std.specs.Prelude.{List, [], ◌∷◌, ◌++◌, ℕ, ◌+◌, ◌*◌, ◌^◌, ◌<◌, ◌≤◌, length, drop};
 ghost use Rattle.text.specs.Bytes.{LF};
 ghost use Rattle.job.specs.Line.{Instruction};
@@ -72,7 +74,7 @@ fn put_element(
 
 // A word was needed past the end, or all shots have drawn. Each with the position behind the words that were read: in the line's part of a list for
 // `put_faults`, in the main list for `put_noise`. `text` is the place of the text's next byte.
-#[derive(Drop)]
+#[derive(Clone, Copy)]
 pub enum Drawn {
     Spent { position: usize },
     Done { position: usize, text: usize },

@@ -9,7 +9,7 @@ use crate::hex_value;
 use crate::lists::{Listed, empty, push, store};
 
 // A number by its digits, and the place behind them.
-#[derive(Drop)]
+#[derive(Clone, Copy)]
 pub struct Digits {
     pub value: u64,
     pub behind: usize,
@@ -65,7 +65,7 @@ fn is_comma(s: &[u8], at: usize) -> bool
 }
 
 // A list, and the place behind it.
-#[derive(Drop)]
+#[derive(Clone, Copy)]
 pub struct KnownList {
     pub list: Listed,
     pub behind: usize,

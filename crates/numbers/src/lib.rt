@@ -1,4 +1,6 @@
 // Numbers and lists as text, and bytes cut at a separator. The definitions are in the crate text.
+#![tactic(auto)]
+
 pub mod known;
 pub mod lists;
 pub mod pieces;
@@ -10,7 +12,7 @@ ghost use Rattle.numbers.specs.Read.{read};
 ghost use Rattle.numbers.specs.Hex.{hex_value_of};
 
 // What some bytes are, or that they are no such value.
-#[derive(Drop)]
+#[derive(Clone, Copy)]
 pub enum Value {
     Of(u64),
     Bad,

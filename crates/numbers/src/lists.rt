@@ -11,7 +11,7 @@ use crate::pieces::find;
 use crate::{Value, hex16, number};
 
 // A list as it was read: whether each member is a number, how many there are, the largest (0 of none), and whether they rise strictly.
-#[derive(Drop)]
+#[derive(Clone, Copy)]
 pub struct Listed {
     pub ok: bool,
     pub count: usize,
@@ -91,7 +91,7 @@ fn piece(s: &[u8], hex: bool) -> Value
 }
 
 // A number of at most three digits that ends at a comma: its digits, 0 where there is no such number, and its value.
-#[derive(Drop)]
+#[derive(Clone, Copy)]
 struct Short {
     digits: usize,
     value: u64,
@@ -155,7 +155,7 @@ fn short_number(a: u8, b: u8, c: u8, d: u8) -> Short
 }
 
 // A member of a list, and where it ends.
-#[derive(Drop)]
+#[derive(Clone, Copy)]
 struct Member {
     value: Value,
     end: usize,

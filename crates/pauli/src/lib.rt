@@ -1,4 +1,6 @@
 // Qubits, outcomes and shots by their numbers, fixed sets of them, and Pauli operators up to their phase.
+#![tactic(auto)]
+
 mod sets;
 
 ghost use Rattle.std.specs.Prelude.{◌≡◌, [], ◌∷◌, ◌<◌, length, get_or};
@@ -11,13 +13,13 @@ ghost use Rattle.pauli.specs.Fixed.{as_pauli, AllBelow};
 pub use sets::{add_outcomes, has_outcome, has_qubit, outcomes, qubits, sum_of_qubits};
 
 // A qubit's number is never taken for an outcome's or a shot's.
-#[derive(Drop)]
+#[derive(Clone, Copy)]
 pub struct QubitId(pub usize);
 
-#[derive(Drop)]
+#[derive(Clone, Copy)]
 pub struct OutcomeId(pub usize);
 
-#[derive(Drop)]
+#[derive(Clone, Copy)]
 pub struct Shot(pub usize);
 
 // A list in lent words is a list of numbers; its members are taken out as ids by these two alone.
@@ -64,7 +66,7 @@ pub fn operand_count(code: u64) -> u8
 }
 
 // A Pauli operator up to its phase: the qubits with an X part, and those with a Z part. Y has both.
-#[derive(Drop)]
+#[derive(Clone, Copy)]
 pub struct Pauli {
     pub x: [u64; 4],
     pub z: [u64; 4],

@@ -1,4 +1,6 @@
 // What a line says: its form. Its values go into lent words (crate template).
+#![tactic(auto)]
+
 ghost use Rattle.std.specs.Prelude.{◌≡◌, ◌≤◌, ◌<◌, ◌&&◌, eqb, length, get_or};
 ghost use Rattle.job.specs.Grammar.{is_one};
 ghost use Rattle.template.specs.Values.{Whole};
@@ -16,7 +18,7 @@ use template::values::{count, number};
 use template::{Progress, far_value, literal, read_all, start, value, whole};
 
 // The forms of lines, in the order of document 01, then those of the second edition; `Unread` where a line has none.
-#[derive(Drop)]
+#[derive(Clone, Copy)]
 pub enum Form {
     Unread,
     Header,

@@ -7,7 +7,7 @@ use template::values;
 use writer::TextAnswer;
 
 // How many cases there were, and how many of them differ.
-#[derive(Drop)]
+#[derive(Clone, Copy)]
 pub struct Tally {
     pub cases: u64,
     pub differ: u64,

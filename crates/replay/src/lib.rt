@@ -1,6 +1,8 @@
 // Stored cases, for the program that replays them: how a list of them is read. A list is a row of records. A record is a line; a record
 // `add bytes=N times=N` is its line and the N bytes after it. The records `add` make up the bytes of a case, each its bytes so many times, one behind
 // the other; the record after them names the call, and says what it must answer.
+#![tactic(auto)]
+
 ghost use Rattle.std.specs.Prelude.{◌≡◌, ◌+◌, ◌≤◌, ◌<◌, length};
 ghost use Rattle.template.specs.Values.{Whole};
 
@@ -33,7 +35,7 @@ pub fn words_buffer() -> [u64; 32768]
 }
 
 // How far a list was read: the place of the next record, and how many bytes of a case are held.
-#[derive(Drop)]
+#[derive(Clone, Copy)]
 struct Gathered {
     at: usize,
     held: usize,
@@ -110,7 +112,7 @@ fn gather(list: &[u8], from: usize, dst: &mut [u8]) -> Gathered
 }
 
 // A case: how many bytes it has, where its record begins and ends, and where the next case begins.
-#[derive(Drop)]
+#[derive(Clone, Copy)]
 pub struct Case {
     pub held: usize,
     pub at: usize,

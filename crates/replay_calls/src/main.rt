@@ -1,5 +1,7 @@
 // Replays stored cases of the calls from standard input: `crates/replay/README.md` says how they are written. Prints where a case differs, then how
 // many cases there were and how many differ.
+#![tactic(auto)]
+
 ghost use Rattle.std.specs.Prelude.{◌≡◌, ◌≤◌, length};
 ghost use Rattle.template.specs.Values.{Whole};
 
@@ -110,7 +112,7 @@ fn replay_annotate(at: usize, fields: &[u64], bytes: &[u8]) -> bool
 }
 
 // Where the lists of words end that a call is lent, and those that it must leave, one behind the other.
-#[derive(Drop)]
+#[derive(Clone, Copy)]
 struct Ends {
     noiseless: usize,
     main: usize,

@@ -1,5 +1,7 @@
 // Replays stored cases of further calls from standard input, as `replay_calls` does those of others: `crates/replay/README.md` says how they are
 // written. A program of its own, so that the two are checked side by side.
+#![tactic(auto)]
+
 ghost use Rattle.std.specs.Prelude.{◌≡◌, ◌≤◌, length};
 ghost use Rattle.template.specs.Values.{Whole};
 

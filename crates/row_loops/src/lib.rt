@@ -1,5 +1,7 @@
 // The loops over rows of words that Pauli frames are made of; crate rows says how a matrix of bits lies in a slice, w words a row.
 // Loops go word by word, so that they are vectorised; no row is copied that need not be.
+#![tactic(auto)]
+
 ghost use Rattle.std.specs.Prelude.{◌≡◌, ◌+◌, ◌*◌, ◌^◌, ◌<◌, ◌≤◌, length};
 ghost use Rattle.rows.specs.Overwrite.{cleared, copied, xored, swapped, flipped};
 ghost use Rattle.rows.specs.Listed.{RowsIn, over_list, collected};

@@ -1,4 +1,6 @@
 // A run of a job: the tests, then its instructions one after the other on the lent words.
+#![tactic(auto)]
+
 ghost use Rattle.std.specs.Prelude.{◌≡◌, ◌++◌};
 ghost use Rattle.run.specs.Run.{Source, Memory, RunReply, run_reply};
 ghost use Rattle.runner.specs.Ran.{RunReady, RanTo};

@@ -1,4 +1,6 @@
 // The words of a seed, filled into lent words.
+#![tactic(auto)]
+
 ghost use Rattle.std.specs.Prelude.{◌≡◌, length};
 ghost use Rattle.stream.specs.Stream.{step, stepped, words_from, fill_reply};
 
@@ -30,7 +32,7 @@ const JUMP_3072: u64 = 0xa7815edb7afebac4;
 const STATE_BITS: u64 = 64;
 
 // The states from which the second, third and fourth quarter of a block go on.
-#[derive(Drop)]
+#[derive(Clone, Copy)]
 struct Starts {
     second: u64,
     third: u64,

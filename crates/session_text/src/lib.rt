@@ -1,4 +1,6 @@
 // The text of a printed session: a refusal, or a header and the deltas of its outcomes.
+#![tactic(auto)]
+
 ghost use Rattle.std.specs.Prelude.{◌≡◌, cond, [], ◌∷◌, ◌++◌, ◌+◌, ◌*◌, ◌/◌, ◌^◌, ◌<◌, ◌≤◌, length};
 ghost use Rattle.text.specs.Bytes.{LF, unlines};
 ghost use Rattle.rows.specs.Words.{words_per_row, bit_in};

@@ -14,14 +14,14 @@ use rows::Shape;
 use writer::put_bytes;
 
 // How far a pass came: where it stands in the job, and how many bytes of text it put.
-#[derive(Drop)]
+#[derive(Clone, Copy)]
 pub struct Reached {
     pub place: Place,
     pub text: usize,
 }
 
 // The instruction's draws were spent, with the position in the main list where it leaves it; or how far the pass came with it.
-#[derive(Drop)]
+#[derive(Clone, Copy)]
 pub enum Moved {
     Spent { position: usize },
     To(Reached),

@@ -1,4 +1,6 @@
 // Settling of a job: its text with each noise instruction replaced by the injections that fall.
+#![tactic(auto)]
+
 ghost use Rattle.std.specs.Prelude.{◌≡◌, ◌++◌, leb};
 ghost use Rattle.job.specs.Job.{job_of};
 ghost use Rattle.job_shape.specs.Tested.{Tests};
@@ -21,14 +23,14 @@ use template::values::VALUE_WORDS;
 use writer::{TextAnswer, put_bytes, refused, text_fits};
 
 // The text is so long; or the line of the noise whose draws were spent. Each with the words of the main list that were taken.
-#[derive(Drop)]
+#[derive(Clone, Copy)]
 pub enum TextLength {
     Length { bytes: usize, taken: usize },
     SpentAt { line: u64, taken: usize },
 }
 
 // An answer, and how many words of the main list were taken for it.
-#[derive(Drop)]
+#[derive(Clone, Copy)]
 pub struct Answered {
     pub answer: TextAnswer,
     pub taken: usize,

@@ -1,4 +1,6 @@
 // The shares of the main list: their tests, a caller's two parts of the list, and the marks after a job.
+#![tactic(auto)]
+
 ghost use Rattle.std.specs.Prelude.{◌≡◌, ℕ, ◌+◌, ◌-◌, ◌^◌, ◌<◌, ◌≤◌, min, length, get_or, take};
 ghost use Rattle.shares.specs.Shares.{sum, own_left, common_left, moved, each_within_of, shares_fit_of};
 ghost use Rattle.share_marks.specs.Fit.{Fit, share_number_of};

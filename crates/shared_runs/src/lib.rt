@@ -1,4 +1,6 @@
 // A run and settling by a caller with a share of the main list.
+#![tactic(auto)]
+
 ghost use Rattle.std.specs.Prelude.{◌≡◌};
 ghost use Rattle.writer.specs.Reply.{text_reply};
 ghost use Rattle.shares.specs.Replies.{shared_run_reply, shared_settle_reply};

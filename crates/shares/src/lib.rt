@@ -1,1 +1,3 @@
 // Shares of the main list of draws: definitions and theorems.
+#![tactic(auto)]
+

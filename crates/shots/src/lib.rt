@@ -1,4 +1,6 @@
 // What the shots of a noise line draw, one after the other.
+#![tactic(auto)]
+
 ghost use Rattle.std.specs.Prelude.{◌≡◌, ◌++◌, ◌*◌, ◌/◌, ◌%◌, ◌<◌, ◌≤◌, length, get_or};
 ghost use Rattle.pauli.specs.Bits.{bit};
 ghost use Rattle.noise.specs.Kinds.{Small};
@@ -13,7 +15,7 @@ use pauli::{Shot, WORD_BITS};
 
 // How words become the faults of a line, the same in all its shots: p decides whether a word brings a fault, its threshold passes over words that
 // bring none, and the chooser finds the element.
-#[derive(Drop)]
+#[derive(Clone, Copy)]
 pub struct DrawRule {
     pub p: f64,
     pub threshold: u64,
@@ -33,7 +35,7 @@ pub fn rule_of(p: f64, distribution: PauliDistribution) -> DrawRule
 }
 
 // What one shot draws: no fault, or an element, each with the position of the next word; or a word was needed past the end.
-#[derive(Drop)]
+#[derive(Clone, Copy)]
 pub enum ShotDraw {
     Spent,
     Quiet { position: usize },
@@ -76,7 +78,7 @@ pub fn is_set(mask: &[u64], shot: Shot) -> bool
 
 // The next fault of a line: its shot, its element and the position of the next word. Or no shot that is left has one, with the position of the next
 // word; or a word was needed past the end.
-#[derive(Drop)]
+#[derive(Clone, Copy)]
 pub enum NextFault {
     Spent,
     Done {

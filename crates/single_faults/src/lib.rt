@@ -1,1 +1,3 @@
 // The table of single faults: definitions and theorems.
+#![tactic(auto)]
+

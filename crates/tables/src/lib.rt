@@ -1,5 +1,7 @@
 // The table of a Clifford on k of 1 to 8 qubits, in words, the least significant first: bit 2k * r + c is at column c of row r.
 // A row may lie in two words.
+#![tactic(auto)]
+
 ghost use Rattle.std.specs.Prelude.{◌≡◌, not, ◌&&◌, ◌*◌, ◌^◌, ◌≤◌, ◌<◌, eqb, ltb, leb, length};
 ghost use Rattle.job.specs.Clifford.{max_clifford_qubits, table_words_of, table_of};
 ghost use Rattle.tables.specs.Rows.{TableFor, row_word, RowsOf};

@@ -1,4 +1,6 @@
 // A line by its template: `op=i shot=N x=L z=L`. What is read goes into lent words (module `values`).
+#![tactic(auto)]
+
 ghost use Rattle.std.specs.Prelude.{◌≡◌, true, false, ◌&&◌, List, [], ◌∷◌, ℕ, ◌≤◌, eqb, length};
 ghost use Rattle.text.specs.Template.{a_number, a_list, value_of, is_letter_of};
 ghost use Rattle.numbers.specs.Read.{read, ListRead};
@@ -13,7 +15,7 @@ use numbers::{Value, bit, hex16, number};
 use values::{COUNTS, KEPT, LARGEST, MAX_SLOTS, MEMBERS};
 
 // How far a line was read: whether it has its template's form so far, up to which byte, and how many numbers and lists it had.
-#[derive(Drop)]
+#[derive(Clone, Copy)]
 pub struct Progress {
     pub ok: bool,
     pub at: usize,
@@ -33,7 +35,7 @@ fn refused() -> Progress
 }
 
 // How many numbers and lists a line had, with one value more. `ok` is false where the bytes are no such value, or no slot is left.
-#[derive(Drop)]
+#[derive(Clone, Copy)]
 struct Stored {
     ok: bool,
     numbers: usize,

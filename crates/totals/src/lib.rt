@@ -1,5 +1,7 @@
 // Totals: a number for each row of a matrix of bits, equal to the ones in the row. A row that changed is counted again; a single bit that changes is
 // one more or one less. And the other way, in one shot: the sum modulo 2 of listed rows.
+#![tactic(auto)]
+
 ghost use Rattle.std.specs.Prelude.{◌≡◌, false, ℕ, ◌+◌, ◌*◌, ◌/◌, ◌^◌, ◌<◌, ◌≤◌, length, get_or, set};
 ghost use Rattle.rows.specs.Words.{bit_in};
 ghost use Rattle.rows.specs.Overwrite.{flipped};

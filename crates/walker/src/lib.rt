@@ -1,5 +1,7 @@
 // The walk back over a job without noise: for a set of outcomes and a shot,
 // the count of the injections and flips that change the sum of the set's deltas.
+#![tactic(auto)]
+
 ghost use Rattle.std.specs.Prelude.{◌≡◌, true, ◌+◌, ◌-◌, ◌^◌, ◌<◌, length, get_or};
 ghost use Rattle.std.proofs.Math.Option.{some};
 ghost use Rattle.pauli.specs.Fixed.{in_set};
@@ -75,7 +77,7 @@ fn text_back(w: Walk, line: &[u8], values: &mut [u64], set: &mut [u64], shot: Sh
 
 // What gate lines leave: the observable, and the line in front of them, by its start, the place behind its LF, and its number. With no line in front
 // the two places are 0.
-#[derive(Drop)]
+#[derive(Clone, Copy)]
 struct Gates {
     observable: Pauli,
     start: usize,

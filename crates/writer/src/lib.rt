@@ -1,5 +1,7 @@
 // Text written into lent bytes. A byte whose place is past the end of the lent bytes is not written, but counted: over no bytes at all a text is only
 // measured. Each function asks that the place after its text is a number.
+#![tactic(auto)]
+
 ghost use Rattle.std.specs.Prelude.{◌≡◌, ◌&&◌, [], ◌∷◌, ◌+◌, ◌-◌, ◌^◌, ◌<◌, min, leb, length};
 ghost use Rattle.text.specs.Number.{decimal, hex_byte_of, hexadecimal};
 ghost use Rattle.text.specs.List.{commas, list_text};
@@ -14,7 +16,7 @@ pub mod lengths;
 
 // What a call that writes text says: its answer, and its byte figure.
 #[repr(C)]
-#[derive(Drop)]
+#[derive(Clone, Copy)]
 pub struct TextAnswer {
     pub answer: Answer,
     pub figure: u64,

@@ -1,0 +1,31 @@
+-- `check_lines::elements::due_after` meets its contract. Assumes nothing.
+use types.Run.{miss}
+use mathlib.Core.List.{[], ◌∷◌}
+use Rattle.check_values.specs.Contexts.{context_of}
+use mathlib.Core.Path.{◌∙◌}
+use Rattle.check_lines.specs.Laws.Elements.{none_due, due_uniform, due_weighted, due_element, due_weighted_element}
+use Rattle.instructions.specs.Laws.Meaning.{others_than, meaning}
+use Rattle.check_lines.proofs.elements.due_after.Goals as goal
+
+pub returns-in-Uniform : goal.returns-in-Uniform
+returns-in-Uniform c = λ vs w h. c.number.ensures ∙ due_uniform c.args.c (rw c.in-Uniform.is at h)
+
+pub returns-in-Weighted : goal.returns-in-Weighted
+returns-in-Weighted c = λ vs w h. c.number-in-Weighted.ensures ∙ due_weighted c.args.c (rw c.in-Weighted.is at h)
+
+pub returns-in-Element : goal.returns-in-Element
+returns-in-Element c = λ vs w h. c.one_less.ensures ∙ due_element c.args.c (rw c.in-Element.is at h)
+
+pub returns-in-WeightedElement : goal.returns-in-WeightedElement
+returns-in-WeightedElement c = λ vs w h. c.one_less-in-WeightedElement.ensures ∙ due_weighted_element c.args.c (rw c.in-WeightedElement.is at h)
+
+pub returns-in_default : goal.returns-in_default
+returns-in_default c =
+    λ vs w h.
+    none_due (context_of c.args.c) c.args.form
+    (λ e. miss (others_than (16 ∷ 17 ∷ 18 ∷ 19 ∷ [])) 16 tt (rw e at c.in_default.keys5))
+    (λ e. miss (others_than (16 ∷ 17 ∷ 18 ∷ 19 ∷ [])) 17 tt (rw e at c.in_default.keys5))
+    (λ e. miss (others_than (16 ∷ 17 ∷ 18 ∷ 19 ∷ [])) 18 tt (rw e at c.in_default.keys5))
+    (λ e. miss (others_than (16 ∷ 17 ∷ 18 ∷ 19 ∷ [])) 19 tt (rw e at c.in_default.keys5))
+    w
+    (meaning _ vs w h.says)

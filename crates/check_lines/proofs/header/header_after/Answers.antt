@@ -1,0 +1,23 @@
+-- `check_lines::header::header_after` meets its contract. Assumes nothing.
+use types.Run.{miss}
+use mathlib.Core.List.{[], ◌∷◌}
+use Rattle.check_values.specs.Contexts.{context_of}
+use Rattle.check_lines.specs.Laws.Header.{header_before, header_said, edition_said, header_after_lem}
+use Rattle.instructions.specs.Laws.Meaning.{others_than, meaning}
+use Rattle.check_lines.proofs.header.header_after.Goals as goal
+
+pub returns-in-Header : goal.returns-in-Header
+returns-in-Header c = λ vs w h. header_after_lem c.args.c (header_said (rw c.in-Header.is at h)) c.header_in.ensures
+
+pub returns-in-EditionHeader : goal.returns-in-EditionHeader
+returns-in-EditionHeader c = λ vs w h. header_after_lem c.args.c (edition_said (rw c.in-EditionHeader.is at h)) c.edition_in.ensures
+
+pub returns-in_default : goal.returns-in_default
+unfolding context_of
+returns-in_default c = λ vs w h.
+    (header_before (context_of c.args.c) c.args.form
+    (λ e. miss (others_than (1 ∷ 20 ∷ [])) 1 tt (rw e at c.in_default.keys3))
+    (λ e. miss (others_than (1 ∷ 20 ∷ [])) 20 tt (rw e at c.in_default.keys3))
+    w
+    (meaning _ vs w h.says)
+    ).1

@@ -1,0 +1,30 @@
+-- `check_lines::noise_lines::noise_number` meets its contract. Assumes nothing.
+use native.Mathlib.Omega.{arith}
+use mathlib.Core.Path.{sym, ◌∙◌}
+use borrow.Author.Tests.{not-true, not-false}
+use Rattle.check_values.specs.Laws.Floats.{only_refused, only_accepted}
+use Rattle.check_values.specs.Laws.Lowest.{none_bad, fails, passes, one_below}
+use Rattle.check_values.specs.Contexts.{context_of}
+use Rattle.check_lines.proofs.noise_lines.noise_number.Goals as goal
+
+pub returns-then-not-below : goal.returns-then-not-below
+unfolding context_of
+returns-then-not-below c = λ numbers lists vs h m g.
+    let known = c.below.ensures numbers lists vs h (omega arith) ∙ one_below vs 1 _ in
+    fails 9 _ _ (sym known ∙ not-true _ c.if-not-below.true)
+
+pub returns-in_default : goal.returns-in_default
+unfolding context_of
+returns-in_default c = λ numbers lists vs h m g.
+    let known = c.below.ensures numbers lists vs h (omega arith) ∙ one_below vs 1 _ in
+    let p = c.number.ensures ∙ h.number 0 m in
+    let right = only_refused _ _ (sym c.in_default.is ∙ c.probability.ensures) in
+    fails 11 _ _ (rw p at right) ∙ passes 9 _ _ (sym known ∙ not-false _ c.if-not-below.false)
+
+pub returns : goal.returns
+unfolding context_of
+returns c = λ numbers lists vs h m g.
+    let known = c.below.ensures numbers lists vs h (omega arith) ∙ one_below vs 1 _ in
+    let p = c.number.ensures ∙ h.number 0 m in
+    let right = (only_accepted _ _ (sym c.in-Accepted.is ∙ c.probability.ensures)).0 in
+    none_bad ∙ passes 11 _ _ (rw p at right) ∙ passes 9 _ _ (sym known ∙ not-false _ c.if-not-below.false)

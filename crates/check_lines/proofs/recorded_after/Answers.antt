@@ -1,0 +1,30 @@
+-- `check_lines::recorded_after` meets its contract. Assumes nothing.
+use types.Run.{miss}
+use mathlib.Core.List.{[], ◌∷◌}
+use Rattle.check_values.specs.Contexts.{context_of}
+use Rattle.check_lines.specs.Laws.Header.{none_recorded, recorded_header, recorded_edition, recorded_measure, recorded_allocate}
+use Rattle.instructions.specs.Laws.Meaning.{others_than, meaning}
+use Rattle.check_lines.proofs.recorded_after.Goals as goal
+
+pub returns-in-Header : goal.returns-in-Header
+returns-in-Header c = λ vs w h. recorded_header c.args.c vs w (rw c.in-Header.is at h)
+
+pub returns-in-EditionHeader : goal.returns-in-EditionHeader
+returns-in-EditionHeader c = λ vs w h. recorded_edition c.args.c vs w (rw c.in-EditionHeader.is at h)
+
+pub returns-in-Measure : goal.returns-in-Measure
+returns-in-Measure c = λ vs w h. recorded_measure c.args.c vs w (rw c.in-Measure.is at h)
+
+pub returns-in-Allocate : goal.returns-in-Allocate
+returns-in-Allocate c = λ vs w h. recorded_allocate c.args.c vs w (rw c.in-Allocate.is at h)
+
+pub returns-in_default : goal.returns-in_default
+unfolding context_of
+returns-in_default c = λ vs w h.
+    none_recorded (context_of c.args.c) c.args.form
+    (λ e. miss (others_than (1 ∷ 8 ∷ 9 ∷ 20 ∷ [])) 1 tt (rw e at c.in_default.keys5))
+    (λ e. miss (others_than (1 ∷ 8 ∷ 9 ∷ 20 ∷ [])) 20 tt (rw e at c.in_default.keys5))
+    (λ e. miss (others_than (1 ∷ 8 ∷ 9 ∷ 20 ∷ [])) 8 tt (rw e at c.in_default.keys5))
+    (λ e. miss (others_than (1 ∷ 8 ∷ 9 ∷ 20 ∷ [])) 9 tt (rw e at c.in_default.keys5))
+    w
+    (meaning _ vs w h)

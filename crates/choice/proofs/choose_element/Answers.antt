@@ -1,0 +1,23 @@
+-- `choice::choose_element` meets its contract: by the kind of distribution.
+use mathlib.Core.List.{[], ◌∷◌}
+use types.Run.{miss}
+use Rattle.choice.specs.Laws.Choice.{chosen_one, chosen_uniform, chosen_weighted}
+use native.Mathlib.Omega.{arith}
+use Rattle.choice.proofs.choose_element.Goals as goal
+
+pub choose_uniform-requires : goal.choose_uniform-requires
+choose_uniform-requires c = c.requires.1.limit
+
+pub returns-in-Single : goal.returns-in-Single
+returns-in-Single c = chosen_one _ c.in-Single.is (omega arith)
+
+pub returns-in-Weighted : goal.returns-in-Weighted
+returns-in-Weighted c = chosen_weighted _ _ c.in-Weighted.is c.choose_weighted.ensures
+
+pub returns-in_default : goal.returns-in_default
+returns-in_default c =
+    chosen_uniform _ _
+    (λ e. absurd (miss (1 ∷ 2 ∷ []) 0 tt (rw e at c.in_default.keys3)))
+    (λ t e. absurd (miss (1 ∷ 2 ∷ []) 3 tt (rw e at c.in_default.keys3)))
+    c.requires.1.bound
+    c.choose_uniform.ensures

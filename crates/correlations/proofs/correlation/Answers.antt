@@ -1,0 +1,17 @@
+-- `correlations::correlation` meets its contract. Assumes nothing.
+use mathlib.Core.Path.{sym, ap, ◌∙◌}
+use Rattle.job.specs.declared.Answer.{Answer}
+use Rattle.correlations.specs.Laws.Loops.{refused_reply, agreed_reply, differing_reply}
+use Rattle.correlations.proofs.correlation.Goals as goal
+
+pub returns-then-answer-ne0 : goal.returns-then-answer-ne0
+returns-then-answer-ne0 c = refused_reply _ c.check-answer.ensures c.if-answer-ne0.true
+
+pub first_differing-line-requires : goal.first_differing-line-requires
+first_differing-line-requires c = sym (ap (λ (a : Answer). a.number) c.check-answer.ensures) ∙ c.if-answer-ne0.false
+
+pub returns-then-line-eq0 : goal.returns-then-line-eq0
+returns-then-line-eq0 c = agreed_reply _ (sym (ap (λ (a : Answer). a.number) c.check-answer.ensures) ∙ c.if-answer-ne0.false) c.first_differing-line.ensures c.if-line-eq0.true
+
+pub returns : goal.returns
+returns c = differing_reply _ (sym (ap (λ (a : Answer). a.number) c.check-answer.ensures) ∙ c.if-answer-ne0.false) c.first_differing-line.ensures c.if-line-eq0.false

@@ -1,0 +1,40 @@
+use Rattle.std.proofs.Common.{◌≡◌, ℕ, true, false, sym, ◌∙◌, subst, arith, length-append}
+use Rattle.draws.specs.Draws.{falls}
+use Rattle.fault_scan.specs.Laws.Scan.{quiet_none, quiet_more}
+use Rattle.fault_scan.proofs.pass_near.Goals as goal
+
+pub loop-i-init : goal.loop-i-init
+loop-i-init c = (omega arith, quiet_none)
+
+pub overflow_add-at : goal.overflow_add-at
+overflow_add-at c =
+    record { fits = omega (arith, length-append c.args.words.now c.args.more.now, c.well-formed) }
+
+pub word_at-requires : goal.word_at-requires
+word_at-requires c = omega arith
+
+pub returns-then-is_fault : goal.returns-then-is_fault
+returns-then-is_fault c =
+    let a = c.args in
+    record {
+      within = omega arith;
+      quiet = c.loop-i.invariant.1;
+      falling = λ l. subst (λ (x : ℕ). falls x a.p ≡ true) c.word_at.ensures (sym c.is_fault.ensures ∙ c.if-is_fault.true);
+    }
+
+pub overflow_add-i : goal.overflow_add-i
+overflow_add-i c = omega arith
+
+pub loop-i-smaller : goal.loop-i-smaller
+loop-i-smaller c = omega arith
+
+pub loop-i-preserved : goal.loop-i-preserved
+loop-i-preserved c =
+    let a = c.args in
+    let word = c.word_at.ensures in (
+      omega arith,
+      quiet_more c.loop-i.invariant.1 (subst (λ (x : ℕ). falls x a.p ≡ false) word (sym c.is_fault.ensures ∙ c.if-is_fault.false)),
+    )
+
+pub returns : goal.returns
+returns c = record { within = c.loop-i.invariant.0; quiet = c.loop-i.invariant.1; falling = λ l. absurd (omega arith) }

@@ -1,0 +1,53 @@
+-- `fault_table::noise_rows::put_rows` meets its contract. Assumes nothing.
+use types.Run.{miss}
+use native.Mathlib.Omega.{arith}
+use mathlib.Core.List.{[], ◌∷◌}
+use Rattle.instructions.specs.Laws.Meaning.{others_than}
+use Rattle.single_faults.specs.Carried.{rows_by}
+use Rattle.fault_table.specs.Rows.{rows_bytes}
+use Rattle.fault_table.specs.Laws.Kinds.{rows_as, single_held, single_room, single_rows, list_kept, list_few, list_below, spread_few, spread_room, spread_rows, listed_uniform, listed_weighted, no_rows}
+use Rattle.fault_table.proofs.noise_rows.put_rows.Goals as goal
+
+pub pauli_at-p-requires : goal.pauli_at-p-requires
+pauli_at-p-requires c = single_held c.requires c.in-Single.is
+
+pub put_element_row-requires : goal.put_element_row-requires
+unfolding rows_bytes
+put_element_row-requires c = let q = c.requires in (q.few, q.words_of_groups, q.within, omega (arith, single_room q c.in-Single.is))
+
+pub size-n-requires : goal.size-n-requires
+size-n-requires c = c.requires.wide
+
+pub list-requires : goal.list-requires
+list-requires c = (omega arith, c.requires.wide, list_kept c.requires c.in-Depolarizing.is)
+
+pub put_depolarizing_rows-requires : goal.put_depolarizing_rows-requires
+put_depolarizing_rows-requires c = let q = c.requires in let e = c.in-Depolarizing.is in let s = c.size-n.ensures in (q.few, q.words_of_groups, q.within, spread_room q e s, spread_few q e s, rw c.list.ensures (list_few q e), rw c.list.ensures (list_below q e))
+
+pub size-n-requires-in-Uniform : goal.size-n-requires-in-Uniform
+size-n-requires-in-Uniform c = c.requires.wide
+
+pub put_kept_rows-requires : goal.put_kept_rows-requires
+put_kept_rows-requires c = let q = c.requires in let l = listed_uniform q c.size-n-in-Uniform.ensures c.in-Uniform.is in (q.few, l.few, q.bytes_kept, q.within, l.room)
+
+pub size-n-requires-in-Weighted : goal.size-n-requires-in-Weighted
+size-n-requires-in-Weighted c = c.requires.wide
+
+pub put_kept_rows-requires-in-Weighted : goal.put_kept_rows-requires-in-Weighted
+put_kept_rows-requires-in-Weighted c = let q = c.requires in let l = listed_weighted q c.size-n-in-Weighted.ensures c.in-Weighted.is in (q.few, l.few, q.bytes_kept, q.within, l.room)
+
+pub returns-in-Single : goal.returns-in-Single
+unfolding rows_by
+returns-in-Single c = λ q. rows_as (single_rows q c.in-Single.is c.pauli_at-p.ensures) c.put_element_row.ensures
+
+pub returns-in-Depolarizing : goal.returns-in-Depolarizing
+returns-in-Depolarizing c = λ q. rows_as (spread_rows q c.in-Depolarizing.is c.size-n.ensures) (rw c.list.ensures at c.put_depolarizing_rows.ensures)
+
+pub returns-in-Uniform : goal.returns-in-Uniform
+returns-in-Uniform c = λ q. rows_as (listed_uniform q c.size-n-in-Uniform.ensures c.in-Uniform.is).rows c.put_kept_rows.ensures
+
+pub returns-in-Weighted : goal.returns-in-Weighted
+returns-in-Weighted c = λ q. rows_as (listed_weighted q c.size-n-in-Weighted.ensures c.in-Weighted.is).rows c.put_kept_rows-in-Weighted.ensures
+
+pub returns-in_default : goal.returns-in_default
+returns-in_default c = λ q. no_rows q (λ e. miss (others_than (14 ∷ 15 ∷ 16 ∷ 17 ∷ [])) 14 tt (rw e at c.in_default.keys5)) (λ e. miss (others_than (14 ∷ 15 ∷ 16 ∷ 17 ∷ [])) 15 tt (rw e at c.in_default.keys5)) (λ e. miss (others_than (14 ∷ 15 ∷ 16 ∷ 17 ∷ [])) 16 tt (rw e at c.in_default.keys5)) (λ e. miss (others_than (14 ∷ 15 ∷ 16 ∷ 17 ∷ [])) 17 tt (rw e at c.in_default.keys5))

@@ -1,0 +1,6 @@
+-- `faults::elements::element_members` meets its contract.
+use native.Mathlib.Nat.{add-sub_cancel_left}
+use Rattle.faults.proofs.elements.element_members.Goals as goal
+
+pub returns : goal.returns
+returns c = rw add-sub_cancel_left

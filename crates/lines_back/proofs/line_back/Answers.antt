@@ -1,0 +1,124 @@
+-- `lines_back::line_back` meets its contract. Assumes nothing.
+use types.Run.{miss}
+use mathlib.Core.Path.{refl}
+use mathlib.Core.List.{[], ◌∷◌}
+use Rattle.instructions.specs.Reading.{noise_form}
+use Rattle.instructions.specs.Laws.Meaning.{others_than, other_no_noise}
+use Rattle.lines_back.specs.Laws.Forms.{readable_as, acts, ready, acted_as, remembered_as, nothing_done}
+use Rattle.lines_back.proofs.line_back.Goals as goal
+
+pub unitary-requires : goal.unitary-requires
+unfolding acts
+unitary-requires c = ready (readable_as c.in-Unitary.is c.requires.0) refl
+
+pub clifford-requires : goal.clifford-requires
+unfolding acts
+clifford-requires c = ready (readable_as c.in-Clifford.is c.requires.0) refl
+
+pub exponential-requires : goal.exponential-requires
+unfolding acts
+exponential-requires c = ready (readable_as c.in-Exponential.is c.requires.0) refl
+
+pub controlled-requires : goal.controlled-requires
+unfolding acts
+controlled-requires c = ready (readable_as c.in-Controlled.is c.requires.0) refl
+
+pub permute-requires : goal.permute-requires
+unfolding acts
+permute-requires c = ready (readable_as c.in-Permute.is c.requires.0) refl
+
+pub measure-requires : goal.measure-requires
+unfolding acts
+measure-requires c = ready (readable_as c.in-Measure.is c.requires.0) refl
+
+pub conditional-requires : goal.conditional-requires
+unfolding acts
+conditional-requires c = (ready (readable_as c.in-Conditional.is c.requires.0) refl, c.requires.1)
+
+pub reset-requires : goal.reset-requires
+unfolding acts
+reset-requires c = ready (readable_as c.in-Reset.is c.requires.0) refl
+
+pub inject-requires : goal.inject-requires
+unfolding acts
+inject-requires c = ready (readable_as c.in-Inject.is c.requires.0) refl
+
+pub flip-requires : goal.flip-requires
+unfolding acts
+flip-requires c = ready (readable_as c.in-Flip.is c.requires.0) refl
+
+pub returns-in-Unitary : goal.returns-in-Unitary
+unfolding acts
+returns-in-Unitary c = acted_as c.in-Unitary.is refl (c.unitary.ensures _ _) c.requires.1 c.with_observable.ensures
+
+pub returns-in-Clifford : goal.returns-in-Clifford
+unfolding acts
+returns-in-Clifford c = acted_as c.in-Clifford.is refl (c.clifford.ensures _ _) c.requires.1 c.with_observable-in-Clifford.ensures
+
+pub returns-in-Exponential : goal.returns-in-Exponential
+unfolding acts
+returns-in-Exponential c = acted_as c.in-Exponential.is refl (c.exponential.ensures _ _) c.requires.1 c.with_observable-in-Exponential.ensures
+
+pub returns-in-Controlled : goal.returns-in-Controlled
+unfolding acts
+returns-in-Controlled c = acted_as c.in-Controlled.is refl (c.controlled.ensures _ _) c.requires.1 c.with_observable-in-Controlled.ensures
+
+pub returns-in-Permute : goal.returns-in-Permute
+unfolding acts
+returns-in-Permute c = acted_as c.in-Permute.is refl (c.permute.ensures _ _) c.requires.1 c.with_observable-in-Permute.ensures
+
+pub returns-in-Measure : goal.returns-in-Measure
+unfolding acts
+returns-in-Measure c = acted_as c.in-Measure.is refl (c.measure.ensures _) c.requires.1 c.with_observable-in-Measure.ensures
+
+pub returns-in-Conditional : goal.returns-in-Conditional
+unfolding acts
+returns-in-Conditional c = acted_as c.in-Conditional.is refl (c.conditional.ensures.1 _) c.conditional.ensures.0 refl
+
+pub returns-in-Reset : goal.returns-in-Reset
+unfolding acts
+returns-in-Reset c = acted_as c.in-Reset.is refl (c.reset.ensures _ _) c.requires.1 c.with_observable-in-Reset.ensures
+
+pub returns-in-Inject : goal.returns-in-Inject
+unfolding acts
+returns-in-Inject c = acted_as c.in-Inject.is refl (c.inject.ensures _) c.requires.1 c.with_count.ensures
+
+pub returns-in-Flip : goal.returns-in-Flip
+unfolding acts
+returns-in-Flip c = acted_as c.in-Flip.is refl (c.flip.ensures _) c.requires.1 c.with_count-in-Flip.ensures
+
+pub returns-in-Single : goal.returns-in-Single
+unfolding noise_form
+returns-in-Single c = remembered_as c.in-Single.is refl c.requires.1 c.with_noise.ensures
+
+pub returns-in-Depolarizing : goal.returns-in-Depolarizing
+unfolding noise_form
+returns-in-Depolarizing c = remembered_as c.in-Depolarizing.is refl c.requires.1 c.with_noise-in-Depolarizing.ensures
+
+pub returns-in-Uniform : goal.returns-in-Uniform
+unfolding noise_form
+returns-in-Uniform c = remembered_as c.in-Uniform.is refl c.requires.1 c.with_noise-in-Uniform.ensures
+
+pub returns-in-Weighted : goal.returns-in-Weighted
+unfolding noise_form
+returns-in-Weighted c = remembered_as c.in-Weighted.is refl c.requires.1 c.with_noise-in-Weighted.ensures
+
+pub returns-in_default : goal.returns-in_default
+returns-in_default c =
+    let others = others_than (2 ∷ 3 ∷ 5 ∷ 6 ∷ 7 ∷ 8 ∷ 10 ∷ 11 ∷ 12 ∷ 13 ∷ 14 ∷ 15 ∷ 16 ∷ 17 ∷ []) in
+    let key = c.in_default.keys15 in
+    nothing_done
+    record {
+      unitary = λ e. miss others 2 tt (rw e at key);
+      clifford = λ e. miss others 3 tt (rw e at key);
+      exponential = λ e. miss others 5 tt (rw e at key);
+      controlled = λ e. miss others 6 tt (rw e at key);
+      permute = λ e. miss others 7 tt (rw e at key);
+      measure = λ e. miss others 8 tt (rw e at key);
+      conditional = λ e. miss others 10 tt (rw e at key);
+      reset = λ e. miss others 11 tt (rw e at key);
+      inject = λ e. miss others 12 tt (rw e at key);
+      flip = λ e. miss others 13 tt (rw e at key);
+    }
+    (other_no_noise _ (λ e. miss others 14 tt (rw e at key)) (λ e. miss others 15 tt (rw e at key)) (λ e. miss others 16 tt (rw e at key)) (λ e. miss others 17 tt (rw e at key)))
+    c.requires.1

@@ -1,0 +1,7 @@
+-- `pauli::Pauli::has_x` meets its contract.
+use Rattle.pauli.specs.Fixed.{as_pauli}
+use Rattle.pauli.proofs.Pauli.has_x.Goals as goal
+
+pub returns : goal.returns
+unfolding as_pauli
+returns c = c.has_qubit.ensures

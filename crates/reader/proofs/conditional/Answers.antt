@@ -1,0 +1,21 @@
+-- `reader::conditional` meets its contract. Assumes nothing.
+use mathlib.Core.Path.{refl}
+use native.Mathlib.Omega.{arith}
+use Rattle.text.specs.Bytes.{bytes}
+use Rattle.template.specs.Laws.Reading.{then_next}
+use Rattle.job.specs.Grammar.{forms}
+use Rattle.reader.specs.declared.Form.TheVariants as form
+use Rattle.reader.specs.Parsed.{place_of}
+use Rattle.reader.specs.Tried.{pauli_part}
+use Rattle.reader.specs.Laws.Tried.{plain_tried, parts_form}
+use Rattle.reader.proofs.conditional.Goals as goal
+
+pub literal-requires : goal.literal-requires
+literal-requires c = rw c.start.ensures (omega arith, refl)
+
+pub value-parity-requires : goal.value-parity-requires
+value-parity-requires c = (c.literal-3.ensures.1, refl, omega (arith, c.pauli_lists-pauli.auto, c.value-id.auto, c.requires))
+
+pub returns : goal.returns
+unfolding place_of forms bytes pauli_part
+returns c = plain_tried form.Conditional refl (λ vs. (_, refl)) (parts_form c.start.ensures (then_next (then_next (then_next (then_next (then_next (c.literal.ensures.0 _) c.pauli_lists-pauli.ensures.0) (c.literal-2.ensures.0 _)) c.value-id.ensures.0) (c.literal-3.ensures.0 _)) c.value-parity.ensures.0) c.ended.ensures)
