@@ -8,7 +8,7 @@ use Rattle.rows.specs.Column.{column}
 use Rattle.run.specs.Run.{Memory, run_reply}
 use Rattle.backward.specs.Settling.{settle_reply}
 use Rattle.backward.specs.Walking.{walk_reply}
-use Rattle.backward.specs.CallTheorems.{deltas_walked}
+use Rattle.backward.proofs.CallTheorems.{deltas_walked}
 use Rattle.totals.specs.Sum.{delta_sum_of}
 use Rattle.agreement.specs.Agree.{agree_reply}
 use Rattle.agreement.specs.Laws.Parity.{odd_mod}

@@ -2,12 +2,5 @@
 pub mod Walk
 pub mod Settling
 pub mod Walking
--- What is proved of these definitions, for a reader.
-pub mod Theorems
+-- Definitions that the theorems about calls use.
 pub mod Calls
-pub mod CallTheorems
-pub mod SizeTheorems
-pub mod ShotTheorems
-pub mod TotalTheorems
--- Laws of these definitions.
-pub mod Laws

@@ -4,6 +4,3 @@ pub mod Correlation
 pub mod Replies
 -- The annotated list, and that the annotated text says it, for a reader.
 pub mod Annotated
-pub mod Theorems
--- Laws of these definitions.
-pub mod Laws

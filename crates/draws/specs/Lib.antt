@@ -6,9 +6,3 @@ pub mod Execute
 pub mod Known
 -- Definition, to be believed: what a job leaves of the main list, also where its draws are spent.
 pub mod Left
--- Laws of these definitions.
-pub mod Laws
--- Theorems on them.
-pub mod Theorems
-pub mod SettledTheorems
-pub mod RunTheorems

@@ -16,7 +16,3 @@ pub mod Fits
 pub mod Marks
 pub mod Contexts
 pub mod Editions
--- Laws of these definitions.
-pub mod Laws
--- What a reader wants to know of the tests.
-pub mod Theorems

@@ -4,7 +4,3 @@ pub mod Making
 pub mod Made
 -- The kinds of lines.
 pub mod Kinds
--- What a reader wants to know of them.
-pub mod Theorems
--- Laws of these definitions.
-pub mod Laws

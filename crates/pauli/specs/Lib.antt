@@ -4,5 +4,3 @@ pub mod Pauli
 pub mod Gate
 pub mod Code
 pub mod Fixed
--- Laws of these definitions.
-pub mod Laws

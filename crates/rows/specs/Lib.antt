@@ -5,5 +5,3 @@ pub mod Shape
 pub mod Overwrite
 pub mod Listed
 pub mod Column
--- Laws of these definitions.
-pub mod Laws

@@ -1,4 +1,2 @@
 -- Definitions, to be believed: the reply of a run.
 pub mod Run
--- Theorems about them.
-pub mod Theorems

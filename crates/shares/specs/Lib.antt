@@ -3,7 +3,3 @@ pub mod Shares
 pub mod Replies
 -- Definitions that the theorems on them use.
 pub mod Account
--- What is proved of these definitions, for a reader.
-pub mod Theorems
--- Laws of these definitions.
-pub mod Laws

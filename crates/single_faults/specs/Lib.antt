@@ -3,7 +3,3 @@ pub mod Groups
 pub mod Table
 -- Definitions that contracts of the code below the call use.
 pub mod Carried
--- What is proved of these definitions, for a reader.
-pub mod Theorems
--- Laws of these definitions.
-pub mod Laws

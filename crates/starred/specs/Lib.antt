@@ -1,3 +1,2 @@
 -- The table of starred cases, and the theorem that it holds.
 pub mod Cases
-pub mod Theorem

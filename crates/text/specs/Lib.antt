@@ -6,6 +6,3 @@ pub mod List
 pub mod Template
 -- Which values a template can write, and that they read back, for a reader.
 pub mod Written
-pub mod Theorems
--- Laws of these definitions.
-pub mod Laws

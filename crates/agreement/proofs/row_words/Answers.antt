@@ -2,7 +2,7 @@
 use mathlib.Core.Path.{ap}
 use native.Mathlib.Omega.{arith}
 use Rattle.job.specs.declared.Header.{Header}
-use Rattle.job.specs.Theorems.{checked_sound}
+use Rattle.job.proofs.Theorems.{checked_sound}
 use Rattle.rows.specs.Words.{words_per_row}
 use Rattle.agreement.proofs.row_words.Goals as goal
 

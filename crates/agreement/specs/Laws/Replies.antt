@@ -2,25 +2,25 @@
 use Rattle.std.specs.Prelude.{◌≡◌, refl, Bool, true, false, ◌&&◌, List, ℕ, ◌+◌, ◌/◌, ◌≤◌, ◌<◌, leb, length, get_or, take, drop}
 use Rattle.std.proofs.Common.{sym, ap, ◌∙◌, arith, length-append}
 use borrow.Author.Tests.{eq-eqb, ne_eqb, leb-true}
-use Rattle.text.specs.Laws.Values.{both}
+use Rattle.text.proofs.Laws.Values.{both}
 use Rattle.job.specs.declared.Header.{Header}
 use Rattle.job.specs.Job.{answer, job_of, recorded_in, check_job}
 use Rattle.job.specs.Reply.{TextReply, written_by}
 use Rattle.job.specs.declared.CountReply.{CountReply}
-use Rattle.job.specs.Theorems.{checked_sound}
-use Rattle.job.specs.Laws.Lists.{below_more, below_at}
+use Rattle.job.proofs.Theorems.{checked_sound}
+use Rattle.job.proofs.Laws.Lists.{below_more, below_at}
 use Rattle.draws.specs.Settle.{settled_text}
 use Rattle.rows.specs.Words.{words_per_row}
 use Rattle.rows.specs.Listed.{RowsIn}
-use Rattle.rows.specs.Laws.Overwrite.{before_row}
+use Rattle.rows.proofs.Laws.Overwrite.{before_row}
 use Rattle.run.specs.Run.{Source, Memory, RunReply, frame_words_of, outcome_words_of, enough_words, run_reply}
 use Rattle.writer.specs.declared.TextAnswer.{TextAnswer}
 use Rattle.writer.specs.Reply.{text_reply}
 use Rattle.backward.specs.Settling.{settle_reply}
 use Rattle.backward.specs.Walking.{walkable, walk_reply}
-use Rattle.backward.specs.CallTheorems.{written_walked}
-use Rattle.backward.specs.Laws.Replies.{run_ends, settle_writes}
-use Rattle.backward.specs.Laws.CallsAgree.{Walkable, walkable_parts}
+use Rattle.backward.proofs.CallTheorems.{written_walked}
+use Rattle.backward.proofs.Laws.Replies.{run_ends, settle_writes}
+use Rattle.backward.proofs.Laws.CallsAgree.{Walkable, walkable_parts}
 use Rattle.agreement.specs.declared.Call.TheVariants.{Run, Settle, Walk}
 use Rattle.agreement.specs.declared.Agreement.{Agreement}
 use Rattle.totals.specs.Sum.{delta_sum_of}

@@ -2,7 +2,7 @@ use mathlib.Core.Path.{◌≡◌, refl}
 use native.Mathlib.Omega.{arith}
 use native.Mathlib.Nat.{zero-add}
 use lib.ListN.{length-set}
-use Rattle.rows.specs.Laws.Overwrite.{overwrite_none, overwrite_more}
+use Rattle.rows.proofs.Laws.Overwrite.{overwrite_none, overwrite_more}
 use Rattle.blocks.proofs.gather.Goals as goal
 
 pub loop-i-init : goal.loop-i-init

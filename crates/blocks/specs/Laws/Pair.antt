@@ -8,8 +8,8 @@ use native.Mathlib.Omega.{arith}
 use Rattle.std.proofs.Math.Nat.{mul-add-div_right, div-eq_of_lt, suc-mul, zero-mul}
 use Rattle.std.specs.Int.Bits.{bit_xor}
 use Rattle.pauli.specs.Bits.{◌⊕◌, bit}
-use Rattle.pauli.specs.Laws.F2.{⊕_false, ⊕_comm, ⊕_self_left, &&_true, &&_false}
-use Rattle.pauli.specs.Laws.Word.{bit_shr, bit_shl, bit_below, bit_mod, bit_xor_lem, bit_and_lem}
+use Rattle.pauli.proofs.Laws.F2.{⊕_false, ⊕_comm, ⊕_self_left, &&_true, &&_false}
+use Rattle.pauli.proofs.Laws.Word.{bit_shr, bit_shl, bit_below, bit_mod, bit_xor_lem, bit_and_lem}
 use Rattle.blocks.specs.Exchange.{place, difference, partner, all_below, is_mask}
 
 -- ---- the mask

@@ -3,7 +3,7 @@ use Rattle.std.specs.Prelude.{◌≡◌, refl, Bool, true, false, cond, List, �
 use Rattle.std.proofs.Common.{ap, ◌∙◌, ⊎_elim, arith, not-suc-le-zero, eq-or-lt_of_le, le_of_suc-le-suc, suc-mul, zero-mul, mul-le-mul_right, add_assoc, add-zero, mul-one, add-one}
 use Rattle.std.proofs.Math.Decide.{dec_lt}
 use Rattle.pauli.specs.Bits.{bit}
-use Rattle.rows.specs.Laws.Overwrite.{before_row}
+use Rattle.rows.proofs.Laws.Overwrite.{before_row}
 use Rattle.blocks.specs.Exchange.{Exchanged, place, Crossed, partner, crossed, is_mask}
 use Rattle.blocks.specs.Laws.Pair.{bit_partner}
 use Rattle.blocks.specs.Laws.Cross.{length_crossed, crossed_out, crossed_in}

@@ -5,10 +5,10 @@ use native.Mathlib.Omega.{arith}
 use Rattle.std.proofs.Math.Decide.{dec_lt, ℕ_discrete}
 use Rattle.std.proofs.lemmas.List.{length-replicate, get_or-replicate}
 use Rattle.pauli.specs.Bits.{bit}
-use Rattle.pauli.specs.Laws.Word.{bit_zero}
+use Rattle.pauli.proofs.Laws.Word.{bit_zero}
 use Rattle.rows.specs.Words.{words_per_row, bit_in}
 use Rattle.rows.specs.Overwrite.{overwrite}
-use Rattle.rows.specs.Laws.Overwrite.{overwrite_in, overwrite_out, before_row, rows_apart, apart_out}
+use Rattle.rows.proofs.Laws.Overwrite.{overwrite_in, overwrite_out, before_row, rows_apart, apart_out}
 use Rattle.blocks.specs.Exchange.{Exchanged}
 use Rattle.blocks.specs.Strided.{Within, scattered}
 use Rattle.blocks.specs.Laws.Strided.{scattered_in, scattered_out}

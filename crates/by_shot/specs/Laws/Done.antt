@@ -9,7 +9,7 @@ use Rattle.std.proofs.Math.Dec.{ltb}
 use Rattle.std.proofs.Math.Seq.{ext_get_or}
 use Rattle.rows.specs.Words.{words_per_row, bit_in, word_of, tabulated, pack}
 use Rattle.rows.specs.Column.{column}
-use Rattle.rows.specs.Laws.Pack.{length_pack, packed}
+use Rattle.rows.proofs.Laws.Pack.{length_pack, packed}
 use Rattle.by_shot.specs.Reply.{transposed}
 use Rattle.by_shot.specs.Blocks.{Right, DoneTo}
 

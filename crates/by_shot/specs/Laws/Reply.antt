@@ -5,9 +5,9 @@ use Rattle.std.proofs.Common.{arith, mul-le-mul_right}
 use borrow.Author.Tests.{le-leb, lt-leb}
 use Rattle.job.specs.Job.{answer}
 use Rattle.job.specs.Grammar.{header_with}
-use Rattle.job.specs.Laws.Lines.{header_sound}
+use Rattle.job.proofs.Laws.Lines.{header_sound}
 use Rattle.rows.specs.Words.{words_per_row}
-use Rattle.rows.specs.Laws.Pack.{length_pack}
+use Rattle.rows.proofs.Laws.Pack.{length_pack}
 use Rattle.by_shot.specs.Reply.{transposed, may_hold_of, enough_words, untouched, written, rearranged, by_shot_reply, by_outcome_reply}
 
 -- ---- 3

@@ -4,11 +4,11 @@ use Rattle.std.proofs.Common.{sym, ◌∙◌, arith, length-append, length-take,
 use Rattle.std.proofs.Math.Decide.{dec_lt}
 use Rattle.std.proofs.Math.ListN.{length, get_or-append}
 use Rattle.pauli.specs.Bits.{bit}
-use Rattle.pauli.specs.Laws.Word.{same_bits}
+use Rattle.pauli.proofs.Laws.Word.{same_bits}
 use Rattle.rows.specs.Words.{words_per_row, bit_in}
 use Rattle.rows.specs.Column.{column}
-use Rattle.rows.specs.Laws.Overwrite.{before_row}
-use Rattle.rows.specs.Laws.Pack.{pack_fits, bit_pack}
+use Rattle.rows.proofs.Laws.Overwrite.{before_row}
+use Rattle.rows.proofs.Laws.Pack.{pack_fits, bit_pack}
 use Rattle.job.specs.Reply.{over}
 use Rattle.by_shot.specs.Reply.{transposed}
 use Rattle.by_shot.specs.Laws.Reply.{length_transposed}

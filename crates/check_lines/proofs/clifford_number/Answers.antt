@@ -16,7 +16,7 @@ pub returns-then-not-below : goal.returns-then-not-below
 returns-then-not-below c =
     λ vs w h.
     let t = tests_clifford c.args.c h in
-    fails 4 _ _ (sym (c.below.ensures _ _ vs t.held (omega arith)) ∙ not-true _ c.if-not-below.true) ∙ t.own
+    fails 4 _ _ (sym (c.below.ensures _ _ vs t.held (omega arith)) ∙ c.if-not-below.true) ∙ t.own
 
 pub returns-then-k-gt-MAX_CLIFFORD_QUBITS : goal.returns-then-k-gt-MAX_CLIFFORD_QUBITS
 returns-then-k-gt-MAX_CLIFFORD_QUBITS c =
@@ -24,7 +24,7 @@ returns-then-k-gt-MAX_CLIFFORD_QUBITS c =
     let t = tests_clifford c.args.c h in
     let size = c.count-k.ensures ∙ t.held.count 0 (omega arith) in
     fails 5 _ _ (left_false _ _ (left_false _ _ (lt-leb _ _ (rw size at c.if-k-gt-MAX_CLIFFORD_QUBITS.true))))
-    ∙ passes 4 _ _ (sym (c.below.ensures _ _ vs t.held (omega arith)) ∙ not-false _ c.if-not-below.false)
+    ∙ passes 4 _ _ (sym (c.below.ensures _ _ vs t.held (omega arith)) ∙ c.if-not-below.false)
     ∙ t.own
 
 pub returns-then-not-slot_distinct : goal.returns-then-not-slot_distinct
@@ -32,8 +32,8 @@ returns-then-not-slot_distinct c =
     λ vs w h.
     let t = tests_clifford c.args.c h in
     let once = c.slot_distinct.ensures _ _ vs t.held (omega arith) in
-    fails 5 _ _ (left_false _ _ (right_false (leb (length (list_at_of 0 vs)) 8) _ (sym once ∙ not-true _ c.if-not-slot_distinct.true)))
-    ∙ passes 4 _ _ (sym (c.below.ensures _ _ vs t.held (omega arith)) ∙ not-false _ c.if-not-below.false)
+    fails 5 _ _ (left_false _ _ (right_false (leb (length (list_at_of 0 vs)) 8) _ (sym once ∙ c.if-not-slot_distinct.true)))
+    ∙ passes 4 _ _ (sym (c.below.ensures _ _ vs t.held (omega arith)) ∙ c.if-not-below.false)
     ∙ t.own
 
 pub slice_bounds-is_clifford-end : goal.slice_bounds-is_clifford-end
@@ -51,9 +51,9 @@ returns-then-not-is_clifford c =
     let words = ap (λ (ws : List ℕ). is_clifford_of (length (list_at_of 0 vs)) (table_of ws)) (words_kept c.args.c h c.requires few) in
     let right = rw (c.kept-words.ensures, c.table_words-n.ensures, size) at c.is_clifford.ensures ∙ words in
     let once = c.slot_distinct.ensures _ _ vs t.held (omega arith) in
-    fails 7 _ _ (sym right ∙ not-true _ c.if-not-is_clifford.true)
-    ∙ passes 5 _ _ (both_true (both_true (le-leb _ _ few) (sym once ∙ not-false _ c.if-not-slot_distinct.false)) (one_short vs 0 (omega (arith, few))))
-    ∙ passes 4 _ _ (sym (c.below.ensures _ _ vs t.held (omega arith)) ∙ not-false _ c.if-not-below.false)
+    fails 7 _ _ (sym right ∙ c.if-not-is_clifford.true)
+    ∙ passes 5 _ _ (both_true (both_true (le-leb _ _ few) (sym once ∙ c.if-not-slot_distinct.false)) (one_short vs 0 (omega (arith, few))))
+    ∙ passes 4 _ _ (sym (c.below.ensures _ _ vs t.held (omega arith)) ∙ c.if-not-below.false)
     ∙ t.own
 
 pub returns : goal.returns
@@ -65,7 +65,7 @@ returns c =
     let words = ap (λ (ws : List ℕ). is_clifford_of (length (list_at_of 0 vs)) (table_of ws)) (words_kept c.args.c h c.requires few) in
     let right = rw (c.kept-words.ensures, c.table_words-n.ensures, size) at c.is_clifford.ensures ∙ words in
     let once = c.slot_distinct.ensures _ _ vs t.held (omega arith) in
-    none_bad ∙ passes 7 _ _ (sym right ∙ not-false _ c.if-not-is_clifford.false)
-    ∙ passes 5 _ _ (both_true (both_true (le-leb _ _ few) (sym once ∙ not-false _ c.if-not-slot_distinct.false)) (one_short vs 0 (omega (arith, few))))
-    ∙ passes 4 _ _ (sym (c.below.ensures _ _ vs t.held (omega arith)) ∙ not-false _ c.if-not-below.false)
+    none_bad ∙ passes 7 _ _ (sym right ∙ c.if-not-is_clifford.false)
+    ∙ passes 5 _ _ (both_true (both_true (le-leb _ _ few) (sym once ∙ c.if-not-slot_distinct.false)) (one_short vs 0 (omega (arith, few))))
+    ∙ passes 4 _ _ (sym (c.below.ensures _ _ vs t.held (omega arith)) ∙ c.if-not-below.false)
     ∙ t.own

@@ -11,7 +11,7 @@ returns-then-not-is_recorded c =
     λ vs w h.
     let t = tests_flip c.args.c h in
     let id = c.number.ensures ∙ t.held.number 1 (omega arith) in
-    fails 9 _ _ (rw id at (sym c.is_recorded.ensures ∙ not-true _ c.if-not-is_recorded.true)) ∙ t.own
+    fails 9 _ _ (rw id at (sym c.is_recorded.ensures ∙ c.if-not-is_recorded.true)) ∙ t.own
 
 pub returns-then-not-has_shot : goal.returns-then-not-has_shot
 returns-then-not-has_shot c =
@@ -19,7 +19,7 @@ returns-then-not-has_shot c =
     let t = tests_flip c.args.c h in
     let id = c.number.ensures ∙ t.held.number 1 (omega arith) in
     let shot = c.number-2.ensures ∙ t.held.number 0 (omega arith) in
-    fails 10 _ _ (rw shot at (sym c.has_shot.ensures ∙ not-true _ c.if-not-has_shot.true)) ∙ passes 9 _ _ (rw id at (sym c.is_recorded.ensures ∙ not-false _ c.if-not-is_recorded.false)) ∙ t.own
+    fails 10 _ _ (rw shot at (sym c.has_shot.ensures ∙ c.if-not-has_shot.true)) ∙ passes 9 _ _ (rw id at (sym c.is_recorded.ensures ∙ c.if-not-is_recorded.false)) ∙ t.own
 
 pub returns : goal.returns
 returns c =
@@ -27,4 +27,4 @@ returns c =
     let t = tests_flip c.args.c h in
     let id = c.number.ensures ∙ t.held.number 1 (omega arith) in
     let shot = c.number-2.ensures ∙ t.held.number 0 (omega arith) in
-    none_bad ∙ passes 10 _ _ (rw shot at (sym c.has_shot.ensures ∙ not-false _ c.if-not-has_shot.false)) ∙ passes 9 _ _ (rw id at (sym c.is_recorded.ensures ∙ not-false _ c.if-not-is_recorded.false)) ∙ t.own
+    none_bad ∙ passes 10 _ _ (rw shot at (sym c.has_shot.ensures ∙ c.if-not-has_shot.false)) ∙ passes 9 _ _ (rw id at (sym c.is_recorded.ensures ∙ c.if-not-is_recorded.false)) ∙ t.own

@@ -17,7 +17,7 @@ returns-then-not-has_shot c =
     λ vs w h.
     let t = tests_inject c.args.c h in
     let shot = c.number.ensures ∙ t.held.number 0 (omega arith) in
-    fails 10 _ _ (rw shot at (sym c.has_shot.ensures ∙ not-true _ c.if-not-has_shot.true))
+    fails 10 _ _ (rw shot at (sym c.has_shot.ensures ∙ c.if-not-has_shot.true))
     ∙ two_pass _ _ _ (c.pauli_number-refusal.ensures _ _ vs t.held (omega arith)) (omega arith) (omega arith) c.if-refusal-ne0.false
     ∙ t.own
 
@@ -26,6 +26,6 @@ returns c =
     λ vs w h.
     let t = tests_inject c.args.c h in
     let shot = c.number.ensures ∙ t.held.number 0 (omega arith) in
-    none_bad ∙ passes 10 _ _ (rw shot at (sym c.has_shot.ensures ∙ not-false _ c.if-not-has_shot.false))
+    none_bad ∙ passes 10 _ _ (rw shot at (sym c.has_shot.ensures ∙ c.if-not-has_shot.false))
     ∙ two_pass _ _ _ (c.pauli_number-refusal.ensures _ _ vs t.held (omega arith)) (omega arith) (omega arith) c.if-refusal-ne0.false
     ∙ t.own

@@ -16,7 +16,7 @@ pub returns-then-not-below : goal.returns-then-not-below
 returns-then-not-below c =
     λ vs w h.
     let (g, e, t) = tests_unitary c.args.c h in
-    fails 4 _ _ (sym (c.below.ensures _ _ vs t.held (omega arith)) ∙ not-true _ c.if-not-below.true) ∙ t.own
+    fails 4 _ _ (sym (c.below.ensures _ _ vs t.held (omega arith)) ∙ c.if-not-below.true) ∙ t.own
 
 pub returns-then-count-operand_count : goal.returns-then-count-operand_count
 unfolding operand_count_of
@@ -26,7 +26,7 @@ returns-then-count-operand_count c =
     let size = c.count.ensures ∙ t.held.count 0 (omega arith) in
     let code = ap gate_of (c.number.ensures ∙ t.held.number 0 (omega arith)) in
     fails 5 _ _ (left_false _ _ (left_false _ _ (ne_eqb _ _ (λ z. c.if-count-operand_count.true (size ∙ z ∙ sym (c.operand_count.ensures ∙ ap operand_count_of (code ∙ e)))))))
-    ∙ passes 4 _ _ (sym (c.below.ensures _ _ vs t.held (omega arith)) ∙ not-false _ c.if-not-below.false)
+    ∙ passes 4 _ _ (sym (c.below.ensures _ _ vs t.held (omega arith)) ∙ c.if-not-below.false)
     ∙ t.own
 
 pub slot_distinct-requires : goal.slot_distinct-requires
@@ -37,8 +37,8 @@ returns-then-not-slot_distinct c =
     λ vs w h.
     let (g, e, t) = tests_unitary c.args.c h in
     let once = c.slot_distinct.ensures _ _ vs t.held (omega arith) in
-    fails 5 _ _ (left_false _ _ (right_false (eqb (length (list_at_of 0 vs)) (operands_of g)) _ (sym once ∙ not-true _ c.if-not-slot_distinct.true)))
-    ∙ passes 4 _ _ (sym (c.below.ensures _ _ vs t.held (omega arith)) ∙ not-false _ c.if-not-below.false)
+    fails 5 _ _ (left_false _ _ (right_false (eqb (length (list_at_of 0 vs)) (operands_of g)) _ (sym once ∙ c.if-not-slot_distinct.true)))
+    ∙ passes 4 _ _ (sym (c.below.ensures _ _ vs t.held (omega arith)) ∙ c.if-not-below.false)
     ∙ t.own
 
 pub returns : goal.returns
@@ -52,7 +52,7 @@ returns c =
     let once = c.slot_distinct.ensures _ _ vs t.held (omega arith) in
     none_bad ∙ passes 5 _ _
     (both_true
-    (both_true (eq-eqb _ _ (sym size ∙ c.if-count-operand_count.false ∙ operands)) (sym once ∙ not-false _ c.if-not-slot_distinct.false))
+    (both_true (eq-eqb _ _ (sym size ∙ c.if-count-operand_count.false ∙ operands)) (sym once ∙ c.if-not-slot_distinct.false))
     (one_short vs 0 (omega (arith, few_counted (some g) operands))))
-    ∙ passes 4 _ _ (sym (c.below.ensures _ _ vs t.held (omega arith)) ∙ not-false _ c.if-not-below.false)
+    ∙ passes 4 _ _ (sym (c.below.ensures _ _ vs t.held (omega arith)) ∙ c.if-not-below.false)
     ∙ t.own

@@ -5,11 +5,11 @@ use Rattle.std.proofs.Math.Path.{refl, ap}
 use Rattle.std.proofs.Math.Bool.{not}
 use Rattle.std.proofs.Math.Option.{Option, none, some}
 use Rattle.pauli.specs.Gate.{Gate, gates, gate_from, gate_of}
-use Rattle.pauli.specs.Laws.Code.{same_at}
+use Rattle.pauli.proofs.Laws.Code.{same_at}
 use Rattle.text.specs.Bytes.{bytes}
 use Rattle.text.specs.Template.{Value, number_at, list_at_of}
 use Rattle.template.specs.Values.{held_number, held_count}
-use Rattle.text.specs.Laws.Values.{none_some}
+use Rattle.text.proofs.Laws.Values.{none_some}
 use Rattle.job.specs.Grammar.{Written, forms}
 use Rattle.job.specs.Checks.{is_second_gate, is_second_line, is_second_of}
 use Rattle.reader.specs.declared.Form.{Form}

@@ -13,8 +13,8 @@ use Rattle.text.specs.Template.{Value, number_at}
 use Rattle.job.specs.Float.{float, zero_float, is_weight_of}
 use Rattle.job.specs.Grammar.{Written, forms}
 use Rattle.job.specs.Checks.{Context, element_lines_of, first_total, next_total, same_weight, in_edition_of, expected, next, weight_fits, own_tests, tests, refusal_of}
-use Rattle.text.specs.Laws.Values.{both}
-use Rattle.job.specs.Laws.Tests.{AllPass, refusal_passes}
+use Rattle.text.proofs.Laws.Values.{both}
+use Rattle.job.proofs.Laws.Tests.{AllPass, refusal_passes}
 use Rattle.reader.specs.declared.Form.{Form}
 use Rattle.reader.specs.declared.Form.TheVariants as form
 use Rattle.reader.specs.Parsed.{place_of, no_form, form_of, is_unread, Said}

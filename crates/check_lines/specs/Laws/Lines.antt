@@ -16,9 +16,9 @@ use Rattle.job.specs.Clifford.{table_words_of, table_of, is_clifford_of}
 use Rattle.job.specs.Line.{pauli_of}
 use Rattle.job.specs.Grammar.{Written, pauli_at_of, forms}
 use Rattle.job.specs.Fits.{PauliFits, LineFits, WrittenFits}
-use Rattle.job.specs.Laws.Table.{few_words}
+use Rattle.job.proofs.Laws.Table.{few_words}
 use Rattle.text.specs.List.{is_rising_of}
-use Rattle.text.specs.Laws.Values.{both}
+use Rattle.text.proofs.Laws.Values.{both}
 use Rattle.template.specs.Values.{Whole, AllKept, held_count, held_list, members_on, kept_members}
 use Rattle.template.specs.Fields.{Held}
 use Rattle.template.specs.Laws.Fields.{list_held}

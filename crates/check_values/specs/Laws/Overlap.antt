@@ -5,13 +5,13 @@ use Rattle.std.specs.Bool.{beq}
 use Rattle.std.proofs.lemmas.Bool.{eqb-false}
 use Rattle.pauli.specs.Bits.{◌⊕◌, sum_over, members}
 use Rattle.pauli.specs.Pauli.{anticommutes}
-use Rattle.pauli.specs.Laws.Parity.{parity_comm}
+use Rattle.pauli.proofs.Laws.Parity.{parity_comm}
 use Rattle.text.specs.List.{is_rising_of}
-use Rattle.text.specs.Laws.Pieces.{step}
+use Rattle.text.proofs.Laws.Pieces.{step}
 use Rattle.job.specs.Line.{SparsePauli, pauli_of}
 use Rattle.job.specs.Checks.{all_below}
-use Rattle.job.specs.Laws.Lists.{sum_over_members}
-use Rattle.job.specs.Laws.Rising.{members_nil, members_cons}
+use Rattle.job.proofs.Laws.Lists.{sum_over_members}
+use Rattle.job.proofs.Laws.Rising.{members_nil, members_cons}
 use Rattle.check_values.specs.Marks.{Unmarked, MarksOf}
 
 -- ---- marks

@@ -11,8 +11,8 @@ use Rattle.std.specs.Int.Count.{ones}
 use Rattle.std.proofs.Math.Pow.{field, mod-mod-pow, shr_mono}
 use Rattle.pauli.specs.Bits.{◌⊕◌, ◌∩◌, ◌△◌, bit}
 use Rattle.pauli.specs.Pauli.{anticommutes}
-use Rattle.pauli.specs.Laws.Word.{one_shl, bit_shr, bit_mod, bit_xor_lem, bit_and_lem}
-use Rattle.pauli.specs.Laws.Parts.{parity_sum, parity_same, parity_word}
+use Rattle.pauli.proofs.Laws.Word.{one_shl, bit_shr, bit_mod, bit_xor_lem, bit_and_lem}
+use Rattle.pauli.proofs.Laws.Parts.{parity_sum, parity_same, parity_word}
 use Rattle.job.specs.Clifford.{row_over, every, generators_anticommute, is_clifford_of}
 use Rattle.tables.specs.Rows.{row_word, in_word}
 use Rattle.tables.specs.Laws.Rows.{row_bit}

@@ -9,7 +9,7 @@ use Rattle.std.proofs.Math.Seq.{take-length}
 use Rattle.pauli.specs.Bits.{outside, members}
 use Rattle.text.specs.Template.{Value, list_at_of}
 use Rattle.numbers.specs.Read.{largest_of}
-use Rattle.text.specs.Laws.Pieces.{step}
+use Rattle.text.proofs.Laws.Pieces.{step}
 use Rattle.job.specs.Checks.{all_below, each_below_of, each_short, distinct}
 use Rattle.check_values.specs.Slots.{lists_from}
 

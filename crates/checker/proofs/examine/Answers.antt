@@ -12,13 +12,13 @@ pub refused-requires : goal.refused-requires
 refused-requires c = tt
 
 pub returns-then-not-well_ended : goal.returns-then-not-well_ended
-returns-then-not-well_ended c = badly_ended c.refused.ensures (sym c.well_ended.ensures ∙ not-true _ c.if-not-well_ended.true)
+returns-then-not-well_ended c = badly_ended c.refused.ensures (sym c.well_ended.ensures ∙ c.if-not-well_ended.true)
 
 pub slice_bounds-all_lines-end : goal.slice_bounds-all_lines-end
 slice_bounds-all_lines-end c = omega arith
 
 pub all_lines-p-requires : goal.all_lines-p-requires
-all_lines-p-requires c = (sym c.well_ended.ensures ∙ not-false _ c.if-not-well_ended.false, omega arith)
+all_lines-p-requires c = (sym c.well_ended.ensures ∙ c.if-not-well_ended.false, omega arith)
 
 pub refused-requires-then-number-ne0 : goal.refused-requires-then-number-ne0
 refused-requires-then-number-ne0 c = tt

@@ -5,7 +5,7 @@ use Rattle.std.proofs.Math.Option.{Option, none, some}
 use Rattle.std.proofs.lemmas.Bool.{not-false}
 use Rattle.job.specs.Grammar.{Written}
 use Rattle.job.specs.Checks.{Context, header_fits_of, next, refusal_of}
-use Rattle.job.specs.Laws.Tests.{refusal_passes}
+use Rattle.job.proofs.Laws.Tests.{refusal_passes}
 use Rattle.check_values.specs.Contexts.{total_if}
 use Rattle.instructions.specs.Reading.{has_total}
 

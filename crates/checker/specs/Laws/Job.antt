@@ -8,7 +8,7 @@ use Rattle.job.specs.declared.Answer.{Answer}
 use Rattle.job.specs.Grammar.{Written, read_line_of}
 use Rattle.job.specs.Checks.{Context, no_context_of, records, next, refusal_of}
 use Rattle.job.specs.Job.{answer, accepted, well_ended_of, is_last, next_of, check_lines_of, check_job}
-use Rattle.job.specs.Theorems.{recorded_counted, header_known}
+use Rattle.job.proofs.Theorems.{recorded_counted, header_known}
 use Rattle.job.specs.Contexts.{context_after}
 use Rattle.checker.specs.declared.Examined.{Examined}
 use Rattle.checker.specs.Examines.{Examines}

@@ -11,11 +11,11 @@ use Rattle.job.specs.Grammar.{Written, read_line_of}
 use Rattle.job.specs.Checks.{Context, next, refusal_of}
 use Rattle.job.specs.Job.{answer, well_ended_of, is_last, next_of, check_lines_of, check_job}
 use Rattle.job.specs.Contexts.{context_after}
-use Rattle.job.specs.Laws.Recorded.{after_first}
+use Rattle.job.proofs.Laws.Recorded.{after_first}
 use Rattle.reader.specs.declared.Form.{Form}
 use Rattle.reader.specs.Parsed.{is_unread, Parsed, Said}
 use Rattle.line_reader.specs.Reading.{line_from_of, end_from, behind}
-use Rattle.line_reader.specs.Laws.Lines.{hands_out, behind_more}
+use Rattle.line_reader.proofs.Laws.Lines.{hands_out, behind_more}
 use Rattle.instructions.specs.Laws.Places.{last_line, line_ends}
 use Rattle.instructions.specs.Laws.Meaning.{said_by}
 use Rattle.check_values.specs.declared.context.Context.{Context as Known}

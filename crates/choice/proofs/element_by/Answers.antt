@@ -16,7 +16,7 @@ pub bounds-sums-i : goal.bounds-sums-i
 bounds-sums-i c = omega arith
 
 pub returns-then-not-sums-i : goal.returns-then-not-sums-i
-returns-then-not-sums-i c = below_stops c.loop-i.invariant (omega arith) (not-true _ c.if-not-sums-i.true)
+returns-then-not-sums-i c = below_stops c.loop-i.invariant (omega arith) (c.if-not-sums-i.true)
 
 pub overflow_add-second : goal.overflow_add-second
 overflow_add-second c = omega arith
@@ -29,8 +29,8 @@ bounds-sums-second c = omega arith
 
 pub returns-then-not-sums-second : goal.returns-then-not-sums-second
 returns-then-not-sums-second c =
-    let first = below_more c.loop-i.invariant (omega arith) (not-false _ c.if-not-sums-i.false) in
-    below_stops first (omega arith) (not-true _ c.if-not-sums-second.true)
+    let first = below_more c.loop-i.invariant (omega arith) (c.if-not-sums-i.false) in
+    below_stops first (omega arith) (c.if-not-sums-second.true)
 
 pub overflow_add-i : goal.overflow_add-i
 overflow_add-i c = omega arith
@@ -40,8 +40,8 @@ loop-i-smaller c = omega arith
 
 pub loop-i-preserved : goal.loop-i-preserved
 loop-i-preserved c =
-    let first = below_more c.loop-i.invariant (omega arith) (not-false _ c.if-not-sums-i.false) in
-    below_more first (omega arith) (not-false _ c.if-not-sums-second.false)
+    let first = below_more c.loop-i.invariant (omega arith) (c.if-not-sums-i.false) in
+    below_more first (omega arith) (c.if-not-sums-second.false)
 
 pub overflow_sub-sums-2 : goal.overflow_sub-sums-2
 overflow_sub-sums-2 c = omega (arith, c.loop-i.invariant.within)

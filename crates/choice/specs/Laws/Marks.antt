@@ -16,8 +16,8 @@ use Rattle.std.specs.Float.Ieee.{nan, lt, neg, of_bits}
 use Rattle.job.specs.Float.{one}
 use Rattle.draws.specs.Draws.{unit_of, running_sums_of, is_positive, place_of}
 use Rattle.draws.specs.Known.{below_unit, any_positive_of}
-use Rattle.draws.specs.Laws.Unit.{unit_above, unit_within}
-use Rattle.draws.specs.Laws.Places.{sums_length, chosen_in, place_over, place_here, place_last}
+use Rattle.draws.proofs.Laws.Unit.{unit_above, unit_within}
+use Rattle.draws.proofs.Laws.Places.{sums_length, chosen_in, place_over, place_here, place_last}
 use Rattle.noise.specs.Kinds.{PlacesBy}
 use Rattle.choice.specs.Choice.{minus_one_of, marked, marked_by}
 

@@ -7,7 +7,7 @@ use Rattle.correlations.proofs.is_correlated.Goals as goal
 
 pub returns-then-not-is_noise : goal.returns-then-not-is_noise
 unfolding present
-returns-then-not-is_noise c = λ vs w s. sym (ap present (quiet_none _ vs w (sym c.is_noise.ensures ∙ not-true _ c.if-not-is_noise.true) s.says))
+returns-then-not-is_noise c = λ vs w s. sym (ap present (quiet_none _ vs w (sym c.is_noise.ensures ∙ c.if-not-is_noise.true) s.says))
 
 pub returns : goal.returns
-returns c = λ vs w s. rw c.count.ensures (present_noise (sym c.is_noise.ensures ∙ not-false _ c.if-not-is_noise.false) s)
+returns c = λ vs w s. rw c.count.ensures (present_noise (sym c.is_noise.ensures ∙ c.if-not-is_noise.false) s)

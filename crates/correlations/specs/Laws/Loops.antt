@@ -8,14 +8,14 @@ use mathlib.Core.List.{List, [], ◌∷◌}
 use Rattle.std.proofs.Math.Option.{Option, some}
 use borrow.Author.Tests.{eqb-true, eqb-false, eq-eqb, ne_eqb}
 use Rattle.text.specs.Bytes.{until, lines}
-use Rattle.text.specs.Laws.Values.{both}
+use Rattle.text.proofs.Laws.Values.{both}
 use Rattle.text.specs.Template.{Value}
 use Rattle.template.specs.Values.{held_member}
 use Rattle.job.specs.Line.{Placed}
 use Rattle.job.specs.Grammar.{NoiseLine, Written, read_line_of}
 use Rattle.job.specs.declared.Answer.{Answer}
 use Rattle.job.specs.Job.{answer, accepted, noise_of, gather, gathered, Job, check_job, job_of}
-use Rattle.job.specs.Laws.Begun.{job_begun}
+use Rattle.job.proofs.Laws.Begun.{job_begun}
 use Rattle.reader.specs.declared.Form.{Form}
 use Rattle.reader.specs.Parsed.{Said}
 use Rattle.instructions.specs.declared.LineRead.{LineRead}

@@ -7,13 +7,13 @@ use mathlib.Core.List.{List, [], ◌∷◌}
 use Prim.Native.Nat.{ℕ, suc, ◌+◌, ◌*◌, ◌/◌, ◌%◌, ◌<◌, ◌≤◌}
 use Rattle.std.proofs.Math.Seq.{drop-cons}
 use Rattle.pauli.specs.Pauli.{Pauli, ◌∗◌, when}
-use Rattle.pauli.specs.Laws.Gates.{pauli_path}
+use Rattle.pauli.proofs.Laws.Gates.{pauli_path}
 use Rattle.job.specs.Line.{pauli_of, Line}
 use Rattle.job.specs.Checks.{all_below, distinct}
 use Rattle.frames.specs.Forward.{on_frame, forward}
-use Rattle.job.specs.Laws.Lists.{distinct_first}
+use Rattle.job.proofs.Laws.Lists.{distinct_first}
 use Rattle.draws.specs.Draws.{selected, depolarizing_element_of}
-use Rattle.draws.specs.Laws.Elements.{members_rising, selected_off, selected_below}
+use Rattle.draws.proofs.Laws.Elements.{members_rising, selected_off, selected_below}
 use Rattle.rows.specs.Overwrite.{flipped}
 use Rattle.rows.specs.Listed.{over_list}
 use Rattle.propagator.specs.Acts.{state_of, Acts, line_rule, written, PauliIn}

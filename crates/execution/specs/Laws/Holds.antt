@@ -6,7 +6,7 @@ use Rattle.job.specs.declared.Header.{Header}
 use Rattle.job.specs.Line.{Line}
 use Rattle.frames.specs.Forward.{setting_of, forward, start}
 use Rattle.draws.specs.Execute.{States, starts, forward_all}
-use Rattle.rows.specs.Laws.Pack.{column_zeros}
+use Rattle.rows.proofs.Laws.Pack.{column_zeros}
 use Rattle.propagator.specs.Acts.{state_of, Acts, line_rule}
 use Rattle.execution.specs.Holds.{Holds}
 

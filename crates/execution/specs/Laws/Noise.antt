@@ -14,7 +14,7 @@ use Rattle.instructions.specs.declared.LineRead.{LineRead}
 use Rattle.instructions.specs.Ahead.{instructions_at}
 use Rattle.draws.specs.Draws.{Lent, part_of, main_after}
 use Rattle.draws.specs.Left.{spent_on, left_spent}
-use Rattle.draws.specs.Laws.Left.{left_went, left_stopped}
+use Rattle.draws.proofs.Laws.Left.{left_went, left_stopped}
 use Rattle.draws.specs.Execute.{States, Executed, inject_shots, inject_noise, on_main, execute_one, Ended, execute_then, execute}
 use Rattle.rows.specs.declared.Shape.{Shape}
 use Rattle.propagator.specs.Acts.{state_of}

@@ -10,7 +10,7 @@ use Rattle.std.specs.Float.Ieee.Exact.{HasValue, round_exact}
 use Rattle.std.specs.Float.Ieee.Nearest.{div_same}
 use Rattle.job.specs.Float.{float, zero_float, one}
 use Rattle.draws.specs.Draws.{falls}
-use Rattle.draws.specs.Laws.Unit.{falls_exact}
+use Rattle.draws.proofs.Laws.Unit.{falls_exact}
 use Rattle.fault_scan.specs.Scan.{ceiling, threshold_of}
 use Rattle.fault_scan.specs.Laws.Threshold.{ceiling_above, ceiling_least}
 

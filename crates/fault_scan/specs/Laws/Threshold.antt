@@ -6,7 +6,7 @@ use Rattle.std.specs.Float.Ieee.{lt, up, down}
 use Rattle.std.specs.Float.Ieee.Fits.{down_pos}
 use Rattle.std.specs.Float.Ieee.Exact.{HasValue}
 use Rattle.draws.specs.Draws.{unit_of, falls}
-use Rattle.draws.specs.Laws.Unit.{unit_exact, falls_exact}
+use Rattle.draws.proofs.Laws.Unit.{unit_exact, falls_exact}
 use Rattle.fault_scan.specs.Scan.{ceiling, threshold_of}
 
 -- two tests are one where each holds with the other

@@ -1,6 +1,6 @@
 use native.Mathlib.Omega.{arith}
 use mathlib.Core.Path.{refl, ◌∙◌}
-use Rattle.job.specs.Theorems.{checked_sound}
+use Rattle.job.proofs.Theorems.{checked_sound}
 use Rattle.instructions.specs.Reading.{line_at}
 use Rattle.lines_from_last.specs.Laws.Left.{line_left}
 use Rattle.fault_table.specs.Laws.Going.{going_first, going_done, line_readable, line_element, rows_ready, turn}

@@ -25,7 +25,7 @@ pub refusal-requires-then-not-text_fits : goal.refusal-requires-then-not-text_fi
 refusal-requires-then-not-text_fits c = tt
 
 pub returns-then-not-text_fits : goal.returns-then-not-text_fits
-returns-then-not-text_fits c = λ q. rw c.refusal-then-not-text_fits.ensures (long_reply q c.measure-m.ensures _ c.if-m-ne0.false (sym c.text_fits.ensures ∙ not-true _ c.if-not-text_fits.true))
+returns-then-not-text_fits c = λ q. rw c.refusal-then-not-text_fits.ensures (long_reply q c.measure-m.ensures _ c.if-m-ne0.false (sym c.text_fits.ensures ∙ c.if-not-text_fits.true))
 
 pub overflow_mul-end : goal.overflow_mul-end
 overflow_mul-end c = omega (arith, c.requires.few)
@@ -40,10 +40,10 @@ pub start-requires : goal.start-requires
 start-requires c = startable c.requires _ (zeros_taken c.requires (c.args.groups * 24) (omega (arith, c.requires.few)))
 
 pub slice_bounds-put_table-end : goal.slice_bounds-put_table-end
-slice_bounds-put_table-end c = room_for _ _ (sym c.text_fits.ensures ∙ not-false _ c.if-not-text_fits.false)
+slice_bounds-put_table-end c = room_for _ _ (sym c.text_fits.ensures ∙ c.if-not-text_fits.false)
 
 pub slice_bounds-put_table-end-2 : goal.slice_bounds-put_table-end-2
-slice_bounds-put_table-end-2 c = sym (length-take-le _ _ (room_for _ _ (sym c.text_fits.ensures ∙ not-false _ c.if-not-text_fits.false)))
+slice_bounds-put_table-end-2 c = sym (length-take-le _ _ (room_for _ _ (sym c.text_fits.ensures ∙ c.if-not-text_fits.false)))
 
 pub slice_bounds-words-end-2 : goal.slice_bounds-words-end-2
 slice_bounds-words-end-2 c =
@@ -53,10 +53,10 @@ slice_bounds-words-end-2 c =
     omega (arith, long, length-append c.start.new.1.0 (drop n zeros))
 
 pub slice_bounds-put_table-end-3 : goal.slice_bounds-put_table-end-3
-slice_bounds-put_table-end-3 c = sym (started_length c.requires c.measure-m.ensures c.if-m-ne0.false c.args.out.now (take (c.args.groups * 24) (replicate 384 0)) c.start.new.1.0 (drop (c.args.groups * 24) (replicate 384 0)) (zeros_taken c.requires (c.args.groups * 24) (omega (arith, c.requires.few))) c.start.ensures c.start.auto.1.0 (sym c.text_fits.ensures ∙ not-false _ c.if-not-text_fits.false))
+slice_bounds-put_table-end-3 c = sym (started_length c.requires c.measure-m.ensures c.if-m-ne0.false c.args.out.now (take (c.args.groups * 24) (replicate 384 0)) c.start.new.1.0 (drop (c.args.groups * 24) (replicate 384 0)) (zeros_taken c.requires (c.args.groups * 24) (omega (arith, c.requires.few))) c.start.ensures c.start.auto.1.0 (sym c.text_fits.ensures ∙ c.if-not-text_fits.false))
 
 pub put_table-requires : goal.put_table-requires
-put_table-requires c = started_ready c.requires c.measure-m.ensures c.if-m-ne0.false c.args.out.now (take (c.args.groups * 24) (replicate 384 0)) c.start.new.1.0 (drop (c.args.groups * 24) (replicate 384 0)) (zeros_taken c.requires (c.args.groups * 24) (omega (arith, c.requires.few))) c.start.ensures c.start.auto.1.0 (sym c.text_fits.ensures ∙ not-false _ c.if-not-text_fits.false)
+put_table-requires c = started_ready c.requires c.measure-m.ensures c.if-m-ne0.false c.args.out.now (take (c.args.groups * 24) (replicate 384 0)) c.start.new.1.0 (drop (c.args.groups * 24) (replicate 384 0)) (zeros_taken c.requires (c.args.groups * 24) (omega (arith, c.requires.few))) c.start.ensures c.start.auto.1.0 (sym c.text_fits.ensures ∙ c.if-not-text_fits.false)
 
 pub returns : goal.returns
-returns c = λ q. done_reply q c.measure-m.ensures c.if-m-ne0.false c.args.out.now (take (c.args.groups * 24) (replicate 384 0)) c.start.new.1.0 (drop (c.args.groups * 24) (replicate 384 0)) (zeros_taken q (c.args.groups * 24) (omega (arith, c.requires.few))) c.start.ensures c.start.auto.1.0 (sym c.text_fits.ensures ∙ not-false _ c.if-not-text_fits.false) c.put_table.new.0 c.put_table.ensures
+returns c = λ q. done_reply q c.measure-m.ensures c.if-m-ne0.false c.args.out.now (take (c.args.groups * 24) (replicate 384 0)) c.start.new.1.0 (drop (c.args.groups * 24) (replicate 384 0)) (zeros_taken q (c.args.groups * 24) (omega (arith, c.requires.few))) c.start.ensures c.start.auto.1.0 (sym c.text_fits.ensures ∙ c.if-not-text_fits.false) c.put_table.new.0 c.put_table.ensures

@@ -10,14 +10,14 @@ use Rattle.std.proofs.Math.ListN.{length, drop_of_length-le}
 use Rattle.pauli.specs.Pauli.{anticommutes}
 use Rattle.text.specs.Bytes.{unlines, lines}
 use Rattle.text.specs.Template.{Value}
-use Rattle.text.specs.Laws.Written.{unlines_append}
+use Rattle.text.proofs.Laws.Written.{unlines_append}
 use Rattle.template.specs.Values.{Whole}
 use Rattle.job.specs.declared.Header.{Header}
 use Rattle.job.specs.Line.{SparsePauli, pauli_of, Line, WeightedPauli, size_of, Instruction, Placed}
 use Rattle.job.specs.Grammar.{NoiseLine, Written, read_line_of}
 use Rattle.job.specs.Job.{Gathered, gather, gathered, noise_of, distribution_of, placed_at, job_of}
 use Rattle.job.specs.Sound.{LineSound, NoiseSound}
-use Rattle.job.specs.Theorems.{checked_sound}
+use Rattle.job.proofs.Theorems.{checked_sound}
 use Rattle.reader.specs.declared.Form.{Form}
 use Rattle.reader.specs.Parsed.{Parsed, Said}
 use Rattle.instructions.specs.Reading.{line_at}
@@ -25,7 +25,7 @@ use Rattle.instructions.specs.Ahead.{instructions_at}
 use Rattle.instructions.specs.Laws.Meaning.{read_says}
 use Rattle.frames.specs.Forward.{setting_of}
 use Rattle.draws.specs.Draws.{element_at}
-use Rattle.draws.specs.Laws.SettledText.{element_sound}
+use Rattle.draws.proofs.Laws.SettledText.{element_sound}
 use Rattle.backward.specs.Walk.{Carried, Walk, backward, walk_back, walk}
 use Rattle.backward.specs.Walking.{line_first, plain_lines}
 use Rattle.lines_back.specs.Laws.Same.{anti_left, same_backward}

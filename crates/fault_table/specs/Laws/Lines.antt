@@ -11,9 +11,9 @@ use Rattle.job.specs.Line.{SparsePauli, WeightedPauli, Distribution, size_of, In
 use Rattle.job.specs.Grammar.{Kind, NoiseLine, Written}
 use Rattle.job.specs.Job.{Gathered, gather, placed_at, noise_of, distribution_of, check_job, job_of}
 use Rattle.job.specs.Sound.{RisingBelow, PauliSound, Every, ElementSound, DistributionSound, NoiseSound, InstructionSound}
-use Rattle.job.specs.Theorems.{checked_sound}
-use Rattle.job.specs.Laws.Lists.{below_more}
-use Rattle.draws.specs.Laws.Before.{instruction_behind}
+use Rattle.job.proofs.Theorems.{checked_sound}
+use Rattle.job.proofs.Laws.Lists.{below_more}
+use Rattle.draws.proofs.Laws.Before.{instruction_behind}
 use Rattle.single_faults.specs.Table.{is_wide, wide_first, first_wide}
 use Rattle.fault_table.specs.Rows.{rows_bytes}
 use Rattle.fault_table.specs.Said.{wide_kind, wide_said, size_said, NoiseFits}

@@ -4,8 +4,8 @@ use Rattle.std.proofs.Common.{arith, sym, ◌∙◌, leb-true, leb-false, drop_o
 use Rattle.std.proofs.Math.Path.{refl, ap}
 use Rattle.std.proofs.Math.Bool.{cond}
 use Rattle.text.specs.List.{is_rising_of}
-use Rattle.text.specs.Laws.Pieces.{step}
-use Rattle.pauli.specs.Laws.F2.{&&_false}
+use Rattle.text.proofs.Laws.Pieces.{step}
+use Rattle.pauli.proofs.Laws.F2.{&&_false}
 use Rattle.job.specs.Checks.{all_below}
 use Rattle.single_faults.specs.Groups.{Groups, with_id, id_before, empty_before, group_of, groups_of, all_recorded}
 use Rattle.fault_table.specs.declared.groups.Tested.TheVariants as tested

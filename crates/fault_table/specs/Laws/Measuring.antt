@@ -10,7 +10,7 @@ use Rattle.text.specs.Template.{Value}
 use Rattle.job.specs.Line.{Placed}
 use Rattle.job.specs.Grammar.{NoiseLine, Written}
 use Rattle.job.specs.Job.{Gathered, gather, gathered, check_job, job_of, Job}
-use Rattle.job.specs.Laws.Begun.{job_begun}
+use Rattle.job.proofs.Laws.Begun.{job_begun}
 use Rattle.reader.specs.declared.Form.{Form}
 use Rattle.reader.specs.Parsed.{Said}
 use Rattle.instructions.specs.declared.LineRead.{LineRead}

@@ -10,15 +10,15 @@ use borrow.Author.Tests.{le-leb, lt-leb, eq-eqb, ne_eqb}
 use Rattle.std.proofs.Math.ListN.{length, length-append}
 use Rattle.std.proofs.lemmas.List.{length-replicate, replicate-append-replicate}
 use Rattle.text.specs.Bytes.{unlines}
-use Rattle.text.specs.Laws.Written.{unlines_append}
+use Rattle.text.proofs.Laws.Written.{unlines_append}
 use Rattle.job.specs.declared.Header.{Header}
 use Rattle.job.specs.declared.Answer.{Answer}
 use Rattle.job.specs.Line.{pauli_of, size_of, Instruction, Placed}
 use Rattle.job.specs.Job.{max_bytes, answer, accepted, check_job, job_of, recorded_in}
 use Rattle.job.specs.Reply.{TextReply, refused_text, text_fits_of}
 use Rattle.job.specs.Sound.{Every, SizeSaid}
-use Rattle.job.specs.Theorems.{checked_sound}
-use Rattle.job.specs.Laws.Gather.{sizes_said}
+use Rattle.job.proofs.Theorems.{checked_sound}
+use Rattle.job.proofs.Laws.Gather.{sizes_said}
 use Rattle.writer.specs.Laws.Fits.{room_for}
 use Rattle.instructions.specs.Lines.{numbered}
 use Rattle.instructions.specs.Laws.Lines.{numbered_some}
@@ -27,7 +27,7 @@ use Rattle.checker.specs.Examines.{Finds, Examines}
 use Rattle.draws.specs.Draws.{element_at}
 use Rattle.single_faults.specs.Groups.{Groups, groups_of, all_recorded}
 use Rattle.single_faults.specs.Table.{first_wide, table_text, table_answer, groups_answer, table_reply}
-use Rattle.single_faults.specs.Laws.Rows.{table_rows}
+use Rattle.single_faults.proofs.Laws.Rows.{table_rows}
 use Rattle.single_faults.specs.Carried.{mark_by, carried_to, carried_marks, carried_rows_of, carried_rows}
 use Rattle.fault_table.specs.declared.groups.Tested.TheVariants as tested
 use Rattle.fault_table.specs.Lent.{grouping_of, all_carried, start_of, Startable}

@@ -8,14 +8,14 @@ use Rattle.std.proofs.lemmas.List.{replicate-append-replicate, take-append-le, d
 use Rattle.std.proofs.Math.Seq.{take_all}
 use Rattle.backward.specs.Walk.{Carried}
 use Rattle.text.specs.List.{is_rising_of}
-use Rattle.text.specs.Laws.Values.{both}
+use Rattle.text.proofs.Laws.Values.{both}
 use Rattle.pauli.specs.Bits.{Bits, ◌△◌, members}
 use Rattle.pauli.specs.Pauli.{identity}
 use Rattle.pauli.specs.Fixed.{in_set, AllBelow}
-use Rattle.pauli.specs.Laws.Parity.{none_△}
-use Rattle.pauli.specs.Laws.Set.{in_none}
+use Rattle.pauli.proofs.Laws.Parity.{none_△}
+use Rattle.pauli.proofs.Laws.Set.{in_none}
 use Rattle.job.specs.Checks.{all_below}
-use Rattle.job.specs.Laws.Lists.{below_at}
+use Rattle.job.proofs.Laws.Lists.{below_at}
 use Rattle.single_faults.specs.Groups.{Groups, groups_of, all_recorded}
 use Rattle.fault_table.specs.Lent.{carried_in, all_carried, start_of, Startable}
 use Rattle.fault_table.specs.Laws.Listed.{ids_at, behind_at, NextGroup, next_group}

@@ -6,10 +6,10 @@ use Rattle.std.proofs.Math.Dec.{lit<}
 use Rattle.std.proofs.Math.ListN.{get_or-map}
 use Rattle.job.specs.Line.{WeightedPauli, Distribution, size_of}
 use Rattle.job.specs.Sound.{PauliSound, ElementSound, DistributionSound}
-use Rattle.job.specs.Laws.Lists.{every_at}
-use Rattle.job.specs.Laws.Sizes.{depolarizing_small}
+use Rattle.job.proofs.Laws.Lists.{every_at}
+use Rattle.job.proofs.Laws.Sizes.{depolarizing_small}
 use Rattle.draws.specs.Draws.{no_pauli, element_at}
-use Rattle.draws.specs.Laws.Faults.{depolarizing_size}
+use Rattle.draws.proofs.Laws.Faults.{depolarizing_size}
 use Rattle.noise.specs.declared.PauliDistribution.{PauliDistribution}
 use Rattle.noise.specs.declared.PauliDistribution.TheVariants.{Depolarizing}
 use Rattle.noise.specs.Kinds.{kind_of, Chooses}

@@ -8,7 +8,7 @@ use Rattle.template.specs.Fields.{Held}
 use Rattle.job.specs.Line.{SparsePauli}
 use Rattle.job.specs.Grammar.{pauli_at_of}
 use Rattle.rows.specs.Overwrite.{copied}
-use Rattle.rows.specs.Laws.Overwrite.{overwrite_in, overwrite_out, length_copied}
+use Rattle.rows.proofs.Laws.Overwrite.{overwrite_in, overwrite_out, length_copied}
 use Rattle.faults.specs.Elements.{Inside, x_count, z_count, element_X, element_Z, Kept, ElementHeld, QubitsHeld}
 
 -- ---- words that are copied

@@ -24,7 +24,7 @@ use Rattle.noise.specs.declared.OutcomeCondition.{OutcomeCondition}
 use Rattle.noise.specs.declared.PauliFault.{PauliFault}
 use Rattle.noise.specs.Kinds.{correlation_of}
 use Rattle.faults.specs.Line.{kind_by, CorrelationHeld, ConditionHeld, FaultOf, FaultHeld}
-use Rattle.rows.specs.Laws.Overwrite.{length_copied}
+use Rattle.rows.proofs.Laws.Overwrite.{length_copied}
 use Rattle.faults.specs.Laws.Elements.{copied_in, member_kept, list_held}
 
 -- ---- bits that are no NaN's

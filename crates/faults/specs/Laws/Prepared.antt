@@ -15,7 +15,7 @@ use Rattle.job.specs.Grammar.{Kind, NoiseLine, Written, forms}
 use Rattle.job.specs.Checks.{element_lines_of, first_total}
 use Rattle.job.specs.Job.{distribution_of, noise_of}
 use Rattle.job.specs.Sound.{weights_of, DistributionSound}
-use Rattle.job.specs.Laws.Lists.{below_at}
+use Rattle.job.proofs.Laws.Lists.{below_at}
 use Rattle.reader.specs.declared.Form.{Form}
 use Rattle.reader.specs.declared.Form.TheVariants as form
 use Rattle.reader.specs.Parsed.{place_of, Said}
@@ -25,10 +25,10 @@ use Rattle.instructions.specs.Ahead.{instructions_at, Among, has_weights_of, Noi
 use Rattle.instructions.specs.Laws.Meaning.{noise_by}
 use Rattle.instructions.specs.Laws.Elements.{among_done}
 use Rattle.draws.specs.Draws.{no_pauli}
-use Rattle.draws.specs.Laws.Faults.{sound_positive}
+use Rattle.draws.proofs.Laws.Faults.{sound_positive}
 use Rattle.rows.specs.Words.{bit_in}
 use Rattle.rows.specs.Listed.{RowsIn}
-use Rattle.rows.specs.Laws.Overwrite.{before_row}
+use Rattle.rows.proofs.Laws.Overwrite.{before_row}
 use Rattle.noise.specs.declared.PauliDistribution.TheVariants.{Single, Depolarizing, Uniform, Weighted}
 use Rattle.noise.specs.declared.PauliFault.{PauliFault}
 use Rattle.noise.specs.Kinds.{kind_of, correlation_of, Small, PlacesBy, Represents}

@@ -5,8 +5,8 @@ use Rattle.std.proofs.Math.Option.{some}
 use Rattle.std.proofs.Math.ListN.{get_or-eq_default}
 use Rattle.text.specs.Bytes.{until}
 use Rattle.text.specs.Number.{decimal_from, number_of}
-use Rattle.text.specs.Laws.Values.{number_small}
-use Rattle.text.specs.Laws.Pieces.{until_le}
+use Rattle.text.proofs.Laws.Values.{number_small}
+use Rattle.text.proofs.Laws.Pieces.{until_le}
 use Rattle.numbers.specs.declared.known.Digits.{Digits}
 use Rattle.numbers.specs.Known.{digits_at, DigitsThere, DigitsRead}
 use Rattle.numbers.specs.Laws.Pieces.{until_at}

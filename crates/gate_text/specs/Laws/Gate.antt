@@ -8,8 +8,8 @@ use Rattle.text.specs.Bytes.{bytes, space, until}
 use Rattle.text.specs.Number.{number_of}
 use Rattle.text.specs.List.{list_Q}
 use Rattle.text.specs.Template.{Value, number, list, a_number, a_list, is_letter_of, value_of, and_then, at_end, values_of, numbers_in, lists_in, number_at, list_at_of}
-use Rattle.text.specs.Laws.Values.{both, none_some}
-use Rattle.text.specs.Laws.Pieces.{until_le}
+use Rattle.text.proofs.Laws.Values.{both, none_some}
+use Rattle.text.proofs.Laws.Pieces.{until_le}
 use Rattle.template.specs.Laws.Reading.{byte_over, byte_other, byte_same}
 use Rattle.numbers.specs.declared.known.Digits.{Digits}
 use Rattle.gate_text.specs.declared.Operands.{Operands}

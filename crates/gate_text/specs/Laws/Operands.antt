@@ -7,8 +7,8 @@ use Rattle.std.proofs.Math.Option.{Option, none, some}
 use Rattle.text.specs.Bytes.{comma, until, split}
 use Rattle.text.specs.Number.{number_of}
 use Rattle.text.specs.List.{with_first, pieces_of, list_Q}
-use Rattle.text.specs.Laws.Values.{none_some}
-use Rattle.text.specs.Laws.Pieces.{until_le, piece_more, piece_last}
+use Rattle.text.proofs.Laws.Values.{none_some}
+use Rattle.text.proofs.Laws.Pieces.{until_le, piece_more, piece_last}
 use Rattle.gate_text.specs.declared.Operands.{Operands}
 use Rattle.numbers.specs.declared.known.Digits.{Digits}
 use Rattle.gate_text.specs.Gate.{ListThere, OperandsRead}

@@ -20,9 +20,9 @@ use Rattle.job.specs.Checks.{same_weight, next_total, next as nextContext}
 use Rattle.job.specs.Job.{is_last, weight_of, Gathered, gather, gathered}
 use Rattle.job.specs.Sound.{Every, PauliSound, WeightSound}
 use Rattle.job.specs.Contexts.{Accepted}
-use Rattle.job.specs.Laws.Accepted.{accepted_first}
-use Rattle.job.specs.Laws.Gather.{WeightsSound, PartSound, gathered_sound}
-use Rattle.job.specs.Laws.Instructions.{accepted_between, due_says}
+use Rattle.job.proofs.Laws.Accepted.{accepted_first}
+use Rattle.job.proofs.Laws.Gather.{WeightsSound, PartSound, gathered_sound}
+use Rattle.job.proofs.Laws.Instructions.{accepted_between, due_says}
 use Rattle.reader.specs.declared.Form.{Form}
 use Rattle.reader.specs.Parsed.{place_of, Said}
 use Rattle.instructions.specs.declared.LineRead.{LineRead}

@@ -12,14 +12,14 @@ use Rattle.text.specs.Bytes.{bytes, LF, space, until, pieces}
 use Rattle.text.specs.Number.{number_of}
 use Rattle.text.specs.List.{with_first, pieces_of, list_Q}
 use Rattle.text.specs.Template.{Value, number, list, values_of, number_at, list_at_of}
-use Rattle.text.specs.Laws.Values.{none_some}
-use Rattle.text.specs.Laws.Pieces.{until_le}
-use Rattle.text.specs.Laws.Places.{literals}
+use Rattle.text.proofs.Laws.Values.{none_some}
+use Rattle.text.proofs.Laws.Pieces.{until_le}
+use Rattle.text.proofs.Laws.Places.{literals}
 use Rattle.template.specs.Values.{Whole}
 use Rattle.template.specs.Fields.{Held, HasForm, FewAre, ListPut}
 use Rattle.template.specs.Laws.Fields.{nothing_held, held_number, held_list_lem}
 use Rattle.line_reader.specs.Reading.{line_from_of}
-use Rattle.line_reader.specs.Laws.Lines.{line_length}
+use Rattle.line_reader.proofs.Laws.Lines.{line_length}
 use Rattle.job.specs.Line.{Line}
 use Rattle.job.specs.Grammar.{Written, forms, read_line_of}
 use Rattle.job.specs.Job.{well_ended_of}

@@ -6,12 +6,12 @@ use Rattle.text.specs.Bytes.{lines}
 use Rattle.job.specs.Grammar.{Written, read_line_of}
 use Rattle.job.specs.Checks.{Context, no_context_of, in_edition_of, own_tests}
 use Rattle.job.specs.Job.{is_last, next_of, check_job}
-use Rattle.job.specs.Laws.Tests.{AllPass}
+use Rattle.job.proofs.Laws.Tests.{AllPass}
 use Rattle.job.specs.Fits.{WrittenFits}
-use Rattle.job.specs.Laws.Forms.{line_fits}
-use Rattle.job.specs.Laws.Lines.{line_sound}
-use Rattle.job.specs.Laws.Accepted.{passes_first, passing, good_says}
-use Rattle.job.specs.Laws.Begun.{ended_parts, job_passes}
+use Rattle.job.proofs.Laws.Forms.{line_fits}
+use Rattle.job.proofs.Laws.Lines.{line_sound}
+use Rattle.job.proofs.Laws.Accepted.{passes_first, passing, good_says}
+use Rattle.job.proofs.Laws.Begun.{ended_parts, job_passes}
 use Rattle.instructions.specs.declared.LineRead.{LineRead}
 use Rattle.instructions.specs.Reading.{line_at, NextLine}
 use Rattle.instructions.specs.Lines.{Passes, Left, WrittenSound, KnownAt, SoundRead, SomeRead, numbered}

@@ -16,7 +16,7 @@ use Rattle.job.specs.Clifford.{table_words_of, table_of}
 use Rattle.job.specs.Grammar.{Kind, NoiseLine, Written, header_by, edition_by, is_one, optional, unitary_line, clifford_line, noise_line, forms, read_line_of}
 use Rattle.job.specs.Checks.{records, element_lines_of, first_total}
 use Rattle.job.specs.Fits.{SaidFits}
-use Rattle.job.specs.Laws.Forms.{line_fits}
+use Rattle.job.proofs.Laws.Forms.{line_fits}
 use Rattle.reader.specs.declared.Form.{Form}
 use Rattle.reader.specs.declared.Form.TheVariants as form
 use Rattle.reader.specs.Parsed.{place_of, no_form, form_of, is_unread, ParsedAs, Parsed, Said}

@@ -5,8 +5,8 @@ use Rattle.std.proofs.Math.Path.{refl}
 use Rattle.std.proofs.Math.Bool.{false}
 use Rattle.std.proofs.lemmas.Bool.{eqb-false}
 use Rattle.text.specs.Bytes.{LF, until, extend, pieces, lines}
-use Rattle.text.specs.Laws.Values.{both}
-use Rattle.text.specs.Laws.Pieces.{step, piece_more}
+use Rattle.text.proofs.Laws.Values.{both}
+use Rattle.text.proofs.Laws.Pieces.{step, piece_more}
 use Rattle.numbers.specs.Laws.Pieces.{until_at}
 use Rattle.job.specs.Job.{max_bytes, well_ended_of, is_last}
 use Rattle.instructions.specs.Reading.{line_at, LineAt}

@@ -4,7 +4,7 @@ use Rattle.std.proofs.Common.{arith, sym, ap₂, ◌∙◌, subst}
 use Rattle.std.proofs.Math.Decide.{ℕ_discrete, dec_lt}
 use Rattle.std.proofs.Math.Option.{some}
 use Rattle.pauli.specs.Gate.{Gate, I, X, Y, Z, Hadamard, SqrtZ, SqrtZInv, SqrtX, SqrtXInv, SqrtY, SqrtYInv, ControlledX, ControlledZ, Swap, PrepareBell, ControlledY, gate_of, operands_of}
-use Rattle.pauli.specs.Laws.Code.{gate_none}
+use Rattle.pauli.proofs.Laws.Code.{gate_none}
 use Rattle.text.specs.Bytes.{bytes}
 use Rattle.text.specs.Template.{Value, numbers_in, lists_in, number_at, list_at_of}
 use Rattle.template.specs.Values.{Whole, AllKept, held_number, held_list}
@@ -14,8 +14,8 @@ use Rattle.job.specs.Line.{SparsePauli, Line}
 use Rattle.job.specs.Clifford.{table_of}
 use Rattle.job.specs.Grammar.{Written, header_with, is_one, forms}
 use Rattle.job.specs.Sound.{LineSound}
-use Rattle.job.specs.Laws.Permutation.{permutation_parts}
-use Rattle.job.specs.Laws.Table.{few_words}
+use Rattle.job.proofs.Laws.Permutation.{permutation_parts}
+use Rattle.job.proofs.Laws.Table.{few_words}
 use Rattle.reader.specs.declared.Form.{Form}
 use Rattle.reader.specs.declared.Form.TheVariants as form
 use Rattle.reader.specs.Parsed.{place_of}

@@ -13,13 +13,13 @@ use Rattle.job.specs.Grammar.{Kind, NoiseLine, Written, read_line_of}
 use Rattle.job.specs.Checks.{element_lines_of, next as nextContext}
 use Rattle.job.specs.Job.{check_job, distribution_of, noise_of, placed_at, gather, gathered, Job, job_of}
 use Rattle.job.specs.Sound.{DistributionSound, NoiseSound, InstructionSound, InstructionsSound}
-use Rattle.job.specs.Laws.Lines.{header_sound}
+use Rattle.job.proofs.Laws.Lines.{header_sound}
 use Rattle.job.specs.Contexts.{between, Accepted}
-use Rattle.job.specs.Laws.Accepted.{accepted_first}
-use Rattle.job.specs.Laws.Begun.{job_passes, job_begun}
-use Rattle.job.specs.Laws.Gather.{gathered_sound}
-use Rattle.job.specs.Laws.Recorded.{instruction_within}
-use Rattle.job.specs.Laws.Instructions.{LineStep, FirstInstruction, first_instruction}
+use Rattle.job.proofs.Laws.Accepted.{accepted_first}
+use Rattle.job.proofs.Laws.Begun.{job_passes, job_begun}
+use Rattle.job.proofs.Laws.Gather.{gathered_sound}
+use Rattle.job.proofs.Laws.Recorded.{instruction_within}
+use Rattle.job.proofs.Laws.Instructions.{LineStep, FirstInstruction, first_instruction}
 use Rattle.reader.specs.declared.Form.TheVariants as form
 use Rattle.instructions.specs.declared.LineRead.{LineRead}
 use Rattle.instructions.specs.Reading.{line_at, LineAt, NextLine, noise_form}

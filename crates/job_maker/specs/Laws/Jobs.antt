@@ -6,7 +6,7 @@ use Rattle.std.proofs.Math.Nat.{sub-zero}
 use native.Mathlib.Omega.{arith}
 use Rattle.text.specs.Bytes.{LF, bytes, unlines}
 use Rattle.text.specs.Template.{Value, line_text}
-use Rattle.text.specs.Laws.Written.{unlines_append}
+use Rattle.text.proofs.Laws.Written.{unlines_append}
 use Rattle.job.specs.declared.Header.{Header}
 use Rattle.job.specs.Sound.{HeaderSound}
 use Rattle.writer.specs.Placed.{Puts}
@@ -15,7 +15,7 @@ use Rattle.line_writer.specs.Laws.Lines.{line_length, numbers_lent}
 use Rattle.writer.specs.Laws.Placing.{puts_more, Rest, rest_all, rest_more, rest_none}
 use Rattle.made.specs.Making.{instruction}
 use Rattle.made.specs.Made.{header_text, made_texts}
-use Rattle.made.specs.Laws.Jobs.{instruction_makes}
+use Rattle.made.proofs.Laws.Jobs.{instruction_makes}
 use Rattle.made_fields.specs.declared.Making.{Making}
 use Rattle.made_fields.specs.Lines.{MadeIs, Ready}
 use Rattle.job_maker.specs.Whole.{job_text, JobPut}

@@ -16,7 +16,7 @@ use Rattle.writer.specs.Placed.{placed, Puts}
 use Rattle.writer.specs.Laws.Placing.{placed_over}
 use Rattle.writer.specs.Laws.Fits.{room_for, within_limit}
 use Rattle.made.specs.Made.{made_header, made_text, make_reply}
-use Rattle.made.specs.Laws.Replies.{header_fits}
+use Rattle.made.proofs.Laws.Replies.{header_fits}
 use Rattle.job_maker.specs.Whole.{JobPut}
 
 -- ---- the header

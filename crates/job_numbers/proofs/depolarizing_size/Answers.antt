@@ -1,6 +1,6 @@
 -- `job_numbers::depolarizing_size` meets its contract: a shift by 2k is 4 ^ k. Assumes nothing.
 use native.Mathlib.Omega.{arith}
-use Rattle.job.specs.Laws.Sizes.{four_pos, shifted}
+use Rattle.job.proofs.Laws.Sizes.{four_pos, shifted}
 use Rattle.job_numbers.proofs.depolarizing_size.Goals as goal
 
 pub overflow_mul-result : goal.overflow_mul-result

@@ -2,10 +2,10 @@
 use Rattle.std.specs.Prelude.{◌≡◌, true, false, List, ℕ, ◌+◌, ◌*◌, ◌/◌, ◌^◌, ◌≤◌, ◌<◌, leb}
 use Rattle.std.proofs.Common.{mul-le-mul, arith}
 use borrow.Author.Tests.{leb-true, le-leb, lt-leb}
-use Rattle.text.specs.Laws.Values.{both}
+use Rattle.text.proofs.Laws.Values.{both}
 use Rattle.job.specs.Job.{job_of, check_job}
 use Rattle.job.specs.Sound.{HeaderSound}
-use Rattle.job.specs.Theorems.{checked_sound}
+use Rattle.job.proofs.Theorems.{checked_sound}
 use Rattle.rows.specs.declared.Shape.{Shape}
 use Rattle.job_shape.specs.declared.lent_words.Lengths.{Lengths}
 use Rattle.job_shape.specs.Enough.{suffice}

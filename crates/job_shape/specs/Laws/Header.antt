@@ -3,7 +3,7 @@ use Rattle.std.specs.Prelude.{◌≡◌, List, ℕ}
 use Rattle.std.proofs.Common.{sym, zero-add}
 use Rattle.text.specs.Bytes.{LF, until}
 use Rattle.job.specs.Job.{check_job}
-use Rattle.job.specs.Laws.Begun.{ended_parts, job_passes}
+use Rattle.job.proofs.Laws.Begun.{ended_parts, job_passes}
 use Rattle.instructions.specs.Reading.{LineAt}
 use Rattle.instructions.specs.Ahead.{Started}
 use Rattle.instructions.specs.Laws.Places.{found_line}

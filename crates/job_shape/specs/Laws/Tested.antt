@@ -6,7 +6,7 @@ use borrow.Author.Tests.{eq-eqb, ne_eqb, eqb-true}
 use Rattle.job.specs.declared.Answer.{Answer}
 use Rattle.job.specs.Job.{answer, job_of, check_job}
 use Rattle.job.specs.Sound.{HeaderSound}
-use Rattle.job.specs.Theorems.{checked_sound}
+use Rattle.job.proofs.Theorems.{checked_sound}
 use Rattle.checker.specs.declared.Examined.{Examined}
 use Rattle.checker.specs.Examines.{Examines}
 use Rattle.rows.specs.declared.Shape.{Shape}

@@ -8,4 +8,4 @@ pub returns-then-not-has_byte : goal.returns-then-not-has_byte
 returns-then-not-has_byte c = λ e. absurd (true≢false (sym e))
 
 pub returns : goal.returns
-returns c = λ e. (c.has_byte.ensures (not-false _ c.if-not-has_byte.false), c.has_byte-2.ensures e)
+returns c = λ e. (c.has_byte.ensures (c.if-not-has_byte.false), c.has_byte-2.ensures e)

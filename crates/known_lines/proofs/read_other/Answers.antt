@@ -18,17 +18,17 @@ returns-then-has_byte c =
 
 pub slice_bounds-known_hex-end : goal.slice_bounds-known_hex-end
 slice_bounds-known_hex-end c =
-    let known = weighted_parts c.requires.0 (c.has_byte-2.ensures (not-false _ c.if-not-has_byte.false)) in
+    let known = weighted_parts c.requires.0 (c.has_byte-2.ensures (c.if-not-has_byte.false)) in
     omega (arith, known.within)
 
 pub known_hex-weight-requires : goal.known_hex-weight-requires
 known_hex-weight-requires c =
-    let known = weighted_parts c.requires.0 (c.has_byte-2.ensures (not-false _ c.if-not-has_byte.false)) in
+    let known = weighted_parts c.requires.0 (c.has_byte-2.ensures (c.if-not-has_byte.false)) in
     (weight_long known, known.digits)
 
 pub read_lists-requires-2 : goal.read_lists-requires-2
 read_lists-requires-2 c =
-    let known = weighted_parts c.requires.0 (c.has_byte-2.ensures (not-false _ c.if-not-has_byte.false)) in
+    let known = weighted_parts c.requires.0 (c.has_byte-2.ensures (c.if-not-has_byte.false)) in
     (omega arith, lists_there known.lists_of, omega (arith, c.requires.1))
 
 pub returns : goal.returns
@@ -36,4 +36,4 @@ returns c =
     let pre = c.requires in
     let before = c.args.fields.now in
     let marked = c.set_number.ensures ∙ ap (set before 0) c.known_hex-weight.ensures in
-    weighted_parsed pre.0 (c.has_byte-2.ensures (not-false _ c.if-not-has_byte.false)) before pre.1 marked c.read_lists-2.ensures
+    weighted_parsed pre.0 (c.has_byte-2.ensures (c.if-not-has_byte.false)) before pre.1 marked c.read_lists-2.ensures

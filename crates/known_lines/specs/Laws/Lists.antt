@@ -8,8 +8,8 @@ use Rattle.text.specs.Bytes.{bytes, space, until, pieces}
 use Rattle.text.specs.Number.{number_of, all_hex_of, hex_from}
 use Rattle.text.specs.List.{with_first, pieces_of, list_Q, only_rising, list_L}
 use Rattle.text.specs.Template.{Value, number, list, value_of, values_of}
-use Rattle.text.specs.Laws.Pieces.{until_le}
-use Rattle.text.specs.Laws.Places.{literals}
+use Rattle.text.proofs.Laws.Pieces.{until_le}
+use Rattle.text.proofs.Laws.Places.{literals}
 use Rattle.numbers.specs.Known.{field, ListThere}
 use Rattle.numbers.specs.Laws.Known.{hex_bytes}
 use Rattle.template.specs.Values.{Whole}

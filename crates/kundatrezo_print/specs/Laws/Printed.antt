@@ -4,11 +4,11 @@ use Rattle.std.proofs.Common.{sym, ap, ◌∙◌, mul-le-mul_right, arith, leb-t
 use Rattle.std.proofs.lemmas.Bool.{lt-leb}
 use Rattle.std.proofs.lemmas.List.{length-replicate}
 use Rattle.text.specs.Bytes.{unlines}
-use Rattle.text.specs.Laws.Values.{both}
+use Rattle.text.proofs.Laws.Values.{both}
 use Rattle.job.specs.declared.Header.{Header}
 use Rattle.job.specs.declared.Answer.{Answer}
 use Rattle.job.specs.Job.{answer, check_job, job_of, recorded_in}
-use Rattle.job.specs.Theorems.{checked_sound}
+use Rattle.job.proofs.Theorems.{checked_sound}
 use Rattle.rows.specs.Words.{words_per_row}
 use Rattle.run.specs.Run.{Memory, RunReply, frame_words_of, outcome_words_of, run_reply}
 use Rattle.session.specs.Session.{small_enough, lent_memory, refusal_lines, session_lines, delta_lines, reply_lines, printed}

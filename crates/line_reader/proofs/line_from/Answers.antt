@@ -1,7 +1,7 @@
 -- `line_reader::line_from` meets its contract.
 use mathlib.Core.Path.{sym, ◌∙◌}
 use native.Mathlib.Omega.{arith}
-use Rattle.line_reader.specs.Laws.Lines.{line_found, empty_part, no_line, fewest_within, end_behind_fewest}
+use Rattle.line_reader.proofs.Laws.Lines.{line_found, empty_part, no_line, fewest_within, end_behind_fewest}
 use Rattle.line_reader.proofs.line_from.Goals as goal
 
 pub returns-then-job-at : goal.returns-then-job-at

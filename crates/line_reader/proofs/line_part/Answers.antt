@@ -1,5 +1,5 @@
 -- `line_reader::line_part` meets its contract.
-use Rattle.line_reader.specs.Laws.Lines.{part_none, part_found}
+use Rattle.line_reader.proofs.Laws.Lines.{part_none, part_found}
 use Rattle.line_reader.proofs.line_part.Goals as goal
 
 pub returns-then-number-eq0 : goal.returns-then-number-eq0

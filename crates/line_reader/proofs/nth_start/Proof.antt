@@ -45,7 +45,7 @@ use denote.Triple.Walked.{says, Stays, stay_none, stay_none_slice, walk_of, Goes
 use denote.Exit.{yes}
 use denote.Triple.Clauses.{ensured, lasts}
 use Rattle.line_reader.specs.Reading.{behind, behind_lines}
-use Rattle.line_reader.specs.Laws.Lines.{one_more_or_none, none_more}
+use Rattle.line_reader.proofs.Laws.Lines.{one_more_or_none, none_more}
 use Rattle.line_reader.specs.declared.Reader.{Reader}
 use Rattle.line_reader.proofs.Local.{ty_of, Handed, begins, slice_val_lem, Own, Lies, Cell, Held, made, lies, opened, Next, hands_out}
 use Rattle.line_reader.proofs.next_line.Symbol as next-def

@@ -1,7 +1,7 @@
 -- `line_reader::place_behind` meets its contract.
 use mathlib.Core.Path.{sym}
 use native.Mathlib.Omega.{arith}
-use Rattle.line_reader.specs.Laws.Lines.{behind_last, behind_line, behind_last_line}
+use Rattle.line_reader.proofs.Laws.Lines.{behind_last, behind_line, behind_last_line}
 use Rattle.line_reader.proofs.place_behind.Goals as goal
 
 pub returns-then-job-at : goal.returns-then-job-at

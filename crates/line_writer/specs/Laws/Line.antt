@@ -4,7 +4,7 @@ use Rattle.std.proofs.Common.{sym, ap, ◌∙◌, true≢false, add-zero, arith,
 use Rattle.std.proofs.Math.Nat.{add-sub_cancel_left}
 use Rattle.text.specs.List.{list_text}
 use Rattle.text.specs.Template.{Value, is_letter_of, value_text, first_text, line_text}
-use Rattle.text.specs.Laws.Pieces.{step}
+use Rattle.text.proofs.Laws.Pieces.{step}
 use Rattle.writer.specs.Placed.{Puts}
 use Rattle.line_writer.specs.Line.{is_list_of, values_in, numbers_for, lists_for}
 use Rattle.writer.specs.Laws.Placing.{Rest, rest_all, rest_more, rest_none}

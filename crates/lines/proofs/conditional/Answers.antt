@@ -2,7 +2,7 @@
 use Rattle.instructions.specs.Laws.Read.{conditional_read}
 use Rattle.propagator.specs.Laws.Lists.{sound_in}
 use Rattle.job.specs.Sound.{LineSound}
-use Rattle.job.specs.Laws.Lists.{below_more, rising_distinct}
+use Rattle.job.proofs.Laws.Lists.{below_more, rising_distinct}
 use native.Mathlib.Omega.{arith}
 use Rattle.lines.proofs.conditional.Goals as goal
 

@@ -1,7 +1,7 @@
 -- `lines_back::clifford` meets its contract. Assumes nothing.
 use native.Mathlib.Omega.{arith}
 use Rattle.job.specs.Sound.{LineSound}
-use Rattle.job.specs.Laws.Lists.{below_more}
+use Rattle.job.proofs.Laws.Lists.{below_more}
 use Rattle.instructions.specs.Laws.Read.{clifford_read, clifford_table}
 use Rattle.lines_back.specs.Laws.Kinds.{clifford_goes}
 use Rattle.lines_back.proofs.clifford.Goals as goal

@@ -2,7 +2,7 @@
 use Prim.Native.Nat.{◌≤◌}
 use native.Mathlib.Omega.{arith}
 use Rattle.job.specs.Sound.{LineSound}
-use Rattle.job.specs.Laws.Lists.{below_more}
+use Rattle.job.proofs.Laws.Lists.{below_more}
 use Rattle.instructions.specs.Laws.Read.{conditional_read}
 use Rattle.lines_back.specs.Laws.Kinds.{pauli_below, conditional_goes}
 use Rattle.lines_back.proofs.conditional.Goals as goal

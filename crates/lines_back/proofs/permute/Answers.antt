@@ -1,7 +1,7 @@
 -- `lines_back::permute` meets its contract. Assumes nothing.
 use native.Mathlib.Omega.{arith}
 use Rattle.job.specs.Sound.{LineSound}
-use Rattle.job.specs.Laws.Lists.{below_more}
+use Rattle.job.proofs.Laws.Lists.{below_more}
 use Rattle.instructions.specs.Laws.Read.{permute_read}
 use Rattle.lines_back.specs.Laws.Kinds.{permute_goes}
 use Rattle.lines_back.proofs.permute.Goals as goal

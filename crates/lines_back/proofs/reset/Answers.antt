@@ -1,7 +1,7 @@
 -- `lines_back::reset` meets its contract. Assumes nothing.
 use native.Mathlib.Omega.{arith}
 use Rattle.job.specs.Sound.{LineSound}
-use Rattle.job.specs.Laws.Lists.{below_more}
+use Rattle.job.proofs.Laws.Lists.{below_more}
 use Rattle.instructions.specs.Laws.Read.{reset_read}
 use Rattle.lines_back.specs.Laws.Kinds.{reset_goes}
 use Rattle.lines_back.proofs.reset.Goals as goal

@@ -2,7 +2,7 @@
 use native.Mathlib.Omega.{arith}
 use Rattle.pauli.specs.Code.{operand_count_of}
 use Rattle.job.specs.Sound.{LineSound}
-use Rattle.job.specs.Laws.Lists.{below_more}
+use Rattle.job.proofs.Laws.Lists.{below_more}
 use Rattle.instructions.specs.Laws.Read.{unitary_read, gate_small}
 use Rattle.lines_back.specs.Laws.Kinds.{unitary_goes}
 use Rattle.lines_back.proofs.unitary.Goals as goal

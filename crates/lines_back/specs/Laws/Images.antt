@@ -9,15 +9,15 @@ use mathlib.Core.List.{List, [], ◌∷◌}
 use Rattle.std.specs.Int.Bits.{bit_xor}
 use Rattle.pauli.specs.Bits.{Bits, ◌⊕◌, ◌∩◌, ◌△◌, none, only, given, outside, parity, bit}
 use Rattle.pauli.specs.Pauli.{Pauli, identity, X_at, Z_at, ◌∗◌, when, anticommutes, cleared}
-use Rattle.pauli.specs.Laws.F2.{f2}
-use Rattle.pauli.specs.Laws.Parity.{bitwise}
-use Rattle.pauli.specs.Laws.Gates.{pauli_path}
+use Rattle.pauli.proofs.Laws.F2.{f2}
+use Rattle.pauli.proofs.Laws.Parity.{bitwise}
+use Rattle.pauli.proofs.Laws.Gates.{pauli_path}
 use Rattle.job.specs.Checks.{all_below, distinct, is_permutation}
-use Rattle.job.specs.Laws.Lists.{below_at}
-use Rattle.job.specs.Laws.Permutation.{permutation_parts}
+use Rattle.job.proofs.Laws.Lists.{below_at}
+use Rattle.job.proofs.Laws.Permutation.{permutation_parts}
 use Rattle.job.specs.Clifford.{row_over}
 use Rattle.frames.specs.Forward.{placed, table_row, images_from, images_of}
-use Rattle.frames.specs.Laws.Places.{PlaceOf, where_is, placed_off, placed_at, parity_placed}
+use Rattle.frames.proofs.Laws.Places.{PlaceOf, where_is, placed_off, placed_at, parity_placed}
 use Rattle.backward.specs.Walk.{images_back, clifford_back_of, fetched, permute_back_of}
 use Rattle.lines_back.specs.Packed.{Packed, in_words}
 use Rattle.lines_back.specs.Laws.Packed.{same_places}

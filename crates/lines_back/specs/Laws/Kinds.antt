@@ -13,7 +13,7 @@ use Rattle.job.specs.Line.{SparsePauli, pauli_of, Line}
 use Rattle.job.specs.Checks.{all_below}
 use Rattle.job.specs.Clifford.{table_of}
 use Rattle.job.specs.Sound.{PauliSound}
-use Rattle.job.specs.Laws.Lists.{below_more}
+use Rattle.job.proofs.Laws.Lists.{below_more}
 use Rattle.reader.specs.declared.Form.{Form}
 use Rattle.reader.specs.declared.Form.TheVariants as form
 use Rattle.frames.specs.Forward.{exponentiate, controlled_pauli, images_of}

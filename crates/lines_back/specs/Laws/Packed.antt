@@ -9,9 +9,9 @@ use Rattle.std.specs.Int.Count.{ones}
 use Rattle.std.proofs.Math.Pow.{pow-lt}
 use Rattle.pauli.specs.Bits.{Bits, ◌⊕◌, ◌∩◌, ◌△◌, bit}
 use Rattle.pauli.specs.Pauli.{anticommutes}
-use Rattle.pauli.specs.Laws.F2.{f2}
-use Rattle.pauli.specs.Laws.Word.{bit_shr, bit_xor_lem, bit_and_lem, bit_high, bit_pow}
-use Rattle.pauli.specs.Laws.Parts.{parity_sum, parity_same, parity_word}
+use Rattle.pauli.proofs.Laws.F2.{f2}
+use Rattle.pauli.proofs.Laws.Word.{bit_shr, bit_xor_lem, bit_and_lem, bit_high, bit_pow}
+use Rattle.pauli.proofs.Laws.Parts.{parity_sum, parity_same, parity_word}
 use Rattle.job.specs.Clifford.{row_over}
 use Rattle.tables.specs.Rows.{row_word, in_word}
 use Rattle.tables.specs.Laws.Rows.{row_bit}

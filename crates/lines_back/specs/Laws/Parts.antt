@@ -6,18 +6,18 @@ use Rattle.std.proofs.Math.Path.{sym, ap, fun_ext}
 use mathlib.Core.List.{List, [], ◌∷◌}
 use Rattle.std.proofs.Math.ListN.{get_or-eq_default}
 use Rattle.std.specs.Int.Bits.{bit_xor}
-use Rattle.text.specs.Laws.Pieces.{step}
+use Rattle.text.proofs.Laws.Pieces.{step}
 use Rattle.pauli.specs.Bits.{Bits, ◌⊕◌, ◌∩◌, ◌△◌, only, given, added, outside, bit}
 use Rattle.pauli.specs.Pauli.{Pauli, cleared}
-use Rattle.pauli.specs.Laws.Changes.{cleared_none, cleared_more}
-use Rattle.pauli.specs.Laws.F2.{f2}
-use Rattle.pauli.specs.Laws.Parity.{bitwise, added_is, △_none}
-use Rattle.pauli.specs.Laws.Word.{bit_xor_lem}
+use Rattle.pauli.proofs.Laws.Changes.{cleared_none, cleared_more}
+use Rattle.pauli.proofs.Laws.F2.{f2}
+use Rattle.pauli.proofs.Laws.Parity.{bitwise, added_is, △_none}
+use Rattle.pauli.proofs.Laws.Word.{bit_xor_lem}
 use Rattle.pauli.specs.Fixed.{AllBelow}
 use Rattle.job.specs.Checks.{all_below, distinct}
-use Rattle.job.specs.Laws.Lists.{below_at}
+use Rattle.job.proofs.Laws.Lists.{below_at}
 use Rattle.frames.specs.Forward.{placed}
-use Rattle.frames.specs.Laws.Places.{PlaceOf, where_is, at_place, placed_off, placed_at}
+use Rattle.frames.proofs.Laws.Places.{PlaceOf, where_is, at_place, placed_off, placed_at}
 use Rattle.lines_back.specs.Packed.{Packed}
 
 -- ---- below

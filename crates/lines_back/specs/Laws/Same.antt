@@ -6,14 +6,14 @@ use Rattle.std.proofs.Common.{◌∙◌}
 use Rattle.std.proofs.Math.Dec.{eqb}
 use Rattle.pauli.specs.Bits.{Bits, ◌⊕◌, ◌∩◌, ◌△◌, given, members, parity}
 use Rattle.pauli.specs.Pauli.{Pauli, ◌∗◌, when, anticommutes}
-use Rattle.pauli.specs.Laws.F2.{&&_false}
-use Rattle.pauli.specs.Laws.Parts.{parity_within}
-use Rattle.pauli.specs.Laws.Pairing.{anti_comm}
+use Rattle.pauli.proofs.Laws.F2.{&&_false}
+use Rattle.pauli.proofs.Laws.Parts.{parity_within}
+use Rattle.pauli.proofs.Laws.Pairing.{anti_comm}
 use Rattle.job.specs.declared.Header.{Header}
 use Rattle.job.specs.Line.{SparsePauli, pauli_of, Line}
 use Rattle.job.specs.Checks.{all_below}
 use Rattle.job.specs.Sound.{PauliSound, LineSound}
-use Rattle.job.specs.Laws.Lists.{below_at, below_more, at_member}
+use Rattle.job.proofs.Laws.Lists.{below_at, below_more, at_member}
 use Rattle.frames.specs.Forward.{exponentiate, controlled_pauli, setting_of}
 use Rattle.backward.specs.Walk.{Carried, carry, counts, Walk, one_more_of, backward}
 use Rattle.lines_back.specs.Full.{full}

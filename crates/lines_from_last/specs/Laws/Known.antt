@@ -11,12 +11,12 @@ use Rattle.job.specs.Checks.{Context, records, next, header_fits_of, own_tests}
 use Rattle.job.specs.Job.{check_job, recorded_by, Job, job_of}
 use Rattle.job.specs.Sound.{PauliSound, LineSound, InstructionSound}
 use Rattle.job.specs.Fits.{WrittenFits}
-use Rattle.job.specs.Laws.Lines.{pauli_sound, line_sound}
+use Rattle.job.proofs.Laws.Lines.{pauli_sound, line_sound}
 use Rattle.job.specs.Contexts.{between, Accepted}
-use Rattle.job.specs.Laws.Accepted.{Passing, accepted_first}
-use Rattle.job.specs.Laws.Begun.{Begun, job_begun}
-use Rattle.job.specs.Laws.Gather.{recorded_more}
-use Rattle.job.specs.Laws.Recorded.{instruction_within}
+use Rattle.job.proofs.Laws.Accepted.{Passing, accepted_first}
+use Rattle.job.proofs.Laws.Begun.{Begun, job_begun}
+use Rattle.job.proofs.Laws.Gather.{recorded_more}
+use Rattle.job.proofs.Laws.Recorded.{instruction_within}
 use Rattle.lines_from_last.specs.Line.{Known}
 
 -- a line that passes

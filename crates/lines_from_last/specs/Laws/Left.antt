@@ -8,11 +8,11 @@ use Rattle.std.proofs.Math.Option.{Option, some}
 use Rattle.std.proofs.Math.ListN.{length}
 use Rattle.std.proofs.Math.Seq.{take-length}
 use Rattle.text.specs.Bytes.{LF, pieces, lines}
-use Rattle.text.specs.Laws.Values.{both}
+use Rattle.text.proofs.Laws.Values.{both}
 use Rattle.job.specs.Grammar.{Written}
 use Rattle.job.specs.Job.{max_bytes, well_ended_of, check_job, gather, gathered, Job, job_of}
-use Rattle.job.specs.Theorems.{checked_sound}
-use Rattle.job.specs.Laws.Begun.{job_begun}
+use Rattle.job.proofs.Theorems.{checked_sound}
+use Rattle.job.proofs.Laws.Begun.{job_begun}
 use Rattle.instructions.specs.Reading.{line_at}
 use Rattle.lines_from_last.specs.Line.{LineStart, LineBefore, LinesLeft, Known, OfJob}
 use Rattle.lines_from_last.specs.Laws.Known.{job_known}

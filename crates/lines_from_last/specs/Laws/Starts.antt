@@ -4,7 +4,7 @@ use Rattle.std.proofs.Common.{sym, ap, subst, ◌∙◌, true≢false, append_as
 use Rattle.std.proofs.lemmas.Bool.{eqb-false}
 use Rattle.text.specs.Bytes.{until, extend, pieces, lines, unlines}
 use Rattle.text.specs.Written.{Free}
-use Rattle.text.specs.Theorems.{lines_unlines}
+use Rattle.text.proofs.Theorems.{lines_unlines}
 use Rattle.instructions.specs.Reading.{line_at}
 use Rattle.lines_from_last.specs.Line.{LineStart, LineBefore, NoLf}
 

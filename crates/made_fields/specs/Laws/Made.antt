@@ -2,7 +2,7 @@
 use Rattle.std.specs.Prelude.{◌≡◌, refl, List, [], ℕ, zero, suc, ◌+◌, ◌≤◌, ◌<◌, min, take}
 use Rattle.std.proofs.Common.{sym, ap, subst, ◌∙◌, arith}
 use Rattle.made.specs.Choice.{Chosen, given, ◌>>=◌, pick, marked, few, cyclic, stretch}
-use Rattle.made.specs.Laws.Choice.{always_pick}
+use Rattle.made.proofs.Laws.Choice.{always_pick}
 use Rattle.made_fields.specs.declared.choices.Number.{Number}
 use Rattle.made_fields.specs.declared.choices.Numbers.{Numbers}
 use Rattle.made_fields.specs.Chosen.{NumberIs, ListIs}

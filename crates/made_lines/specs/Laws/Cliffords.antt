@@ -16,7 +16,7 @@ use Rattle.writer.specs.Laws.Placing.{puts_nothing, puts_more}
 use Rattle.writer.specs.Laws.Lists.{hex_length}
 use Rattle.made.specs.Choice.{given, ◌>>=◌, pick, cyclic}
 use Rattle.made.specs.Making.{Table, tables, table_on, suited, clifford}
-use Rattle.made.specs.Laws.Choice.{always_pick}
+use Rattle.made.proofs.Laws.Choice.{always_pick}
 use Rattle.made_fields.specs.declared.choices.Number.{Number}
 use Rattle.made_fields.specs.Chosen.{NumberIs}
 use Rattle.made_fields.specs.declared.Making.{Making}

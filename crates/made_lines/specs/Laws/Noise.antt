@@ -15,7 +15,7 @@ use Rattle.writer.specs.Laws.Placing.{puts_nothing, puts_more}
 use Rattle.writer.specs.Laws.Lists.{hex_length}
 use Rattle.made.specs.Choice.{Chosen, given, ◌>>=◌, pick, few, pauli, stretch}
 use Rattle.made.specs.Making.{probabilities, correlation, parity, NoiseStart, noise_start, single, depolarizing}
-use Rattle.made.specs.Laws.Words.{pick_is, parity_none, parity_some}
+use Rattle.made.proofs.Laws.Words.{pick_is, parity_none, parity_some}
 use Rattle.made_fields.specs.declared.choices.Number.{Number}
 use Rattle.made_fields.specs.declared.choices.Numbers.{Numbers}
 use Rattle.made_fields.specs.Chosen.{NumberIs, ListIs}

@@ -13,7 +13,7 @@ use Rattle.writer.specs.Placed.{Puts}
 use Rattle.writer.specs.Laws.Placing.{puts_nothing, puts_more}
 use Rattle.made.specs.Choice.{given, ◌>>=◌, pick, few, pauli, cyclic, stretch}
 use Rattle.made.specs.Making.{one_sided, pauli_line, controlled, permute, conditional, reset_qubits_of, reset, inject, flip, measure, allocate, barrier}
-use Rattle.made.specs.Laws.Choice.{always_stretch}
+use Rattle.made.proofs.Laws.Choice.{always_stretch}
 use Rattle.made_fields.specs.declared.choices.Number.{Number}
 use Rattle.made_fields.specs.declared.choices.Numbers.{Numbers}
 use Rattle.made_fields.specs.Chosen.{NumberIs, ListIs}

@@ -7,7 +7,7 @@ use Rattle.draws.specs.Execute.{States, starts, Ended, execute}
 use Rattle.frames.specs.Forward.{start}
 use Rattle.rows.specs.declared.Shape.{Shape}
 use Rattle.rows.specs.Overwrite.{cleared}
-use Rattle.rows.specs.Laws.Pack.{cleared_all}
+use Rattle.rows.proofs.Laws.Pack.{cleared_all}
 use Rattle.totals.specs.Held.{TotalsHeld}
 use Rattle.totals.specs.Laws.Held.{held_zeros}
 use Rattle.execution.specs.Holds.{Holds}

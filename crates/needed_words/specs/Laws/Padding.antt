@@ -8,13 +8,13 @@ use Rattle.job.specs.Line.{Line, Instruction, Placed}
 use Rattle.job.specs.Sound.{LineSound, InstructionSound, InstructionsSound}
 use Rattle.frames.specs.Forward.{setting_of, start}
 use Rattle.frames.specs.Shots.{concerns}
-use Rattle.frames.specs.ShotTheorems.{padding}
+use Rattle.frames.proofs.ShotTheorems.{padding}
 use Rattle.draws.specs.Draws.{Lent}
 use Rattle.draws.specs.Settle.{Settled, settle, settled_list}
 use Rattle.draws.specs.Execute.{States, starts, Ended, execute}
-use Rattle.draws.specs.Laws.Settling.{execute_settle}
+use Rattle.draws.proofs.Laws.Settling.{execute_settle}
 use Rattle.draws.specs.Known.{own_below_of, all_own_below, run_all, on_settled}
-use Rattle.draws.specs.Laws.Within.{settle_within}
+use Rattle.draws.proofs.Laws.Within.{settle_within}
 
 -- ---- the injections and flips of an accepted job are in its shots
 

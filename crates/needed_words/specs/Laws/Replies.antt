@@ -12,7 +12,7 @@ use Rattle.frames.specs.Forward.{State, start}
 use Rattle.draws.specs.Execute.{States, Ended}
 use Rattle.rows.specs.Words.{words_per_row, bit_in, pack}
 use Rattle.rows.specs.Column.{column}
-use Rattle.rows.specs.Laws.Pack.{length_tabulated, tabulated_at, packed}
+use Rattle.rows.proofs.Laws.Pack.{length_tabulated, tabulated_at, packed}
 use Rattle.totals.specs.Ones.{ones_to}
 use Rattle.totals.specs.Held.{TotalsHeld}
 use Rattle.totals.specs.Laws.Ones.{ones_same, ones_within}

@@ -10,8 +10,8 @@ use Rattle.rows.specs.Words.{bit_in}
 use Rattle.rows.specs.Overwrite.{overwrite, xored}
 use Rattle.rows.specs.Listed.{over_list}
 use Rattle.rows.specs.Column.{column}
-use Rattle.rows.specs.Laws.Overwrite.{overwrite_in, overwrite_more, length_overwrite}
-use Rattle.rows.specs.Laws.Column.{column_add_listed}
+use Rattle.rows.proofs.Laws.Overwrite.{overwrite_in, overwrite_more, length_overwrite}
+use Rattle.rows.proofs.Laws.Column.{column_add_listed}
 use Rattle.noise.specs.Condition.{condition_of, Masks}
 
 -- a turn of the loop that writes one word many times

@@ -8,7 +8,7 @@ use Rattle.std.proofs.Math.Option.{Option, none, some}
 use Rattle.std.proofs.Math.ListN.{get_or-append}
 use Rattle.std.proofs.Math.Seq.{drop-cons}
 use Rattle.draws.specs.Draws.{falls, Lent, part_of}
-use Rattle.draws.specs.Laws.Spent.{drop_append}
+use Rattle.draws.proofs.Laws.Spent.{drop_append}
 use Rattle.noise.specs.declared.Correlation.{Correlation}
 use Rattle.noise.specs.declared.Correlation.TheVariants.{Uncorrelated, Shared}
 use Rattle.noise.specs.declared.NextWord.{NextWord}

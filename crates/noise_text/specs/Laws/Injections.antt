@@ -18,7 +18,7 @@ use Rattle.line_writer.specs.Laws.Lines.{inject_next}
 use Rattle.draws.specs.Draws.{element_at, Lent, Fault, Draws, also_fault, draw_shots, draw_line, part_of, main_after}
 use Rattle.draws.specs.Settle.{SettledLine, inject_text, injection, Step, noise_step, step_of}
 use Rattle.draws.specs.Left.{spent_on, left_spent}
-use Rattle.draws.specs.Laws.SettledText.{element_sound}
+use Rattle.draws.proofs.Laws.SettledText.{element_sound}
 use Rattle.noise.specs.declared.PauliDistribution.{PauliDistribution}
 use Rattle.noise.specs.declared.Correlation.{Correlation}
 use Rattle.shots.specs.declared.NextFault.{NextFault}

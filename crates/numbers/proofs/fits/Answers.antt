@@ -3,7 +3,7 @@ use Prim.Native.Nat.{◌+◌, ◌*◌, ◌^◌}
 use mathlib.Core.Path.{sym}
 use native.Mathlib.Omega.{arith}
 use borrow.Author.Tests.{lt-ltb, le-ltb}
-use Rattle.text.specs.Laws.Numbers.{last_digit}
+use Rattle.text.proofs.Laws.Numbers.{last_digit}
 use Rattle.numbers.proofs.fits.Goals as goal
 
 pub returns-then-v-lt-TENTH : goal.returns-then-v-lt-TENTH

@@ -6,7 +6,7 @@ use mathlib.Core.Option.{some}
 use borrow.Author.Tests.{not-true, not-false}
 use lib.ListN.{length, get_or}
 use Rattle.text.specs.Number.{hex_digit}
-use Rattle.text.specs.Laws.Numbers.{hex_value, hex_end_value, hex_length, hex_undigit, hex_good, hex_grows, hex_fits}
+use Rattle.text.proofs.Laws.Numbers.{hex_value, hex_end_value, hex_length, hex_undigit, hex_good, hex_grows, hex_fits}
 use Rattle.numbers.specs.Read.{read}
 use Rattle.numbers.specs.Laws.Hex.{hex_digit_lem, hex_next}
 use Rattle.numbers.proofs.hex16.Goals as goal
@@ -17,10 +17,10 @@ returns-then-s-ne16 c = sym (hex_length _ c.if-s-ne16.true)
 
 pub returns-then-not-all_hex : goal.returns-then-not-all_hex
 unfolding read
-returns-then-not-all_hex c = sym (hex_undigit _ (sym c.all_hex.ensures ∙ not-true _ c.if-not-all_hex.true))
+returns-then-not-all_hex c = sym (hex_undigit _ (sym c.all_hex.ensures ∙ c.if-not-all_hex.true))
 
 pub loop-i-init : goal.loop-i-init
-loop-i-init c = (omega arith, omega arith, sym c.all_hex.ensures ∙ not-false _ c.if-not-all_hex.false, refl)
+loop-i-init c = (omega arith, omega arith, sym c.all_hex.ensures ∙ c.if-not-all_hex.false, refl)
 
 pub overflow_mul-v : goal.overflow_mul-v
 overflow_mul-v c =
@@ -57,4 +57,4 @@ returns c =
     let loop = c.loop-i in
     let h : length s ≤ loop.i = omega arith in
     let value = loop.invariant.3 ∙ hex_end_value s loop.i h loop.v in
-    ap some (sym value) ∙ sym (hex_good s (omega arith) (sym c.all_hex.ensures ∙ not-false _ c.if-not-all_hex.false))
+    ap some (sym value) ∙ sym (hex_good s (omega arith) (sym c.all_hex.ensures ∙ c.if-not-all_hex.false))

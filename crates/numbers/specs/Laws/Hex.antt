@@ -7,7 +7,7 @@ use mir.Val.{bool_byte}
 use Rattle.std.specs.Int.Bits.{bit_or, or_zero_r, or_add_and}
 use Rattle.std.proofs.lemmas.Nat.{and_le_l}
 use Rattle.text.specs.Number.{hex_digit, all_hex_of}
-use Rattle.text.specs.Laws.Numbers.{hex_step, hex_other, hex_end}
+use Rattle.text.proofs.Laws.Numbers.{hex_step, hex_other, hex_end}
 use Rattle.numbers.specs.Hex.{hex_value_of}
 
 -- the byte of a digit, by arithmetic

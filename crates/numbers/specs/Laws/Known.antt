@@ -8,9 +8,9 @@ use Rattle.std.proofs.Math.Seq.{take-nil}
 use Rattle.text.specs.Bytes.{comma, space, until, pieces}
 use Rattle.text.specs.Number.{whenever, is_decimal, all_decimal, decimal_from, proper, number_of, all_hex_of, hex_from, hex_of}
 use Rattle.text.specs.List.{with_first, pieces_of, list_Q, is_rising_of, only_rising, is_dash_of, list_L}
-use Rattle.text.specs.Laws.Values.{both, none_some, number_small}
-use Rattle.text.specs.Laws.Numbers.{decimal_grows}
-use Rattle.text.specs.Laws.Pieces.{step, until_le}
+use Rattle.text.proofs.Laws.Values.{both, none_some, number_small}
+use Rattle.text.proofs.Laws.Numbers.{decimal_grows}
+use Rattle.text.proofs.Laws.Pieces.{step, until_le}
 use Rattle.numbers.specs.declared.lists.Listed.{Listed}
 use Rattle.numbers.specs.declared.known.Digits.{Digits}
 use Rattle.numbers.specs.declared.known.KnownList.{KnownList}

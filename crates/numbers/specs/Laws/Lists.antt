@@ -12,7 +12,7 @@ use Rattle.text.specs.Bytes.{comma, until, split}
 use Rattle.text.specs.Number.{number_of}
 use Rattle.text.specs.List.{with_first, pieces_of, list_Q, rises_from, is_rising_of, only_rising, is_dash_of, list_L, one_member, list_C}
 use Rattle.numbers.specs.Read.{largest_of, listed_as, stored, ListRead, in_front}
-use Rattle.text.specs.Laws.Pieces.{piece_more, piece_last}
+use Rattle.text.proofs.Laws.Pieces.{piece_more, piece_last}
 
 -- ---- one member more
 

@@ -6,9 +6,9 @@ use Rattle.std.proofs.Math.Option.{some}
 use Rattle.text.specs.Bytes.{comma, until}
 use Rattle.text.specs.List.{piece_of}
 use Rattle.text.specs.Number.{is_decimal, all_decimal, decimal_from, proper, number_of}
-use Rattle.text.specs.Laws.Values.{both}
-use Rattle.text.specs.Laws.Numbers.{number_good}
-use Rattle.text.specs.Laws.Pieces.{step}
+use Rattle.text.proofs.Laws.Values.{both}
+use Rattle.text.proofs.Laws.Numbers.{number_good}
+use Rattle.text.proofs.Laws.Pieces.{step}
 use Rattle.numbers.specs.declared.Value.TheVariants.{Of}
 use Rattle.numbers.specs.Read.{ShortIn, MemberAt}
 use Rattle.numbers.specs.Laws.Read.{read_of}

@@ -6,7 +6,7 @@ use mir.Val.{bool_byte}
 use Rattle.std.specs.Int.Bits.{bit_or, or_zero_r, or_add_and}
 use Rattle.std.proofs.lemmas.Nat.{and_le_l}
 use Rattle.text.specs.Bytes.{until}
-use Rattle.text.specs.Laws.Pieces.{until_here, until_next, until_end}
+use Rattle.text.proofs.Laws.Pieces.{until_here, until_next, until_end}
 
 -- there stands a separator
 pub until_at : (sep : ℕ) (l : List ℕ) → until sep l < length l → get_or l (until sep l) 0 ≡ sep

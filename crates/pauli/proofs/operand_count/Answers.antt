@@ -3,7 +3,7 @@ use mathlib.Core.Path.{refl}
 use native.Mathlib.Omega.{arith}
 use Rattle.pauli.specs.Gate.{gates, gate_from, gate_of, operands_of}
 use Rattle.pauli.specs.Code.{operand_count_of}
-use Rattle.pauli.specs.Laws.Code.{same_at, gate_none}
+use Rattle.pauli.proofs.Laws.Code.{same_at, gate_none}
 use Rattle.pauli.proofs.operand_count.Goals as goal
 
 pub returns-then-code-le-LAST_ONE_QUBIT_GATE : goal.returns-then-code-le-LAST_ONE_QUBIT_GATE

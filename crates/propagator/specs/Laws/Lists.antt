@@ -3,15 +3,15 @@ use Rattle.std.specs.Prelude.{◌≡◌, true, not, ◌&&◌, List, [], ◌∷�
 use Rattle.std.proofs.Math.Path.{refl, fun_ext}
 use Rattle.std.proofs.Common.{ap, ◌∙◌, arith}
 use Rattle.pauli.specs.Bits.{Bits, only, outside, members, ◌⊕◌, ◌∩◌, ◌△◌, parity, sum_over}
-use Rattle.pauli.specs.Laws.Parity.{at_or_off}
-use Rattle.pauli.specs.Laws.Sums.{odd_members, sum_over_odd}
+use Rattle.pauli.proofs.Laws.Parity.{at_or_off}
+use Rattle.pauli.proofs.Laws.Sums.{odd_members, sum_over_odd}
 use Rattle.job.specs.Line.{SparsePauli}
 use Rattle.job.specs.Sound.{PauliSound}
 use Rattle.job.specs.Checks.{all_below, distinct}
-use Rattle.job.specs.Laws.Lists.{below_at, rising_distinct}
-use Rattle.frames.specs.Laws.Places.{distinct_cons}
+use Rattle.job.proofs.Laws.Lists.{below_at, rising_distinct}
+use Rattle.frames.proofs.Laws.Places.{distinct_cons}
 use Rattle.rows.specs.Listed.{RowsIn}
-use Rattle.rows.specs.Laws.Overwrite.{before_row}
+use Rattle.rows.proofs.Laws.Overwrite.{before_row}
 use Rattle.propagator.specs.Acts.{PauliIn}
 
 members_cons : (q : ℕ) (l : List ℕ) → outside l q ≡ true → members (q ∷ l) ≡ only q △ members l

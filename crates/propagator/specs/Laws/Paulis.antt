@@ -5,7 +5,7 @@ use Rattle.std.proofs.Common.{◌∙◌, arith, zero-mul, zero-add}
 use Rattle.std.proofs.Math.ListN.{length}
 use Rattle.pauli.specs.Bits.{Bits, members, replaced, added as added_at, ◌⊕◌, ◌∩◌, parity, sum_over}
 use Rattle.pauli.specs.Pauli.{Pauli, ◌∗◌, when, anticommutes, cleared}
-use Rattle.pauli.specs.Laws.Gates.{pauli_path}
+use Rattle.pauli.proofs.Laws.Gates.{pauli_path}
 use Rattle.job.specs.Line.{SparsePauli, pauli_of, Line}
 use Rattle.job.specs.Checks.{all_below, distinct}
 use Rattle.frames.specs.Forward.{State, on_frame, forward, exponentiate, controlled_pauli}
@@ -13,9 +13,9 @@ use Rattle.rows.specs.Words.{bit_in}
 use Rattle.rows.specs.Overwrite.{xored, cleared as clearedWords, flipped}
 use Rattle.rows.specs.Listed.{over_list}
 use Rattle.rows.specs.Column.{column}
-use Rattle.rows.specs.Laws.Overwrite.{length_cleared, length_xored}
-use Rattle.rows.specs.Laws.Listed.{length_over}
-use Rattle.rows.specs.Laws.Column.{column_add_mask, column_flip, column_clear, column_flipped, column_add_listed, column_sum_listed, added_twice, added_replaced, replaced_here, replaced_off}
+use Rattle.rows.proofs.Laws.Overwrite.{length_cleared, length_xored}
+use Rattle.rows.proofs.Laws.Listed.{length_over}
+use Rattle.rows.proofs.Laws.Column.{column_add_mask, column_flip, column_clear, column_flipped, column_add_listed, column_sum_listed, added_twice, added_replaced, replaced_here, replaced_off}
 use Rattle.totals.specs.Ones.{ones_to}
 use Rattle.totals.specs.Held.{TotalsHeld}
 use Rattle.totals.specs.Laws.Held.{added_off, held_set}

@@ -3,7 +3,7 @@ use mathlib.Core.Path.{refl, sym, ◌∙◌}
 use mathlib.Core.List.{[], ◌∷◌}
 use Rattle.text.specs.Bytes.{bytes}
 use Rattle.job.specs.Grammar.{forms}
-use Rattle.text.specs.Laws.Places.{literals}
+use Rattle.text.proofs.Laws.Places.{literals}
 use Rattle.reader.specs.declared.Form.TheVariants as form
 use Rattle.reader.specs.Parsed.{place_of}
 use Rattle.reader.specs.Tried.{only, noise_forms, header_forms}

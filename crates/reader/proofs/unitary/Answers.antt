@@ -12,7 +12,7 @@ use Rattle.reader.proofs.unitary.Goals as goal
 pub returns-then-not-gate_form : goal.returns-then-not-gate_form
 unfolding place_of forms bytes
 returns-then-not-gate_form c =
-    let refused = c.gate_form.ensures.refused (not-true _ c.if-not-gate_form.true) (form_room form.Unitary) in
+    let refused = c.gate_form.ensures.refused (c.if-not-gate_form.true) (form_room form.Unitary) in
     says_nothing form.Unitary (no_values (form_of form.Unitary) _ refused)
 
 pub number-requires : goal.number-requires
@@ -20,8 +20,8 @@ number-requires c = omega arith
 
 pub returns-then-number-gt-LAST_GATE : goal.returns-then-number-gt-LAST_GATE
 unfolding place_of forms bytes
-returns-then-number-gt-LAST_GATE c = gate_high (c.gate_form.ensures.read (not-false _ c.if-not-gate_form.false)) (omega (arith, c.number.ensures, c.if-number-gt-LAST_GATE.true))
+returns-then-number-gt-LAST_GATE c = gate_high (c.gate_form.ensures.read (c.if-not-gate_form.false)) (omega (arith, c.number.ensures, c.if-number-gt-LAST_GATE.true))
 
 pub returns : goal.returns
 unfolding place_of forms bytes
-returns c = gate_good (c.gate_form.ensures.read (not-false _ c.if-not-gate_form.false)) (omega (arith, c.number.ensures, c.if-number-gt-LAST_GATE.false))
+returns c = gate_good (c.gate_form.ensures.read (c.if-not-gate_form.false)) (omega (arith, c.number.ensures, c.if-number-gt-LAST_GATE.false))

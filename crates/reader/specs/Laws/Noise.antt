@@ -12,7 +12,7 @@ use Rattle.text.specs.Template.{Value, is_letter_of, values_of, numbers_in, list
 use Rattle.numbers.specs.Read.{in_front}
 use Rattle.template.specs.Values.{held_number, held_count}
 use Rattle.template.specs.Fields.{Held, Begins, ReadNext}
-use Rattle.text.specs.Laws.Values.{none_some}
+use Rattle.text.proofs.Laws.Values.{none_some}
 use Rattle.template.specs.Laws.Fields.{nothing_held, numbers_append, lists_append}
 use Rattle.template.specs.Laws.Reading.{byte_over, byte_other, parts_read}
 use Rattle.template.specs.declared.Progress.{Progress}

@@ -10,8 +10,8 @@ use Rattle.std.proofs.lemmas.Bool.{eqb-false}
 use Rattle.std.proofs.Math.ListN.{length-drop}
 use Rattle.text.specs.Bytes.{space, until, behind}
 use Rattle.text.specs.Template.{Value, is_letter_of, value_of, and_then, same_byte, values_of}
-use Rattle.text.specs.Laws.Values.{both, none_some}
-use Rattle.text.specs.Laws.Places.{literals, other_place}
+use Rattle.text.proofs.Laws.Values.{both, none_some}
+use Rattle.text.proofs.Laws.Places.{literals, other_place}
 use Rattle.job.specs.Grammar.{Written, Form, forms, said, or_later, read_by, read_line_of}
 use Rattle.job.specs.Marks.{read_as}
 

@@ -6,14 +6,14 @@ use Rattle.std.proofs.Math.Bool.{true, false}
 use Rattle.std.proofs.Math.Option.{Option, none, some}
 use borrow.Author.Tests.{leb-true, not-true, not-false}
 use Rattle.pauli.specs.Gate.{Gate, gates, gate_from, gate_of}
-use Rattle.pauli.specs.Laws.Code.{gate_none}
+use Rattle.pauli.proofs.Laws.Code.{gate_none}
 use Rattle.text.specs.Bytes.{bytes}
 use Rattle.text.specs.Template.{Value, values_of, number_at, list_at_of}
 use Rattle.template.specs.Values.{held_number, held_count}
 use Rattle.template.specs.Fields.{number_letters, list_letters, Room, started, ReadOn, ReadNext, HasForm, ReadAs}
 use Rattle.template.specs.Laws.Reading.{whole_read}
 use Rattle.template.specs.declared.Progress.{Progress}
-use Rattle.text.specs.Laws.Values.{both, none_some}
+use Rattle.text.proofs.Laws.Values.{both, none_some}
 use Rattle.job.specs.Clifford.{table_words_of, table_of}
 use Rattle.job.specs.Grammar.{Written, Form as TableForm, unitary_line, clifford_line, forms, said, or_later, read_by, read_line_of}
 use Rattle.job.specs.Line.{Line}

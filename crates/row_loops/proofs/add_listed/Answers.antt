@@ -2,7 +2,7 @@ use mathlib.Core.Path.{refl, ◌∙◌}
 use Prim.Native.Nat.{◌+◌, ◌≤◌}
 use native.Mathlib.Omega.{arith}
 use lib.ListN.{length}
-use Rattle.rows.specs.Laws.Listed.{over_turn, over_four, over_end}
+use Rattle.rows.proofs.Laws.Listed.{over_turn, over_four, over_end}
 use Rattle.row_loops.proofs.add_listed.Goals as goal
 
 pub overflow_mul-at : goal.overflow_mul-at

@@ -2,8 +2,8 @@ use mathlib.Core.Path.{refl, ◌∙◌}
 use Prim.Native.Nat.{◌+◌, ◌≤◌}
 use native.Mathlib.Omega.{arith}
 use lib.ListN.{length}
-use Rattle.rows.specs.Laws.Overwrite.{row_order}
-use Rattle.rows.specs.Laws.Listed.{over_turn, over_two, over_end}
+use Rattle.rows.proofs.Laws.Overwrite.{row_order}
+use Rattle.rows.proofs.Laws.Listed.{over_turn, over_two, over_end}
 use Rattle.row_loops.proofs.add_mask_listed.Goals as goal
 
 pub overflow_mul-from : goal.overflow_mul-from

@@ -1,6 +1,6 @@
 use mathlib.Core.Path.{◌≡◌, refl}
 use lib.ListN.{length-set}
-use Rattle.rows.specs.Laws.Overwrite.{xored_none, xored_more, xored_next, rows_apart}
+use Rattle.rows.proofs.Laws.Overwrite.{xored_none, xored_more, xored_next, rows_apart}
 use native.Mathlib.Omega.{arith}
 use Rattle.row_loops.proofs.add_row.Goals as goal
 

@@ -2,7 +2,7 @@
 use Prim.Native.Nat.{◌%◌}
 use native.Mathlib.Omega.{arith}
 use Rattle.rows.specs.Overwrite.{flipped}
-use Rattle.pauli.specs.Laws.Word.{one_shl}
+use Rattle.pauli.proofs.Laws.Word.{one_shl}
 use Rattle.row_loops.proofs.flip_bit.Goals as goal
 
 pub returns : goal.returns

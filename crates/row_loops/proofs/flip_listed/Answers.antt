@@ -1,6 +1,6 @@
 use mathlib.Core.Path.{refl, ◌∙◌}
 use native.Mathlib.Omega.{arith}
-use Rattle.rows.specs.Laws.Listed.{over_turn, over_end}
+use Rattle.rows.proofs.Laws.Listed.{over_turn, over_end}
 use Rattle.row_loops.proofs.flip_listed.Goals as goal
 
 pub loop-i-init : goal.loop-i-init

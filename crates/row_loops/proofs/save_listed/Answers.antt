@@ -1,7 +1,7 @@
 use mathlib.Core.Path.{refl, ◌∙◌}
 use native.Mathlib.Omega.{arith}
 use lib.ListN.{length}
-use Rattle.rows.specs.Laws.Listed.{row_before, collected_starts, collected_turn, collected_end}
+use Rattle.rows.proofs.Laws.Listed.{row_before, collected_starts, collected_turn, collected_end}
 use Rattle.row_loops.proofs.save_listed.Goals as goal
 
 pub loop-i-init : goal.loop-i-init

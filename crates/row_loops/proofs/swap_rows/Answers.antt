@@ -1,6 +1,6 @@
 use mathlib.Core.Path.{◌≡◌, refl}
 use lib.ListN.{length-set}
-use Rattle.rows.specs.Laws.Overwrite.{swapped_none, swapped_more, rows_apart}
+use Rattle.rows.proofs.Laws.Overwrite.{swapped_none, swapped_more, rows_apart}
 use native.Mathlib.Omega.{arith}
 use Rattle.row_loops.proofs.swap_rows.Goals as goal
 

@@ -1,6 +1,6 @@
 use mathlib.Core.Path.{◌≡◌, refl}
 use lib.ListN.{length-set}
-use Rattle.rows.specs.Laws.Overwrite.{copied_none, copied_more, copied_next}
+use Rattle.rows.proofs.Laws.Overwrite.{copied_none, copied_more, copied_next}
 use native.Mathlib.Omega.{arith}
 use Rattle.row_loops.proofs.swap_words.Goals as goal
 

@@ -1,7 +1,7 @@
 use mathlib.Core.Path.{◌≡◌, refl}
 use native.Mathlib.Omega.{arith}
 use lib.ListN.{length-set}
-use Rattle.rows.specs.Laws.Overwrite.{xored_none, xored_more}
+use Rattle.rows.proofs.Laws.Overwrite.{xored_none, xored_more}
 use Rattle.row_loops.proofs.xor_words.Goals as goal
 
 pub loop-j-init : goal.loop-j-init

@@ -8,7 +8,7 @@ use Rattle.job.specs.declared.Answer.{Answer}
 use Rattle.job.specs.Grammar.{header_with}
 use Rattle.job.specs.Job.{answer, job_of, check_job}
 use Rattle.job.specs.Sound.{InstructionsSound}
-use Rattle.job.specs.Theorems.{checked_sound}
+use Rattle.job.proofs.Theorems.{checked_sound}
 use Rattle.instructions.specs.Ahead.{instructions_at, Ahead}
 use Rattle.job_shape.specs.declared.Tested.{Tested}
 use Rattle.job_shape.specs.Tested.{tested_answer, Tests}

@@ -5,7 +5,7 @@ use Rattle.std.proofs.Common.{eq-eqb, ne_eqb}
 use Rattle.job.specs.declared.Header.{Header}
 use Rattle.job.specs.Job.{answer, job_of, check_job}
 use Rattle.draws.specs.Execute.{starts, Ended, execute}
-use Rattle.rows.specs.Laws.Pack.{length_tabulated, length_pack}
+use Rattle.rows.proofs.Laws.Pack.{length_tabulated, length_pack}
 use Rattle.run.specs.Run.{Memory, frame_words_of, outcome_words_of, enough_words, lent_of, untouched, spent_reply, flip_totals, finished_reply, ended_reply, run_reply}
 use Rattle.needed_words.specs.Needed.{needed_reply}
 use Rattle.job_shape.specs.declared.lent_words.Lengths.{Lengths}

@@ -8,7 +8,7 @@ use Rattle.text.specs.Number.{decimal}
 use Rattle.text.specs.Template.{Value, value_text, first_text, line_text}
 use Rattle.job.specs.declared.Header.{Header}
 use Rattle.job.specs.declared.Answer.{Answer}
-use Rattle.rows.specs.Laws.Overwrite.{before_row}
+use Rattle.rows.proofs.Laws.Overwrite.{before_row}
 use Rattle.rows.specs.Words.{words_per_row, bit_in}
 use Rattle.session.specs.Session.{refusal_lines, bit_text, delta_lines}
 use Rattle.writer.specs.Placed.{Puts}

@@ -10,13 +10,13 @@ pub put_settled-requires : goal.put_settled-requires
 put_settled-requires c = c.requires
 
 pub returns-then-not-text_fits : goal.returns-then-not-text_fits
-returns-then-not-text_fits c = long_reply c.requires c.put_settled.ensures _ c.in-Length.is c.measured.ensures (sym c.text_fits.ensures ∙ not-true _ c.if-not-text_fits.true)
+returns-then-not-text_fits c = long_reply c.requires c.put_settled.ensures _ c.in-Length.is c.measured.ensures (sym c.text_fits.ensures ∙ c.if-not-text_fits.true)
 
 pub slice_bounds-put_settled-end-in-Length : goal.slice_bounds-put_settled-end-in-Length
-slice_bounds-put_settled-end-in-Length c = room_for _ _ (sym c.text_fits.ensures ∙ not-false _ c.if-not-text_fits.false)
+slice_bounds-put_settled-end-in-Length c = room_for _ _ (sym c.text_fits.ensures ∙ c.if-not-text_fits.false)
 
 pub slice_bounds-put_settled-end-in-Length-2 : goal.slice_bounds-put_settled-end-in-Length-2
-slice_bounds-put_settled-end-in-Length-2 c = sym (length-take-le _ _ (room_for _ _ (sym c.text_fits.ensures ∙ not-false _ c.if-not-text_fits.false)))
+slice_bounds-put_settled-end-in-Length-2 c = sym (length-take-le _ _ (room_for _ _ (sym c.text_fits.ensures ∙ c.if-not-text_fits.false)))
 
 pub put_settled-requires-in-Length : goal.put_settled-requires-in-Length
 put_settled-requires-in-Length c = c.requires
@@ -25,4 +25,4 @@ pub returns-in-SpentAt : goal.returns-in-SpentAt
 returns-in-SpentAt c = spent_reply c.requires c.put_settled.ensures _ c.in-SpentAt.is c.refused.ensures
 
 pub returns-else-not-text_fits : goal.returns-else-not-text_fits
-returns-else-not-text_fits c = done_reply c.requires c.put_settled.ensures _ c.in-Length.is c.put_settled-in-Length.ensures c.measured-in-Length.ensures (sym c.text_fits.ensures ∙ not-false _ c.if-not-text_fits.false)
+returns-else-not-text_fits c = done_reply c.requires c.put_settled.ensures _ c.in-Length.is c.put_settled-in-Length.ensures c.measured-in-Length.ensures (sym c.text_fits.ensures ∙ c.if-not-text_fits.false)

@@ -5,7 +5,7 @@ use Rattle.std.proofs.Common.{◌∙◌, arith}
 use mathlib.Core.List.{List, [], ◌∷◌}
 use Rattle.std.proofs.Math.ListN.{length, drop, length-take}
 use Rattle.job.specs.Line.{Instruction, Placed}
-use Rattle.job.specs.Laws.Begun.{ended_parts}
+use Rattle.job.proofs.Laws.Begun.{ended_parts}
 use Rattle.instructions.specs.declared.LineRead.{LineRead}
 use Rattle.instructions.specs.Reading.{line_at, NextLine, noise_form}
 use Rattle.instructions.specs.Ahead.{instructions_at, NoiseRead}

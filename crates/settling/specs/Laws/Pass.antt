@@ -7,7 +7,7 @@ use Rattle.std.proofs.Math.ListN.{take, length-take}
 use Rattle.text.specs.Bytes.{LF, unlines, until}
 use Rattle.job.specs.Line.{Placed}
 use Rattle.job.specs.Job.{Job, job_of, check_job}
-use Rattle.job.specs.Laws.Begun.{ended_parts, job_passes, job_begun}
+use Rattle.job.proofs.Laws.Begun.{ended_parts, job_passes, job_begun}
 use Rattle.instructions.specs.Reading.{line_at, LineAt}
 use Rattle.instructions.specs.Laws.Places.{whole_line}
 use Rattle.instructions.specs.Laws.Steps.{none_left}

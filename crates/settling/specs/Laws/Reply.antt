@@ -9,7 +9,7 @@ use Rattle.std.proofs.Math.ListN.{length, drop}
 use Rattle.std.proofs.Math.Seq.{length-take-le}
 use Rattle.job.specs.declared.Answer.{Answer}
 use Rattle.job.specs.Job.{max_bytes, answer, job_of, check_job}
-use Rattle.job.specs.Theorems.{checked_sound}
+use Rattle.job.proofs.Theorems.{checked_sound}
 use Rattle.job_shape.specs.declared.Tested.{Tested}
 use Rattle.job_shape.specs.Tested.{tested_answer, Tests}
 use Rattle.job_shape.specs.Laws.Tested.{passed_both, tests_passed, tests_short, tests_enough}

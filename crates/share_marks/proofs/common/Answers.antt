@@ -1,6 +1,6 @@
 -- `share_marks::common` meets its contract. Assumes nothing.
 use native.Mathlib.Omega.{arith}
-use Rattle.share_marks.specs.Laws.Parts.{behind_all, common_part}
+use Rattle.share_marks.proofs.Laws.Parts.{behind_all, common_part}
 use Rattle.share_marks.proofs.common.Goals as goal
 
 pub slice_bounds-result-count : goal.slice_bounds-result-count

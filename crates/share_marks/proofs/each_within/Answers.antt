@@ -1,6 +1,6 @@
 use native.Mathlib.Omega.{arith}
 use mathlib.Core.Path.{refl, sym, ◌∙◌}
-use Rattle.share_marks.specs.Laws.Sums.{within_here, within_next, within_end}
+use Rattle.share_marks.proofs.Laws.Sums.{within_here, within_next, within_end}
 use Rattle.share_marks.proofs.each_within.Goals as goal
 
 pub loop-caller-init : goal.loop-caller-init

@@ -1,6 +1,6 @@
 -- `share_marks::own` meets its contract. Assumes nothing.
 use native.Mathlib.Omega.{arith}
-use Rattle.share_marks.specs.Laws.Parts.{stretch, own_part}
+use Rattle.share_marks.proofs.Laws.Parts.{stretch, own_part}
 use Rattle.share_marks.proofs.own.Goals as goal
 
 pub overflow_add-from : goal.overflow_add-from

@@ -1,8 +1,8 @@
 -- `share_marks::shares_fit` meets its contract. Assumes nothing.
 use mathlib.Core.Path.{sym, ◌∙◌}
 use borrow.Author.Tests.{not-true, not-false}
-use Rattle.share_marks.specs.Laws.Sums.{sum_over, sum_all}
-use Rattle.share_marks.specs.Laws.Number.{no_callers, many_callers, list_short, stretch_short, by_common}
+use Rattle.share_marks.proofs.Laws.Sums.{sum_over, sum_all}
+use Rattle.share_marks.proofs.Laws.Number.{no_callers, many_callers, list_short, stretch_short, by_common}
 use Rattle.share_marks.proofs.shares_fit.Goals as goal
 
 pub returns-then-callers-lt1 : goal.returns-then-callers-lt1
@@ -18,9 +18,9 @@ returns-then-main-total c =
 pub returns-then-not-each_within : goal.returns-then-not-each_within
 returns-then-not-each_within c =
     λ caller. stretch_short _ _ _ caller c.if-callers-lt1.false c.if-callers-gt-MAX_CALLERS.false (sum_all _ _ c.sum_up_to-total.ensures c.if-main-total.false) c.if-main-total.false
-    (sym c.each_within.ensures ∙ not-true _ c.if-not-each_within.true)
+    (sym c.each_within.ensures ∙ c.if-not-each_within.true)
 
 pub returns : goal.returns
 returns c =
     λ caller. by_common _ _ _ caller c.if-callers-lt1.false c.if-callers-gt-MAX_CALLERS.false (sum_all _ _ c.sum_up_to-total.ensures c.if-main-total.false) c.if-main-total.false
-    (sym c.each_within.ensures ∙ not-false _ c.if-not-each_within.false)
+    (sym c.each_within.ensures ∙ c.if-not-each_within.false)

@@ -1,7 +1,7 @@
 use native.Mathlib.Omega.{arith}
 use mathlib.Core.Path.{refl}
 use Rattle.shares.specs.Shares.{sum}
-use Rattle.share_marks.specs.Laws.Sums.{sum_more, sum_passes, sum_end}
+use Rattle.share_marks.proofs.Laws.Sums.{sum_more, sum_passes, sum_end}
 use Rattle.share_marks.proofs.sum_up_to.Goals as goal
 
 pub loop-i-init : goal.loop-i-init

@@ -12,7 +12,7 @@ use Rattle.job_shape.specs.Tested.{Tests}
 use Rattle.shares.specs.Shares.{Share, own_left, common_left, available, moved, marks_after}
 use Rattle.shares.specs.Replies.{takes_words, shared_reply}
 use Rattle.share_marks.specs.Fit.{Fit}
-use Rattle.share_marks.specs.Laws.Calls.{words_available, marks_room, marks_after_lem, marks_for_lem}
+use Rattle.share_marks.proofs.Laws.Calls.{words_available, marks_room, marks_after_lem, marks_for_lem}
 use Rattle.shared_runs.specs.Refusal.{first_refusal_of}
 use Rattle.shared_runs.specs.Laws.Tests.{refused_by, goes_on}
 

@@ -14,7 +14,7 @@ use Rattle.runner.specs.Ran.{RanTo}
 use Rattle.runner.specs.Laws.Replies.{lengths_of, same_test}
 use Rattle.shares.specs.Shares.{Share, own_left, common_left}
 use Rattle.shares.specs.Replies.{shared, shared_run_reply}
-use Rattle.shares.specs.Laws.Spent.{run_takes}
+use Rattle.shares.proofs.Laws.Spent.{run_takes}
 use Rattle.shared_runs.specs.Refusal.{first_refusal_of}
 use Rattle.shared_runs.specs.Laws.Tests.{job_passes}
 use Rattle.shared_runs.specs.Laws.Replies.{in_parts, marked_by, all_available, all_marked, refused_reply, went_reply}

@@ -12,7 +12,7 @@ use Rattle.job_shape.specs.Tested.{tested_answer, Tests}
 use Rattle.shares.specs.Shares.{Share, marks_fit, shares_fit_of, caller_fits}
 use Rattle.shares.specs.Replies.{tested}
 use Rattle.share_marks.specs.Fit.{Fit, share_number_of}
-use Rattle.share_marks.specs.Laws.Calls.{fit_of}
+use Rattle.share_marks.proofs.Laws.Calls.{fit_of}
 use Rattle.shared_runs.specs.Refusal.{first_refusal_of}
 
 -- The answer of both, and the call goes on where it is 0.

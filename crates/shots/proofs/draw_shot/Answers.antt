@@ -11,7 +11,7 @@ pub returns-then-count-at : goal.returns-then-count-at
 returns-then-count-at c = shot_spent _ _ _ _ _ (omega (arith, c.count.ensures))
 
 pub returns-then-not-satisfied : goal.returns-then-not-satisfied
-returns-then-not-satisfied c = shot_unsatisfied _ _ _ _ _ (omega (arith, c.count.ensures)) (not-true _ c.if-not-satisfied.true)
+returns-then-not-satisfied c = shot_unsatisfied _ _ _ _ _ (omega (arith, c.count.ensures)) (c.if-not-satisfied.true)
 
 pub choose_element-requires : goal.choose_element-requires
 choose_element-requires c = (omega (arith, c.count.ensures), c.requires)
@@ -20,10 +20,10 @@ pub returns-in-Chosen : goal.returns-in-Chosen
 returns-in-Chosen c =
     let a = c.args in
     let inside : a.at < length (a.words.now ++ a.more.now) = omega (arith, c.count.ensures) in
-    shot_fault _ _ _ _ _ inside (not-false _ c.if-not-satisfied.false) c.choose_element.ensures _ _ c.in-Chosen.is
+    shot_fault _ _ _ _ _ inside (c.if-not-satisfied.false) c.choose_element.ensures _ _ c.in-Chosen.is
 
 pub returns-in-Spent : goal.returns-in-Spent
 returns-in-Spent c =
     let a = c.args in
     let inside : a.at < length (a.words.now ++ a.more.now) = omega (arith, c.count.ensures) in
-    shot_spent_on _ _ _ _ _ inside (not-false _ c.if-not-satisfied.false) c.choose_element.ensures c.in-Spent.is
+    shot_spent_on _ _ _ _ _ inside (c.if-not-satisfied.false) c.choose_element.ensures c.in-Spent.is

@@ -11,7 +11,7 @@ use Rattle.job.specs.declared.Header.{Header}
 use Rattle.job.specs.Line.{Line, size_of, Noise}
 use Rattle.draws.specs.Draws.{element_at, ShotDraw, draw_shot_of, Lent, Draws, also_fault, then_shots, draw_shots}
 use Rattle.draws.specs.Execute.{States, forward_all, Executed, then_in_place, inject_shots}
-use Rattle.draws.specs.Laws.Faults.{ShotIn, ShotBelow, shot_below}
+use Rattle.draws.proofs.Laws.Faults.{ShotIn, ShotBelow, shot_below}
 use Rattle.noise.specs.declared.PauliDistribution.{PauliDistribution}
 use Rattle.shots.specs.declared.DrawRule.{DrawRule}
 use Rattle.shots.specs.declared.NextFault.{NextFault}

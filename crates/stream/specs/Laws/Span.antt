@@ -7,7 +7,7 @@ use Rattle.std.proofs.Math.Decide.{dec_lt}
 use Rattle.std.proofs.Math.Pow.{pow-lt, pow-add, split}
 use Rattle.std.specs.Int.Bits.{bit_xor, xor_self, xor_shifted}
 use Rattle.job.specs.Clifford.{every}
-use Rattle.job.specs.Laws.Lists.{every_holds}
+use Rattle.job.proofs.Laws.Lists.{every_holds}
 use Rattle.stream.specs.Stream.{left, right, step}
 use Rattle.stream.specs.Laws.Linear.{bit_cases, xor_assoc}
 

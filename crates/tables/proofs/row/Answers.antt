@@ -3,7 +3,7 @@ use Prim.Native.Nat.{◌*◌}
 use native.Mathlib.Nat.{mul-le-mul}
 use native.Mathlib.Omega.{arith}
 use lib.Pow.{pow_pos}
-use Rattle.pauli.specs.Laws.Word.{one_shl}
+use Rattle.pauli.proofs.Laws.Word.{one_shl}
 use Rattle.tables.specs.Laws.Rows.{row_ends}
 use Rattle.tables.specs.Laws.Words.{row_in_one, row_in_two}
 use Rattle.tables.proofs.row.Goals as goal

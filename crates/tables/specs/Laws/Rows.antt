@@ -3,7 +3,7 @@ use Rattle.std.specs.Prelude.{ℕ, suc, ◌+◌, ◌*◌, ◌/◌, ◌%◌, ◌^
 use Rattle.std.proofs.Common.{mod-lt, mul-le-mul_left, arith, ◌∙◌, pow_pos, get_or-set_same, get_or-set_other}
 use Rattle.std.proofs.Math.Decide.{ℕ_discrete}
 use Rattle.pauli.specs.Bits.{bit}
-use Rattle.pauli.specs.Laws.Word.{bit_shr, bit_mod}
+use Rattle.pauli.proofs.Laws.Word.{bit_shr, bit_mod}
 use Rattle.tables.specs.Rows.{row_word, RowsOf}
 
 -- a row ends among the 4k² bits of the table

@@ -12,10 +12,10 @@ use Rattle.std.proofs.lemmas.Nat.{and_mask}
 use Rattle.std.proofs.Math.ListN.{drop, drop_of_length-le}
 use Rattle.std.proofs.Math.Pow.{shr_mono}
 use Rattle.pauli.specs.Bits.{bit}
-use Rattle.pauli.specs.Laws.Word.{one_shl, bit_shr, bit_shl, bit_below, bit_mod, bit_or_lem, bit_high, same_bits}
+use Rattle.pauli.proofs.Laws.Word.{one_shl, bit_shr, bit_shl, bit_below, bit_mod, bit_or_lem, bit_high, same_bits}
 use Rattle.text.specs.Written.{AllSmall}
 use Rattle.job.specs.Clifford.{table_words_of, table_of}
-use Rattle.job.specs.Laws.Table.{table_drop, table_bit, table_small}
+use Rattle.job.proofs.Laws.Table.{table_drop, table_bit, table_small}
 use Rattle.tables.specs.Rows.{row_word}
 use Rattle.tables.specs.Laws.Rows.{row_bit, row_small}
 

@@ -19,7 +19,7 @@ shape_of-fields-then-at-line c = c.loop-i.invariant.1
 pub returns-then-at-line : goal.returns-then-at-line
 returns-then-at-line c =
     let loop = c.loop-i in
-    let plain = sym c.is_letter.ensures ∙ not-true _ c.if-not-is_letter.true in
+    let plain = sym c.is_letter.ensures ∙ c.if-not-is_letter.true in
     refused_on c.refused.ensures.0
     (λ _. plain_over loop.invariant.2 (omega arith) plain c.if-at-line.true)
 
@@ -33,7 +33,7 @@ pub returns-then-line-at : goal.returns-then-line-at
 returns-then-line-at c =
     let loop = c.loop-i in
     let w = loop.invariant.2.within in
-    let plain = sym c.is_letter.ensures ∙ not-true _ c.if-not-is_letter.true in
+    let plain = sym c.is_letter.ensures ∙ c.if-not-is_letter.true in
     refused_on c.refused-then-line-at.ensures.0
     (λ _. plain_other loop.invariant.2 (omega arith) plain (omega arith) c.if-line-at.true)
 
@@ -47,7 +47,7 @@ pub loop-i-preserved-then-not-is_letter : goal.loop-i-preserved-then-not-is_lett
 loop-i-preserved-then-not-is_letter c =
     let loop = c.loop-i in
     let w = loop.invariant.2.within in
-    let plain = sym c.is_letter.ensures ∙ not-true _ c.if-not-is_letter.true in
+    let plain = sym c.is_letter.ensures ∙ c.if-not-is_letter.true in
     (omega arith, loop.invariant.1, plain_same loop.invariant.2 (omega arith) plain (omega arith) c.if-line-at.false)
 
 pub find-end-requires : goal.find-end-requires
@@ -72,9 +72,9 @@ pub returns-then-not-stored : goal.returns-then-not-stored
 returns-then-not-stored c =
     let loop = c.loop-i in
     let found = c.find-end in
-    let letter = sym c.is_letter.ensures ∙ not-false _ c.if-not-is_letter.false in
+    let letter = sym c.is_letter.ensures ∙ c.if-not-is_letter.false in
     refused_on c.refused-then-not-stored.ensures.0
-    (letter_bad loop.invariant.2 (omega arith) letter found.result found.ensures.0 (omega arith) c.put_value-stored.ensures (not-true _ c.if-not-stored.true))
+    (letter_bad loop.invariant.2 (omega arith) letter found.result found.ensures.0 (omega arith) c.put_value-stored.ensures (c.if-not-stored.true))
 
 pub loop-i-smaller : goal.loop-i-smaller
 loop-i-smaller c = omega arith
@@ -83,8 +83,8 @@ pub loop-i-preserved : goal.loop-i-preserved
 loop-i-preserved c =
     let loop = c.loop-i in
     let found = c.find-end in
-    let letter = sym c.is_letter.ensures ∙ not-false _ c.if-not-is_letter.false in
-    (omega arith, omega arith, letter_good loop.invariant.2 (omega arith) letter found.result found.ensures.0 (omega arith) c.put_value-stored.ensures (not-false _ c.if-not-stored.false))
+    let letter = sym c.is_letter.ensures ∙ c.if-not-is_letter.false in
+    (omega arith, omega arith, letter_good loop.invariant.2 (omega arith) letter found.result found.ensures.0 (omega arith) c.put_value-stored.ensures (c.if-not-stored.false))
 
 pub shape_of-fields : goal.shape_of-fields
 shape_of-fields c = c.loop-i.invariant.1

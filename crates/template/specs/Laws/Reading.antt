@@ -15,8 +15,8 @@ use Rattle.text.specs.Bytes.{space, until}
 use Rattle.text.specs.Template.{Value, number, list, a_number, a_list, is_letter_of, value_of, and_then, same_byte, at_end, values_of}
 use Rattle.numbers.specs.Read.{listed_as, ListRead, in_front}
 use Rattle.template.specs.Fields.{list_by_of, number_letter, list_letter, number_letters, list_letters, Held, Room, Begins, ReadOn, is_plain, ReadNext, HasForm, ReadAs, StoresOne, StoresAs}
-use Rattle.text.specs.Laws.Pieces.{step}
-use Rattle.text.specs.Laws.Values.{both}
+use Rattle.text.proofs.Laws.Pieces.{step}
+use Rattle.text.proofs.Laws.Values.{both}
 use Rattle.template.specs.Laws.Fields.{nothing_held, held_number, held_list_lem, list_put}
 use Rattle.numbers.specs.Laws.Lists.{listed_count, listed_largest, listed_bad, listed_good}
 

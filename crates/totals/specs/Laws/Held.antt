@@ -11,8 +11,8 @@ use Rattle.pauli.specs.Bits.{Bits, none, added, ◌⊕◌}
 use Rattle.rows.specs.Words.{bit_in}
 use Rattle.rows.specs.Overwrite.{flipped}
 use Rattle.rows.specs.Column.{column}
-use Rattle.rows.specs.Laws.Pack.{column_zeros}
-use Rattle.rows.specs.Laws.Column.{column_flipped}
+use Rattle.rows.proofs.Laws.Pack.{column_zeros}
+use Rattle.rows.proofs.Laws.Column.{column_flipped}
 use Rattle.totals.specs.Ones.{ones_to}
 use Rattle.totals.specs.Held.{TotalsHeld}
 use Rattle.totals.specs.Laws.Ones.{ones_same, ones_none, ones_few, bit_one, ones_flipped}

@@ -7,8 +7,8 @@ use Rattle.std.specs.Int.Count.{ones, ones_step}
 use Rattle.std.specs.Int.Bits.{bit_or, or_add_and}
 use Rattle.std.proofs.lemmas.Nat.{and_le_l, and_le_r}
 use Rattle.pauli.specs.Bits.{Bits, ◌⊕◌, bit}
-use Rattle.pauli.specs.Laws.F2.{⊕_false}
-use Rattle.pauli.specs.Laws.Word.{bit_zero, bit_shr}
+use Rattle.pauli.proofs.Laws.F2.{⊕_false}
+use Rattle.pauli.proofs.Laws.Word.{bit_zero, bit_shr}
 use Rattle.rows.specs.Words.{bit_in}
 use Rattle.totals.specs.Ones.{ones_to}
 

@@ -7,8 +7,8 @@ use Rattle.std.proofs.lemmas.Bool.{eqb-false}
 use Rattle.std.specs.Int.Bits.{bit_xor}
 use Rattle.std.proofs.Math.Seq.{drop-cons}
 use Rattle.pauli.specs.Bits.{◌⊕◌, sum_over, bit}
-use Rattle.pauli.specs.Laws.F2.{⊕_assoc, ⊕_false}
-use Rattle.pauli.specs.Laws.Word.{bit_zero, bit_xor_lem}
+use Rattle.pauli.proofs.Laws.F2.{⊕_assoc, ⊕_false}
+use Rattle.pauli.proofs.Laws.Word.{bit_zero, bit_xor_lem}
 use Rattle.rows.specs.Words.{bit_in}
 use Rattle.rows.specs.Column.{column}
 use Rattle.totals.specs.Sum.{delta_sum_of}

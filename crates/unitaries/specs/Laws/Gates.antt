@@ -8,17 +8,17 @@ use Rattle.std.proofs.Math.ListN.{length}
 use Rattle.pauli.specs.Pauli.{Pauli}
 use Rattle.pauli.specs.Gate.{Gate, gates, gate_from, gate_of, operands_of, conjugated, prepare_bell, swap_XZ, add_xto_Z, add_zto_X, controlled_X, controlled_Z, controlled_Y, swap_rows_of}
 use Rattle.pauli.specs.Code.{by_gate, operand_count_of}
-use Rattle.pauli.specs.Laws.Gates.{pauli_path}
-use Rattle.pauli.specs.Laws.Code.{same_at, last_operand, has_operand}
+use Rattle.pauli.proofs.Laws.Gates.{pauli_path}
+use Rattle.pauli.proofs.Laws.Code.{same_at, last_operand, has_operand}
 use Rattle.job.specs.Line.{Line}
 use Rattle.job.specs.Checks.{all_below, distinct}
-use Rattle.job.specs.Laws.Lists.{below_at, distinct_at}
+use Rattle.job.proofs.Laws.Lists.{below_at, distinct_at}
 use Rattle.frames.specs.Forward.{on_frame, forward}
-use Rattle.frames.specs.Laws.Gates.{controlled_Y_composed}
+use Rattle.frames.proofs.Laws.Gates.{controlled_Y_composed}
 use Rattle.rows.specs.Overwrite.{copied, xored, swapped}
 use Rattle.rows.specs.Column.{column}
-use Rattle.rows.specs.Laws.Overwrite.{length_xored}
-use Rattle.rows.specs.Laws.Column.{column_copied, column_xored, column_swapped}
+use Rattle.rows.proofs.Laws.Overwrite.{length_xored}
+use Rattle.rows.proofs.Laws.Column.{column_copied, column_xored, column_swapped}
 use Rattle.propagator.specs.Acts.{frame_of, Acts, line_rule}
 use Rattle.propagator.specs.Laws.Lists.{row_in}
 use Rattle.propagator.specs.Laws.Acts.{acts_frame, acts_then}

@@ -4,22 +4,22 @@ use Rattle.std.proofs.Common.{sym, ap, ◌∙◌, arith, zero-add, add-zero, mul
 use Rattle.std.proofs.Math.Path.{fun_ext}
 use Rattle.pauli.specs.Bits.{Bits, none, only, given, outside, ◌∩◌, ◌△◌, bit}
 use Rattle.pauli.specs.Pauli.{Pauli, identity, X_at, Z_at, ◌∗◌, when, cleared}
-use Rattle.pauli.specs.Laws.Word.{bit_is}
-use Rattle.pauli.specs.Laws.Parity.{bitwise, added_is}
-use Rattle.pauli.specs.Laws.Gates.{pauli_path}
-use Rattle.pauli.specs.Laws.Group.{∗_assoc, ∗_identity}
+use Rattle.pauli.proofs.Laws.Word.{bit_is}
+use Rattle.pauli.proofs.Laws.Parity.{bitwise, added_is}
+use Rattle.pauli.proofs.Laws.Gates.{pauli_path}
+use Rattle.pauli.proofs.Laws.Group.{∗_assoc, ∗_identity}
 use Rattle.job.specs.Line.{Line}
 use Rattle.job.specs.Checks.{all_below, is_permutation}
 use Rattle.job.specs.Clifford.{row_over}
 use Rattle.tables.specs.Rows.{row_word}
 use Rattle.tables.specs.Laws.Rows.{row_bit}
 use Rattle.frames.specs.Forward.{placed, table_row, images_from, images_of, places_of, image_sum, transformed, on_frame, forward}
-use Rattle.frames.specs.Laws.Permutation.{test_permutes}
+use Rattle.frames.proofs.Laws.Permutation.{test_permutes}
 use Rattle.rows.specs.Overwrite.{xored, cleared as clearedWords}
 use Rattle.rows.specs.Listed.{over_list, collected}
 use Rattle.rows.specs.Column.{column}
-use Rattle.rows.specs.Laws.Overwrite.{before_row}
-use Rattle.rows.specs.Laws.Column.{column_xored, column_clear, collected_before, column_collected}
+use Rattle.rows.proofs.Laws.Overwrite.{before_row}
+use Rattle.rows.proofs.Laws.Column.{column_xored, column_clear, collected_before, column_collected}
 use Rattle.propagator.specs.Acts.{frame_of, Acts, line_rule}
 use Rattle.unitaries.specs.Images.{Saved, RowAdded, ImagesAdded, moved, PlacesAdded, RowsPermuted}
 use Rattle.propagator.specs.Laws.Lists.{rows_in}

@@ -44,11 +44,11 @@ slice_bounds-read_gate-end c = omega (arith, c.line_start-at.ensures.within, c.l
 
 pub read_gate-g-requires : goal.read_gate-g-requires
 unfolding line_at
-read_gate-g-requires c = gate_there (c.is_gate.ensures (not-false _ c.if-not-is_gate.false)) (line_known _ c.requires.0 c.loop-e.invariant.left.left c.loop-e-test.true c.line_start-at.ensures)
+read_gate-g-requires c = gate_there (c.is_gate.ensures (c.if-not-is_gate.false)) (line_known _ c.requires.0 c.loop-e.invariant.left.left c.loop-e-test.true c.line_start-at.ensures)
 
 pub conjugate_back-b-requires : goal.conjugate_back-b-requires
 unfolding line_at
-conjugate_back-b-requires c = operands_of (c.is_gate.ensures (not-false _ c.if-not-is_gate.false)) c.read_gate-g.ensures (line_known _ c.requires.0 c.loop-e.invariant.left.left c.loop-e-test.true c.line_start-at.ensures)
+conjugate_back-b-requires c = operands_of (c.is_gate.ensures (c.if-not-is_gate.false)) c.read_gate-g.ensures (line_known _ c.requires.0 c.loop-e.invariant.left.left c.loop-e-test.true c.line_start-at.ensures)
 
 pub overflow_sub-k : goal.overflow_sub-k
 overflow_sub-k c = line_left _ c.requires.0 c.loop-e.invariant.left.left c.loop-e-test.true c.line_start-at.ensures
@@ -58,7 +58,7 @@ loop-e-smaller c = omega (arith, c.line_start-at.ensures.within, c.loop-e-test.t
 
 pub loop-e-preserved : goal.loop-e-preserved
 unfolding line_at
-loop-e-preserved c = gates_on _ c.requires.0 c.loop-e.invariant c.loop-e-test.true c.line_start-at.ensures (λ count noise shot set. gate_goes (c.is_gate.ensures (not-false _ c.if-not-is_gate.false)) c.read_gate-g.ensures c.conjugate_back-b.ensures shot _ set)
+loop-e-preserved c = gates_on _ c.requires.0 c.loop-e.invariant c.loop-e-test.true c.line_start-at.ensures (λ count noise shot set. gate_goes (c.is_gate.ensures (c.if-not-is_gate.false)) c.read_gate-g.ensures c.conjugate_back-b.ensures shot _ set)
 
 pub returns : goal.returns
 returns c = (c.loop-e.invariant, λ h. absurd (omega (arith, h, c.loop-e-test.false)))

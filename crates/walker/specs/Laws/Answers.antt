@@ -5,7 +5,7 @@ use Rattle.std.specs.Prelude.{◌≡◌, refl, true, false, ◌&&◌, List, ltb,
 use Rattle.std.proofs.Math.Path.{ap}
 use Rattle.pauli.specs.Bits.{Bits, members}
 use Rattle.pauli.specs.Fixed.{AllBelow}
-use Rattle.pauli.specs.Laws.F2.{&&_false}
+use Rattle.pauli.proofs.Laws.F2.{&&_false}
 use Rattle.text.specs.Bytes.{lines}
 use Rattle.text.specs.List.{is_rising_of}
 use Rattle.job.specs.declared.Answer.{Answer}
@@ -13,8 +13,8 @@ use Rattle.job.specs.Checks.{all_below}
 use Rattle.job.specs.Job.{answer, accepted, job_of, recorded_in, check_job}
 use Rattle.job.specs.Reply.{refused_count}
 use Rattle.job.specs.Sound.{JobSound}
-use Rattle.job.specs.Theorems.{checked_sound}
-use Rattle.job.specs.Laws.Lists.{below_at}
+use Rattle.job.proofs.Theorems.{checked_sound}
+use Rattle.job.proofs.Laws.Lists.{below_at}
 use Rattle.checker.specs.declared.Examined.{Examined}
 use Rattle.checker.specs.Examines.{Finds, Examines}
 use Rattle.frames.specs.Forward.{setting_of}

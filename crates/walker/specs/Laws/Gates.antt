@@ -10,7 +10,7 @@ use Rattle.text.specs.Template.{list_at_of}
 use Rattle.job.specs.Line.{Line}
 use Rattle.job.specs.Checks.{all_below}
 use Rattle.job.specs.Sound.{LineSound}
-use Rattle.job.specs.Laws.Lists.{below_more}
+use Rattle.job.proofs.Laws.Lists.{below_more}
 use Rattle.instructions.specs.Laws.Known.{OfGate, of_gate, gate_line}
 use Rattle.backward.specs.Walk.{carry, counts, backward}
 use Rattle.lines_back.specs.Laws.Parts.{operand_below}

@@ -11,8 +11,8 @@ use Rattle.text.specs.Bytes.{bytes}
 use Rattle.text.specs.Template.{Value, numbers_in, number_at}
 use Rattle.numbers.specs.Read.{in_front}
 use Rattle.template.specs.Fields.{Held, Begins}
-use Rattle.text.specs.Laws.Values.{none_some}
-use Rattle.text.specs.Laws.Places.{literals}
+use Rattle.text.proofs.Laws.Values.{none_some}
+use Rattle.text.proofs.Laws.Places.{literals}
 use Rattle.template.specs.Laws.Fields.{numbers_append, nothing_held}
 use Rattle.pauli.specs.Pauli.{anticommutes}
 use Rattle.job.specs.Line.{SparsePauli, pauli_of, Line}

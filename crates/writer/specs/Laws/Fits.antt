@@ -1,7 +1,7 @@
 -- What 15 asks of a text's length. Laws. Assumes nothing.
 use Rattle.std.specs.Prelude.{◌≡◌, true, ◌&&◌, ℕ, ◌≤◌, leb}
 use Rattle.std.proofs.Common.{leb-true}
-use Rattle.text.specs.Laws.Values.{both}
+use Rattle.text.proofs.Laws.Values.{both}
 use Rattle.job.specs.Job.{max_bytes}
 
 module _ (need lent : ℕ) (fits : leb need lent && leb need max_bytes ≡ true) where

@@ -8,7 +8,7 @@ use Rattle.text.specs.Bytes.{comma}
 use Rattle.text.specs.Number.{decimal_digits, decimal, hex_byte_of, hex_digits, hexadecimal}
 use Rattle.text.specs.List.{commas_by, list_text_by, commas, list_text}
 use Rattle.writer.specs.Placed.{Puts}
-use Rattle.text.specs.Laws.Pieces.{step}
+use Rattle.text.proofs.Laws.Pieces.{step}
 use Rattle.writer.specs.Laws.Placing.{Rest, rest_all, rest_more, rest_none}
 
 -- ---- how long the texts are

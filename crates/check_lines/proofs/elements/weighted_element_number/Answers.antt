@@ -44,7 +44,7 @@ returns-then-not-is_total c =
     let bits = c.number.ensures ∙ t.held.number 0 (omega arith) in
     let right = rw bits at (only_accepted _ _ (sym c.in-Accepted.is ∙ c.weight.ensures)).1 in
     let sum = ap (λ (y : Float). is_total (add binary64 c.args.c.total y)) right ∙ sym c.is_total.ensures in
-    fails 12 _ _ (right_false (is_weight_of (float (number_at 0 vs))) _ (last_total _ c.if-c-ne1.false (sum ∙ not-true _ c.if-not-is_total.true)))
+    fails 12 _ _ (right_false (is_weight_of (float (number_at 0 vs))) _ (last_total _ c.if-c-ne1.false (sum ∙ c.if-not-is_total.true)))
     ∙ two_pass _ _ _ (c.pauli_number-refusal.ensures _ _ vs t.held (omega arith)) (omega arith) (omega arith) c.if-refusal-ne0.false
     ∙ t.own
 
@@ -57,6 +57,6 @@ returns c =
     let right = rw bits at passed.1 in
     let sum = ap (λ (y : Float). is_total (add binary64 c.args.c.total y)) right ∙ sym c.is_total.ensures in
     none_bad
-    ∙ passes 12 _ _ (both_true (rw bits at passed.0) (last_total _ c.if-c-ne1.false (sum ∙ not-false _ c.if-not-is_total.false)))
+    ∙ passes 12 _ _ (both_true (rw bits at passed.0) (last_total _ c.if-c-ne1.false (sum ∙ c.if-not-is_total.false)))
     ∙ two_pass _ _ _ (c.pauli_number-refusal.ensures _ _ vs t.held (omega arith)) (omega arith) (omega arith) c.if-refusal-ne0.false
     ∙ t.own

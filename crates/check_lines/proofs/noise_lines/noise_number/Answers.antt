@@ -11,7 +11,7 @@ pub returns-then-not-below : goal.returns-then-not-below
 unfolding context_of
 returns-then-not-below c = λ numbers lists vs h m g.
     let known = c.below.ensures numbers lists vs h (omega arith) ∙ one_below vs 1 _ in
-    fails 9 _ _ (sym known ∙ not-true _ c.if-not-below.true)
+    fails 9 _ _ (sym known ∙ c.if-not-below.true)
 
 pub returns-in_default : goal.returns-in_default
 unfolding context_of
@@ -19,7 +19,7 @@ returns-in_default c = λ numbers lists vs h m g.
     let known = c.below.ensures numbers lists vs h (omega arith) ∙ one_below vs 1 _ in
     let p = c.number.ensures ∙ h.number 0 m in
     let right = only_refused _ _ (sym c.in_default.is ∙ c.probability.ensures) in
-    fails 11 _ _ (rw p at right) ∙ passes 9 _ _ (sym known ∙ not-false _ c.if-not-below.false)
+    fails 11 _ _ (rw p at right) ∙ passes 9 _ _ (sym known ∙ c.if-not-below.false)
 
 pub returns : goal.returns
 unfolding context_of
@@ -27,4 +27,4 @@ returns c = λ numbers lists vs h m g.
     let known = c.below.ensures numbers lists vs h (omega arith) ∙ one_below vs 1 _ in
     let p = c.number.ensures ∙ h.number 0 m in
     let right = (only_accepted _ _ (sym c.in-Accepted.is ∙ c.probability.ensures)).0 in
-    none_bad ∙ passes 11 _ _ (rw p at right) ∙ passes 9 _ _ (sym known ∙ not-false _ c.if-not-below.false)
+    none_bad ∙ passes 11 _ _ (rw p at right) ∙ passes 9 _ _ (sym known ∙ c.if-not-below.false)

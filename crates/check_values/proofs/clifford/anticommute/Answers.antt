@@ -1,7 +1,7 @@
 -- `check_values::clifford::anticommute` meets its contract. Assumes nothing.
 use native.Mathlib.Omega.{arith}
 use lib.Pow.{pow_pos}
-use Rattle.pauli.specs.Laws.Word.{one_shl}
+use Rattle.pauli.proofs.Laws.Word.{one_shl}
 use Rattle.check_values.specs.Laws.Pairs.{overlap_odd}
 use Rattle.check_values.proofs.clifford.anticommute.Goals as goal
 

@@ -15,7 +15,7 @@ pub pair_fits-requires : goal.pair_fits-requires
 pair_fits-requires c = (omega arith, omega arith, omega arith, omega arith)
 
 pub returns-then-not-pair_fits : goal.returns-then-not-pair_fits
-returns-then-not-pair_fits c = λ t i. sym (every_fails _ _ _ c.loop-s-test.true (sym (c.pair_fits.ensures t i) ∙ not-true _ c.if-not-pair_fits.true))
+returns-then-not-pair_fits c = λ t i. sym (every_fails _ _ _ c.loop-s-test.true (sym (c.pair_fits.ensures t i) ∙ c.if-not-pair_fits.true))
 
 pub overflow_add-s : goal.overflow_add-s
 overflow_add-s c = omega arith
@@ -24,7 +24,7 @@ pub loop-s-smaller : goal.loop-s-smaller
 loop-s-smaller c = omega arith
 
 pub loop-s-preserved : goal.loop-s-preserved
-loop-s-preserved c = (omega arith, λ t i. every_more _ _ (c.loop-s.invariant.1 t i) (sym (c.pair_fits.ensures t i) ∙ not-false _ c.if-not-pair_fits.false))
+loop-s-preserved c = (omega arith, λ t i. every_more _ _ (c.loop-s.invariant.1 t i) (sym (c.pair_fits.ensures t i) ∙ c.if-not-pair_fits.false))
 
 pub returns : goal.returns
 returns c = λ t i. every_all _ _ _ c.loop-s.invariant.0 c.loop-s-test.false (c.loop-s.invariant.1 t i)

@@ -15,7 +15,7 @@ pub row_fits-requires : goal.row_fits-requires
 row_fits-requires c = (omega arith, omega arith, omega arith)
 
 pub returns-then-not-row_fits : goal.returns-then-not-row_fits
-returns-then-not-row_fits c = λ t i. sym (every_fails _ _ _ c.loop-r-test.true (sym (c.row_fits.ensures t i) ∙ not-true _ c.if-not-row_fits.true))
+returns-then-not-row_fits c = λ t i. sym (every_fails _ _ _ c.loop-r-test.true (sym (c.row_fits.ensures t i) ∙ c.if-not-row_fits.true))
 
 pub overflow_add-r : goal.overflow_add-r
 overflow_add-r c = omega arith
@@ -24,7 +24,7 @@ pub loop-r-smaller : goal.loop-r-smaller
 loop-r-smaller c = omega arith
 
 pub loop-r-preserved : goal.loop-r-preserved
-loop-r-preserved c = (omega arith, λ t i. every_more _ _ (c.loop-r.invariant.1 t i) (sym (c.row_fits.ensures t i) ∙ not-false _ c.if-not-row_fits.false))
+loop-r-preserved c = (omega arith, λ t i. every_more _ _ (c.loop-r.invariant.1 t i) (sym (c.row_fits.ensures t i) ∙ c.if-not-row_fits.false))
 
 pub returns : goal.returns
 returns c = λ t i. every_all _ _ _ c.loop-r.invariant.0 c.loop-r-test.false (c.loop-r.invariant.1 t i)

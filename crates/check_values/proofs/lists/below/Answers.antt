@@ -14,7 +14,7 @@ pub returns-then-not-slot_below : goal.returns-then-not-slot_below
 returns-then-not-slot_below c =
     λ numbers lists vs h g.
     let here = c.slot_below.ensures numbers lists vs h (omega arith) in
-    sym (c.loop-i.invariant numbers lists vs h g ∙ each_fails (each_below _) vs _ _ c.loop-i-test.true (sym here ∙ not-true _ c.if-not-slot_below.true))
+    sym (c.loop-i.invariant numbers lists vs h g ∙ each_fails (each_below _) vs _ _ c.loop-i-test.true (sym here ∙ c.if-not-slot_below.true))
 
 pub overflow_add-i : goal.overflow_add-i
 overflow_add-i c = omega arith
@@ -26,7 +26,7 @@ pub loop-i-preserved : goal.loop-i-preserved
 loop-i-preserved c =
     λ numbers lists vs h g.
     let here = c.slot_below.ensures numbers lists vs h (omega arith) in
-    c.loop-i.invariant numbers lists vs h g ∙ each_next (each_below _) vs _ _ c.loop-i-test.true (sym here ∙ not-false _ c.if-not-slot_below.false)
+    c.loop-i.invariant numbers lists vs h g ∙ each_next (each_below _) vs _ _ c.loop-i-test.true (sym here ∙ c.if-not-slot_below.false)
 
 pub returns : goal.returns
 returns c = λ numbers lists vs h g. sym (c.loop-i.invariant numbers lists vs h g ∙ each_end (each_below _) vs _ _ c.loop-i-test.false)

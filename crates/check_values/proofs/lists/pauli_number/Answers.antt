@@ -5,16 +5,16 @@ use Rattle.check_values.specs.Laws.Lowest.{none_bad, fails, passes}
 use Rattle.check_values.proofs.lists.pauli_number.Goals as goal
 
 pub returns-then-not-below : goal.returns-then-not-below
-returns-then-not-below c = λ numbers lists vs h g. fails 4 _ _ (sym (c.below.ensures numbers lists vs h g) ∙ not-true _ c.if-not-below.true)
+returns-then-not-below c = λ numbers lists vs h g. fails 4 _ _ (sym (c.below.ensures numbers lists vs h g) ∙ c.if-not-below.true)
 
 pub returns-then-not-short : goal.returns-then-not-short
 returns-then-not-short c =
     λ numbers lists vs h g.
-    fails 5 _ _ (sym (c.short.ensures.0 numbers lists vs h g) ∙ not-true _ c.if-not-short.true)
-    ∙ passes 4 _ _ (sym (c.below.ensures numbers lists vs h g) ∙ not-false _ c.if-not-below.false)
+    fails 5 _ _ (sym (c.short.ensures.0 numbers lists vs h g) ∙ c.if-not-short.true)
+    ∙ passes 4 _ _ (sym (c.below.ensures numbers lists vs h g) ∙ c.if-not-below.false)
 
 pub returns : goal.returns
 returns c =
     λ numbers lists vs h g.
-    none_bad ∙ passes 5 _ _ (sym (c.short.ensures.0 numbers lists vs h g) ∙ not-false _ c.if-not-short.false)
-    ∙ passes 4 _ _ (sym (c.below.ensures numbers lists vs h g) ∙ not-false _ c.if-not-below.false)
+    none_bad ∙ passes 5 _ _ (sym (c.short.ensures.0 numbers lists vs h g) ∙ c.if-not-short.false)
+    ∙ passes 4 _ _ (sym (c.below.ensures numbers lists vs h g) ∙ c.if-not-below.false)

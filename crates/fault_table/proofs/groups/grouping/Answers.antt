@@ -45,13 +45,13 @@ pub is_rising-requires : goal.is_rising-requires
 is_rising-requires c = tt
 
 pub returns-then-not-is_rising : goal.returns-then-not-is_rising
-returns-then-not-is_rising c = sym (c.loop-at.invariant.2 ∙ ap (grouping_of _ _) (groups_here _ _ c.loop-at-test.true (omega (arith, c.if-left-count.false))) ∙ refused_by _ _ _ _ (unrisen _ _ (sym (rw (part_size (c.loop-at.at + 1) (get_or c.args.list.now c.loop-at.at 0)) at c.is_rising.ensures) ∙ not-true _ c.if-not-is_rising.true)))
+returns-then-not-is_rising c = sym (c.loop-at.invariant.2 ∙ ap (grouping_of _ _) (groups_here _ _ c.loop-at-test.true (omega (arith, c.if-left-count.false))) ∙ refused_by _ _ _ _ (unrisen _ _ (sym (rw (part_size (c.loop-at.at + 1) (get_or c.args.list.now c.loop-at.at 0)) at c.is_rising.ensures) ∙ c.if-not-is_rising.true)))
 
 pub all_below-requires : goal.all_below-requires
 all_below-requires c = tt
 
 pub returns-then-not-all_below : goal.returns-then-not-all_below
-returns-then-not-all_below c = sym (c.loop-at.invariant.2 ∙ ap (grouping_of _ _) (groups_here _ _ c.loop-at-test.true (omega (arith, c.if-left-count.false))) ∙ refused_by _ _ _ _ (unrecorded _ _ (sym (rw (part_size (c.loop-at.at + 1) (get_or c.args.list.now c.loop-at.at 0)) at c.all_below.ensures) ∙ not-true _ c.if-not-all_below.true)))
+returns-then-not-all_below c = sym (c.loop-at.invariant.2 ∙ ap (grouping_of _ _) (groups_here _ _ c.loop-at-test.true (omega (arith, c.if-left-count.false))) ∙ refused_by _ _ _ _ (unrecorded _ _ (sym (rw (part_size (c.loop-at.at + 1) (get_or c.args.list.now c.loop-at.at 0)) at c.all_below.ensures) ∙ c.if-not-all_below.true)))
 
 pub overflow_add-n : goal.overflow_add-n
 overflow_add-n c = omega arith
@@ -60,7 +60,7 @@ pub loop-at-smaller : goal.loop-at-smaller
 loop-at-smaller c = omega arith
 
 pub loop-at-preserved : goal.loop-at-preserved
-loop-at-preserved c = (omega arith, omega (arith, c.if-left-count.false), c.loop-at.invariant.2 ∙ ap (grouping_of _ _) (groups_here _ _ c.loop-at-test.true (omega (arith, c.if-left-count.false))) ∙ one_more _ _ _ _ (sym (rw (part_size (c.loop-at.at + 1) (get_or c.args.list.now c.loop-at.at 0)) at c.is_rising.ensures) ∙ not-false _ c.if-not-is_rising.false) (sym (rw (part_size (c.loop-at.at + 1) (get_or c.args.list.now c.loop-at.at 0)) at c.all_below.ensures) ∙ not-false _ c.if-not-all_below.false))
+loop-at-preserved c = (omega arith, omega (arith, c.if-left-count.false), c.loop-at.invariant.2 ∙ ap (grouping_of _ _) (groups_here _ _ c.loop-at-test.true (omega (arith, c.if-left-count.false))) ∙ one_more _ _ _ _ (sym (rw (part_size (c.loop-at.at + 1) (get_or c.args.list.now c.loop-at.at 0)) at c.is_rising.ensures) ∙ c.if-not-is_rising.false) (sym (rw (part_size (c.loop-at.at + 1) (get_or c.args.list.now c.loop-at.at 0)) at c.all_below.ensures) ∙ c.if-not-all_below.false))
 
 pub returns : goal.returns
 returns c = sym (c.loop-at.invariant.2 ∙ no_groups _ _ _ _ c.loop-at-test.false)

@@ -3,7 +3,7 @@ use native.Mathlib.Omega.{arith}
 use mathlib.Core.Path.{◌∙◌}
 use Rattle.job.specs.Line.{pauli_of}
 use Rattle.draws.specs.Draws.{depolarizing_element_of}
-use Rattle.draws.specs.Laws.Elements.{selected_writable}
+use Rattle.draws.proofs.Laws.Elements.{selected_writable}
 use Rattle.lines_back.specs.Laws.Parts.{all_below_lem}
 use Rattle.noise_text.specs.Laws.Lists.{few_selected, selected_count}
 use Rattle.fault_table.proofs.noise_rows.depolarizing_element.Goals as goal

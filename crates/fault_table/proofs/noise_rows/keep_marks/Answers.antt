@@ -15,13 +15,13 @@ pub is_element-requires : goal.is_element-requires
 is_element-requires c = tt
 
 pub returns-then-not-is_element : goal.returns-then-not-is_element
-returns-then-not-is_element c = λ q es size k. kept_still k q.written (sym (c.is_element.ensures q.values q.written q.said.says) ∙ not-true _ c.if-not-is_element.true)
+returns-then-not-is_element c = λ q es size k. kept_still k q.written (sym (c.is_element.ensures q.values q.written q.said.says) ∙ c.if-not-is_element.true)
 
 pub returns-then-n-ge-KEPT_ELEMENTS : goal.returns-then-n-ge-KEPT_ELEMENTS
-returns-then-n-ge-KEPT_ELEMENTS c = λ q es size k. kept_full k q.written _ (sym (not-false _ c.if-not-is_element.false) ∙ c.is_element.ensures q.values q.written q.said.says) size c.if-n-ge-KEPT_ELEMENTS.true
+returns-then-n-ge-KEPT_ELEMENTS c = λ q es size k. kept_full k q.written _ (sym (c.if-not-is_element.false) ∙ c.is_element.ensures q.values q.written q.said.says) size c.if-n-ge-KEPT_ELEMENTS.true
 
 pub pauli_at-p-requires : goal.pauli_at-p-requires
-pauli_at-p-requires c = element_held c.requires.0 (sym (not-false _ c.if-not-is_element.false) ∙ c.is_element.ensures _ _ c.requires.0.said.says)
+pauli_at-p-requires c = element_held c.requires.0 (sym (c.if-not-is_element.false) ∙ c.is_element.ensures _ _ c.requires.0.said.says)
 
 pub overflow_sub-a : goal.overflow_sub-a
 overflow_sub-a c = omega arith
@@ -59,4 +59,4 @@ returns c =
     let size : length part ≡ x.groups = c.put_marks.auto.0 ∙ long in
     let is : part ≡ marks_by (all_carried x.groups x.state.now) (as_pauli c.pauli_at-p.result) = rw long at c.put_marks.ensures in
     rw (part_size a x.groups, here)
-    (λ q es many k. kept_element q (sym (not-false _ c.if-not-is_element.false) ∙ c.is_element.ensures q.values q.written q.said.says) k x.n part many t p.1 p.3 size c.pauli_at-p.ensures is)
+    (λ q es many k. kept_element q (sym (c.if-not-is_element.false) ∙ c.is_element.ensures q.values q.written q.said.says) k x.n part many t p.1 p.3 size c.pauli_at-p.ensures is)

@@ -8,7 +8,7 @@ pub returns-then-not-weighted : goal.returns-then-not-weighted
 returns-then-not-weighted c = unweighted _ _ _ (not-true c.args.weighted c.if-not-weighted.true)
 
 pub float_from_bits-result : goal.float_from_bits-result
-float_from_bits-result c = rw (weight_bits _ (c.requires (not-false _ c.if-not-weighted.false))) tt
+float_from_bits-result c = rw (weight_bits _ (c.requires (c.if-not-weighted.false))) tt
 
 pub returns : goal.returns
 returns c = with_weight _ _ _ (not-false c.args.weighted c.if-not-weighted.false)

@@ -17,9 +17,9 @@ enough-requires c =
 pub returns-then-not-enough : goal.returns-then-not-enough
 returns-then-not-enough c =
     tests_short c.test-r.ensures c.if-answer-ne0.false c.too_few.ensures _
-    (rw (c.test-r.ensures.shaped c.if-answer-ne0.false) at (sym c.enough.ensures ∙ not-true _ c.if-not-enough.true))
+    (rw (c.test-r.ensures.shaped c.if-answer-ne0.false) at (sym c.enough.ensures ∙ c.if-not-enough.true))
 
 pub returns : goal.returns
 returns c =
     tests_enough c.test-r.ensures c.if-answer-ne0.false _
-    (rw (c.test-r.ensures.shaped c.if-answer-ne0.false) at (sym c.enough.ensures ∙ not-false _ c.if-not-enough.false))
+    (rw (c.test-r.ensures.shaped c.if-answer-ne0.false) at (sym c.enough.ensures ∙ c.if-not-enough.false))

@@ -2,8 +2,8 @@ use native.Mathlib.Omega.{arith}
 use mathlib.Core.Path.{ap}
 use Rattle.pauli.specs.Pauli.{Pauli, added_at}
 use Rattle.pauli.specs.Fixed.{as_pauli}
-use Rattle.pauli.specs.Laws.Word.{bit_is}
-use Rattle.job.specs.Laws.Lists.{below_at}
+use Rattle.pauli.proofs.Laws.Word.{bit_is}
+use Rattle.job.proofs.Laws.Lists.{below_at}
 use Rattle.lines_back.specs.Laws.Parts.{all_left, one_added, none_left}
 use Rattle.lines_back.proofs.carry.add_parts.Goals as goal
 

@@ -10,11 +10,11 @@ from_lists-requires c = (all_below_lem c.requires.1, all_below_lem c.requires.2)
 
 pub returns-then-not-anticommutes : goal.returns-then-not-anticommutes
 unfolding pauli_of
-returns-then-not-anticommutes c = let commutes = rw c.from_lists.ensures at (sym c.anticommutes.ensures ∙ not-true _ c.if-not-anticommutes.true) in (c.requires.0, rw commutes (none_added _ _))
+returns-then-not-anticommutes c = let commutes = rw c.from_lists.ensures at (sym c.anticommutes.ensures ∙ c.if-not-anticommutes.true) in (c.requires.0, rw commutes (none_added _ _))
 
 pub add_outcomes-requires : goal.add_outcomes-requires
 add_outcomes-requires c = (c.requires.0, all_below_lem c.requires.3)
 
 pub returns : goal.returns
 unfolding pauli_of
-returns c = let clashes = rw c.from_lists.ensures at (sym c.anticommutes.ensures ∙ not-false _ c.if-not-anticommutes.false) in (c.add_outcomes.ensures.0, c.add_outcomes.ensures.1 ∙ rw clashes (all_added _ _))
+returns c = let clashes = rw c.from_lists.ensures at (sym c.anticommutes.ensures ∙ c.if-not-anticommutes.false) in (c.add_outcomes.ensures.0, c.add_outcomes.ensures.1 ∙ rw clashes (all_added _ _))

@@ -1,7 +1,7 @@
 use native.Mathlib.Omega.{arith}
 use mathlib.Core.Path.{sym}
-use Rattle.pauli.specs.Laws.Word.{bit_is}
-use Rattle.job.specs.Laws.Lists.{below_at}
+use Rattle.pauli.proofs.Laws.Word.{bit_is}
+use Rattle.job.proofs.Laws.Lists.{below_at}
 use Rattle.lines_back.specs.Laws.Packed.{packed_none, packed_all}
 use Rattle.lines_back.proofs.carry.fetch.Goals as goal
 

@@ -1,7 +1,7 @@
 -- `lines_back::carry::multiply_if` meets its contract. Assumes nothing.
 use mathlib.Core.Path.{sym, ◌∙◌}
 use borrow.Author.Tests.{not-true, not-false}
-use Rattle.pauli.specs.Laws.Group.{∗_identity, when_true, when_false}
+use Rattle.pauli.proofs.Laws.Group.{∗_identity, when_true, when_false}
 use Rattle.lines_back.proofs.carry.multiply_if.Goals as goal
 
 pub returns-then-not-on : goal.returns-then-not-on

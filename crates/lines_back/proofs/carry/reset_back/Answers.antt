@@ -1,6 +1,6 @@
 use native.Mathlib.Omega.{arith}
 use mathlib.Core.Path.{refl}
-use Rattle.job.specs.Laws.Lists.{below_at}
+use Rattle.job.proofs.Laws.Lists.{below_at}
 use Rattle.lines_back.specs.Laws.Parts.{one_cleared, none_to_clear}
 use Rattle.lines_back.proofs.carry.reset_back.Goals as goal
 

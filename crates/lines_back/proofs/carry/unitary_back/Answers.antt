@@ -1,7 +1,7 @@
 -- `lines_back::carry::unitary_back` meets its contract. Assumes nothing.
 use native.Mathlib.Omega.{arith}
 use mathlib.Core.Path.{◌∙◌}
-use Rattle.pauli.specs.Laws.Code.{has_operand, last_of_code}
+use Rattle.pauli.proofs.Laws.Code.{has_operand, last_of_code}
 use Rattle.lines_back.specs.Laws.Parts.{operand_below}
 use Rattle.lines_back.proofs.carry.unitary_back.Goals as goal
 

@@ -1,6 +1,6 @@
 use Rattle.noise.specs.Laws.Condition.{filled_more}
 use Rattle.std.proofs.Common.{◌≡◌, refl, arith, length-set}
-use Rattle.rows.specs.Laws.Overwrite.{overwrite_none}
+use Rattle.rows.proofs.Laws.Overwrite.{overwrite_none}
 use Rattle.noise.proofs.condition.fill.Goals as goal
 
 pub loop-i-init : goal.loop-i-init

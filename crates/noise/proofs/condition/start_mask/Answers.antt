@@ -1,6 +1,6 @@
 -- `noise::condition::start_mask` meets its contract.
 use Rattle.std.proofs.Common.{eq-eqb, ne_eqb}
-use Rattle.pauli.specs.Laws.Word.{bit_zero}
+use Rattle.pauli.proofs.Laws.Word.{bit_zero}
 use Rattle.noise.specs.Laws.Condition.{bit_ones}
 use Rattle.noise.proofs.condition.start_mask.Goals as goal
 

@@ -3,7 +3,7 @@ use native.Mathlib.Omega.{arith}
 use mathlib.Core.Path.{◌≡◌, refl, sym, ◌∙◌}
 use lib.ListN.{length, get_or}
 use Rattle.text.specs.Number.{hex_digit}
-use Rattle.text.specs.Laws.Numbers.{hex_value, hex_end_value, hex_grows, hex_fits}
+use Rattle.text.proofs.Laws.Numbers.{hex_value, hex_end_value, hex_grows, hex_fits}
 use Rattle.numbers.specs.Laws.Hex.{hex_digit_lem, hex_next}
 use Rattle.numbers.proofs.known.known_hex.Goals as goal
 

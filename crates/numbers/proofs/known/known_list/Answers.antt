@@ -27,7 +27,7 @@ shape_of-out-then-not-is_comma c = omega (arith, known_size c.loop-list.invarian
 
 pub returns-then-not-is_comma : goal.returns-then-not-is_comma
 returns-then-not-is_comma c =
-    let other = eqb-false _ _ (sym c.is_comma.ensures ∙ not-true _ c.if-not-is_comma.true) in
+    let other = eqb-false _ _ (sym c.is_comma.ensures ∙ c.if-not-is_comma.true) in
     known_last c.loop-list.invariant c.read_digits-n.ensures other c.push-list.ensures c.store.ensures _ refl refl
 
 pub overflow_add-at : goal.overflow_add-at
@@ -35,10 +35,10 @@ overflow_add-at c = omega (arith, c.read_digits-n.ensures.within)
 
 pub loop-list-smaller : goal.loop-list-smaller
 loop-list-smaller c =
-    let more = eqb-true _ _ (sym c.is_comma.ensures ∙ not-false _ c.if-not-is_comma.false) in
+    let more = eqb-true _ _ (sym c.is_comma.ensures ∙ c.if-not-is_comma.false) in
     omega (arith, known_onward c.loop-list.invariant c.read_digits-n.ensures, known_within c.loop-list.invariant c.read_digits-n.ensures more)
 
 pub loop-list-preserved : goal.loop-list-preserved
 loop-list-preserved c =
-    let more = eqb-true _ _ (sym c.is_comma.ensures ∙ not-false _ c.if-not-is_comma.false) in
+    let more = eqb-true _ _ (sym c.is_comma.ensures ∙ c.if-not-is_comma.false) in
     known_more c.loop-list.invariant c.read_digits-n.ensures more c.push-list.ensures c.store.ensures

@@ -9,10 +9,10 @@ pub returns-then-not-is_digit : goal.returns-then-not-is_digit
 returns-then-not-is_digit c = λ h rest. absurd (omega (arith, c.not_short.ensures))
 
 pub overflow_sub-one : goal.overflow_sub-one
-overflow_sub-one c = omega (arith, digit_bounds c.args.a (sym c.is_digit.ensures ∙ not-false _ c.if-not-is_digit.false))
+overflow_sub-one c = omega (arith, digit_bounds c.args.a (sym c.is_digit.ensures ∙ c.if-not-is_digit.false))
 
 pub returns-then-b-eq44 : goal.returns-then-b-eq44
-returns-then-b-eq44 c = λ h rest. short_one _ _ _ (digit_bounds c.args.a (sym c.is_digit.ensures ∙ not-false _ c.if-not-is_digit.false)) c.if-b-eq44.true
+returns-then-b-eq44 c = λ h rest. short_one _ _ _ (digit_bounds c.args.a (sym c.is_digit.ensures ∙ c.if-not-is_digit.false)) c.if-b-eq44.true
 
 pub returns-then-not-is_digit-2 : goal.returns-then-not-is_digit-2
 returns-then-not-is_digit-2 c = λ h rest. absurd (omega (arith, c.not_short-then-not-is_digit-2.ensures))
@@ -21,19 +21,19 @@ pub returns-then-a-eq48 : goal.returns-then-a-eq48
 returns-then-a-eq48 c = λ h rest. absurd (omega (arith, c.not_short-then-a-eq48.ensures))
 
 pub overflow_mul-two : goal.overflow_mul-two
-overflow_mul-two c = omega (arith, digit_bounds c.args.a (sym c.is_digit.ensures ∙ not-false _ c.if-not-is_digit.false), digit_bounds c.args.b (sym c.is_digit-2.ensures ∙ not-false _ c.if-not-is_digit-2.false))
+overflow_mul-two c = omega (arith, digit_bounds c.args.a (sym c.is_digit.ensures ∙ c.if-not-is_digit.false), digit_bounds c.args.b (sym c.is_digit-2.ensures ∙ c.if-not-is_digit-2.false))
 
 pub overflow_sub-two : goal.overflow_sub-two
-overflow_sub-two c = omega (arith, digit_bounds c.args.b (sym c.is_digit-2.ensures ∙ not-false _ c.if-not-is_digit-2.false))
+overflow_sub-two c = omega (arith, digit_bounds c.args.b (sym c.is_digit-2.ensures ∙ c.if-not-is_digit-2.false))
 
 pub overflow_cast-two : goal.overflow_cast-two
-overflow_cast-two c = omega (arith, digit_bounds c.args.a (sym c.is_digit.ensures ∙ not-false _ c.if-not-is_digit.false), digit_bounds c.args.b (sym c.is_digit-2.ensures ∙ not-false _ c.if-not-is_digit-2.false))
+overflow_cast-two c = omega (arith, digit_bounds c.args.a (sym c.is_digit.ensures ∙ c.if-not-is_digit.false), digit_bounds c.args.b (sym c.is_digit-2.ensures ∙ c.if-not-is_digit-2.false))
 
 pub overflow_add-two : goal.overflow_add-two
-overflow_add-two c = omega (arith, digit_bounds c.args.a (sym c.is_digit.ensures ∙ not-false _ c.if-not-is_digit.false), digit_bounds c.args.b (sym c.is_digit-2.ensures ∙ not-false _ c.if-not-is_digit-2.false))
+overflow_add-two c = omega (arith, digit_bounds c.args.a (sym c.is_digit.ensures ∙ c.if-not-is_digit.false), digit_bounds c.args.b (sym c.is_digit-2.ensures ∙ c.if-not-is_digit-2.false))
 
 pub returns-then-c-eq44 : goal.returns-then-c-eq44
-returns-then-c-eq44 c = λ h rest. short_two _ _ _ _ (digit_bounds c.args.a (sym c.is_digit.ensures ∙ not-false _ c.if-not-is_digit.false)) (digit_bounds c.args.b (sym c.is_digit-2.ensures ∙ not-false _ c.if-not-is_digit-2.false)) c.if-a-eq48.false c.if-c-eq44.true
+returns-then-c-eq44 c = λ h rest. short_two _ _ _ _ (digit_bounds c.args.a (sym c.is_digit.ensures ∙ c.if-not-is_digit.false)) (digit_bounds c.args.b (sym c.is_digit-2.ensures ∙ c.if-not-is_digit-2.false)) c.if-a-eq48.false c.if-c-eq44.true
 
 pub returns-then-not-is_digit-3 : goal.returns-then-not-is_digit-3
 returns-then-not-is_digit-3 c = λ h rest. absurd (omega (arith, c.not_short-then-not-is_digit-3.ensures))
@@ -42,16 +42,16 @@ pub returns-then-d-ne44 : goal.returns-then-d-ne44
 returns-then-d-ne44 c = λ h rest. absurd (omega (arith, c.not_short-then-d-ne44.ensures))
 
 pub overflow_mul-result : goal.overflow_mul-result
-overflow_mul-result c = omega (arith, digit_bounds c.args.a (sym c.is_digit.ensures ∙ not-false _ c.if-not-is_digit.false), digit_bounds c.args.b (sym c.is_digit-2.ensures ∙ not-false _ c.if-not-is_digit-2.false), digit_bounds c.args.c (sym c.is_digit-3.ensures ∙ not-false _ c.if-not-is_digit-3.false))
+overflow_mul-result c = omega (arith, digit_bounds c.args.a (sym c.is_digit.ensures ∙ c.if-not-is_digit.false), digit_bounds c.args.b (sym c.is_digit-2.ensures ∙ c.if-not-is_digit-2.false), digit_bounds c.args.c (sym c.is_digit-3.ensures ∙ c.if-not-is_digit-3.false))
 
 pub overflow_sub-result : goal.overflow_sub-result
-overflow_sub-result c = omega (arith, digit_bounds c.args.c (sym c.is_digit-3.ensures ∙ not-false _ c.if-not-is_digit-3.false))
+overflow_sub-result c = omega (arith, digit_bounds c.args.c (sym c.is_digit-3.ensures ∙ c.if-not-is_digit-3.false))
 
 pub overflow_cast-result : goal.overflow_cast-result
-overflow_cast-result c = omega (arith, digit_bounds c.args.a (sym c.is_digit.ensures ∙ not-false _ c.if-not-is_digit.false), digit_bounds c.args.b (sym c.is_digit-2.ensures ∙ not-false _ c.if-not-is_digit-2.false), digit_bounds c.args.c (sym c.is_digit-3.ensures ∙ not-false _ c.if-not-is_digit-3.false))
+overflow_cast-result c = omega (arith, digit_bounds c.args.a (sym c.is_digit.ensures ∙ c.if-not-is_digit.false), digit_bounds c.args.b (sym c.is_digit-2.ensures ∙ c.if-not-is_digit-2.false), digit_bounds c.args.c (sym c.is_digit-3.ensures ∙ c.if-not-is_digit-3.false))
 
 pub overflow_add-result : goal.overflow_add-result
-overflow_add-result c = omega (arith, digit_bounds c.args.a (sym c.is_digit.ensures ∙ not-false _ c.if-not-is_digit.false), digit_bounds c.args.b (sym c.is_digit-2.ensures ∙ not-false _ c.if-not-is_digit-2.false), digit_bounds c.args.c (sym c.is_digit-3.ensures ∙ not-false _ c.if-not-is_digit-3.false))
+overflow_add-result c = omega (arith, digit_bounds c.args.a (sym c.is_digit.ensures ∙ c.if-not-is_digit.false), digit_bounds c.args.b (sym c.is_digit-2.ensures ∙ c.if-not-is_digit-2.false), digit_bounds c.args.c (sym c.is_digit-3.ensures ∙ c.if-not-is_digit-3.false))
 
 pub returns : goal.returns
-returns c = λ h rest. short_three _ _ _ _ _ (digit_bounds c.args.a (sym c.is_digit.ensures ∙ not-false _ c.if-not-is_digit.false)) (digit_bounds c.args.b (sym c.is_digit-2.ensures ∙ not-false _ c.if-not-is_digit-2.false)) (digit_bounds c.args.c (sym c.is_digit-3.ensures ∙ not-false _ c.if-not-is_digit-3.false)) c.if-a-eq48.false c.if-d-ne44.false
+returns c = λ h rest. short_three _ _ _ _ _ (digit_bounds c.args.a (sym c.is_digit.ensures ∙ c.if-not-is_digit.false)) (digit_bounds c.args.b (sym c.is_digit-2.ensures ∙ c.if-not-is_digit-2.false)) (digit_bounds c.args.c (sym c.is_digit-3.ensures ∙ c.if-not-is_digit-3.false)) c.if-a-eq48.false c.if-d-ne44.false

@@ -4,8 +4,8 @@ use native.Mathlib.Omega.{arith}
 use lib.ListN.{length}
 use Rattle.pauli.specs.Pauli.{added_at}
 use Rattle.pauli.specs.Fixed.{as_pauli}
-use Rattle.pauli.specs.Laws.Gates.{pauli_path}
-use Rattle.pauli.specs.Laws.Set.{bit_added}
+use Rattle.pauli.proofs.Laws.Gates.{pauli_path}
+use Rattle.pauli.proofs.Laws.Set.{bit_added}
 use borrow.Author.Rules.{rules}
 use Rattle.pauli.proofs.Pauli.add_at.Goals as goal
 

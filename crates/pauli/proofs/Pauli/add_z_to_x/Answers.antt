@@ -1,6 +1,6 @@
 -- `pauli::Pauli::add_z_to_x` meets its contract.
 use mathlib.Core.Path.{◌∙◌}
-use Rattle.pauli.specs.Laws.Changes.{z_added}
+use Rattle.pauli.proofs.Laws.Changes.{z_added}
 use Rattle.pauli.proofs.Pauli.add_z_to_x.Goals as goal
 
 pub returns : goal.returns

@@ -2,7 +2,7 @@ use native.Mathlib.Omega.{arith}
 use lib.ListN.{get_or}
 use mir.Syntax.{w64}
 use mir.Val.{Fits}
-use Rattle.pauli.specs.Laws.Clash.{clash_none, clash_fits, clash_more, clash_all}
+use Rattle.pauli.proofs.Laws.Clash.{clash_none, clash_fits, clash_more, clash_all}
 use borrow.Author.Rules.{rules}
 use Rattle.pauli.proofs.Pauli.anticommutes.Goals as goal
 

@@ -2,7 +2,7 @@
 use mathlib.Core.Path.{◌≡◌}
 use Prim.Native.Nat.{◌*◌, ◌-◌, ◌^◌, ◌≤◌, ◌<◌}
 use Rattle.pauli.specs.Bits.{parity, bit}
-use Rattle.pauli.specs.Laws.Clash.{clash}
+use Rattle.pauli.proofs.Laws.Clash.{clash}
 use Rattle.pauli.proofs.Pauli.anticommutes.Given as goal
 
 abbrev pub invariant-loop-i : goal.invariant-loop-i

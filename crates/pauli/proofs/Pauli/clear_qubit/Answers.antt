@@ -1,6 +1,6 @@
 -- `pauli::Pauli::clear_qubit` meets its contract.
 use mathlib.Core.Path.{◌∙◌}
-use Rattle.pauli.specs.Laws.Changes.{clear_added}
+use Rattle.pauli.proofs.Laws.Changes.{clear_added}
 use Rattle.pauli.proofs.Pauli.clear_qubit.Goals as goal
 
 pub returns : goal.returns

@@ -3,7 +3,7 @@ use mathlib.Core.Path.{◌∙◌}
 use native.Mathlib.Omega.{arith}
 use Rattle.pauli.specs.Gate.{gates, gate_from, gate_of, gate_with, prepare_bell}
 use Rattle.pauli.specs.Code.{by_gate}
-use Rattle.pauli.specs.Laws.Code.{idle_made, sqrt_Z_made, sqrt_X_made, sqrt_Y_made, none_made}
+use Rattle.pauli.proofs.Laws.Code.{idle_made, sqrt_Z_made, sqrt_X_made, sqrt_Y_made, none_made}
 use Rattle.pauli.proofs.Pauli.conjugate.Goals as goal
 
 pub returns-in-4 : goal.returns-in-4

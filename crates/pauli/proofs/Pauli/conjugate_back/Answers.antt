@@ -3,7 +3,7 @@ use mathlib.Core.Path.{◌∙◌}
 use native.Mathlib.Omega.{arith}
 use Rattle.pauli.specs.Gate.{gates, gate_from, gate_of, gate_with, prepare_bell, prepare_bell_back}
 use Rattle.pauli.specs.Code.{by_gate}
-use Rattle.pauli.specs.Laws.Code.{alike, none_made}
+use Rattle.pauli.proofs.Laws.Code.{alike, none_made}
 use Rattle.pauli.proofs.Pauli.conjugate_back.Goals as goal
 
 pub returns-in-14 : goal.returns-in-14

@@ -1,7 +1,7 @@
 -- `pauli::Pauli::controlled_y` meets its contract.
 use mathlib.Core.Path.{◌∙◌}
-use Rattle.pauli.specs.Laws.Changes.{controlled_y_added}
-use Rattle.pauli.specs.Laws.Set.{differ_⊕}
+use Rattle.pauli.proofs.Laws.Changes.{controlled_y_added}
+use Rattle.pauli.proofs.Laws.Set.{differ_⊕}
 use Rattle.pauli.proofs.Pauli.controlled_y.Goals as goal
 
 pub returns : goal.returns

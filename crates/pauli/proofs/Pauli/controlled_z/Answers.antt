@@ -1,6 +1,6 @@
 -- `pauli::Pauli::controlled_z` meets its contract.
 use mathlib.Core.Path.{◌∙◌}
-use Rattle.pauli.specs.Laws.Changes.{controlled_z_added}
+use Rattle.pauli.proofs.Laws.Changes.{controlled_z_added}
 use Rattle.pauli.proofs.Pauli.controlled_z.Goals as goal
 
 pub returns : goal.returns

@@ -1,6 +1,6 @@
 -- `pauli::Pauli::from_lists` meets its contract.
 use Rattle.pauli.specs.Fixed.{as_pauli}
-use Rattle.pauli.specs.Laws.Gates.{pauli_path}
+use Rattle.pauli.proofs.Laws.Gates.{pauli_path}
 use Rattle.pauli.proofs.Pauli.from_lists.Goals as goal
 
 pub returns : goal.returns

@@ -1,7 +1,7 @@
 -- `pauli::Pauli::multiply` meets its contract.
 use Rattle.pauli.specs.Pauli.{◌∗◌}
 use Rattle.pauli.specs.Fixed.{as_pauli}
-use Rattle.pauli.specs.Laws.Gates.{pauli_path}
+use Rattle.pauli.proofs.Laws.Gates.{pauli_path}
 use Rattle.pauli.proofs.Pauli.multiply.Goals as goal
 
 pub returns : goal.returns

@@ -1,7 +1,7 @@
 -- `pauli::Pauli::swap` meets its contract.
 use mathlib.Core.Path.{◌∙◌}
-use Rattle.pauli.specs.Laws.Changes.{swap_rows_added}
-use Rattle.pauli.specs.Laws.Set.{differ_⊕}
+use Rattle.pauli.proofs.Laws.Changes.{swap_rows_added}
+use Rattle.pauli.proofs.Laws.Set.{differ_⊕}
 use Rattle.pauli.proofs.Pauli.swap.Goals as goal
 
 pub returns : goal.returns

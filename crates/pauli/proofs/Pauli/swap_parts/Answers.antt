@@ -1,7 +1,7 @@
 -- `pauli::Pauli::swap_parts` meets its contract.
 use mathlib.Core.Path.{◌∙◌}
-use Rattle.pauli.specs.Laws.Changes.{swap_added}
-use Rattle.pauli.specs.Laws.Set.{differ_⊕}
+use Rattle.pauli.proofs.Laws.Changes.{swap_added}
+use Rattle.pauli.proofs.Laws.Set.{differ_⊕}
 use Rattle.pauli.proofs.Pauli.swap_parts.Goals as goal
 
 pub returns : goal.returns

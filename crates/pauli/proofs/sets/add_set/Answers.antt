@@ -1,6 +1,6 @@
 use native.Mathlib.Omega.{arith}
 use mathlib.Core.Path.{refl}
-use Rattle.pauli.specs.Laws.Set.{summed_more, summed_all}
+use Rattle.pauli.proofs.Laws.Set.{summed_more, summed_all}
 use Rattle.pauli.proofs.sets.add_set.Goals as goal
 
 pub loop-j-init : goal.loop-j-init

@@ -1,7 +1,7 @@
 -- `pauli::sets::add_set` meets its contract. The loop's invariant: the first j words are sums, the others are as before.
 use Prim.Native.Nat.{◌-◌}
 use lib.ListN.{length}
-use Rattle.pauli.specs.Laws.Set.{Summed}
+use Rattle.pauli.proofs.Laws.Set.{Summed}
 use Rattle.pauli.proofs.sets.add_set.Given as goal
 
 abbrev pub invariant-loop-j : goal.invariant-loop-j

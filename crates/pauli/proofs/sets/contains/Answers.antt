@@ -3,7 +3,7 @@ use lib.ListN.{get_or-eq_default}
 use Rattle.pauli.specs.Bits.{bit}
 use Rattle.pauli.specs.Fixed.{in_set}
 use mathlib.Core.Path.{sym}
-use Rattle.pauli.specs.Laws.Word.{bit_zero}
+use Rattle.pauli.proofs.Laws.Word.{bit_zero}
 use borrow.Author.Rules.{rules}
 use Rattle.pauli.proofs.sets.contains.Goals as goal
 

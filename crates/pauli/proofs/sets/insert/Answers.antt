@@ -1,8 +1,8 @@
 -- `pauli::sets::insert` meets its contract.
 use Prim.Native.Nat.{◌%◌}
 use native.Mathlib.Omega.{arith}
-use Rattle.pauli.specs.Laws.Word.{one_shl}
-use Rattle.pauli.specs.Laws.Set.{in_inserted}
+use Rattle.pauli.proofs.Laws.Word.{one_shl}
+use Rattle.pauli.proofs.Laws.Set.{in_inserted}
 use borrow.Author.Rules.{rules}
 use Rattle.pauli.proofs.sets.insert.Goals as goal
 

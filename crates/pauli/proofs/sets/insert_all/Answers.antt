@@ -1,7 +1,7 @@
 use native.Mathlib.Omega.{arith}
 use mathlib.Core.Path.{refl, ◌∙◌}
 use lib.Seq.{take_all}
-use Rattle.pauli.specs.Laws.Set.{∪_nothing, members_more}
+use Rattle.pauli.proofs.Laws.Set.{∪_nothing, members_more}
 use Rattle.pauli.proofs.sets.insert_all.Goals as goal
 
 pub loop-i-init : goal.loop-i-init

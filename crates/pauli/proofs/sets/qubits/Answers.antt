@@ -1,6 +1,6 @@
 -- `pauli::sets::qubits` meets its contract.
 use mathlib.Core.Path.{◌∙◌}
-use Rattle.pauli.specs.Laws.Set.{in_none, none_∪}
+use Rattle.pauli.proofs.Laws.Set.{in_none, none_∪}
 use Rattle.pauli.proofs.sets.qubits.Goals as goal
 
 pub returns : goal.returns

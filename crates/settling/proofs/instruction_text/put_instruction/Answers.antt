@@ -1,7 +1,7 @@
 -- `settling::instruction_text::put_instruction` meets its contract. Assumes nothing.
 use Rattle.settling.specs.Laws.Instruction.{few_lines, plain_put}
 use Rattle.instructions.specs.Laws.Steps.{ahead_known}
-use Rattle.job.specs.Laws.Begun.{ended_parts}
+use Rattle.job.proofs.Laws.Begun.{ended_parts}
 use lib.ListN.{length-take}
 use mathlib.Core.Path.{sym, ◌∙◌}
 use native.Mathlib.Omega.{arith}

@@ -2,7 +2,7 @@ use Rattle.propagator.specs.Laws.Lists.{row_in}
 use mathlib.Core.Path.{refl, ◌∙◌}
 use Rattle.unitaries.specs.Laws.Images.{row_part, row_starts, row_turn, image_acts}
 use native.Mathlib.Omega.{arith}
-use Rattle.job.specs.Laws.Lists.{below_at}
+use Rattle.job.proofs.Laws.Lists.{below_at}
 use Rattle.unitaries.proofs.cliffords.add_image.Goals as goal
 
 pub row-row-requires : goal.row-row-requires

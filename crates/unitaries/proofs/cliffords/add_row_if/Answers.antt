@@ -5,7 +5,7 @@ use native.Mathlib.Omega.{arith}
 use Rattle.unitaries.proofs.cliffords.add_row_if.Goals as goal
 
 pub returns-then-not-on : goal.returns-then-not-on
-returns-then-not-on c = row_left _ _ _ _ _ _ (not-true _ c.if-not-on.true)
+returns-then-not-on c = row_left _ _ _ _ _ _ (c.if-not-on.true)
 
 pub overflow_mul-q : goal.overflow_mul-q
 overflow_mul-q c = omega arith
@@ -17,4 +17,4 @@ pub xor_words-requires : goal.xor_words-requires
 xor_words-requires c = (c.requires.0, c.requires.1)
 
 pub returns : goal.returns
-returns c = row_added _ _ _ _ _ _ _ (not-false _ c.if-not-on.false) c.requires.0 c.xor_words.ensures
+returns c = row_added _ _ _ _ _ _ _ (c.if-not-on.false) c.requires.0 c.xor_words.ensures

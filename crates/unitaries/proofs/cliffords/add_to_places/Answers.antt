@@ -2,8 +2,8 @@ use Rattle.unitaries.specs.Laws.Images.{row_below, operand_at, places_start, pla
 use Rattle.propagator.specs.Laws.Lists.{row_in}
 use mathlib.Core.Path.{refl, ◌∙◌}
 use native.Mathlib.Omega.{arith}
-use Rattle.frames.specs.Laws.Permutation.{test_permutes}
-use Rattle.job.specs.Laws.Lists.{below_at}
+use Rattle.frames.proofs.Laws.Permutation.{test_permutes}
+use Rattle.job.proofs.Laws.Lists.{below_at}
 use Rattle.unitaries.proofs.cliffords.add_to_places.Goals as goal
 
 pub loop-i-init : goal.loop-i-init

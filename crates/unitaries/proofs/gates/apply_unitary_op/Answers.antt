@@ -3,7 +3,7 @@ use native.Mathlib.Omega.{arith}
 use Rattle.propagator.specs.Laws.Acts.{acts_then, acts_none}
 use mathlib.Core.Path.{◌∙◌}
 use Rattle.pauli.specs.Code.{by_gate}
-use Rattle.pauli.specs.Laws.Code.{has_operand, idle_made, sqrt_Z_made, sqrt_X_made, sqrt_Y_made, none_made}
+use Rattle.pauli.proofs.Laws.Code.{has_operand, idle_made, sqrt_Z_made, sqrt_X_made, sqrt_Y_made, none_made}
 use Rattle.unitaries.specs.Laws.Gates.{first_below, last_below, operands_apart, code_acts}
 use Rattle.pauli.specs.Gate.{gates, gate_from, gate_of, gate_with, prepare_bell, swap_XZ, add_xto_Z, add_zto_X, controlled_X, controlled_Z, controlled_Y, swap_rows_of}
 use Rattle.unitaries.proofs.gates.apply_unitary_op.Goals as goal

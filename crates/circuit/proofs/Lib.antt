@@ -1,0 +1,3 @@
+-- Laws of these definitions.
+pub mod Theorems
+pub mod Laws

@@ -1,0 +1,4 @@
+-- Laws of these definitions.
+-- What a reader wants to know of the tests.
+pub mod Laws
+pub mod Theorems

@@ -1,0 +1,2 @@
+-- Laws of these definitions.
+pub mod Laws

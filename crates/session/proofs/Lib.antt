@@ -1,0 +1,2 @@
+-- Theorems about them.
+pub mod Theorems

@@ -1,0 +1,2 @@
+-- Laws of shares that fit.
+pub mod Laws
