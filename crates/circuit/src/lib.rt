@@ -1,3 +1,2 @@
 // The definitions of annotation, locations and the correlation check (specs/). The code is in the crates annotation and correlations.
 #![tactic(auto)]
-
