@@ -18,4 +18,4 @@ returns-in-49 c = simp (c.if-s-ne1.false, c.in-49.is)
 
 pub returns-in_default : goal.returns-in_default
 unfolding read bit_of
-returns-in_default c = simp (c.if-s-ne1.false, ne_eqb _ _ c.in_default.rest.1, ne_eqb _ _ c.in_default.rest.0.1)
+returns-in_default c = simp (c.if-s-ne1.false, ne_eqb _ _ c.in_default.in_default-own.rest.1, ne_eqb _ _ c.in_default.in_default-own.rest.0.1)

@@ -43,21 +43,21 @@ returns-then-not-fits c =
     let loop = c.loop-i in
     let e = loop.invariant.3 ∙ step_value s loop.i (omega arith) loop.v in
     let g = decimal_grows (loop.v * 10 + (get_or s loop.i 0 - 48)) (drop (loop.i + 1) s) in
-    let large = ltb-false (loop.v * 10 + (get_or s loop.i 0 - 48)) (2 ^ 64) (sym c.fits2.ensures ∙ c.if-not-fits.true) in
+    let large = ltb-false (loop.v * 10 + (get_or s loop.i 0 - 48)) (2 ^ 64) (sym c.fits.ensures ∙ c.if-not-fits.true) in
     sym (number_large s (omega arith))
 
 pub overflow_mul-v : goal.overflow_mul-v
 overflow_mul-v c =
     let s = c.args.s.now in
     let loop = c.loop-i in
-    let small = ltb-true (loop.v * 10 + (get_or s loop.i 0 - 48)) (2 ^ 64) (sym c.fits2.ensures ∙ c.if-not-fits.false) in
+    let small = ltb-true (loop.v * 10 + (get_or s loop.i 0 - 48)) (2 ^ 64) (sym c.fits.ensures ∙ c.if-not-fits.false) in
     omega arith
 
 pub overflow_add-v : goal.overflow_add-v
 overflow_add-v c =
     let s = c.args.s.now in
     let loop = c.loop-i in
-    let small = ltb-true (loop.v * 10 + (get_or s loop.i 0 - 48)) (2 ^ 64) (sym c.fits2.ensures ∙ c.if-not-fits.false) in
+    let small = ltb-true (loop.v * 10 + (get_or s loop.i 0 - 48)) (2 ^ 64) (sym c.fits.ensures ∙ c.if-not-fits.false) in
     omega arith
 
 pub overflow_add-i : goal.overflow_add-i
@@ -71,7 +71,7 @@ loop-i-preserved c =
     let s = c.args.s.now in
     let loop = c.loop-i in
     let h : loop.i < length s = omega arith in
-    let small = ltb-true (loop.v * 10 + (get_or s loop.i 0 - 48)) (2 ^ 64) (sym c.fits2.ensures ∙ c.if-not-fits.false) in (
+    let small = ltb-true (loop.v * 10 + (get_or s loop.i 0 - 48)) (2 ^ 64) (sym c.fits.ensures ∙ c.if-not-fits.false) in (
       omega arith,
       omega arith,
       loop.invariant.2 ∙ step_digit s loop.i h (omega arith) (omega arith),

@@ -13,4 +13,4 @@ returns-then-l-eq0 c = simp (not-false c.args.l.rising c.if-not-l.false, c.if-l-
 pub returns : goal.returns
 returns c =
     let a = c.args in
-    rises_on a.l.rising (ltb a.l.largest a.n) a.l.count (c.if-not-l.false) c.if-l-eq0.false
+    rises_on a.l.rising (ltb a.l.largest a.n) a.l.count (not-false _ c.if-not-l.false) c.if-l-eq0.false

@@ -12,7 +12,9 @@ pub bounds-s-i : goal.bounds-s-i
 bounds-s-i c = omega arith
 
 pub returns-then-s-i : goal.returns-then-s-i
-returns-then-s-i c = search_found c.loop-i.invariant (omega arith) c.if-s-i.true
+returns-then-s-i c =
+    let f = search_found c.loop-i.invariant (omega arith) c.if-s-i.true in
+    record { value = f.0; lower_bound = f.1 }
 
 pub overflow_add-second : goal.overflow_add-second
 overflow_add-second c = omega arith
@@ -21,7 +23,9 @@ pub bounds-s-second : goal.bounds-s-second
 bounds-s-second c = omega arith
 
 pub returns-then-s-second : goal.returns-then-s-second
-returns-then-s-second c = search_found (search_more c.loop-i.invariant (omega arith) c.if-s-i.false) (omega arith) c.if-s-second.true
+returns-then-s-second c =
+    let f = search_found (search_more c.loop-i.invariant (omega arith) c.if-s-i.false) (omega arith) c.if-s-second.true in
+    record { value = f.0; lower_bound = f.1 }
 
 pub overflow_add-third : goal.overflow_add-third
 overflow_add-third c = omega arith
@@ -32,7 +36,8 @@ bounds-s-third c = omega arith
 pub returns-then-s-third : goal.returns-then-s-third
 returns-then-s-third c =
     let first = search_more c.loop-i.invariant (omega arith) c.if-s-i.false in
-    search_found (search_more first (omega arith) c.if-s-second.false) (omega arith) c.if-s-third.true
+    let f = search_found (search_more first (omega arith) c.if-s-second.false) (omega arith) c.if-s-third.true in
+    record { value = f.0; lower_bound = f.1 }
 
 pub overflow_add-fourth : goal.overflow_add-fourth
 overflow_add-fourth c = omega arith
@@ -44,7 +49,8 @@ pub returns-then-s-fourth : goal.returns-then-s-fourth
 returns-then-s-fourth c =
     let first = search_more c.loop-i.invariant (omega arith) c.if-s-i.false in
     let second = search_more first (omega arith) c.if-s-second.false in
-    search_found (search_more second (omega arith) c.if-s-third.false) (omega arith) c.if-s-fourth.true
+    let f = search_found (search_more second (omega arith) c.if-s-third.false) (omega arith) c.if-s-fourth.true in
+    record { value = f.0; lower_bound = f.1 }
 
 pub overflow_add-i : goal.overflow_add-i
 overflow_add-i c = omega arith
@@ -62,4 +68,6 @@ pub find_singly-requires : goal.find_singly-requires
 find_singly-requires c = c.loop-i.invariant.within
 
 pub returns : goal.returns
-returns c = search_on c.loop-i.invariant c.find_singly.ensures
+returns c =
+    let f = search_on c.loop-i.invariant (c.find_singly.ensures.value, c.find_singly.ensures.lower_bound) in
+    record { value = f.0; lower_bound = f.1 }

@@ -8,4 +8,5 @@ find-requires c = c.pass_blocks.ensures.2
 pub returns : goal.returns
 returns c =
     let passed = c.pass_blocks.ensures in
-    search_on (record { onward = passed.1; within = passed.2; same = passed.0 }) c.find.ensures
+    let f = search_on (record { onward = passed.1; within = passed.2; same = passed.0 }) (c.find.ensures.value, c.find.ensures.lower_bound) in
+    record { value = f.0; lower_bound = f.1 }

@@ -9,7 +9,9 @@ pub bounds-s-i : goal.bounds-s-i
 bounds-s-i c = omega arith
 
 pub returns-then-s-i : goal.returns-then-s-i
-returns-then-s-i c = search_found c.loop-i.invariant (omega arith) c.if-s-i.true
+returns-then-s-i c =
+    let f = search_found c.loop-i.invariant (omega arith) c.if-s-i.true in
+    record { value = f.0; lower_bound = f.1 }
 
 pub overflow_add-i : goal.overflow_add-i
 overflow_add-i c = omega arith
@@ -21,4 +23,6 @@ pub loop-i-preserved : goal.loop-i-preserved
 loop-i-preserved c = search_more c.loop-i.invariant (omega arith) c.if-s-i.false
 
 pub returns : goal.returns
-returns c = search_ends c.loop-i.invariant (omega arith)
+returns c =
+    let f = search_ends c.loop-i.invariant (omega arith) in
+    record { value = f.0; lower_bound = f.1 }
