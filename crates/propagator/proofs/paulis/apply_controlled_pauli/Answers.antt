@@ -14,7 +14,7 @@ pub add_pauli-requires : goal.add_pauli-requires
 add_pauli-requires c = let p = c.requires in (omega (arith, c.anticommutation_mask-2.auto, c.anticommutation_mask.auto, p.0), p.1, p.2, p.4)
 
 pub add_pauli-requires-2 : goal.add_pauli-requires-2
-add_pauli-requires-2 c = let p = c.requires in (omega (arith, c.anticommutation_mask-2.auto, c.anticommutation_mask.auto, p.0), c.add_pauli.auto.0 ∙ p.1, c.add_pauli.auto.1.0 ∙ p.2, p.3)
+add_pauli-requires-2 c = let p = c.requires in (omega (arith, c.anticommutation_mask-2.auto, c.anticommutation_mask.auto, p.0), c.add_pauli.auto.x ∙ p.1, c.add_pauli.auto.z ∙ p.2, p.3)
 
 pub returns : goal.returns
 returns c = λ m d. controlled_acts _ _ m _ _ _ _ d _ _ _ _ _ _ _ c.anticommutation_mask.ensures c.anticommutation_mask-2.ensures (c.add_pauli.ensures d) (c.add_pauli-2.ensures d)
