@@ -22,7 +22,7 @@ loop-b-smaller c = omega arith
 
 pub loop-b-preserved : goal.loop-b-preserved
 loop-b-preserved c =
-    (c.transpose_group.ensures, c.transpose_group.auto.1.0 ∙ c.loop-b.invariant.1, λ i. (c.slice_known-in-loop-b-1.given i).fits, omega arith)
+    (c.transpose_group.ensures, c.transpose_group.auto.target ∙ c.loop-b.invariant.1, λ i. (c.slice_known-in-loop-b-1.given i).fits, omega arith)
 
 pub shape_of-target : goal.shape_of-target
 shape_of-target c = c.loop-b.invariant.1

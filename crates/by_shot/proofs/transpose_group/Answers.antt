@@ -22,7 +22,7 @@ pub loop-a-smaller : goal.loop-a-smaller
 loop-a-smaller c = omega arith
 
 pub loop-a-preserved : goal.loop-a-preserved
-loop-a-preserved c = (c.transpose_block.ensures, c.transpose_block.auto.1.0 ∙ c.loop-a.invariant.1, omega arith)
+loop-a-preserved c = (c.transpose_block.ensures, c.transpose_block.auto.target ∙ c.loop-a.invariant.1, omega arith)
 
 pub shape_of-target : goal.shape_of-target
 shape_of-target c = c.loop-a.invariant.1
