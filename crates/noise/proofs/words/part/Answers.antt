@@ -10,4 +10,4 @@ pub returns-in-Shared : goal.returns-in-Shared
 returns-in-Shared c =
     λ lent s b.
     part_second _ _ _ _ _ _ _ c.in-Shared.is s b
-    (c.tail-in-Shared.ensures ∙ ap (λ (k : ℕ). drop k c.args.second.now) c.wrapping_add_u64.ensures)
+    (c.tail-in-Shared.ensures ∙ ap (λ (k : ℕ). drop k c.args.second.now) c.wrapping_add_u64.ensures.value)

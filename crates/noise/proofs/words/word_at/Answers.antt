@@ -7,7 +7,7 @@ pub returns-then-at-words : goal.returns-then-at-words
 returns-then-at-words c = both_first c.args.words.now c.args.more.now _ c.if-at-words.true
 
 pub offset_bounds-more-at : goal.offset_bounds-more-at
-offset_bounds-more-at c = record { fits = omega (arith, length-append c.args.words.now c.args.more.now, c.requires, c.well-formed) }
+offset_bounds-more-at c = record { fits = omega (arith, length-append c.args.words.now c.args.more.now, c.requires, c.well_formed) }
 
 pub bounds-more-at : goal.bounds-more-at
 bounds-more-at c = omega (arith, length-append c.args.words.now c.args.more.now, c.requires)
