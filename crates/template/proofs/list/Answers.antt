@@ -18,4 +18,4 @@ returns-in-84 c = simp c.in-84.is c.list_by.ensures
 
 pub returns-in_default : goal.returns-in_default
 unfolding list_by_of
-returns-in_default c = let r = c.in_default.rest in simp (ne_eqb _ _ r.1, ne_eqb _ _ r.0.1, ne_eqb _ _ r.0.0.1) c.list_c.ensures
+returns-in_default c = let r = c.in_default.in_default-own.rest in simp (ne_eqb _ _ r.1, ne_eqb _ _ r.0.1, ne_eqb _ _ r.0.0.1) c.list_c.ensures

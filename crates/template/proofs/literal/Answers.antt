@@ -7,12 +7,12 @@ use Rattle.template.specs.Laws.Reading.{reading_starts, refused_on, reading_ends
 use Rattle.template.proofs.literal.Goals as goal
 
 pub returns-then-not-p : goal.returns-then-not-p
-returns-then-not-p c = let bad = c.if-not-p.true in ((λ fields. next_stays bad bad), c.requires.0)
+returns-then-not-p c = let bad = not-true _ c.if-not-p.true in record { by_index = λ fields. next_stays bad bad; at_in_bounds = c.requires.0 }
 
 pub returns-then-line-at : goal.returns-then-line-at
 returns-then-line-at c =
-    let good = c.if-not-p.false in
-    ((λ fields. next_goes good (short_refused c.refused.ensures.0 c.requires.1 c.if-line-at.true)), omega arith)
+    let good = not-false _ c.if-not-p.false in
+    record { by_index = λ fields. next_goes good (short_refused c.refused.ensures.0 c.requires.1 c.if-line-at.true); at_in_bounds = omega arith }
 
 pub loop-i-init : goal.loop-i-init
 loop-i-init c =
@@ -21,10 +21,13 @@ loop-i-init c =
 
 pub returns-then-line-at-2 : goal.returns-then-line-at-2
 returns-then-line-at-2 c =
-    let good = c.if-not-p.false in
+    let good = not-false _ c.if-not-p.false in
     let loop = c.loop-i in
     let plain = plain_at c.args.text.now loop.i c.requires.1 (omega arith) in
-    ((λ fields. next_goes good (refused_on c.refused-then-line-at-2.ensures.0 (λ _. plain_other (loop.invariant.1 fields) (omega arith) plain (omega arith) c.if-line-at-2.true))), omega arith)
+    record {
+      by_index = λ fields. next_goes good (refused_on c.refused-then-line-at-2.ensures.0 (λ _. plain_other (loop.invariant.1 fields) (omega arith) plain (omega arith) c.if-line-at-2.true));
+      at_in_bounds = omega arith;
+    }
 
 pub loop-i-preserved : goal.loop-i-preserved
 loop-i-preserved c =
@@ -35,5 +38,8 @@ loop-i-preserved c =
 
 pub returns : goal.returns
 returns c =
-    let good = c.if-not-p.false in
-    ((λ fields. next_goes good (reading_ends (c.loop-i.invariant.1 fields) (omega arith))), (c.loop-i.invariant.1 []).within)
+    let good = not-false _ c.if-not-p.false in
+    record {
+      by_index = λ fields. next_goes good (reading_ends (c.loop-i.invariant.1 fields) (omega arith));
+      at_in_bounds = (c.loop-i.invariant.1 []).within;
+    }

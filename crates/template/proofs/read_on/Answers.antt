@@ -74,7 +74,7 @@ returns-then-not-stored c =
     let found = c.find-end in
     let letter = sym c.is_letter.ensures ∙ c.if-not-is_letter.false in
     refused_on c.refused-then-not-stored.ensures.0
-    (letter_bad loop.invariant.2 (omega arith) letter found.result found.ensures.0 (omega arith) c.put_value-stored.ensures (c.if-not-stored.true))
+    (letter_bad loop.invariant.2 (omega arith) letter found.result found.ensures.value (omega arith) c.put_value-stored.ensures (not-true _ c.if-not-stored.true))
 
 pub loop-i-smaller : goal.loop-i-smaller
 loop-i-smaller c = omega arith
@@ -84,7 +84,7 @@ loop-i-preserved c =
     let loop = c.loop-i in
     let found = c.find-end in
     let letter = sym c.is_letter.ensures ∙ c.if-not-is_letter.false in
-    (omega arith, omega arith, letter_good loop.invariant.2 (omega arith) letter found.result found.ensures.0 (omega arith) c.put_value-stored.ensures (c.if-not-stored.false))
+    (omega arith, omega arith, letter_good loop.invariant.2 (omega arith) letter found.result found.ensures.value (omega arith) c.put_value-stored.ensures (not-false _ c.if-not-stored.false))
 
 pub shape_of-fields : goal.shape_of-fields
 shape_of-fields c = c.loop-i.invariant.1
