@@ -6,7 +6,12 @@ ghost use Rattle.std.specs.Prelude.{◌≡◌, length};
 mod printing;
 
 use crate::printing::print_session;
-use libc::{STDERR_FILENO, STDIN_FILENO, STDOUT_FILENO};
+
+const STDIN_FILENO: i32 = 0;
+
+const STDOUT_FILENO: i32 = 1;
+
+const STDERR_FILENO: i32 = 2;
 
 // Room for one byte more than an input may have, which tells a longer input.
 fn input_buffer() -> [u8; 65537]

@@ -2,9 +2,11 @@
 ghost use Rattle.std.specs.Prelude.{◌≡◌, ◌+◌, ◌≤◌, ◌<◌, ◌^◌, length};
 ghost use Rattle.template.specs.Values.{Whole};
 
-use libc::STDOUT_FILENO;
 use template::values;
 use writer::TextAnswer;
+
+// Where this is printed.
+const STDOUT_FILENO: i32 = 1;
 
 // How many cases there were, and how many of them differ.
 #[derive(Clone, Copy)]

@@ -64,7 +64,7 @@ fn put_times(src: &[u8], times: u64, held: usize, dst: &mut [u8]) -> usize
         if dst.len() - to < n {
             return held;
         }
-        bytes::copy(src, &mut dst[to..]);
+        dst[to..to + n].copy_from_slice(src);
         to += n;
         k += 1;
     }

@@ -1,0 +1,14 @@
+-- `replay_more::replay_settle_shared` meets its contract. Assumes nothing.
+use mathlib.Core.Path.{sym}
+use lib.Seq.{length-take-le}
+use borrow.Author.Rules.{rules}
+use Rattle.replay_more.proofs.replay_settle_shared.Goals as goal
+
+pub slice_bounds-settled-end : goal.slice_bounds-settled-end
+slice_bounds-settled-end c = sym (length-take-le _ _ (search rules))
+
+pub slice_bounds-settled-end-2 : goal.slice_bounds-settled-end-2
+slice_bounds-settled-end-2 c = sym (length-take-le _ _ (search rules))
+
+pub slice_bounds-settled-end-3 : goal.slice_bounds-settled-end-3
+slice_bounds-settled-end-3 c = sym (length-take-le _ _ (search rules))
