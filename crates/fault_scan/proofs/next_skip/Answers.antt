@@ -1,9 +1,6 @@
-use Rattle.std.proofs.Common.{◌^◌, ◌<◌, ◌++◌, length, arith, length-append}
+use Rattle.std.proofs.Common.{arith, length-append}
 use Rattle.fault_scan.specs.Laws.Scan.{quiet_none, quiet_then, stopped_then, stopped_near, stopped_skipped}
 use Rattle.fault_scan.proofs.next_skip.Goals as goal
-
-room : (s : tie.Start invariant_loop decreases_loop) → length (s.args.words.now ++ s.args.more.now) < 2 ^ 64
-room s = omega (arith, length-append s.args.words.now s.args.more.now, s.well-formed)
 
 pub overflow_sub-count : goal.overflow_sub-count
 overflow_sub-count c = omega arith
@@ -12,7 +9,7 @@ pub loop-at-init : goal.loop-at-init
 loop-at-init c = (omega arith, quiet_none)
 
 pub overflow_add-at : goal.overflow_add-at
-overflow_add-at c = record { fits = omega (arith, room c) }
+overflow_add-at c = record { fits = omega (arith, length-append c.args.words.now c.args.more.now, c.well_formed) }
 
 pub overflow_sub-n : goal.overflow_sub-n
 overflow_sub-n c = omega arith
@@ -21,10 +18,10 @@ pub pass_far-i-requires : goal.pass_far-i-requires
 pass_far-i-requires c = omega arith
 
 pub overflow_add-i : goal.overflow_add-i
-overflow_add-i c = record { fits = omega (arith, c.pass_far-i.ensures.within, room c) }
+overflow_add-i c = record { fits = omega (arith, c.pass_far-i.ensures.within, length-append c.args.words.now c.args.more.now, c.well_formed) }
 
 pub overflow_add-at-in-loop-at : goal.overflow_add-at-in-loop-at
-overflow_add-at-in-loop-at c = record { fits = omega (arith, c.pass_far-i.ensures.within, room c) }
+overflow_add-at-in-loop-at c = record { fits = omega (arith, c.pass_far-i.ensures.within, length-append c.args.words.now c.args.more.now, c.well_formed) }
 
 pub overflow_sub-n-in-loop-at : goal.overflow_sub-n-in-loop-at
 overflow_sub-n-in-loop-at c = omega (arith, c.pass_far-i.ensures.within)
@@ -33,7 +30,7 @@ pub pass_near-near-requires : goal.pass_near-near-requires
 pass_near-near-requires c = omega (arith, c.pass_far-i.ensures.within)
 
 pub overflow_add-i-in-loop-at : goal.overflow_add-i-in-loop-at
-overflow_add-i-in-loop-at c = record { fits = omega (arith, c.pass_far-i.ensures.within, c.pass_near-near.ensures.within, room c) }
+overflow_add-i-in-loop-at c = record { fits = omega (arith, c.pass_far-i.ensures.within, c.pass_near-near.ensures.within, length-append c.args.words.now c.args.more.now, c.well_formed) }
 
 pub returns-then-near-lt-BLOCK : goal.returns-then-near-lt-BLOCK
 returns-then-near-lt-BLOCK c =

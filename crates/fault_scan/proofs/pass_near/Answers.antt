@@ -8,7 +8,7 @@ loop-i-init c = (omega arith, quiet_none)
 
 pub overflow_add-at : goal.overflow_add-at
 overflow_add-at c =
-    record { fits = omega (arith, length-append c.args.words.now c.args.more.now, c.well-formed) }
+    record { fits = omega (arith, length-append c.args.words.now c.args.more.now, c.well_formed) }
 
 pub word_at-requires : goal.word_at-requires
 word_at-requires c = omega arith
