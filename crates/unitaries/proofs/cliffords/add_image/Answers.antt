@@ -42,8 +42,8 @@ loop-j-preserved c =
     let row = c.row-row.ensures in (
       row_turn _ _ _ _ _ _ _ _ _ _ j (row_part _ _ _ _ row (omega arith)) (rw e at c.add_row_if.ensures) c.loop-j.invariant.0,
       row_turn _ _ _ _ _ _ _ _ _ _ j (row_part _ _ _ _ row (omega arith)) (rw e at c.add_row_if-in-loop-j.ensures) c.loop-j.invariant.1,
-      c.add_row_if.auto.0 ∙ c.loop-j.invariant.2,
-      c.add_row_if-in-loop-j.auto.0 ∙ c.loop-j.invariant.3,
+      c.add_row_if.auto.dst ∙ c.loop-j.invariant.2,
+      c.add_row_if-in-loop-j.auto.dst ∙ c.loop-j.invariant.3,
     )
 
 pub shape_of-x : goal.shape_of-x

@@ -21,7 +21,7 @@ pub overflow_mul-second_row-2 : goal.overflow_mul-second_row-2
 overflow_mul-second_row-2 c = omega (arith, row_in _ _ _ _ c.requires.0 c.requires.3)
 
 pub xor_words-requires-2 : goal.xor_words-requires-2
-xor_words-requires-2 c = (row_in _ _ _ _ (c.xor_words.auto.0 ∙ c.requires.1) c.requires.2, row_in _ _ _ _ c.requires.0 c.requires.3)
+xor_words-requires-2 c = (row_in _ _ _ _ (c.xor_words.auto.dst ∙ c.requires.1) c.requires.2, row_in _ _ _ _ c.requires.0 c.requires.3)
 
 pub returns : goal.returns
 returns c = λ d. cz_acts _ _ _ _ d c.requires.0 c.requires.1 _ _ c.requires.2 c.requires.3 _ _ c.xor_words.ensures c.xor_words-2.ensures

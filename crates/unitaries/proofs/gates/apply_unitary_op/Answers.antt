@@ -33,7 +33,7 @@ pub apply_h-requires-in-14 : goal.apply_h-requires-in-14
 apply_h-requires-in-14 c = (c.requires.0, c.requires.1, first_below _ _ c.requires.3 _ _ c.requires.2 c.requires.4 c.qubit_at-a.ensures)
 
 pub apply_cnot-requires-in-14 : goal.apply_cnot-requires-in-14
-apply_cnot-requires-in-14 c = (c.apply_h-in-14.auto.0 ∙ c.requires.0, c.apply_h-in-14.auto.1.0 ∙ c.requires.1, first_below _ _ c.requires.3 _ _ c.requires.2 c.requires.4 c.qubit_at-a.ensures, last_below _ _ c.requires.3 _ _ c.requires.2 c.requires.4 c.qubit_at-b.ensures, operands_apart _ _ c.requires.3 _ _ (omega arith) (omega arith) c.requires.5 c.qubit_at-a.ensures c.qubit_at-b.ensures)
+apply_cnot-requires-in-14 c = (c.apply_h-in-14.auto.x ∙ c.requires.0, c.apply_h-in-14.auto.z ∙ c.requires.1, first_below _ _ c.requires.3 _ _ c.requires.2 c.requires.4 c.qubit_at-a.ensures, last_below _ _ c.requires.3 _ _ c.requires.2 c.requires.4 c.qubit_at-b.ensures, operands_apart _ _ c.requires.3 _ _ (omega arith) (omega arith) c.requires.5 c.qubit_at-a.ensures c.qubit_at-b.ensures)
 
 pub apply_cy-requires : goal.apply_cy-requires
 apply_cy-requires c = (c.requires.0, c.requires.1, first_below _ _ c.requires.3 _ _ c.requires.2 c.requires.4 c.qubit_at-a.ensures, last_below _ _ c.requires.3 _ _ c.requires.2 c.requires.4 c.qubit_at-b.ensures, operands_apart _ _ c.requires.3 _ _ (omega arith) (omega arith) c.requires.5 c.qubit_at-a.ensures c.qubit_at-b.ensures)
