@@ -1,6 +1,4 @@
 -- `choice::choose_element` meets its contract: by the kind of distribution.
-use mathlib.Core.List.{[], ◌∷◌}
-use types.Run.{miss}
 use Rattle.choice.specs.Laws.Choice.{chosen_one, chosen_uniform, chosen_weighted}
 use native.Mathlib.Omega.{arith}
 use Rattle.choice.proofs.choose_element.Goals as goal
@@ -16,8 +14,4 @@ returns-in-Weighted c = chosen_weighted _ _ c.in-Weighted.is c.choose_weighted.e
 
 pub returns-in_default : goal.returns-in_default
 returns-in_default c =
-    chosen_uniform _ _
-    (λ e. absurd (miss (1 ∷ 2 ∷ []) 0 tt (rw e at c.in_default.keys3)))
-    (λ t e. absurd (miss (1 ∷ 2 ∷ []) 3 tt (rw e at c.in_default.keys3)))
-    c.requires.1.bound
-    c.choose_uniform.ensures
+    chosen_uniform _ _ (λ e. absurd (c.in_default.not-Single e)) (λ t e. absurd (c.in_default.not-Weighted t e)) c.requires.1.bound c.choose_uniform.ensures

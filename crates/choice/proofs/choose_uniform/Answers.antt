@@ -12,7 +12,7 @@ loop-word-init c = refl
 pub overflow_add-i : goal.overflow_add-i
 overflow_add-i c =
     let a = c.args in
-    omega (arith, (word_read c.next_word.ensures c.in-Word.is).0, length-append a.words.now a.more.now, c.well-formed)
+    omega (arith, (word_read c.next_word.ensures c.in-Word.is).0, length-append a.words.now a.more.now, c.well_formed)
 
 pub nonzero_rem-result : goal.nonzero_rem-result
 nonzero_rem-result c = below_limit _ _ _ c.requires c.if-word-limit.true

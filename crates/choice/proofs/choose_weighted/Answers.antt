@@ -11,7 +11,7 @@ use Rattle.choice.proofs.choose_weighted.Goals as goal
 pub overflow_add-result : goal.overflow_add-result
 overflow_add-result c =
     let a = c.args in
-    omega (arith, (word_read c.next_word.ensures c.in-Word.is).0, length-append a.words.now a.more.now, c.well-formed)
+    omega (arith, (word_read c.next_word.ensures c.in-Word.is).0, length-append a.words.now a.more.now, c.well_formed)
 
 pub returns-in-Word : goal.returns-in-Word
 returns-in-Word c =

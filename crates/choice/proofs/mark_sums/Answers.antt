@@ -46,8 +46,8 @@ loop-i-preserved c =
       omega arith,
       length-set l.sums (l.i - 1) _ ∙ l.invariant.1,
       ap (set l.sums (l.i - 1)) c.mark.ensures
-          ∙ mark_step a.weights.now a.sums.now l.sums l.positive-behind l.i (l.i - 1) k within l.invariant.3 c.requires l.invariant.2,
-      c.any_positive-positive_behind.ensures ∙ positive_step a.weights.now a.sums.now l.sums l.positive-behind l.i (l.i - 1) k within l.invariant.3,
+          ∙ mark_step a.weights.now a.sums.now l.sums l.positive_behind l.i (l.i - 1) k within l.invariant.3 c.requires l.invariant.2,
+      c.any_positive-positive_behind.ensures ∙ positive_step a.weights.now a.sums.now l.sums l.positive_behind l.i (l.i - 1) k within l.invariant.3,
     )
 
 pub shape_of-sums : goal.shape_of-sums
