@@ -14,4 +14,4 @@ literal-requires c = rw c.start.ensures (omega arith, refl)
 
 pub returns : goal.returns
 unfolding place_of forms bytes
-returns c = plain_tried form.Allocate refl (λ vs. (_, refl)) (parts_form c.start.ensures (then_next (then_next (then_next (c.literal.ensures.0 _) c.value-id.ensures.0) (c.literal-2.ensures.0 _)) c.value-angle.ensures.0) c.ended.ensures)
+returns c = plain_tried form.Allocate refl (λ vs. (_, refl)) (parts_form c.start.ensures (then_next (then_next (then_next (c.literal.ensures.by_index _) c.value-id.ensures.read_next) (c.literal-2.ensures.by_index _)) c.value-angle.ensures.read_next) c.ended.ensures)

@@ -14,8 +14,8 @@ pub literal-requires : goal.literal-requires
 literal-requires c = rw c.start.ensures (omega arith, refl)
 
 pub value-parity-requires : goal.value-parity-requires
-value-parity-requires c = (c.literal-3.ensures.1, refl, omega (arith, c.pauli_lists-pauli.auto, c.value-id.auto, c.requires))
+value-parity-requires c = (c.literal-3.ensures.at_in_bounds, refl, omega (arith, c.pauli_lists-pauli.auto, c.value-id.auto, c.requires))
 
 pub returns : goal.returns
 unfolding place_of forms bytes pauli_part
-returns c = plain_tried form.Conditional refl (λ vs. (_, refl)) (parts_form c.start.ensures (then_next (then_next (then_next (then_next (then_next (c.literal.ensures.0 _) c.pauli_lists-pauli.ensures.0) (c.literal-2.ensures.0 _)) c.value-id.ensures.0) (c.literal-3.ensures.0 _)) c.value-parity.ensures.0) c.ended.ensures)
+returns c = plain_tried form.Conditional refl (λ vs. (_, refl)) (parts_form c.start.ensures (then_next (then_next (then_next (then_next (then_next (c.literal.ensures.by_index _) c.pauli_lists-pauli.ensures.read_next) (c.literal-2.ensures.by_index _)) c.value-id.ensures.read_next) (c.literal-3.ensures.by_index _)) c.value-parity.ensures.read_next) c.ended.ensures)

@@ -14,4 +14,4 @@ pauli_lists-pauli-requires c = rw c.start.ensures (omega arith, c.requires)
 
 pub returns : goal.returns
 unfolding place_of forms bytes pauli_part
-returns c = plain_tried form.Element refl (λ vs. (_, refl)) (parts_form c.start.ensures c.pauli_lists-pauli.ensures.0 c.ended.ensures)
+returns c = plain_tried form.Element refl (λ vs. (_, refl)) (parts_form c.start.ensures c.pauli_lists-pauli.ensures.read_next c.ended.ensures)

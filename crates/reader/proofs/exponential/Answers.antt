@@ -15,4 +15,4 @@ literal-requires c = rw c.start.ensures (omega arith, refl)
 
 pub returns : goal.returns
 unfolding place_of forms bytes pauli_part
-returns c = plain_tried form.Exponential refl (λ vs. (_, refl)) (parts_form c.start.ensures (then_next (c.literal.ensures.0 _) c.pauli_lists-pauli.ensures.0) c.ended.ensures)
+returns c = plain_tried form.Exponential refl (λ vs. (_, refl)) (parts_form c.start.ensures (then_next (c.literal.ensures.by_index _) c.pauli_lists-pauli.ensures.read_next) c.ended.ensures)

@@ -13,8 +13,8 @@ pub literal-requires : goal.literal-requires
 literal-requires c = rw c.start.ensures (omega arith, refl)
 
 pub value-id-requires : goal.value-id-requires
-value-id-requires c = (c.literal-3.ensures.1, refl, omega (arith, c.value-z.auto, c.value-x.auto, c.requires))
+value-id-requires c = (c.literal-3.ensures.at_in_bounds, refl, omega (arith, c.value-z.auto, c.value-x.auto, c.requires))
 
 pub returns : goal.returns
 unfolding place_of forms bytes
-returns c = plain_tried form.Measure refl (λ vs. (_, refl)) (parts_form c.start.ensures (then_next (then_next (then_next (then_next (then_next (c.literal.ensures.0 _) c.value-x.ensures.0) (c.literal-2.ensures.0 _)) c.value-z.ensures.0) (c.literal-3.ensures.0 _)) c.value-id.ensures.0) c.ended.ensures)
+returns c = plain_tried form.Measure refl (λ vs. (_, refl)) (parts_form c.start.ensures (then_next (then_next (then_next (then_next (then_next (c.literal.ensures.by_index _) c.value-x.ensures.read_next) (c.literal-2.ensures.by_index _)) c.value-z.ensures.read_next) (c.literal-3.ensures.by_index _)) c.value-id.ensures.read_next) c.ended.ensures)

@@ -53,5 +53,5 @@ pub returns-in_default : goal.returns-in_default
 unfolding sift forms_of table_form_of noise_begin_of place_of forms bytes
 returns-in_default c =
     let pre = c.requires in
-    let others = c.in_default.rest in
+    let others = c.in_default.in_default-own.rest in
     of_digit pre.0.begins _ pre.1 [] (simp (ne_eqb _ _ others.1, ne_eqb _ _ others.0.1, ne_eqb _ _ others.0.0.1, ne_eqb _ _ others.0.0.0.1)) none_left

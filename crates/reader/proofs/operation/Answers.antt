@@ -151,5 +151,5 @@ unfolding sift opens literals place_of forms bytes is_among all_among
 returns-in_default c =
     let pre = c.requires in
     by_bytes 111 _ pre.0 (sym pre.1) []
-    (none_opening 3 _ (106 ∷ 98 ∷ 122 ∷ 116 ∷ 114 ∷ 109 ∷ 99 ∷ 102 ∷ 112 ∷ 101 ∷ 107 ∷ 111 ∷ 105 ∷ 110 ∷ 117 ∷ []) (opening 0 111 forms) refl c.in_default.rest)
+    (none_opening 3 _ (106 ∷ 98 ∷ 122 ∷ 116 ∷ 114 ∷ 109 ∷ 99 ∷ 102 ∷ 112 ∷ 101 ∷ 107 ∷ 111 ∷ 105 ∷ 110 ∷ 117 ∷ []) (opening 0 111 forms) refl c.in_default.in_default-own.rest)
     none_left

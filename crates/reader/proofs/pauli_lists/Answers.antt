@@ -6,4 +6,4 @@ use Rattle.reader.proofs.pauli_lists.Goals as goal
 
 pub returns : goal.returns
 unfolding pauli_part bytes
-returns c = ((then_next (then_next (then_next (c.literal.ensures.0 _) c.value-x.ensures.0) (c.literal-2.ensures.0 _)) c.value.ensures.0), c.value.ensures.1)
+returns c = record { read_next = (then_next (then_next (then_next (c.literal.ensures.by_index _) c.value-x.ensures.read_next) (c.literal-2.ensures.by_index _)) c.value.ensures.read_next); at_in_bounds = c.value.ensures.at_in_bounds }

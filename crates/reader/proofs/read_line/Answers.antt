@@ -37,4 +37,4 @@ returns-in-119 c = by_bytes 119 _ c.in-119.is refl (only form.WeightedElement) r
 
 pub returns-in_default : goal.returns-in_default
 unfolding sift opens literals place_of forms bytes is_among all_among
-returns-in_default c = by_bytes _ _ refl refl [] (ap (opening 3 _) (none_opening 0 _ (119 ∷ 120 ∷ 111 ∷ []) forms refl c.in_default.rest)) none_left
+returns-in_default c = by_bytes _ _ refl refl [] (ap (opening 3 _) (none_opening 0 _ (119 ∷ 120 ∷ 111 ∷ []) forms refl c.in_default.in_default-own.rest)) none_left

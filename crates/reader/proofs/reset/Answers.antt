@@ -14,4 +14,4 @@ literal-requires c = rw c.start.ensures (omega arith, refl)
 
 pub returns : goal.returns
 unfolding place_of forms bytes
-returns c = plain_tried form.Reset refl (λ vs. (_, refl)) (parts_form c.start.ensures (then_next (c.literal.ensures.0 _) c.value-q.ensures.0) c.ended.ensures)
+returns c = plain_tried form.Reset refl (λ vs. (_, refl)) (parts_form c.start.ensures (then_next (c.literal.ensures.by_index _) c.value-q.ensures.read_next) c.ended.ensures)

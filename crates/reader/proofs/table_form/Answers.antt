@@ -14,4 +14,4 @@ literal-requires c = rw c.start.ensures (omega arith, refl)
 
 pub returns : goal.returns
 unfolding place_of forms bytes
-returns c = rw c.whole.ensures (parts_read_as c.start.ensures (then_next (then_next (then_next (c.literal.ensures.0 _) c.value-q.ensures.0) (c.literal-2.ensures.0 _)) c.value-t.ensures.0))
+returns c = rw c.whole.ensures (parts_read_as c.start.ensures (then_next (then_next (then_next (c.literal.ensures.by_index _) c.value-q.ensures.read_next) (c.literal-2.ensures.by_index _)) c.value-t.ensures.read_next))

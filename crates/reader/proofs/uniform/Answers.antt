@@ -11,4 +11,4 @@ use Rattle.reader.proofs.uniform.Goals as goal
 
 pub returns : goal.returns
 unfolding place_of forms bytes noise_begin_of table_form_of
-returns c = kind_tried form.Uniform uniform refl refl c.requires.0 (kind_parts c.requires.0.ok (then_next (then_next (then_next (c.literal.ensures.0 _) c.value-n.ensures.0) (c.literal-2.ensures.0 _)) c.value-size.ensures.0) c.ended.ensures)
+returns c = kind_tried form.Uniform uniform refl refl c.requires.0 (kind_parts c.requires.0.ok (then_next (then_next (then_next (c.literal.ensures.by_index _) c.value-n.ensures.read_next) (c.literal-2.ensures.by_index _)) c.value-size.ensures.read_next) c.ended.ensures)
