@@ -12,7 +12,7 @@ returns-then-job-at c =
 pub returns-then-fewest-eq0 : goal.returns-then-fewest-eq0
 returns-then-fewest-eq0 c =
     let a = c.args in
-    line_found a.job.now a.at _ c.find_far-far.ensures.0
+    line_found a.job.now a.at _ c.find_far-far.ensures.value
 
 pub overflow_add-at : goal.overflow_add-at
 overflow_add-at c =
@@ -27,4 +27,4 @@ find-near-requires c =
 pub returns : goal.returns
 returns c =
     let a = c.args in
-    line_found a.job.now a.at _ (c.find-near.ensures.0 ∙ end_behind_fewest a.job.now a.at a.fewest c.requires)
+    line_found a.job.now a.at _ (c.find-near.ensures.value ∙ end_behind_fewest a.job.now a.at a.fewest c.requires)
