@@ -11,10 +11,10 @@ pub slice_bounds-put_members-end : goal.slice_bounds-put_members-end
 slice_bounds-put_members-end c = sym (length-take-le _ _ (omega arith))
 
 pub put_members-next-requires : goal.put_members-next-requires
-put_members-next-requires c = (omega arith, omega (arith, length-take c.few-xs.result.count c.few-xs.new.1.1.0, c.few-xs.ensures.short), omega arith)
+put_members-next-requires c = (omega arith, omega (arith, length-take c.few-xs.result.count c.few-xs.new.list, c.few-xs.ensures.short), omega arith)
 
 pub put_members-end-requires : goal.put_members-end-requires
-put_members-end-requires c = (omega arith, omega (arith, length-take c.few-zs.result.count c.few-zs.new.1.1.0, c.few-zs.ensures.short), omega (arith, c.put_members-next.ensures.near))
+put_members-end-requires c = (omega arith, omega (arith, length-take c.few-zs.result.count c.few-zs.new.list, c.few-zs.ensures.short), omega (arith, c.put_members-next.ensures.near))
 
 pub returns : goal.returns
 returns c = unfold bytes in pauli_put c.args.n c.few-xs.ensures c.put_members-next.ensures c.few-zs.ensures c.put_members-end.ensures c.moved.ensures
