@@ -13,7 +13,7 @@ pub next_skip-skip-requires : goal.next_skip-skip-requires
 next_skip-skip-requires c = (omega arith, c.requires.3.threshold)
 
 pub overflow_add-next : goal.overflow_add-next
-overflow_add-next c = let a = c.args in record { fits = omega (arith, length-append a.words.now a.more.now, c.well-formed, c.next_skip-skip.ensures.within) }
+overflow_add-next c = let a = c.args in record { fits = omega (arith, length-append a.words.now a.more.now, c.well_formed, c.next_skip-skip.ensures.within) }
 
 pub overflow_add-s : goal.overflow_add-s
 overflow_add-s c = omega (arith, c.next_skip-skip.ensures.within)
