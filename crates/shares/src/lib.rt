@@ -1,3 +1,2 @@
 // Shares of the main list of draws: definitions and theorems.
 #![tactic(auto)]
-

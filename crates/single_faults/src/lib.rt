@@ -1,3 +1,2 @@
 // The table of single faults: definitions and theorems.
 #![tactic(auto)]
-

@@ -39,7 +39,7 @@ module _ (n m : ℕ) where
 plain_in_range : (h : Header) (r : ℕ) (is : List Placed) → r ≤ h.outcomes → InstructionsSound h r is → AllInRange h.qubits h.outcomes (plain_lines is)
 unfolding plain_lines line_first InstructionSound InstructionsSound
 plain_in_range h r [] k s = tt
-plain_in_range h r (i ∷ is) k (first, rest) = go i.instruction first (plain_in_range h _ is (instruction_within h r i.instruction first k) rest)
+plain_in_range h r (i ∷ is) k (first, rest) = go i.instruction first (plain_in_range h (r + recorded_by i.instruction) is (instruction_within h r i.instruction first k) rest)
   where
     go : (j : Instruction) → InstructionSound h r j → AllInRange h.qubits h.outcomes (plain_lines is)
         → AllInRange h.qubits h.outcomes (line_first j (plain_lines is))
