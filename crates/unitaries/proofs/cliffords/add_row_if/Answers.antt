@@ -1,6 +1,5 @@
 -- `unitaries::cliffords::add_row_if` meets its contract.
 use Rattle.unitaries.specs.Laws.Images.{row_added, row_left}
-use borrow.Author.Tests.{not-true, not-false}
 use native.Mathlib.Omega.{arith}
 use Rattle.unitaries.proofs.cliffords.add_row_if.Goals as goal
 
