@@ -37,4 +37,4 @@ loop-k-preserved c = (omega arith, found_more _ _ _ _ c.loop-k.invariant.1)
 pub returns : goal.returns
 returns c =
     let all : c.loop-k.k ≡ 8 = omega (arith, c.loop-k-test.false, c.loop-k.invariant.0) in
-    rw all at (c.loop-k.invariant.1 clear)
+    λ clear. rw all at (c.loop-k.invariant.1 clear)
