@@ -17,4 +17,4 @@ returns-in-67 c = simp c.in-67.is
 
 pub returns-in_default : goal.returns-in_default
 unfolding is_list_of
-returns-in_default c = let r = c.in_default.rest in simp (ne_eqb _ _ r.1, ne_eqb _ _ r.0.1, ne_eqb _ _ r.0.0.1)
+returns-in_default c = let r = c.in_default.in_default-own.rest in simp (ne_eqb _ _ r.1, ne_eqb _ _ r.0.1, ne_eqb _ _ r.0.0.1)

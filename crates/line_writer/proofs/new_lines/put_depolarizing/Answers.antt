@@ -22,4 +22,4 @@ put_byte-requires c = omega (arith, c.requires.1, c.put_bytes-next.ensures.place
 
 pub returns : goal.returns
 unfolding bytes size_of
-returns c = rw depolarizing_line at (puts_more (puts_more (rw e at c.put_bytes-next.ensures) (rw (end_values, c.depolarizing_size.ensures) at c.put_line-end.ensures)) c.put_byte.ensures)
+returns c p e = rw depolarizing_line at (puts_more (puts_more (rw e at c.put_bytes-next.ensures) (rw (end_values, c.depolarizing_size.ensures) at c.put_line-end.ensures)) c.put_byte.ensures)
