@@ -1,8 +1,6 @@
 -- `instructions::element_lines` meets its contract. Assumes nothing.
-use types.Run.{miss}
-use mathlib.Core.List.{[], ◌∷◌}
 use mathlib.Core.Path.{◌∙◌}
-use Rattle.instructions.specs.Laws.Meaning.{others_than, lines_uniform, lines_weighted, lines_alone}
+use Rattle.instructions.specs.Laws.Meaning.{lines_uniform, lines_weighted, lines_alone}
 use Rattle.instructions.proofs.element_lines.Goals as goal
 
 pub returns-in-Uniform : goal.returns-in-Uniform
@@ -15,6 +13,6 @@ pub returns-in_default : goal.returns-in_default
 returns-in_default c =
     λ vs n h.
     lines_alone
-    (λ e. miss (others_than (16 ∷ 17 ∷ [])) 16 tt (rw e at c.in_default.keys3))
-    (λ e. miss (others_than (16 ∷ 17 ∷ [])) 17 tt (rw e at c.in_default.keys3))
+    c.in_default.not-Uniform
+    c.in_default.not-Weighted
     h

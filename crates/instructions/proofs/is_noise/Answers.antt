@@ -1,9 +1,7 @@
 -- `instructions::is_noise` meets its contract. Assumes nothing.
-use types.Run.{miss}
 use mathlib.Core.Path.{sym}
-use mathlib.Core.List.{[], ◌∷◌}
 use Rattle.instructions.specs.Reading.{noise_form}
-use Rattle.instructions.specs.Laws.Meaning.{others_than, other_no_noise}
+use Rattle.instructions.specs.Laws.Meaning.{other_no_noise}
 use Rattle.instructions.proofs.is_noise.Goals as goal
 
 pub returns-in-Single : goal.returns-in-Single
@@ -26,7 +24,7 @@ pub returns-in_default : goal.returns-in_default
 returns-in_default c =
     sym
     (other_no_noise c.args.form
-    (λ e. miss (others_than (14 ∷ 15 ∷ 16 ∷ 17 ∷ [])) 14 tt (rw e at c.in_default.keys5))
-    (λ e. miss (others_than (14 ∷ 15 ∷ 16 ∷ 17 ∷ [])) 15 tt (rw e at c.in_default.keys5))
-    (λ e. miss (others_than (14 ∷ 15 ∷ 16 ∷ 17 ∷ [])) 16 tt (rw e at c.in_default.keys5))
-    (λ e. miss (others_than (14 ∷ 15 ∷ 16 ∷ 17 ∷ [])) 17 tt (rw e at c.in_default.keys5)))
+    c.in_default.not-Single
+    c.in_default.not-Depolarizing
+    c.in_default.not-Uniform
+    c.in_default.not-Weighted)

@@ -1,5 +1,4 @@
 -- `reader::clifford` meets its contract. Assumes nothing.
-use borrow.Author.Tests.{not-true, not-false}
 use mathlib.Core.Path.{sym, ◌∙◌}
 use Rattle.text.specs.Bytes.{bytes}
 use Rattle.job.specs.Grammar.{forms}

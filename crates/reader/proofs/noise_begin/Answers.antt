@@ -3,7 +3,6 @@ use mathlib.Core.Path.{refl}
 use native.Mathlib.Omega.{arith}
 use Rattle.text.specs.Bytes.{bytes}
 use Rattle.template.specs.Laws.Reading.{then_next}
-use Rattle.reader.specs.declared.Form.TheVariants as form
 use Rattle.reader.specs.Tried.{noise_begin_of}
 use Rattle.reader.specs.Laws.Tried.{from_start}
 use Rattle.reader.proofs.noise_begin.Goals as goal

@@ -4,7 +4,6 @@ use native.Mathlib.Omega.{arith}
 use Rattle.text.specs.Bytes.{bytes}
 use Rattle.template.specs.Laws.Reading.{then_next}
 use Rattle.job.specs.Grammar.{forms}
-use Rattle.reader.specs.declared.Form.TheVariants as form
 use Rattle.reader.specs.Parsed.{place_of}
 use Rattle.reader.specs.Laws.Tried.{parts_read_as}
 use Rattle.reader.proofs.table_form.Goals as goal
