@@ -14,10 +14,10 @@ pub put_job-length-requires : goal.put_job-length-requires
 put_job-length-requires c = header_range _ _ _ _ c.step-state.ensures (sym c.may_hold.ensures ∙ c.if-not-may_hold.false)
 
 pub returns-then-not-text_fits : goal.returns-then-not-text_fits
-returns-then-not-text_fits c = rw c.no-then-not-text_fits.ensures (long_reply _ _ _ _ _ _ (sym c.may_hold.ensures ∙ c.if-not-may_hold.false) c.if-seed-eq0.false (job_is _ _ _ _ c.step-state.ensures c.put_job-length.ensures) c.put_job-length.auto.0 (sym c.text_fits.ensures ∙ c.if-not-text_fits.true))
+returns-then-not-text_fits c = rw c.no-then-not-text_fits.ensures (long_reply _ _ _ _ _ _ (sym c.may_hold.ensures ∙ c.if-not-may_hold.false) c.if-seed-eq0.false (job_is _ _ _ _ c.step-state.ensures c.put_job-length.ensures) c.put_job-length.auto.out (sym c.text_fits.ensures ∙ c.if-not-text_fits.true))
 
 pub put_job-requires : goal.put_job-requires
 put_job-requires c = header_range _ _ _ _ c.step-state.ensures (sym c.may_hold.ensures ∙ c.if-not-may_hold.false)
 
 pub returns : goal.returns
-returns c = whole_reply _ _ _ _ _ _ (sym c.may_hold.ensures ∙ c.if-not-may_hold.false) c.if-seed-eq0.false (job_is _ _ _ _ c.step-state.ensures c.put_job-length.ensures) c.put_job-length.auto.0 (sym c.text_fits.ensures ∙ c.if-not-text_fits.false) (job_is _ _ _ _ c.step-state.ensures c.put_job.ensures)
+returns c = whole_reply _ _ _ _ _ _ (sym c.may_hold.ensures ∙ c.if-not-may_hold.false) c.if-seed-eq0.false (job_is _ _ _ _ c.step-state.ensures c.put_job-length.ensures) c.put_job-length.auto.out (sym c.text_fits.ensures ∙ c.if-not-text_fits.false) (job_is _ _ _ _ c.step-state.ensures c.put_job.ensures)

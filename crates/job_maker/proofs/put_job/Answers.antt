@@ -11,7 +11,7 @@ pub loop-i-init : goal.loop-i-init
 loop-i-init c = putting_begins c.put_header.ensures
 
 pub shape_of-out-then-m-gt-MAX_BYTES : goal.shape_of-out-then-m-gt-MAX_BYTES
-shape_of-out-then-m-gt-MAX_BYTES c = rest_length c.loop-i.invariant.rest ∙ c.put_header.auto.0
+shape_of-out-then-m-gt-MAX_BYTES c = rest_length c.loop-i.invariant.rest ∙ c.put_header.auto.out
 
 pub returns-then-m-gt-MAX_BYTES : goal.returns-then-m-gt-MAX_BYTES
 returns-then-m-gt-MAX_BYTES c = putting_stops c.put_header.ensures c.loop-i.invariant c.if-m-gt-MAX_BYTES.true
@@ -29,7 +29,7 @@ pub loop-i-preserved : goal.loop-i-preserved
 loop-i-preserved c = putting_more c.requires c.loop-i.invariant c.loop-i-test.true c.if-m-gt-MAX_BYTES.false c.put_instruction-m.ensures
 
 pub shape_of-out : goal.shape_of-out
-shape_of-out c = rest_length c.loop-i.invariant.rest ∙ c.put_header.auto.0
+shape_of-out c = rest_length c.loop-i.invariant.rest ∙ c.put_header.auto.out
 
 pub returns : goal.returns
 returns c = putting_done c.put_header.ensures c.loop-i.invariant c.loop-i-test.false

@@ -1,5 +1,6 @@
 -- `made_lines::put_kind` meets its contract. Assumes nothing.
 use native.Mathlib.Omega.{arith}
+use borrow.Author.Rules.{rules}
 use Rattle.writer.specs.Laws.Placing.{puts_length}
 use Rattle.made.specs.Making.{ring}
 use Rattle.made_lines.specs.Laws.Standing.{some_recorded, more_recorded, barrier_there, unitary_there}
@@ -156,4 +157,4 @@ pub shape_of-out-in_default : goal.shape_of-out-in_default
 shape_of-out-in_default c = puts_length c.put_unitary.ensures.puts
 
 pub returns-in_default : goal.returns-in_default
-returns-in_default c = rw (unitary_there _ _ c.requires.1 c.in_default.rest) c.put_unitary.ensures
+returns-in_default c = rw (unitary_there _ _ c.requires.1 (search rules)) c.put_unitary.ensures

@@ -1,4 +1,6 @@
 -- `made_lines::gates::put_clifford` meets its contract. Assumes nothing.
+use mathlib.Core.Path.{sym}
+use lib.Seq.{length-take-le}
 use native.Mathlib.Omega.{arith}
 use Rattle.text.specs.Bytes.{bytes}
 use Rattle.made_fields.specs.Laws.Made.{pick_below}
@@ -21,7 +23,11 @@ cyclic-requires c =
     (omega (arith, c.table_qubits-k.ensures, few_qubits c.pick-i.result.value), c.requires.some_qubits, omega (arith, a, c.requires.qubits, c.table_qubits-k.ensures, few_qubits c.pick-i.result.value))
 
 pub slice_bounds-list-end : goal.slice_bounds-list-end
-slice_bounds-list-end c = omega (arith, c.table_qubits-k.ensures, few_qubits c.pick-i.result.value)
+slice_bounds-list-end c = omega (arith, c.cyclic.auto.list, c.table_qubits-k.ensures, few_qubits c.pick-i.result.value)
+
+pub slice_bounds-put_members-end-2 : goal.slice_bounds-put_members-end-2
+slice_bounds-put_members-end-2 c =
+    sym (length-take-le _ _ (omega (arith, c.cyclic.auto.list, c.table_qubits-k.ensures, few_qubits c.pick-i.result.value)))
 
 pub put_members-next-requires : goal.put_members-next-requires
 put_members-next-requires c = (omega arith, take_short c.table_qubits-k.result _ (omega (arith, c.table_qubits-k.ensures, few_qubits c.pick-i.result.value)), omega (arith, c.requires.room))

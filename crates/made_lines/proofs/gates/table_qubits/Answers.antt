@@ -9,7 +9,7 @@ pub returns-in-6 : goal.returns-in-6
 returns-in-6 c = unfold tables in rw c.in-6.is refl
 
 pub returns-in-0-to-5 : goal.returns-in-0-to-5
-returns-in-0-to-5 c = one_qubit _ c.if-i-lt6.true
+returns-in-0-to-5 c = one_qubit _ (omega arith)
 
 pub returns-in_default : goal.returns-in_default
-returns-in_default c = last_qubits _ (omega (arith, c.in_default-1.rest.1, c.if-i-lt6.false, c.requires))
+returns-in_default c = last_qubits _ (omega arith)

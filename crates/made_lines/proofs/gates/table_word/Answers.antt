@@ -1,5 +1,6 @@
 -- `made_lines::gates::table_word` meets its contract. Assumes nothing.
 use mathlib.Core.Path.{refl}
+use native.Mathlib.Omega.{arith}
 use Rattle.made.specs.Making.{tables}
 use Rattle.made_lines.specs.Laws.Cliffords.{last_word}
 use Rattle.made_lines.proofs.gates.table_word.Goals as goal
@@ -26,4 +27,5 @@ pub returns-in-6 : goal.returns-in-6
 returns-in-6 c = unfold tables in rw c.in-6.is refl
 
 pub returns-in_default : goal.returns-in_default
-returns-in_default c = last_word _ c.requires c.in_default.rest.0.0.0.0.0.0.1 c.in_default.rest.0.0.0.0.0.1 c.in_default.rest.0.0.0.0.1 c.in_default.rest.0.0.0.1 c.in_default.rest.0.0.1 c.in_default.rest.0.1 c.in_default.rest.1
+returns-in_default c =
+    last_word _ c.requires (λ e. omega arith) (λ e. omega arith) (λ e. omega arith) (λ e. omega arith) (λ e. omega arith) (λ e. omega arith) (λ e. omega arith)

@@ -26,4 +26,4 @@ returns-in-4 c = rw c.in-4.is
 
 pub returns-in_default : goal.returns-in_default
 unfolding probabilities
-returns-in_default c = let r = c.in_default.rest in let is : c.args.i ≡ 5 = omega (arith, c.requires, r.1, r.0.1, r.0.0.1, r.0.0.0.1, r.0.0.0.0.1) in rw is
+returns-in_default c = let is : c.args.i ≡ 5 = omega arith in rw is

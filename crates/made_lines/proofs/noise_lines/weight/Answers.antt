@@ -18,4 +18,4 @@ returns-in-2 c = rw c.in-2.is
 
 pub returns-in_default : goal.returns-in_default
 unfolding weights
-returns-in_default c = let r = c.in_default.rest in let is : c.args.place ≡ 3 = omega (arith, c.requires, r.1, r.0.1, r.0.0.1) in rw is
+returns-in_default c = let is : c.args.place ≡ 3 = omega arith in rw is
