@@ -1,5 +1,5 @@
 -- How often two lists meet, modulo 2, a member at a time, by marks; and commutation of two Paulis by their lists. Laws. Assumes nothing.
-use Rattle.std.specs.Prelude.{ℕ, ◌+◌, ◌<◌, ◌≤◌, ◌≡◌, refl, Bool, true, false, not, ◌||◌, List, [], ◌∷◌, eqb, length, get_or, set, drop}
+use Rattle.std.specs.Prelude.{ℕ, ◌+◌, ◌<◌, ◌≤◌, ◌≡◌, refl, Bool, true, false, not, ◌||◌, List, eqb, length, get_or, set, drop}
 use Rattle.std.proofs.Common.{arith, sym, ap, ap₂, ◌∙◌, eqb-true, drop_of_length-le, length-set, get_or-set_same, get_or-set_other}
 use Rattle.std.specs.Bool.{beq}
 use Rattle.std.proofs.lemmas.Bool.{eqb-false}

@@ -1,14 +1,12 @@
 -- Test 7, pair by pair of rows, and tests of each number below another. Laws. Assumes nothing.
 use Rattle.std.specs.Prelude.{ℕ, zero, suc, ◌+◌, ◌-◌, ◌*◌, ◌/◌, ◌%◌, ◌^◌, ◌≤◌, ◌<◌, ◌≡◌, Bool, true, not, eqb, ltb}
-use Rattle.std.proofs.Math.Nat.{div-eq_of_lt, div_self}
-use Rattle.std.proofs.Common.{mod-lt, lt_of_le_of_lt, add-one, arith, sym, ◌∙◌, ltb-true, ltb-false, eqb-true, ne_eqb, pow_pos}
+use Rattle.std.proofs.Common.{mod-lt, lt_of_le_of_lt, add-one, arith, sym, ◌∙◌, eqb-true, pow_pos}
 use Rattle.std.proofs.Math.Path.{refl, ap, ap₂}
 use Rattle.std.proofs.Math.Bool.{false, ◌&&◌}
 use Rattle.std.proofs.lemmas.Bool.{eqb-false}
 use Rattle.std.specs.Int.Bits.{bit_xor, bit_and, xor_lt, and_mask}
 use Rattle.std.proofs.lemmas.Nat.{and_le_l}
 use Rattle.std.specs.Int.Count.{ones}
-use Rattle.std.proofs.Math.Pow.{field, mod-mod-pow, shr_mono}
 use Rattle.pauli.specs.Bits.{◌⊕◌, ◌∩◌, ◌△◌, bit}
 use Rattle.pauli.specs.Pauli.{anticommutes}
 use Rattle.pauli.proofs.Laws.Word.{one_shl, bit_shr, bit_mod, bit_xor_lem, bit_and_lem}

@@ -1,6 +1,5 @@
 -- `check_values::clifford::is_clifford` meets its contract. Assumes nothing.
 use mathlib.Core.Path.{sym, ◌∙◌}
-use borrow.Author.Tests.{not-true, not-false}
 use Rattle.check_values.specs.Laws.Pairs.{clifford_high, clifford_rows}
 use Rattle.check_values.proofs.clifford.is_clifford.Goals as goal
 

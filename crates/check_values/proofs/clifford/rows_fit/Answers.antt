@@ -1,8 +1,6 @@
 use Rattle.check_values.specs.Laws.Pairs.{every_all, every_none, every_more, every_fails}
 use native.Mathlib.Omega.{arith}
 use mathlib.Core.Path.{sym, ◌∙◌}
-use mathlib.Core.Bool.{true}
-use borrow.Author.Tests.{not-true, not-false}
 use Rattle.check_values.proofs.clifford.rows_fit.Goals as goal
 
 pub loop-r-init : goal.loop-r-init

@@ -1,6 +1,5 @@
 -- `check_values::floats::weight` meets its contract. Assumes nothing.
 use mathlib.Core.Path.{sym, ◌∙◌}
-use borrow.Author.Tests.{not-true, not-false}
 use Rattle.check_values.specs.Laws.Floats.{no_weight, weight_fails, weight_passes}
 use Rattle.check_values.proofs.floats.weight.Goals as goal
 

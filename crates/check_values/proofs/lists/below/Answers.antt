@@ -1,6 +1,5 @@
 use native.Mathlib.Omega.{arith}
 use mathlib.Core.Path.{refl, sym, ◌∙◌}
-use borrow.Author.Tests.{not-true, not-false}
 use Rattle.check_values.specs.Laws.Slots.{each_below, each_fails, each_next, each_end}
 use Rattle.check_values.proofs.lists.below.Goals as goal
 

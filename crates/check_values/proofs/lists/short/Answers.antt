@@ -15,12 +15,12 @@ pub count-requires : goal.count-requires
 count-requires c = omega arith
 
 pub returns-then-count-gt-MAX_MEMBERS : goal.returns-then-count-gt-MAX_MEMBERS
-returns-then-count-gt-MAX_MEMBERS c = (
-  λ numbers lists vs h g.
+returns-then-count-gt-MAX_MEMBERS c = record {
+  by_index = λ numbers lists vs h g.
       let e = h.count c.loop-i.i (omega arith) in
-      sym (c.loop-i.invariant.0 numbers lists vs h g ∙ each_fails each_short_lem vs _ _ c.loop-i-test.true (lt-leb (length (list_at_of c.loop-i.i vs)) 31 (omega (arith, c.if-count-gt-MAX_MEMBERS.true)))),
-  λ z. absurd (true≢false (sym z)),
-)
+      sym (c.loop-i.invariant.0 numbers lists vs h g ∙ each_fails each_short_lem vs _ _ c.loop-i-test.true (lt-leb (length (list_at_of c.loop-i.i vs)) 31 (omega (arith, c.if-count-gt-MAX_MEMBERS.true))));
+  all_kept = λ z. absurd (true≢false (sym z));
+}
 
 pub overflow_add-i : goal.overflow_add-i
 overflow_add-i c = omega arith
@@ -37,7 +37,7 @@ loop-i-preserved c = (
 )
 
 pub returns : goal.returns
-returns c = (
-  λ numbers lists vs h g. sym (c.loop-i.invariant.0 numbers lists vs h g ∙ each_end each_short_lem vs _ _ c.loop-i-test.false),
-  λ z j h g. c.loop-i.invariant.1 j h (omega arith),
-)
+returns c = record {
+  by_index = λ numbers lists vs h g. sym (c.loop-i.invariant.0 numbers lists vs h g ∙ each_end each_short_lem vs _ _ c.loop-i-test.false);
+  all_kept = λ z j h g. c.loop-i.invariant.1 j h (omega arith);
+}
