@@ -1,2 +1,0 @@
--- What the walk of the check's pass uses.
-mod Words
