@@ -8,8 +8,7 @@ use mathlib.Core.List.{List, [], ◌∷◌}
 use Rattle.std.proofs.Math.Option.{Option, none, some, map, get_or}
 use Prim.Native.Nat.{ℕ, suc, ◌-◌, ◌<◌, min}
 use Rattle.std.proofs.Math.ListN.{length}
-use Rattle.std.specs.Float.{binary64}
-use Rattle.std.specs.Float.Ieee.{add, div, lt}
+use Rattle.std.specs.Float.Ieee.{lt}
 use Rattle.job.specs.Float.{zero_float, one, total_from}
 use Rattle.job.specs.Sound.{Every}
 use Rattle.draws.specs.Draws.{running_from, running_sums_of, is_positive, first_fitting, or_else, last_positive, place_of}
@@ -18,15 +17,15 @@ use Rattle.draws.proofs.Laws.Weights.{or_false_left, or_false_right}
 
 -- ---- as many running sums as weights
 
-running_length : (total s : Float) (ws : List Float) → length (running_from total s ws) ≡ length ws
+running_length : (total : Float) (ws : List Float) (s : Float) → length (running_from total s ws) ≡ length ws
 unfolding running_from
-running_length total s [] = refl
-running_length total s (w ∷ ws) = ap suc (running_length total (add binary64 s (div binary64 w total)) ws)
+running_length total [] s = refl
+running_length total (w ∷ ws) s = ap suc (running_length total ws _)
 
 pub sums_length : (ws : List Float) → length (running_sums_of ws) ≡ length ws
 sums_length ws =
     let running = running_from (total_from zero_float ws) zero_float ws in
-    length-set running (length ws - 1) one ∙ running_length (total_from zero_float ws) zero_float ws
+    length-set running (length ws - 1) one ∙ running_length (total_from zero_float ws) ws zero_float
 
 -- ---- the place that is found
 
