@@ -1,6 +1,5 @@
 -- `by_shot::by_outcome` meets its contract.
 use mathlib.Core.Path.{sym, ◌∙◌}
-use borrow.Author.Tests.{not-true, not-false}
 use Rattle.by_shot.specs.Laws.Reply.{held_counts, outcome_refused, outcome_held}
 use Rattle.by_shot.proofs.by_outcome.Goals as goal
 

@@ -1,6 +1,5 @@
 -- `by_shot::by_shot` meets its contract.
 use mathlib.Core.Path.{sym, ◌∙◌}
-use borrow.Author.Tests.{not-true, not-false}
 use Rattle.by_shot.specs.Laws.Reply.{held_counts, shot_refused, shot_held}
 use Rattle.by_shot.proofs.by_shot.Goals as goal
 

@@ -1,6 +1,5 @@
 -- `job_maker::make` meets its contract. Assumes nothing.
 use mathlib.Core.Path.{sym, ◌∙◌}
-use borrow.Author.Tests.{not-true, not-false}
 use Rattle.job_maker.specs.Laws.Replies.{header_range, job_is, unheld_reply, unseeded_reply, long_reply, whole_reply}
 use Rattle.job_maker.proofs.make.Goals as goal
 
