@@ -1,6 +1,6 @@
 -- Theorems about the printed session: a line for each recorded outcome, and the shots of a line in order. Assumes nothing.
 use Rattle.std.specs.Prelude.{◌≡◌, refl, Bool, cond, List, ℕ, zero, suc, ◌+◌, ◌<◌, length, get_or}
-use Rattle.std.proofs.Common.{ap, ◌∙◌, add-zero, suc-add, add-suc, arith}
+use Rattle.std.proofs.Common.{ap, ◌∙◌, add-zero, arith}
 use Rattle.job.specs.declared.Header.{Header}
 use Rattle.job.specs.Job.{Job, recorded_in}
 use Rattle.session.specs.Session.{bit_text, delta_lines, session_lines}

@@ -1,6 +1,6 @@
 -- Definitions. Callers with shares of the main list (document 02, note 14): each caller has a stretch at its front, in caller order, and the rest is
 -- common. Assumes nothing.
-use Rattle.std.specs.Prelude.{Bool, true, ◌&&◌, List, [], ◌∷◌, ◌++◌, ℕ, zero, suc, ◌+◌, ◌-◌, ◌≤◌, ◌<◌, min, leb, ltb, length, get_or, take, drop, set}
+use Rattle.std.specs.Prelude.{Bool, true, ◌&&◌, List, [], ◌∷◌, ◌++◌, ℕ, ◌+◌, ◌-◌, min, leb, ltb, length, get_or, take, drop, set}
 
 -- the words of each caller's stretch, how many words were taken of each stretch and then of the common part, and the caller's number
 pub record Share : Type 0 where

@@ -1,9 +1,9 @@
 -- Theorems about the table of single faults: at most sixteen groups; what a forward run with the one injection gives is what the group, carried back once to
 -- the noise line, says of the element; any shot gives the same; and so does the call that runs a job with that one injection. Assumes nothing.
-use Rattle.std.specs.Prelude.{◌≡◌, Bool, true, false, cond, ◌&&◌, List, [], ◌∷◌, ◌++◌, ℕ, ◌<◌, eqb, replicate}
+use Rattle.std.specs.Prelude.{◌≡◌, Bool, true, false, ◌&&◌, List, [], ◌∷◌, ◌++◌, ℕ, ◌<◌, eqb, replicate}
 use Rattle.std.proofs.Math.Path.{refl, sym, ap}
-use Rattle.std.proofs.Common.{subst, ◌∙◌}
-use Rattle.pauli.specs.Bits.{Bits, none as noShots, only, members, sum_over, odd}
+use Rattle.std.proofs.Common.{◌∙◌}
+use Rattle.pauli.specs.Bits.{none as noShots, only, members, sum_over, odd}
 use Rattle.pauli.specs.Pauli.{identity, anticommutes}
 use Rattle.pauli.proofs.Laws.Parity.{only_here}
 use Rattle.text.specs.List.{is_rising_of}
@@ -14,14 +14,14 @@ use Rattle.job.specs.Job.{job_of, recorded_in, check_job}
 use Rattle.job.specs.InRange.{AllInRange}
 use Rattle.job.proofs.Theorems.{checked_sound}
 use Rattle.job.proofs.Laws.Lists.{below_more}
-use Rattle.frames.specs.Forward.{State, Setting, setting_of, run, start}
+use Rattle.frames.specs.Forward.{Setting, setting_of, run, start}
 use Rattle.frames.specs.Shots.{within}
 use Rattle.run.specs.Run.{Memory}
-use Rattle.backward.specs.Walk.{Carried, counts, carry, Walk, one_more_of, backward, walk_back, walk}
+use Rattle.backward.specs.Walk.{Carried, counts, Walk, one_more_of, backward, walk_back, walk}
 use Rattle.backward.specs.Walking.{plain_lines}
-use Rattle.backward.specs.Calls.{shot_bits, SameBits, RanQuiet}
+use Rattle.backward.specs.Calls.{shot_bits, RanQuiet}
 use Rattle.backward.proofs.Theorems.{listed_deltas_count, carried_any_shot}
-use Rattle.backward.proofs.Laws.WalkShots.{walk_back_quiet, carried_restricted}
+use Rattle.backward.proofs.Laws.WalkShots.{walk_back_quiet}
 use Rattle.backward.proofs.Laws.ShotBits.{line_bits}
 use Rattle.backward.proofs.Laws.Settled.{append_in_range}
 use Rattle.backward.proofs.Laws.CallsAgree.{sum_same}

@@ -6,7 +6,7 @@ use Rattle.text.specs.Bytes.{bytes, unlines}
 use Rattle.text.specs.Template.{Value, line_text}
 use Rattle.pauli.specs.Bits.{none as noShots, sum_over}
 use Rattle.job.specs.declared.Header.{Header}
-use Rattle.job.specs.Line.{SparsePauli, Line, Distribution, size_of, Noise, Instruction, Placed}
+use Rattle.job.specs.Line.{SparsePauli, Line, Distribution, size_of, Instruction, Placed}
 use Rattle.job.specs.Job.{answer, Job, job_of, recorded_in, check_job}
 use Rattle.job.specs.Reply.{TextReply, refused_text, text_fits_of, written_text}
 use Rattle.frames.specs.Forward.{State, setting_of, run, start}

@@ -3,7 +3,7 @@ use Rattle.std.specs.Prelude.{◌≡◌, ◌&&◌, ◌||◌, ℕ, eqb, leb, take
 use Rattle.std.proofs.Math.Path.{refl, ap}
 use Rattle.std.proofs.Common.{sym, subst, ◌∙◌, true≢false}
 use Rattle.std.proofs.Math.Bool.{Bool, true, false, cond}
-use mathlib.Core.List.{List, [], ◌∷◌, ◌++◌, map}
+use mathlib.Core.List.{List, [], ◌∷◌, map}
 use Rattle.std.proofs.lemmas.Bool.{eqb-false}
 use Rattle.std.proofs.Math.ListN.{length}
 use Rattle.std.proofs.lemmas.List.{length-replicate}
@@ -11,8 +11,7 @@ use Rattle.std.proofs.Math.Seq.{take_at, take-append_seam}
 use Rattle.job.specs.declared.Header.{Header}
 use Rattle.job.specs.declared.Answer.{Answer}
 use Rattle.job.specs.Job.{answer, job_of, check_job}
-use Rattle.job.specs.Reply.{TextReply, of_call, over, refused_text, text_fits_of, written_text}
-use Rattle.job.proofs.Laws.Numbers.{check_of_job}
+use Rattle.job.specs.Reply.{TextReply, over, refused_text, text_fits_of, written_text}
 use Rattle.draws.specs.Settle.{Settled, settle, settled_text}
 use Rattle.draws.specs.Execute.{Ended, States, starts, execute}
 use Rattle.rows.specs.Words.{pack}
@@ -20,7 +19,7 @@ use Rattle.rows.proofs.Laws.Pack.{length_tabulated, length_pack}
 use Rattle.run.specs.Run.{Source, Memory, RunReply, frame_words_of, outcome_words_of, enough_words, lent_of, untouched, spent_reply, flip_totals, finished_reply, ended_reply, run_reply, with_source}
 use Rattle.backward.specs.Settling.{settled_answer, settle_reply}
 use Rattle.shares.specs.Shares.{Share, marks_fit, shares_fit_of, caller_fits}
-use Rattle.shares.specs.Replies.{shared, takes_words, marks_for, tested, shared_reply, shared_run_reply, shared_settle_reply}
+use Rattle.shares.specs.Replies.{shared, takes_words, tested, shared_reply, shared_run_reply, shared_settle_reply}
 use Rattle.shares.specs.Account.{zeros, emptied, room_emptied, written_words, written_bytes, written, job_in, from, with_main, share_of, Call, Reply, caller_of, calls_of, reply_to, marks_by, marks_through, StaysOwn}
 use Rattle.shares.proofs.Laws.Moves.{own_number}
 use Rattle.shares.proofs.Laws.Behaviours.{both_same}

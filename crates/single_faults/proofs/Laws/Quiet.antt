@@ -1,12 +1,12 @@
 -- Laws: the lines that are left where noise, injections and flips count as absent. Assumes nothing.
-use Rattle.std.specs.Prelude.{◌≡◌, refl, Bool, true, false, ◌&&◌, cond, ℕ, ◌+◌, ◌≤◌}
-use Rattle.std.proofs.Common.{sym, ap, subst, ◌∙◌, arith}
+use Rattle.std.specs.Prelude.{◌≡◌, refl, Bool, true, false, cond, ℕ, ◌+◌, ◌≤◌}
+use Rattle.std.proofs.Common.{ap, subst, ◌∙◌, arith}
 use mathlib.Core.List.{List, [], ◌∷◌, ◌++◌}
 use Rattle.pauli.specs.Bits.{Bits, none as noShots}
 use Rattle.job.specs.declared.Header.{Header}
 use Rattle.job.specs.Line.{Line, Instruction, Placed}
 use Rattle.job.specs.Job.{job_of, recorded_by, check_job}
-use Rattle.job.specs.InRange.{InRange, AllInRange}
+use Rattle.job.specs.InRange.{AllInRange}
 use Rattle.job.specs.Sound.{InstructionSound, InstructionsSound}
 use Rattle.job.proofs.Theorems.{checked_sound}
 use Rattle.job.proofs.Laws.Range.{line_in_range}
