@@ -13,11 +13,11 @@ returns-then-not-below c = λ numbers lists vs h g. fails 4 _ _ (sym (c.below.en
 pub returns-then-not-short : goal.returns-then-not-short
 returns-then-not-short c =
     λ numbers lists vs h g.
-    fails 5 _ _ (right_false (distinct (list_at_of 0 vs)) _ (sym (c.short.ensures.0 numbers lists vs h g) ∙ c.if-not-short.true))
+    fails 5 _ _ (right_false (distinct (list_at_of 0 vs)) _ (sym (c.short.ensures.by_index numbers lists vs h g) ∙ c.if-not-short.true))
     ∙ passes 4 _ _ (sym (c.below.ensures numbers lists vs h g) ∙ c.if-not-below.false)
 
 pub slot_distinct-requires : goal.slot_distinct-requires
-slot_distinct-requires c = (omega arith, omega arith, c.short.ensures.1 (c.if-not-short.false) 0 (omega arith) (omega arith))
+slot_distinct-requires c = (omega arith, omega arith, c.short.ensures.all_kept (c.if-not-short.false) 0 (omega arith) (omega arith))
 
 pub returns-then-not-slot_distinct : goal.returns-then-not-slot_distinct
 returns-then-not-slot_distinct c =
@@ -29,5 +29,5 @@ pub returns : goal.returns
 returns c =
     λ numbers lists vs h g.
     none_bad
-    ∙ passes 5 _ _ (both_true (sym (c.slot_distinct.ensures numbers lists vs h g) ∙ c.if-not-slot_distinct.false) (sym (c.short.ensures.0 numbers lists vs h g) ∙ c.if-not-short.false))
+    ∙ passes 5 _ _ (both_true (sym (c.slot_distinct.ensures numbers lists vs h g) ∙ c.if-not-slot_distinct.false) (sym (c.short.ensures.by_index numbers lists vs h g) ∙ c.if-not-short.false))
     ∙ passes 4 _ _ (sym (c.below.ensures numbers lists vs h g) ∙ c.if-not-below.false)

@@ -18,10 +18,10 @@ pub returns-then-not-short : goal.returns-then-not-short
 returns-then-not-short c =
     λ vs w h.
     let t = tests_permute c.args.c h in
-    fails 5 _ _ (right_false (distinct (list_at_of 1 vs)) _ (sym (c.short.ensures.0 _ _ vs t.held (omega arith)) ∙ c.if-not-short.true)) ∙ passes 4 _ _ (sym (c.below.ensures _ _ vs t.held (omega arith)) ∙ c.if-not-below.false) ∙ t.own
+    fails 5 _ _ (right_false (distinct (list_at_of 1 vs)) _ (sym (c.short.ensures.by_index _ _ vs t.held (omega arith)) ∙ c.if-not-short.true)) ∙ passes 4 _ _ (sym (c.below.ensures _ _ vs t.held (omega arith)) ∙ c.if-not-below.false) ∙ t.own
 
 pub slot_distinct-requires : goal.slot_distinct-requires
-slot_distinct-requires c = (omega arith, omega arith, c.short.ensures.1 (c.if-not-short.false) 1 (omega arith) (omega arith))
+slot_distinct-requires c = (omega arith, omega arith, c.short.ensures.all_kept (c.if-not-short.false) 1 (omega arith) (omega arith))
 
 pub returns-then-not-slot_distinct : goal.returns-then-not-slot_distinct
 returns-then-not-slot_distinct c =
@@ -38,7 +38,7 @@ returns-then-count-k c =
     let size = c.count-k.ensures ∙ t.held.count 1 (omega arith) in
     let once = c.slot_distinct.ensures _ _ vs t.held (omega arith) in
     fails 6 _ _ (other_length _ _ (λ z. c.if-count-k.true (places ∙ z ∙ sym size)))
-    ∙ passes 5 _ _ (both_true (sym once ∙ c.if-not-slot_distinct.false) (sym (c.short.ensures.0 _ _ vs t.held (omega arith)) ∙ c.if-not-short.false))
+    ∙ passes 5 _ _ (both_true (sym once ∙ c.if-not-slot_distinct.false) (sym (c.short.ensures.by_index _ _ vs t.held (omega arith)) ∙ c.if-not-short.false))
     ∙ passes 4 _ _ (sym (c.below.ensures _ _ vs t.held (omega arith)) ∙ c.if-not-below.false)
     ∙ t.own
 
@@ -52,12 +52,12 @@ returns-then-not-below-2 c =
     let same = sym places ∙ c.if-count-k.false ∙ size in
     let inside = c.below-2.ensures _ _ vs t.held (omega arith) ∙ one_below vs 0 _ in
     fails 6 _ _ (not_below _ _ same (rw size at (sym inside ∙ c.if-not-below-2.true)))
-    ∙ passes 5 _ _ (both_true (sym once ∙ c.if-not-slot_distinct.false) (sym (c.short.ensures.0 _ _ vs t.held (omega arith)) ∙ c.if-not-short.false))
+    ∙ passes 5 _ _ (both_true (sym once ∙ c.if-not-slot_distinct.false) (sym (c.short.ensures.by_index _ _ vs t.held (omega arith)) ∙ c.if-not-short.false))
     ∙ passes 4 _ _ (sym (c.below.ensures _ _ vs t.held (omega arith)) ∙ c.if-not-below.false)
     ∙ t.own
 
 pub slot_distinct-requires-2 : goal.slot_distinct-requires-2
-slot_distinct-requires-2 c = (omega arith, omega arith, c.short.ensures.1 (c.if-not-short.false) 0 (omega arith) (omega arith))
+slot_distinct-requires-2 c = (omega arith, omega arith, c.short.ensures.all_kept (c.if-not-short.false) 0 (omega arith) (omega arith))
 
 pub returns-then-not-slot_distinct-2 : goal.returns-then-not-slot_distinct-2
 returns-then-not-slot_distinct-2 c =
@@ -70,7 +70,7 @@ returns-then-not-slot_distinct-2 c =
     let inside = c.below-2.ensures _ _ vs t.held (omega arith) ∙ one_below vs 0 _ in
     let apart = c.slot_distinct-2.ensures _ _ vs t.held (omega arith) in
     fails 6 _ _ (sym (by_distinct _ _ same (rw size at (sym inside ∙ c.if-not-below-2.false))) ∙ sym apart ∙ c.if-not-slot_distinct-2.true)
-    ∙ passes 5 _ _ (both_true (sym once ∙ c.if-not-slot_distinct.false) (sym (c.short.ensures.0 _ _ vs t.held (omega arith)) ∙ c.if-not-short.false))
+    ∙ passes 5 _ _ (both_true (sym once ∙ c.if-not-slot_distinct.false) (sym (c.short.ensures.by_index _ _ vs t.held (omega arith)) ∙ c.if-not-short.false))
     ∙ passes 4 _ _ (sym (c.below.ensures _ _ vs t.held (omega arith)) ∙ c.if-not-below.false)
     ∙ t.own
 
@@ -86,6 +86,6 @@ returns c =
     let apart = c.slot_distinct-2.ensures _ _ vs t.held (omega arith) in
     none_bad
     ∙ passes 6 _ _ (sym (by_distinct _ _ same (rw size at (sym inside ∙ c.if-not-below-2.false))) ∙ sym apart ∙ c.if-not-slot_distinct-2.false)
-    ∙ passes 5 _ _ (both_true (sym once ∙ c.if-not-slot_distinct.false) (sym (c.short.ensures.0 _ _ vs t.held (omega arith)) ∙ c.if-not-short.false))
+    ∙ passes 5 _ _ (both_true (sym once ∙ c.if-not-slot_distinct.false) (sym (c.short.ensures.by_index _ _ vs t.held (omega arith)) ∙ c.if-not-short.false))
     ∙ passes 4 _ _ (sym (c.below.ensures _ _ vs t.held (omega arith)) ∙ c.if-not-below.false)
     ∙ t.own

@@ -22,9 +22,9 @@ pub returns-in_default : goal.returns-in_default
 unfolding context_of
 returns-in_default c = λ vs w h.
     none_recorded (context_of c.args.c) c.args.form
-    (λ e. miss (others_than (1 ∷ 8 ∷ 9 ∷ 20 ∷ [])) 1 tt (rw e at c.in_default.keys5))
-    (λ e. miss (others_than (1 ∷ 8 ∷ 9 ∷ 20 ∷ [])) 20 tt (rw e at c.in_default.keys5))
-    (λ e. miss (others_than (1 ∷ 8 ∷ 9 ∷ 20 ∷ [])) 8 tt (rw e at c.in_default.keys5))
-    (λ e. miss (others_than (1 ∷ 8 ∷ 9 ∷ 20 ∷ [])) 9 tt (rw e at c.in_default.keys5))
+    c.in_default.not-Header
+    c.in_default.not-EditionHeader
+    c.in_default.not-Measure
+    c.in_default.not-Allocate
     w
     (meaning _ vs w h)

@@ -17,6 +17,6 @@ returns-in-Barrier c = λ vs w h. barrier_second (rw c.in-Barrier.is at h)
 pub returns-in_default : goal.returns-in_default
 returns-in_default c = λ vs w h.
     others_first _ vs h.says
-    (λ e. miss (others_than (2 ∷ 11 ∷ 21 ∷ [])) 2 tt (rw e at c.in_default.keys4))
-    (λ e. miss (others_than (2 ∷ 11 ∷ 21 ∷ [])) 11 tt (rw e at c.in_default.keys4))
-    (λ e. miss (others_than (2 ∷ 11 ∷ 21 ∷ [])) 21 tt (rw e at c.in_default.keys4))
+    c.in_default.not-Unitary
+    c.in_default.not-Reset
+    c.in_default.not-Barrier

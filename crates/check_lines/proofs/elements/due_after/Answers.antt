@@ -23,9 +23,9 @@ pub returns-in_default : goal.returns-in_default
 returns-in_default c =
     λ vs w h.
     none_due (context_of c.args.c) c.args.form
-    (λ e. miss (others_than (16 ∷ 17 ∷ 18 ∷ 19 ∷ [])) 16 tt (rw e at c.in_default.keys5))
-    (λ e. miss (others_than (16 ∷ 17 ∷ 18 ∷ 19 ∷ [])) 17 tt (rw e at c.in_default.keys5))
-    (λ e. miss (others_than (16 ∷ 17 ∷ 18 ∷ 19 ∷ [])) 18 tt (rw e at c.in_default.keys5))
-    (λ e. miss (others_than (16 ∷ 17 ∷ 18 ∷ 19 ∷ [])) 19 tt (rw e at c.in_default.keys5))
+    c.in_default.not-Uniform
+    c.in_default.not-Weighted
+    c.in_default.not-Element
+    c.in_default.not-WeightedElement
     w
     (meaning _ vs w h.says)

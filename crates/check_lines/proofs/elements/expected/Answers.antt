@@ -27,11 +27,11 @@ returns-in-WeightedElement c = (
 pub returns-in_default : goal.returns-in_default
 unfolding context_of
 returns-in_default c = (
-  λ z. absurd (miss (others_than (0 ∷ 18 ∷ 19 ∷ [])) 0 tt (rw (unread_form c.args.form z) at c.in_default.keys4)),
+  λ z. absurd (c.in_default.not-Unread (unread_form c.args.form z)),
   λ vs w h.
       expected_other (context_of c.args.c) c.args.form
-      (λ e. miss (others_than (0 ∷ 18 ∷ 19 ∷ [])) 18 tt (rw e at c.in_default.keys4))
-      (λ e. miss (others_than (0 ∷ 18 ∷ 19 ∷ [])) 19 tt (rw e at c.in_default.keys4))
+      c.in_default.not-Element
+      c.in_default.not-WeightedElement
       w
       (meaning _ vs w h.says),
 )

@@ -3,7 +3,7 @@ use borrow.Author.Tests.{not-true, not-false}
 use Rattle.check_lines.proofs.elements.missing.Goals as goal
 
 pub returns-then-not-last : goal.returns-then-not-last
-returns-then-not-last c = λ vs w h. rw (not-true c.args.last c.if-not-last.true)
+returns-then-not-last c = λ vs w h. rw c.if-not-last.true
 
 pub returns : goal.returns
-returns c = λ vs w h. rw (not-false c.args.last c.if-not-last.false, c.due_after.ensures vs w h)
+returns c = λ vs w h. rw (c.if-not-last.false, c.due_after.ensures vs w h)

@@ -14,7 +14,7 @@ pub returns-in_default : goal.returns-in_default
 returns-in_default c =
     λ last vs w h p t q.
     total_begins (context_of c.args.c) c.args.form
-    (λ e. miss (others_than (19 ∷ [])) 19 tt (rw e at c.in_default.keys2))
+    c.in_default.not-WeightedElement
     w
     (meaning _ vs w h.says)
     (passed_expected (context_of c.args.c) last w p)

@@ -23,8 +23,8 @@ returns-in_default c = λ d vs w h x.
     sym
     (ap has_total
     (no_total_after d c.args.form
-    (λ e. miss (others_than (17 ∷ 19 ∷ [])) 17 tt (rw e at c.in_default.keys3))
-    (λ e. miss (others_than (17 ∷ 19 ∷ [])) 19 tt (rw e at c.in_default.keys3))
+    c.in_default.not-Weighted
+    c.in_default.not-WeightedElement
     w
     (meaning _ vs w h)
     x))

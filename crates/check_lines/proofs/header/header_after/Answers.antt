@@ -16,8 +16,8 @@ pub returns-in_default : goal.returns-in_default
 unfolding context_of
 returns-in_default c = λ vs w h.
     (header_before (context_of c.args.c) c.args.form
-    (λ e. miss (others_than (1 ∷ 20 ∷ [])) 1 tt (rw e at c.in_default.keys3))
-    (λ e. miss (others_than (1 ∷ 20 ∷ [])) 20 tt (rw e at c.in_default.keys3))
+    c.in_default.not-Header
+    c.in_default.not-EditionHeader
     w
     (meaning _ vs w h.says)
     ).1

@@ -19,10 +19,10 @@ pub returns-then-not-short : goal.returns-then-not-short
 returns-then-not-short c =
     λ vs w h.
     let t = tests_depolarizing c.args.c h in
-    fails 5 _ _ (right_false (distinct (list_at_of 2 vs)) _ (sym (c.short.ensures.0 _ _ vs t.held (omega arith)) ∙ c.if-not-short.true)) ∙ passes 4 _ _ (sym (c.below.ensures _ _ vs t.held (omega arith)) ∙ c.if-not-below.false) ∙ t.own
+    fails 5 _ _ (right_false (distinct (list_at_of 2 vs)) _ (sym (c.short.ensures.by_index _ _ vs t.held (omega arith)) ∙ c.if-not-short.true)) ∙ passes 4 _ _ (sym (c.below.ensures _ _ vs t.held (omega arith)) ∙ c.if-not-below.false) ∙ t.own
 
 pub slot_distinct-requires : goal.slot_distinct-requires
-slot_distinct-requires c = (omega arith, omega arith, c.short.ensures.1 (c.if-not-short.false) 2 (omega arith) (omega arith))
+slot_distinct-requires c = (omega arith, omega arith, c.short.ensures.all_kept (c.if-not-short.false) 2 (omega arith) (omega arith))
 
 pub returns-then-not-slot_distinct : goal.returns-then-not-slot_distinct
 returns-then-not-slot_distinct c =
@@ -32,7 +32,7 @@ returns-then-not-slot_distinct c =
     fails 5 _ _ (left_false _ _ (sym once ∙ c.if-not-slot_distinct.true)) ∙ passes 4 _ _ (sym (c.below.ensures _ _ vs t.held (omega arith)) ∙ c.if-not-below.false) ∙ t.own
 
 pub depolarizing_size-requires : goal.depolarizing_size-requires
-depolarizing_size-requires c = omega (arith, c.count.ensures, c.short.ensures.1 (c.if-not-short.false) 2 (omega arith) (omega arith))
+depolarizing_size-requires c = omega (arith, c.count.ensures, c.short.ensures.all_kept (c.if-not-short.false) 2 (omega arith) (omega arith))
 
 pub returns : goal.returns
 returns c =
@@ -41,4 +41,4 @@ returns c =
     let once = c.slot_distinct.ensures _ _ vs t.held (omega arith) in
     let size = c.depolarizing_size.ensures ∙ ap (λ k. 4 ^ k - 1) (c.count.ensures ∙ t.held.count 2 (omega arith)) in
     rw size at (c.unlisted_number.ensures _ vs t.held (omega arith))
-    ∙ passes 5 _ _ (both_true (sym once ∙ c.if-not-slot_distinct.false) (sym (c.short.ensures.0 _ _ vs t.held (omega arith)) ∙ c.if-not-short.false)) ∙ passes 4 _ _ (sym (c.below.ensures _ _ vs t.held (omega arith)) ∙ c.if-not-below.false) ∙ t.own
+    ∙ passes 5 _ _ (both_true (sym once ∙ c.if-not-slot_distinct.false) (sym (c.short.ensures.by_index _ _ vs t.held (omega arith)) ∙ c.if-not-short.false)) ∙ passes 4 _ _ (sym (c.below.ensures _ _ vs t.held (omega arith)) ∙ c.if-not-below.false) ∙ t.own

@@ -10,13 +10,13 @@ use Rattle.check_lines.proofs.noise_lines.listed_number.Goals as goal
 
 pub returns-then-not-short : goal.returns-then-not-short
 unfolding listed_tests
-returns-then-not-short c = λ vs h. fails 5 _ _ (sym (c.short.ensures.0 _ _ vs h (omega arith)) ∙ c.if-not-short.true)
+returns-then-not-short c = λ vs h. fails 5 _ _ (sym (c.short.ensures.by_index _ _ vs h (omega arith)) ∙ c.if-not-short.true)
 
 pub returns-then-refusal-ne0 : goal.returns-then-refusal-ne0
 unfolding listed_tests
 returns-then-refusal-ne0 c = λ vs h.
     two_fail _ _ _ (c.noise_number-refusal.ensures _ _ vs h (omega arith) (omega arith)) c.if-refusal-ne0.true
-    ∙ passes 5 _ _ (sym (c.short.ensures.0 _ _ vs h (omega arith)) ∙ c.if-not-short.false)
+    ∙ passes 5 _ _ (sym (c.short.ensures.by_index _ _ vs h (omega arith)) ∙ c.if-not-short.false)
 
 pub returns-then-element_count-eq0 : goal.returns-then-element_count-eq0
 unfolding listed_tests
@@ -24,7 +24,7 @@ returns-then-element_count-eq0 c = λ vs h.
     let n = c.number-element_count.ensures ∙ h.number 2 (omega arith) in
     fails 12 _ _ (left_false _ _ (lt-leb 1 (number_at 2 vs) (omega arith)))
     ∙ two_pass _ _ _ (c.noise_number-refusal.ensures _ _ vs h (omega arith) (omega arith)) (omega arith) (omega arith) c.if-refusal-ne0.false
-    ∙ passes 5 _ _ (sym (c.short.ensures.0 _ _ vs h (omega arith)) ∙ c.if-not-short.false)
+    ∙ passes 5 _ _ (sym (c.short.ensures.by_index _ _ vs h (omega arith)) ∙ c.if-not-short.false)
 
 pub returns-then-element_count-gt-MAX_ELEMENTS : goal.returns-then-element_count-gt-MAX_ELEMENTS
 unfolding listed_tests
@@ -32,7 +32,7 @@ returns-then-element_count-gt-MAX_ELEMENTS c = λ vs h.
     let n = c.number-element_count.ensures ∙ h.number 2 (omega arith) in
     fails 12 _ _ (right_false (leb 1 (number_at 2 vs)) _ (lt-leb (number_at 2 vs) 64 (omega arith)))
     ∙ two_pass _ _ _ (c.noise_number-refusal.ensures _ _ vs h (omega arith) (omega arith)) (omega arith) (omega arith) c.if-refusal-ne0.false
-    ∙ passes 5 _ _ (sym (c.short.ensures.0 _ _ vs h (omega arith)) ∙ c.if-not-short.false)
+    ∙ passes 5 _ _ (sym (c.short.ensures.by_index _ _ vs h (omega arith)) ∙ c.if-not-short.false)
 
 pub returns : goal.returns
 unfolding listed_tests
@@ -41,4 +41,4 @@ returns c = λ vs h.
     rw n at (c.size_number.ensures _ _ vs h (omega arith))
     ∙ passes 12 _ _ (both_true (le-leb 1 (number_at 2 vs) (omega arith)) (le-leb (number_at 2 vs) 64 (omega arith)))
     ∙ two_pass _ _ _ (c.noise_number-refusal.ensures _ _ vs h (omega arith) (omega arith)) (omega arith) (omega arith) c.if-refusal-ne0.false
-    ∙ passes 5 _ _ (sym (c.short.ensures.0 _ _ vs h (omega arith)) ∙ c.if-not-short.false)
+    ∙ passes 5 _ _ (sym (c.short.ensures.by_index _ _ vs h (omega arith)) ∙ c.if-not-short.false)

@@ -16,11 +16,11 @@ pub returns-then-not-short : goal.returns-then-not-short
 returns-then-not-short c =
     λ vs w h.
     let t = tests_single c.args.c h in
-    fails 5 _ _ (sym (c.short.ensures.0 _ _ vs t.held (omega arith)) ∙ c.if-not-short.true) ∙ passes 4 _ _ (sym (c.below.ensures _ _ vs t.held (omega arith)) ∙ c.if-not-below.false) ∙ t.own
+    fails 5 _ _ (sym (c.short.ensures.by_index _ _ vs t.held (omega arith)) ∙ c.if-not-short.true) ∙ passes 4 _ _ (sym (c.below.ensures _ _ vs t.held (omega arith)) ∙ c.if-not-below.false) ∙ t.own
 
 pub returns : goal.returns
 returns c =
     λ vs w h.
     let t = tests_single c.args.c h in
     c.unlisted_number.ensures _ vs t.held (omega arith)
-    ∙ passes 5 _ _ (sym (c.short.ensures.0 _ _ vs t.held (omega arith)) ∙ c.if-not-short.false) ∙ passes 4 _ _ (sym (c.below.ensures _ _ vs t.held (omega arith)) ∙ c.if-not-below.false) ∙ t.own
+    ∙ passes 5 _ _ (sym (c.short.ensures.by_index _ _ vs t.held (omega arith)) ∙ c.if-not-short.false) ∙ passes 4 _ _ (sym (c.below.ensures _ _ vs t.held (omega arith)) ∙ c.if-not-below.false) ∙ t.own
