@@ -20,7 +20,6 @@ use Rattle.job.proofs.Laws.Begun.{job_passes, job_begun}
 use Rattle.job.proofs.Laws.Gather.{gathered_sound}
 use Rattle.job.proofs.Laws.Recorded.{instruction_within}
 use Rattle.job.proofs.Laws.Instructions.{LineStep, FirstInstruction, first_instruction}
-use Rattle.reader.specs.declared.Form.TheVariants as form
 use Rattle.instructions.specs.declared.LineRead.{LineRead}
 use Rattle.instructions.specs.Reading.{line_at, LineAt, NextLine, noise_form}
 use Rattle.instructions.specs.Ahead.{instructions_at, Ahead, Started, PlainRead, NoiseRead}
