@@ -44,7 +44,7 @@ pub shape_of-links-then-not-l : goal.shape_of-links-then-not-l
 shape_of-links-then-not-l c = c.loop-at.invariant.4
 
 pub returns-then-not-l : goal.returns-then-not-l
-returns-then-not-l c = collect_stops c.loop-at.invariant.0 c.next_known-line.ensures c.look-l.ensures (c.if-not-l.true)
+returns-then-not-l c = collect_stops c.loop-at.invariant.0 c.next_known-line.ensures c.look-l.ensures (not-true _ c.if-not-l.true)
 
 pub is_full-requires : goal.is_full-requires
 is_full-requires c = tt
@@ -74,7 +74,7 @@ pub loop-at-smaller : goal.loop-at-smaller
 loop-at-smaller c = omega (arith, c.next_known-line.ensures.place.inside, c.next_known-line.ensures.place.begins)
 
 pub loop-at-preserved : goal.loop-at-preserved
-loop-at-preserved c = (collect_more c.loop-at.invariant.0 c.next_known-line.ensures c.look-l.ensures (c.if-not-l.false) c.remember-n.ensures, omega (arith, c.loop-at.invariant.1, c.next_known-line.auto), c.remember-n.auto.1.1.0 ∙ c.loop-at.invariant.2, c.remember-n.auto.1.1.1.0 ∙ c.loop-at.invariant.3, c.remember-n.auto.1.1.1.1.0 ∙ c.loop-at.invariant.4)
+loop-at-preserved c = (collect_more c.loop-at.invariant.0 c.next_known-line.ensures c.look-l.ensures (not-false _ c.if-not-l.false) c.remember-n.ensures, omega (arith, c.loop-at.invariant.1, c.next_known-line.auto), c.remember-n.auto.seen ∙ c.loop-at.invariant.2, c.remember-n.auto.sizes ∙ c.loop-at.invariant.3, c.remember-n.auto.links ∙ c.loop-at.invariant.4)
 
 pub shape_of-seen : goal.shape_of-seen
 shape_of-seen c = c.loop-at.invariant.2

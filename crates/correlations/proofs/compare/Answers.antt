@@ -21,7 +21,7 @@ pub look-l-requires : goal.look-l-requires
 look-l-requires c = (omega (arith, c.loop-at.invariant.1, c.next_known-line.auto), c.requires.1, c.requires.2)
 
 pub returns-then-not-l : goal.returns-then-not-l
-returns-then-not-l c = compare_stops c.loop-at.invariant.0 c.next_known-line.ensures c.look-l.ensures.is (c.if-not-l.true)
+returns-then-not-l c = compare_stops c.loop-at.invariant.0 c.next_known-line.ensures c.look-l.ensures.is (not-true _ c.if-not-l.true)
 
 pub overflow_add-at : goal.overflow_add-at
 overflow_add-at c = omega (arith, c.next_known-line.ensures.place.inside, c.loop-at.invariant.0.left.size)
@@ -33,7 +33,7 @@ pub loop-at-smaller : goal.loop-at-smaller
 loop-at-smaller c = omega (arith, c.next_known-line.ensures.place.inside, c.next_known-line.ensures.place.begins)
 
 pub loop-at-preserved : goal.loop-at-preserved
-loop-at-preserved c = (compare_more c.loop-at.invariant.0 c.next_known-line.ensures c.look-l.ensures.is (c.if-not-l.false), omega (arith, c.loop-at.invariant.1, c.next_known-line.auto))
+loop-at-preserved c = (compare_more c.loop-at.invariant.0 c.next_known-line.ensures c.look-l.ensures.is (not-false _ c.if-not-l.false), omega (arith, c.loop-at.invariant.1, c.next_known-line.auto))
 
 pub returns : goal.returns
 returns c = compare_ends c.loop-at.invariant.0 c.loop-at-test.false

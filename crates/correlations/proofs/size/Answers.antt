@@ -1,8 +1,5 @@
 -- `correlations::size` meets its contract. Assumes nothing.
-use types.Run.{miss}
 use mathlib.Core.Path.{◌∙◌}
-use mathlib.Core.List.{[], ◌∷◌}
-use Rattle.instructions.specs.Laws.Meaning.{others_than}
 use Rattle.correlations.specs.Laws.Sizes.{size_uniform, size_weighted, size_other}
 use Rattle.correlations.proofs.size.Goals as goal
 
@@ -13,4 +10,4 @@ pub returns-in-Weighted : goal.returns-in-Weighted
 returns-in-Weighted c = λ vs n s. c.number-in-Weighted.ensures ∙ size_weighted (rw c.in-Weighted.is at s)
 
 pub returns-in_default : goal.returns-in_default
-returns-in_default c = λ vs n s. c.number-in_default.ensures ∙ size_other _ (λ e. miss (others_than (16 ∷ 17 ∷ [])) 16 tt (rw e at c.in_default.keys3)) (λ e. miss (others_than (16 ∷ 17 ∷ [])) 17 tt (rw e at c.in_default.keys3)) s
+returns-in_default c = λ vs n s. c.number-in_default.ensures ∙ size_other _ c.in_default.not-Uniform c.in_default.not-Weighted s
