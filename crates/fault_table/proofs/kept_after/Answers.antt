@@ -1,8 +1,5 @@
 -- `fault_table::kept_after` meets its contract. Assumes nothing.
-use types.Run.{miss}
 use native.Mathlib.Omega.{arith}
-use mathlib.Core.List.{[], ◌∷◌}
-use Rattle.instructions.specs.Laws.Meaning.{others_than}
 use Rattle.fault_table.specs.Laws.Keeping.{an_element, a_weighted_element}
 use Rattle.fault_table.specs.Laws.Kept.{element_kept, header_kept, edition_kept, none_kept}
 use Rattle.fault_table.proofs.kept_after.Goals as goal
@@ -26,4 +23,4 @@ pub returns-in-EditionHeader : goal.returns-in-EditionHeader
 returns-in-EditionHeader c = λ f vs w s. edition_kept _ vs w s.says c.in-EditionHeader.is
 
 pub returns-in_default : goal.returns-in_default
-returns-in_default c = λ f vs w s. none_kept _ vs w s.says (λ e. miss (others_than (1 ∷ 18 ∷ 19 ∷ 20 ∷ [])) 1 tt (rw e at c.in_default.keys5)) (λ e. miss (others_than (1 ∷ 18 ∷ 19 ∷ 20 ∷ [])) 18 tt (rw e at c.in_default.keys5)) (λ e. miss (others_than (1 ∷ 18 ∷ 19 ∷ 20 ∷ [])) 19 tt (rw e at c.in_default.keys5)) (λ e. miss (others_than (1 ∷ 18 ∷ 19 ∷ 20 ∷ [])) 20 tt (rw e at c.in_default.keys5))
+returns-in_default c = λ f vs w s. none_kept _ vs w s.says c.in_default.not-Header c.in_default.not-Element c.in_default.not-WeightedElement c.in_default.not-EditionHeader

@@ -20,16 +20,16 @@ pub is_wide-requires : goal.is_wide-requires
 is_wide-requires c = omega (arith, c.loop-at.invariant.1, c.next_known-line.auto)
 
 pub returns-then-is_wide : goal.returns-then-is_wide
-returns-then-is_wide c = measure_wide _ c.requires.0 _ c.loop-at.invariant.0 c.next_known-line.ensures c.is_IsWide.ensures c.if-is_wide.true
+returns-then-is_wide c = measure_wide _ c.requires.0 _ c.loop-at.invariant.0 c.next_known-line.ensures c.is_wide.ensures c.if-is_wide.true
 
 pub slice_bounds-line_bytes-end : goal.slice_bounds-line_bytes-end
 slice_bounds-line_bytes-end c = omega (arith, c.loop-at.invariant.1, c.next_known-line.auto)
 
 pub line_bytes-bytes-requires : goal.line_bytes-bytes-requires
-line_bytes-bytes-requires c = (c.requires.1, omega (arith, c.loop-at.invariant.1, c.next_known-line.auto), said_small _ c.requires.0 _ c.loop-at.invariant.0 c.next_known-line.ensures c.is_IsWide.ensures c.if-is_wide.false)
+line_bytes-bytes-requires c = (c.requires.1, omega (arith, c.loop-at.invariant.1, c.next_known-line.auto), said_small _ c.requires.0 _ c.loop-at.invariant.0 c.next_known-line.ensures c.is_wide.ensures c.if-is_wide.false)
 
 pub overflow_add-bytes : goal.overflow_add-bytes
-overflow_add-bytes c = let s = bytes_small _ c.requires.0 _ c.loop-at.invariant.0 c.next_known-line.ensures c.is_IsWide.ensures c.if-is_wide.false c.line_bytes-bytes.ensures c.requires.1 in omega (arith, s, c.loop-at.invariant.0.left.within, c.loop-at.invariant.0.left.size)
+overflow_add-bytes c = let s = bytes_small _ c.requires.0 _ c.loop-at.invariant.0 c.next_known-line.ensures c.is_wide.ensures c.if-is_wide.false c.line_bytes-bytes.ensures c.requires.1 in omega (arith, s, c.loop-at.invariant.0.left.within, c.loop-at.invariant.0.left.size)
 
 pub overflow_add-at : goal.overflow_add-at
 overflow_add-at c = omega (arith, c.next_known-line.ensures.place.inside, c.loop-at.invariant.0.left.size)
@@ -41,7 +41,7 @@ pub loop-at-smaller : goal.loop-at-smaller
 loop-at-smaller c = omega (arith, c.next_known-line.ensures.place.inside, c.next_known-line.ensures.place.begins)
 
 pub loop-at-preserved : goal.loop-at-preserved
-loop-at-preserved c = (measure_more _ c.requires.0 _ c.loop-at.invariant.0 c.next_known-line.ensures c.is_IsWide.ensures c.if-is_wide.false c.line_bytes-bytes.ensures c.requires.1, omega (arith, c.loop-at.invariant.1, c.next_known-line.auto))
+loop-at-preserved c = (measure_more _ c.requires.0 _ c.loop-at.invariant.0 c.next_known-line.ensures c.is_wide.ensures c.if-is_wide.false c.line_bytes-bytes.ensures c.requires.1, omega (arith, c.loop-at.invariant.1, c.next_known-line.auto))
 
 pub returns : goal.returns
 returns c = measure_ends _ c.requires.0 _ c.loop-at.invariant.0 c.loop-at-test.false

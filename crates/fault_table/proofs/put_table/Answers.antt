@@ -51,7 +51,7 @@ slice_bounds-put_rows-end-in-loop-e c = let g = c.loop-e.invariant.0 c.requires 
 
 pub put_rows-place-requires : goal.put_rows-place-requires
 unfolding line_at
-put_rows-place-requires c = let q = c.requires in let g = c.loop-e.invariant.0 q in rows_ready q g c.loop-e.invariant.1 c.loop-e-test.true c.line_start-at.ensures c.read_line-form.ensures (omega (arith, c.loop-e.invariant.2, c.read_line-form.auto)) c.keep_marks.ensures c.keep_marks.auto.0
+put_rows-place-requires c = let q = c.requires in let g = c.loop-e.invariant.0 q in rows_ready q g c.loop-e.invariant.1 c.loop-e-test.true c.line_start-at.ensures c.read_line-form.ensures (omega (arith, c.loop-e.invariant.2, c.read_line-form.auto)) c.keep_marks.ensures c.keep_marks.auto.kept
 
 pub slice_bounds-line_on_groups-end : goal.slice_bounds-line_on_groups-end
 slice_bounds-line_on_groups-end c = omega (arith, c.loop-e.invariant.2, c.read_line-form.auto)
@@ -71,7 +71,7 @@ loop-e-smaller c = omega (arith, c.line_start-at.ensures.within, c.loop-e-test.t
 
 pub loop-e-preserved : goal.loop-e-preserved
 unfolding line_at
-loop-e-preserved c = ((λ q. turn q (c.loop-e.invariant.0 q) c.loop-e.invariant.1 c.loop-e-test.true c.line_start-at.ensures c.read_line-form.ensures (omega (arith, c.loop-e.invariant.2, c.read_line-form.auto)) c.keep_marks.ensures c.keep_marks.auto.0 c.put_rows-place.ensures c.put_rows-place.auto.0 c.line_on_groups.ensures c.line_on_groups.auto.0 c.kept_after-n.ensures), c.put_rows-place.auto.0 ∙ c.loop-e.invariant.1, omega (arith, c.loop-e.invariant.2, c.read_line-form.auto), c.line_on_groups.auto.0 ∙ c.loop-e.invariant.3)
+loop-e-preserved c = ((λ q. turn q (c.loop-e.invariant.0 q) c.loop-e.invariant.1 c.loop-e-test.true c.line_start-at.ensures c.read_line-form.ensures (omega (arith, c.loop-e.invariant.2, c.read_line-form.auto)) c.keep_marks.ensures c.keep_marks.auto.kept c.put_rows-place.ensures c.put_rows-place.auto.out c.line_on_groups.ensures c.line_on_groups.auto.state c.kept_after-n.ensures), c.put_rows-place.auto.out ∙ c.loop-e.invariant.1, omega (arith, c.loop-e.invariant.2, c.read_line-form.auto), c.line_on_groups.auto.state ∙ c.loop-e.invariant.3)
 
 pub shape_of-out : goal.shape_of-out
 shape_of-out c = c.loop-e.invariant.1

@@ -49,14 +49,14 @@ pub slice_bounds-words-end-2 : goal.slice_bounds-words-end-2
 slice_bounds-words-end-2 c =
     let zeros = replicate {A = ℕ} 384 0 in
     let n = c.args.groups * 24 in
-    let long = c.start.auto.1.0 ∙ length-take-le n zeros (omega (arith, c.requires.few)) in
-    omega (arith, long, length-append c.start.new.1.0 (drop n zeros))
+    let long = c.start.auto.state ∙ length-take-le n zeros (omega (arith, c.requires.few)) in
+    omega (arith, long, length-append c.start.new.state (drop n zeros))
 
 pub slice_bounds-put_table-end-3 : goal.slice_bounds-put_table-end-3
-slice_bounds-put_table-end-3 c = sym (started_length c.requires c.measure-m.ensures c.if-m-ne0.false c.args.out.now (take (c.args.groups * 24) (replicate 384 0)) c.start.new.1.0 (drop (c.args.groups * 24) (replicate 384 0)) (zeros_taken c.requires (c.args.groups * 24) (omega (arith, c.requires.few))) c.start.ensures c.start.auto.1.0 (sym c.text_fits.ensures ∙ c.if-not-text_fits.false))
+slice_bounds-put_table-end-3 c = sym (started_length c.requires c.measure-m.ensures c.if-m-ne0.false c.args.out.now (take (c.args.groups * 24) (replicate 384 0)) c.start.new.state (drop (c.args.groups * 24) (replicate 384 0)) (zeros_taken c.requires (c.args.groups * 24) (omega (arith, c.requires.few))) c.start.ensures c.start.auto.state (sym c.text_fits.ensures ∙ c.if-not-text_fits.false))
 
 pub put_table-requires : goal.put_table-requires
-put_table-requires c = started_ready c.requires c.measure-m.ensures c.if-m-ne0.false c.args.out.now (take (c.args.groups * 24) (replicate 384 0)) c.start.new.1.0 (drop (c.args.groups * 24) (replicate 384 0)) (zeros_taken c.requires (c.args.groups * 24) (omega (arith, c.requires.few))) c.start.ensures c.start.auto.1.0 (sym c.text_fits.ensures ∙ c.if-not-text_fits.false)
+put_table-requires c = started_ready c.requires c.measure-m.ensures c.if-m-ne0.false c.args.out.now (take (c.args.groups * 24) (replicate 384 0)) c.start.new.state (drop (c.args.groups * 24) (replicate 384 0)) (zeros_taken c.requires (c.args.groups * 24) (omega (arith, c.requires.few))) c.start.ensures c.start.auto.state (sym c.text_fits.ensures ∙ c.if-not-text_fits.false)
 
 pub returns : goal.returns
-returns c = λ q. done_reply q c.measure-m.ensures c.if-m-ne0.false c.args.out.now (take (c.args.groups * 24) (replicate 384 0)) c.start.new.1.0 (drop (c.args.groups * 24) (replicate 384 0)) (zeros_taken q (c.args.groups * 24) (omega (arith, c.requires.few))) c.start.ensures c.start.auto.1.0 (sym c.text_fits.ensures ∙ c.if-not-text_fits.false) c.put_table.new.0 c.put_table.ensures
+returns c = λ q. done_reply q c.measure-m.ensures c.if-m-ne0.false c.args.out.now (take (c.args.groups * 24) (replicate 384 0)) c.start.new.state (drop (c.args.groups * 24) (replicate 384 0)) (zeros_taken q (c.args.groups * 24) (omega (arith, c.requires.few))) c.start.ensures c.start.auto.state (sym c.text_fits.ensures ∙ c.if-not-text_fits.false) c.put_table.new.out c.put_table.ensures

@@ -14,14 +14,14 @@ abbrev zeros : List ℕ
 zeros = replicate 31 0
 
 pub slice_bounds-members-end-2 : goal.slice_bounds-members-end-2
-slice_bounds-members-end-2 c = omega (arith, length-append c.select-x.new.0 zeros, c.select-x.auto)
+slice_bounds-members-end-2 c = omega (arith, length-append c.select-x.new.list zeros, c.select-x.auto)
 
 pub slice_bounds-put_inject-end-2 : goal.slice_bounds-put_inject-end-2
-slice_bounds-put_inject-end-2 c = sym (both_length c.select-x.new.0 c.select-z.new.0 zeros refl c.select-x.auto.0 c.select-z.auto.0)
+slice_bounds-put_inject-end-2 c = sym (both_length c.select-x.new.list c.select-z.new.list zeros refl c.select-x.auto.list c.select-z.auto.list)
 
 pub put_inject-requires : goal.put_inject-requires
-put_inject-requires c = (both_lent c.select-x.new.0 c.select-z.new.0 zeros refl c.select-x.auto.0 c.select-z.auto.0 _ _ (omega (arith, few_selected c.select-x.ensures, c.requires.1)) (omega (arith, few_selected c.select-z.ensures, c.requires.1)), omega (arith, c.requires.0))
+put_inject-requires c = (both_lent c.select-x.new.list c.select-z.new.list zeros refl c.select-x.auto.list c.select-z.auto.list _ _ (omega (arith, few_selected c.select-x.ensures, c.requires.1)) (omega (arith, few_selected c.select-z.ensures, c.requires.1)), omega (arith, c.requires.0))
 
 pub returns : goal.returns
 unfolding inject_text depolarizing_element_of
-returns c = rw (both_x c.select-x.new.0 c.select-z.new.0 zeros refl c.select-x.auto.0 c.select-z.auto.0 c.select-x.result (omega (arith, few_selected c.select-x.ensures, c.requires.1)), both_z c.select-x.new.0 c.select-z.new.0 zeros refl c.select-x.auto.0 c.select-z.auto.0 c.select-z.result (omega (arith, few_selected c.select-z.ensures, c.requires.1)), c.select-x.ensures.begins.list, c.select-z.ensures.begins.list) at c.put_inject.ensures
+returns c = rw (both_x c.select-x.new.list c.select-z.new.list zeros refl c.select-x.auto.list c.select-z.auto.list c.select-x.result (omega (arith, few_selected c.select-x.ensures, c.requires.1)), both_z c.select-x.new.list c.select-z.new.list zeros refl c.select-x.auto.list c.select-z.auto.list c.select-z.result (omega (arith, few_selected c.select-z.ensures, c.requires.1)), c.select-x.ensures.begins.list, c.select-z.ensures.begins.list) at c.put_inject.ensures

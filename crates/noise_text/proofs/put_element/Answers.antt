@@ -2,9 +2,7 @@
 use Rattle.noise_text.specs.Laws.Elements.{whole_in, whole_is, qubits_in}
 use Rattle.noise_text.specs.Elements.{element_in}
 use lib.ListN.{length-take}
-use mathlib.Core.List.{[], ◌∷◌}
 use native.Mathlib.Omega.{arith}
-use types.Run.{miss}
 use Rattle.noise_text.proofs.put_element.Goals as goal
 
 pub element_x-requires : goal.element_x-requires
@@ -16,11 +14,11 @@ put_depolarizing-requires c =
     (c.requires.0, rw (c.element_x.ensures, length-take) (omega (arith, r.few)), r.small)
 
 pub put_kept-requires : goal.put_kept-requires
-put_kept-requires c = (c.requires.0, whole_in c.args.distribution (λ k e. miss (0 ∷ 2 ∷ 3 ∷ []) 1 tt (rw e at c.in_default.keys2)) c.requires.1)
+put_kept-requires c = (c.requires.0, whole_in c.args.distribution c.in_default.not-Depolarizing c.requires.1)
 
 pub returns-in-Depolarizing : goal.returns-in-Depolarizing
 unfolding element_in
 returns-in-Depolarizing c = rw (c.in-Depolarizing.is, ← c.element_x.ensures) c.put_depolarizing.ensures
 
 pub returns-in_default : goal.returns-in_default
-returns-in_default c = rw (← whole_is c.args.elements.now c.args.e c.args.distribution (λ k e. miss (0 ∷ 2 ∷ 3 ∷ []) 1 tt (rw e at c.in_default.keys2))) c.put_kept.ensures
+returns-in_default c = rw (← whole_is c.args.elements.now c.args.e c.args.distribution c.in_default.not-Depolarizing) c.put_kept.ensures

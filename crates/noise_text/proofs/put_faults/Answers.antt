@@ -43,6 +43,6 @@ loop-position-preserved c =
       at_within (found_by c.rule_of-rule.ensures c.next_fault.ensures) _ _ _ c.in-At.is,
       omega (arith, later),
       omega (arith, later, goes, c.loop-position.invariant.2),
-      c.put_element-next.auto.0 ∙ c.loop-position.invariant.3,
+      c.put_element-next.auto.out ∙ c.loop-position.invariant.3,
       λ q. put_more q (c.loop-position.invariant.4 q) (found_by c.rule_of-rule.ensures c.next_fault.ensures) c.loop-position.invariant.1 _ _ _ c.in-At.is c.put_element-next.ensures,
     )

@@ -16,23 +16,23 @@ put_faults-requires c = (c.requires.0, c.requires.2.ready)
 pub position_after-requires : goal.position_after-requires
 position_after-requires c =
     let q = c.requires.2 in
-    let small : length (c.args.main.now ++ c.args.more.now) < 2 ^ 64 = omega (arith, length-append c.args.main.now c.args.more.now, c.well-formed) in
+    let small : length (c.args.main.now ++ c.args.more.now) < 2 ^ 64 = omega (arith, length-append c.args.main.now c.args.more.now) in
     all_fits q [] _ _ c.requires.1 _ c.if-fault.false (part_both q.ready.lent _ c.args.main.now c.args.more.now _ _ _ (c.part-words.ensures q.ready.lent q.second_is q.base_is) c.more_part-more_words.ensures) (c.put_faults.ensures q.ready) c.in-Spent.is small
 
 pub position_after-requires-in-Done : goal.position_after-requires-in-Done
 position_after-requires-in-Done c =
     let q = c.requires.2 in
-    let small : length (c.args.main.now ++ c.args.more.now) < 2 ^ 64 = omega (arith, length-append c.args.main.now c.args.more.now, c.well-formed) in
+    let small : length (c.args.main.now ++ c.args.more.now) < 2 ^ 64 = omega (arith, length-append c.args.main.now c.args.more.now) in
     read_fits q [] _ _ c.requires.1 _ c.if-fault.false (part_both q.ready.lent _ c.args.main.now c.args.more.now _ _ _ (c.part-words.ensures q.ready.lent q.second_is q.base_is) c.more_part-more_words.ensures) (c.put_faults.ensures q.ready) c.in-Done.is small
 
 pub shape_of-out-in-Spent : goal.shape_of-out-in-Spent
-shape_of-out-in-Spent c = c.put_faults.auto.0
+shape_of-out-in-Spent c = c.put_faults.auto.out
 
 pub returns-in-Spent : goal.returns-in-Spent
 returns-in-Spent c = λ q source. rw c.position_after.ensures (spent_draws q source _ _ c.requires.1 _ c.if-fault.false (part_both q.ready.lent _ c.args.main.now c.args.more.now _ _ _ (c.part-words.ensures q.ready.lent q.second_is q.base_is) c.more_part-more_words.ensures) (c.put_faults.ensures q.ready) c.in-Spent.is)
 
 pub shape_of-out-in-Done : goal.shape_of-out-in-Done
-shape_of-out-in-Done c = c.put_faults.auto.0
+shape_of-out-in-Done c = c.put_faults.auto.out
 
 pub returns-in-Done : goal.returns-in-Done
 returns-in-Done c = λ q source. rw c.position_after-in-Done.ensures (done_draws q source _ _ c.requires.1 _ c.if-fault.false (part_both q.ready.lent _ c.args.main.now c.args.more.now _ _ _ (c.part-words.ensures q.ready.lent q.second_is q.base_is) c.more_part-more_words.ensures) (c.put_faults.ensures q.ready) c.in-Done.is)

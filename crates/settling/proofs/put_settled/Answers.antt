@@ -34,7 +34,7 @@ pub put_instruction-requires : goal.put_instruction-requires
 put_instruction-requires c = (c.loop-here.invariant.0.between, c.loop-here-test.true, c.loop-here.invariant.0.few, omega (arith, c.loop-here.invariant.2), omega (arith, c.loop-here.invariant.3), omega (arith, c.loop-here.invariant.4), omega (arith, c.loop-here.invariant.5), omega (arith, c.loop-here.invariant.6))
 
 pub shape_of-out-in-Spent : goal.shape_of-out-in-Spent
-shape_of-out-in-Spent c = c.put_instruction.auto.0 ∙ c.loop-here.invariant.1 ∙ c.put_bytes-text.auto.0
+shape_of-out-in-Spent c = c.put_instruction.auto.out ∙ c.loop-here.invariant.1 ∙ c.put_bytes-text.auto.out
 
 pub returns-in-Spent : goal.returns-in-Spent
 returns-in-Spent c = pass_spent c.loop-here.invariant.0 (moved_spent c.put_instruction.ensures c.in-Spent.is)
@@ -47,16 +47,16 @@ loop-here-smaller c =
 pub loop-here-preserved : goal.loop-here-preserved
 loop-here-preserved c = (
   pass_on c.loop-here.invariant.0 (moved_to c.put_instruction.ensures c.in-To.is),
-  c.put_instruction.auto.0 ∙ c.loop-here.invariant.1,
-  c.put_instruction.auto.1.1.1.0 ∙ c.loop-here.invariant.2,
-  c.put_instruction.auto.1.1.1.1.0 ∙ c.loop-here.invariant.3,
-  c.put_instruction.auto.1.1.1.1.1.0 ∙ c.loop-here.invariant.4,
-  c.put_instruction.auto.1.1.1.1.1.1.0 ∙ c.loop-here.invariant.5,
-  c.put_instruction.auto.1.1.1.1.1.1.1.0 ∙ c.loop-here.invariant.6,
+  c.put_instruction.auto.out ∙ c.loop-here.invariant.1,
+  c.put_instruction.auto.values ∙ c.loop-here.invariant.2,
+  c.put_instruction.auto.elements ∙ c.loop-here.invariant.3,
+  c.put_instruction.auto.sums ∙ c.loop-here.invariant.4,
+  c.put_instruction.auto.weights ∙ c.loop-here.invariant.5,
+  c.put_instruction.auto.mask ∙ c.loop-here.invariant.6,
 )
 
 pub shape_of-out : goal.shape_of-out
-shape_of-out c = c.loop-here.invariant.1 ∙ c.put_bytes-text.auto.0
+shape_of-out c = c.loop-here.invariant.1 ∙ c.put_bytes-text.auto.out
 
 pub returns : goal.returns
 returns c = pass_done c.loop-here.invariant.0 (header_put c.requires c.behind_header-from.ensures c.put_bytes-text.ensures) c.loop-here-test.false

@@ -22,7 +22,7 @@ run_tested-r-requires c = tested_ready c.tested-tested.ensures (job_passes c.tes
 
 pub mark_taken-requires : goal.mark_taken-requires
 mark_taken-requires c =
-    let short : length c.args.main.now < 2 ^ 64 = omega (arith, c.well-formed) in
+    let short : length c.args.main.now < 2 ^ 64 = omega arith in
     marks_fit _ _ c.own-words.ensures c.common-more.ensures (share_passes c.tested-tested.ensures _ _ c.first_refusal-answer.ensures c.if-answer-ne0.false) short
     c.run_tested-r.ensures.within
 

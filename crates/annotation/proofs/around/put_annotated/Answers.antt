@@ -67,7 +67,7 @@ slice_bounds-put_around-end-in-loop-at c = omega (arith, c.put_start.auto)
 pub put_around-next-requires : goal.put_around-next-requires
 put_around-next-requires c =
     let fits = sym (c.if-not-fit.false) ∙ c.fit.ensures in
-    (record { probability = _; text = start_put c.args.p c.put_start.ensures c.put_start.auto.0 }, fits_few c.loop-at.invariant.0 c.next_known-line.ensures c.noise_qubits-n.ensures fits, put_room c.loop-at.invariant.0 c.next_known-line.ensures c.noise_qubits-n.ensures fits)
+    (record { probability = _; text = start_put c.args.p c.put_start.ensures c.put_start.auto.out }, fits_few c.loop-at.invariant.0 c.next_known-line.ensures c.noise_qubits-n.ensures fits, put_room c.loop-at.invariant.0 c.next_known-line.ensures c.noise_qubits-n.ensures fits)
 
 pub overflow_add-k : goal.overflow_add-k
 overflow_add-k c = omega (arith, c.loop-at.invariant.0.left.number, c.loop-at.invariant.0.left.within, c.loop-at.invariant.0.left.size)
@@ -76,7 +76,7 @@ pub loop-at-smaller : goal.loop-at-smaller
 loop-at-smaller c = omega (arith, c.next_known-line.ensures.place.begins, c.next_known-line.ensures.place.inside)
 
 pub loop-at-preserved : goal.loop-at-preserved
-loop-at-preserved c = (put_more c.loop-at.invariant.0 c.next_known-line.ensures c.noise_qubits-n.ensures _ (sym (c.if-not-fit.false) ∙ c.fit.ensures) c.noise_before-before.ensures (c.put_around-next.ensures _ (start_put c.args.p c.put_start.ensures c.put_start.auto.0)), omega (arith, c.loop-at.invariant.1, c.next_known-line.auto), omega (arith, c.loop-at.invariant.2, c.noise_qubits-n.auto))
+loop-at-preserved c = (put_more c.loop-at.invariant.0 c.next_known-line.ensures c.noise_qubits-n.ensures _ (sym (c.if-not-fit.false) ∙ c.fit.ensures) c.noise_before-before.ensures (c.put_around-next.ensures _ (start_put c.args.p c.put_start.ensures c.put_start.auto.out)), omega (arith, c.loop-at.invariant.1, c.next_known-line.auto), omega (arith, c.loop-at.invariant.2, c.noise_qubits-n.auto))
 
 pub shape_of-out : goal.shape_of-out
 shape_of-out c = rest_length c.loop-at.invariant.0.rest

@@ -11,7 +11,7 @@ pub put_bytes-requires : goal.put_bytes-requires
 put_bytes-requires c = omega (arith, noise_next _ _ (c.put_noise-next.ensures _ c.requires.0.text), c.requires.2)
 
 pub returns-then-before : goal.returns-then-before
-returns-then-before c = rw c.if-before.true (puts_more (c.put_noise-next.ensures p e) c.put_bytes.ensures)
+returns-then-before c p e = rw c.if-before.true (puts_more (c.put_noise-next.ensures p e) c.put_bytes.ensures)
 
 pub put_bytes-next-requires : goal.put_bytes-next-requires
 put_bytes-next-requires c = omega (arith, c.requires.2)
@@ -20,4 +20,4 @@ pub put_noise-requires : goal.put_noise-requires
 put_noise-requires c = (c.requires.1, omega (arith, c.requires.2, started c.requires.0, c.put_bytes-next.ensures.place))
 
 pub returns : goal.returns
-returns c = rw c.if-before.false (puts_more c.put_bytes-next.ensures (c.put_noise.ensures p e))
+returns c p e = rw c.if-before.false (puts_more c.put_bytes-next.ensures (c.put_noise.ensures p e))

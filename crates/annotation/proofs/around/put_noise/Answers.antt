@@ -4,7 +4,7 @@ use Rattle.annotation.specs.Laws.Annotating.{noise_empty, noise_some}
 use Rattle.annotation.proofs.around.put_noise.Goals as goal
 
 pub returns-then-qubits-eq0 : goal.returns-then-qubits-eq0
-returns-then-qubits-eq0 c = rw (noise_empty _ _ c.if-qubits-eq0.true) puts_nothing
+returns-then-qubits-eq0 c p e = rw (noise_empty _ _ c.if-qubits-eq0.true) puts_nothing
 
 pub returns : goal.returns
-returns c = rw (noise_some _ _ c.if-qubits-eq0.false) (c.put_depolarizing.ensures p e)
+returns c p e = rw (noise_some _ _ c.if-qubits-eq0.false) (c.put_depolarizing.ensures p e)

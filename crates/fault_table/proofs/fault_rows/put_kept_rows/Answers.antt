@@ -58,7 +58,7 @@ loop-e-preserved c =
     let here : i.a - 16 ≡ (64 - n + (i.e - 1)) * 16 = omega (arith, t, i.invariant.1) in
     let size = rw (part_size (i.a - 16) groups, here) at long in
     let put = rw (part_size (i.a - 16) groups, here) at c.put_row-begin.ensures in
-    (rows_more i.invariant.0 t size c.put_row-begin.auto.0 put, here)
+    (rows_more i.invariant.0 t size c.put_row-begin.auto.out put, here)
 
 pub shape_of-out : goal.shape_of-out
 shape_of-out c = c.loop-e.invariant.0.long

@@ -59,10 +59,10 @@ loop-at-preserved c =
     let t = c.loop-at-test.true in
     let q₀ = c.requires in
     let zero = group_zeros q₀ (i.invariant.0 q₀) t in
-    let size = rw (part_size i.a 24) at c.start_group.auto.0 ∙ ap length zero in
+    let size = rw (part_size i.a 24) at c.start_group.auto.group ∙ ap length zero in
     let is = rw (part_size (i.at + 1) (get_or c.args.list.now i.at 0)) at c.start_group.ensures in
     rw (part_size i.a 24)
-    ((λ q. start_more q (i.invariant.0 q) t c.start_group.new.0 size is), partly_length i.state c.start_group.new.0 i.a 24 size (group_room q₀ (i.invariant.0 q₀) t) ∙ i.invariant.1)
+    ((λ q. start_more q (i.invariant.0 q) t c.start_group.new.group size is), partly_length i.state c.start_group.new.group i.a 24 size (group_room q₀ (i.invariant.0 q₀) t) ∙ i.invariant.1)
 
 pub shape_of-state : goal.shape_of-state
 shape_of-state c = c.loop-at.invariant.1

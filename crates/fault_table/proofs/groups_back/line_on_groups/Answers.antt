@@ -47,8 +47,8 @@ loop-i-preserved c =
     let i = c.loop-i in
     let a = (i.i - 1) * 24 in
     let room : a + 24 ≤ length i.state = omega (arith, i.invariant.within, i.invariant.long, c.loop-i-test.true) in
-    let part = c.group_back.new.0 in
-    let size = c.group_back.auto.0 ∙ part_long i.state a 24 room in
+    let part = c.group_back.new.group in
+    let size = c.group_back.auto.group ∙ part_long i.state a 24 room in
     rw (part_size a 24) (back_more part i.invariant c.loop-i-test.true c.requires.1 size (rw (part_size a 24) at c.group_back.ensures))
 
 pub shape_of-state : goal.shape_of-state

@@ -55,8 +55,8 @@ returns c =
     let a = (64 - 1 - x.n) * 16 in
     let here : a ≡ (63 - x.n) * 16 = omega arith in
     let long = part_long x.kept.now a x.groups (omega (arith, t, p.1, p.3)) in
-    let part = c.put_marks.new.0 in
-    let size : length part ≡ x.groups = c.put_marks.auto.0 ∙ long in
+    let part = c.put_marks.new.marks in
+    let size : length part ≡ x.groups = c.put_marks.auto.marks ∙ long in
     let is : part ≡ marks_by (all_carried x.groups x.state.now) (as_pauli c.pauli_at-p.result) = rw long at c.put_marks.ensures in
     rw (part_size a x.groups, here)
     (λ q es many k. kept_element q (sym (c.if-not-is_element.false) ∙ c.is_element.ensures q.values q.written q.said.says) k x.n part many t p.1 p.3 size c.pauli_at-p.ensures is)

@@ -19,7 +19,7 @@ pub loop-e-smaller : goal.loop-e-smaller
 loop-e-smaller c = omega (arith, c.loop-e-test.true)
 
 pub loop-e-preserved : goal.loop-e-preserved
-loop-e-preserved c = rows_more c.loop-e.invariant c.loop-e-test.true (marks_long _ _ _) c.put_element_row-begin.auto.0 (rw c.depolarizing_element-p.ensures at c.put_element_row-begin.ensures)
+loop-e-preserved c = rows_more c.loop-e.invariant c.loop-e-test.true (marks_long _ _ _) c.put_element_row-begin.auto.out (rw c.depolarizing_element-p.ensures at c.put_element_row-begin.ensures)
 
 pub shape_of-out : goal.shape_of-out
 shape_of-out c = c.loop-e.invariant.long

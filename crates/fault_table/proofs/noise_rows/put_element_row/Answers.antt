@@ -23,9 +23,9 @@ slice_bounds-marks-end-2 c =
     let a = c.args in
     let p = c.requires in
     let zeros = replicate {A = ℕ} 16 0 in
-    let last = c.put_marks.new.0 in
+    let last = c.put_marks.new.marks in
     let long = length-take-le a.groups zeros (omega (arith, p.0)) in
-    let size : length last ≡ a.groups = c.put_marks.auto.0 ∙ long in
+    let size : length last ≡ a.groups = c.put_marks.auto.marks ∙ long in
     omega (arith, size, length-append last (drop a.groups zeros), length-drop a.groups zeros, p.0)
 
 pub slice_bounds-put_row-end : goal.slice_bounds-put_row-end
@@ -33,9 +33,9 @@ slice_bounds-put_row-end c =
     let a = c.args in
     let p = c.requires in
     let zeros = replicate {A = ℕ} 16 0 in
-    let last = c.put_marks.new.0 in
+    let last = c.put_marks.new.marks in
     let long = length-take-le a.groups zeros (omega (arith, p.0)) in
-    let size : length last ≡ a.groups = c.put_marks.auto.0 ∙ long in
+    let size : length last ≡ a.groups = c.put_marks.auto.marks ∙ long in
     let front = take_at last (drop a.groups zeros) a.groups size in
     sym (ap length front ∙ size)
 
@@ -44,9 +44,9 @@ put_row-requires c =
     let a = c.args in
     let p = c.requires in
     let zeros = replicate {A = ℕ} 16 0 in
-    let last = c.put_marks.new.0 in
+    let last = c.put_marks.new.marks in
     let long = length-take-le a.groups zeros (omega (arith, p.0)) in
-    let size : length last ≡ a.groups = c.put_marks.auto.0 ∙ long in
+    let size : length last ≡ a.groups = c.put_marks.auto.marks ∙ long in
     let front = take_at last (drop a.groups zeros) a.groups size in
     rw (front, size) (p.0, p.2, p.3)
 
@@ -55,9 +55,9 @@ returns c =
     let a = c.args in
     let p = c.requires in
     let zeros = replicate {A = ℕ} 16 0 in
-    let last = c.put_marks.new.0 in
+    let last = c.put_marks.new.marks in
     let long = length-take-le a.groups zeros (omega (arith, p.0)) in
-    let size : length last ≡ a.groups = c.put_marks.auto.0 ∙ long in
+    let size : length last ≡ a.groups = c.put_marks.auto.marks ∙ long in
     let front = take_at last (drop a.groups zeros) a.groups size in
     let marks : last ≡ marks_by (all_carried a.groups a.state.now) (as_pauli a.p) = rw long at c.put_marks.ensures in
     rw (← marks) (rw front at c.put_row.ensures)

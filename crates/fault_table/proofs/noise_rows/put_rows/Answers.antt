@@ -1,8 +1,5 @@
 -- `fault_table::noise_rows::put_rows` meets its contract. Assumes nothing.
-use types.Run.{miss}
 use native.Mathlib.Omega.{arith}
-use mathlib.Core.List.{[], ◌∷◌}
-use Rattle.instructions.specs.Laws.Meaning.{others_than}
 use Rattle.single_faults.specs.Carried.{rows_by}
 use Rattle.fault_table.specs.Rows.{rows_bytes}
 use Rattle.fault_table.specs.Laws.Kinds.{rows_as, single_held, single_room, single_rows, list_kept, list_few, list_below, spread_few, spread_room, spread_rows, listed_uniform, listed_weighted, no_rows}
@@ -50,4 +47,4 @@ pub returns-in-Weighted : goal.returns-in-Weighted
 returns-in-Weighted c = λ q. rows_as (listed_weighted q c.size-n-in-Weighted.ensures c.in-Weighted.is).rows c.put_kept_rows-in-Weighted.ensures
 
 pub returns-in_default : goal.returns-in_default
-returns-in_default c = λ q. no_rows q (λ e. miss (others_than (14 ∷ 15 ∷ 16 ∷ 17 ∷ [])) 14 tt (rw e at c.in_default.keys5)) (λ e. miss (others_than (14 ∷ 15 ∷ 16 ∷ 17 ∷ [])) 15 tt (rw e at c.in_default.keys5)) (λ e. miss (others_than (14 ∷ 15 ∷ 16 ∷ 17 ∷ [])) 16 tt (rw e at c.in_default.keys5)) (λ e. miss (others_than (14 ∷ 15 ∷ 16 ∷ 17 ∷ [])) 17 tt (rw e at c.in_default.keys5))
+returns-in_default c = λ q. no_rows q c.in_default.not-Single c.in_default.not-Depolarizing c.in_default.not-Uniform c.in_default.not-Weighted

@@ -40,9 +40,9 @@ returns-in-Spent c =
     let n = c.requires.2 in
     let noisy = c.requires.3 in
     let ready = c.prepare-ready.ensures (noise_here b n noisy) in
-    let room : AllInside c.prepare-ready.new.1.1.1.1.1.0 = omega (arith, c.requires.5, c.prepare-ready.auto) in
-    let masked : 64 ≤ length c.prepare-ready.new.1.1.1.1.1.1.1.1.0 = omega (arith, c.requires.8, c.prepare-ready.auto) in
-    noise_spent b n noisy ready room masked {out = c.args.out.now} {after = c.put_noise.new.0} (c.put_noise.ensures (ready_here b n noisy ready room masked) _) _ c.in-Spent.is
+    let room : AllInside c.prepare-ready.new.elements = omega (arith, c.requires.5, c.prepare-ready.auto) in
+    let masked : 64 ≤ length c.prepare-ready.new.mask = omega (arith, c.requires.8, c.prepare-ready.auto) in
+    noise_spent b n noisy ready room masked {out = c.args.out.now} {after = c.put_noise.new.out} (c.put_noise.ensures (ready_here b n noisy ready room masked) _) _ c.in-Spent.is
 
 pub returns-in-Done : goal.returns-in-Done
 returns-in-Done c =
@@ -50,6 +50,6 @@ returns-in-Done c =
     let n = c.requires.2 in
     let noisy = c.requires.3 in
     let ready = c.prepare-ready.ensures (noise_here b n noisy) in
-    let room : AllInside c.prepare-ready.new.1.1.1.1.1.0 = omega (arith, c.requires.5, c.prepare-ready.auto) in
-    let masked : 64 ≤ length c.prepare-ready.new.1.1.1.1.1.1.1.1.0 = omega (arith, c.requires.8, c.prepare-ready.auto) in
-    noise_done b n noisy ready room masked {out = c.args.out.now} {after = c.put_noise.new.0} (c.put_noise.ensures (ready_here b n noisy ready room masked) _) _ _ c.in-Done.is
+    let room : AllInside c.prepare-ready.new.elements = omega (arith, c.requires.5, c.prepare-ready.auto) in
+    let masked : 64 ≤ length c.prepare-ready.new.mask = omega (arith, c.requires.8, c.prepare-ready.auto) in
+    noise_done b n noisy ready room masked {out = c.args.out.now} {after = c.put_noise.new.out} (c.put_noise.ensures (ready_here b n noisy ready room masked) _) _ _ c.in-Done.is
