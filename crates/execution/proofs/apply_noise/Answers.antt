@@ -17,10 +17,10 @@ prepare-ready-requires c =
     )
 
 pub overflow_add-next : goal.overflow_add-next
-overflow_add-next c = record { fits = omega (arith, line_small _ _ c.prepare-ready.ensures c.requires.0, c.well-formed) }
+overflow_add-next c = record { fits = omega (arith, line_small _ _ c.prepare-ready.ensures c.requires.0, c.well_formed) }
 
 pub overflow_add-next-2 : goal.overflow_add-next-2
-overflow_add-next-2 c = record { fits = omega (arith, line_small _ _ c.prepare-ready.ensures c.requires.0, c.well-formed) }
+overflow_add-next-2 c = record { fits = omega (arith, line_small _ _ c.prepare-ready.ensures c.requires.0, c.well_formed) }
 
 pub returns-then-fault : goal.returns-then-fault
 returns-then-fault c = noise_quiet _ _ _ _ _ _ c.prepare-ready.ensures c.requires.2 _ _ c.if-fault.true
@@ -37,7 +37,7 @@ inject_faults-drawn-requires c =
 
 pub position_after-requires : goal.position_after-requires
 position_after-requires c =
-    let small : length (c.args.main.now ++ c.args.more.now) < 2 ^ 64 = omega (arith, length-append c.args.main.now c.args.more.now, c.well-formed) in
+    let small : length (c.args.main.now ++ c.args.more.now) < 2 ^ 64 = omega (arith, length-append c.args.main.now c.args.more.now, c.well_formed) in
     all_fits c.args.place _ c.args.shape _ _ _ c.prepare-ready.ensures c.requires.2 _ (part_both _ _ c.args.main.now c.args.more.now _ _ _ (c.part-words.ensures _ refl refl) c.more_part-more_words.ensures) c.if-fault.false _ _ _ _ c.inject_faults-drawn.ensures small _ c.count.ensures
 
 pub shape_of-elements-in_default : goal.shape_of-elements-in_default
@@ -64,7 +64,7 @@ returns-in_default c =
 
 pub position_after-requires-2 : goal.position_after-requires-2
 position_after-requires-2 c =
-    let small : length (c.args.main.now ++ c.args.more.now) < 2 ^ 64 = omega (arith, length-append c.args.main.now c.args.more.now, c.well-formed) in
+    let small : length (c.args.main.now ++ c.args.more.now) < 2 ^ 64 = omega (arith, length-append c.args.main.now c.args.more.now, c.well_formed) in
     read_fits _ _ _ _ _ _ c.prepare-ready.ensures c.requires.2 _ (part_both _ _ c.args.main.now c.args.more.now _ _ _ (c.part-words.ensures _ refl refl) c.more_part-more_words.ensures) c.if-fault.false _ _ _ _ c.inject_faults-drawn.ensures c.requires.0 small _ c.in-Done.is
 
 pub shape_of-elements : goal.shape_of-elements

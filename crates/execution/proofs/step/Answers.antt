@@ -46,14 +46,14 @@ overflow_add-result c =
     let ready = c.requires.0 in
     let place = c.next_known-line.ensures.place in
     let inside = place.inside in
-    record { fits = omega (arith, c.well-formed, plain_small _ c.args.place (plain_read ready.ahead c.next_known-line.ensures (sym c.is_noise.ensures ∙ c.if-is_noise.false)) ready.ahead c.requires.1 (omega (arith, ready.of_values, c.next_known-line.auto))) }
+    record { fits = omega (arith, c.well_formed, plain_small _ c.args.place (plain_read ready.ahead c.next_known-line.ensures (sym c.is_noise.ensures ∙ c.if-is_noise.false)) ready.ahead c.requires.1 (omega (arith, ready.of_values, c.next_known-line.auto))) }
 
 pub overflow_add-result-2 : goal.overflow_add-result-2
 overflow_add-result-2 c =
     let ready = c.requires.0 in
     let place = c.next_known-line.ensures.place in
     let inside = place.inside in
-    record { fits = omega (arith, c.well-formed, plain_small _ c.args.place (plain_read ready.ahead c.next_known-line.ensures (sym c.is_noise.ensures ∙ c.if-is_noise.false)) ready.ahead c.requires.1 (omega (arith, ready.of_values, c.next_known-line.auto))) }
+    record { fits = omega (arith, c.well_formed, plain_small _ c.args.place (plain_read ready.ahead c.next_known-line.ensures (sym c.is_noise.ensures ∙ c.if-is_noise.false)) ready.ahead c.requires.1 (omega (arith, ready.of_values, c.next_known-line.auto))) }
 
 pub returns : goal.returns
 returns c =

@@ -42,5 +42,5 @@ returns c =
     let lines = c.element_lines-element_lines.ensures _ _ q.said in
     let read = c.read_fault-ready.ensures _ _ q in
     let sized = length-take-le c.element_lines-element_lines.result c.args.sums.now (omega (arith, few_lines q _ lines, c.requires.1.of_sums)) in
-    let long : length c.read_fault-ready.new.1.1.1.1.1.0 ≡ c.read_fault-ready.result.element_lines = omega (arith, sized, c.read_fault-ready.auto, read.lines, q.count, lines) in
+    let long : length c.read_fault-ready.new.sums ≡ c.read_fault-ready.result.element_lines = omega (arith, sized, c.read_fault-ready.auto, read.lines, q.count, lines) in
     prepared q read (take_at _ _ _ long) _ c.satisfied_shots.ensures

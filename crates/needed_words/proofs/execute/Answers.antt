@@ -49,13 +49,13 @@ step-moved-requires c =
     )
 
 pub shape_of-x-in-Spent : goal.shape_of-x-in-Spent
-shape_of-x-in-Spent c = c.step-moved.auto.1.1.1.1.1.1.1.0 ∙ c.loop-place.invariant.5
+shape_of-x-in-Spent c = c.step-moved.auto.x ∙ c.loop-place.invariant.5
 
 pub shape_of-z-in-Spent : goal.shape_of-z-in-Spent
-shape_of-z-in-Spent c = c.step-moved.auto.1.1.1.1.1.1.1.1.0 ∙ c.loop-place.invariant.6
+shape_of-z-in-Spent c = c.step-moved.auto.z ∙ c.loop-place.invariant.6
 
 pub shape_of-deltas-in-Spent : goal.shape_of-deltas-in-Spent
-shape_of-deltas-in-Spent c = c.step-moved.auto.1.1.1.1.1.1.1.1.1.0 ∙ c.loop-place.invariant.7
+shape_of-deltas-in-Spent c = c.step-moved.auto.deltas ∙ c.loop-place.invariant.7
 
 pub shape_of-totals-in-Spent : goal.shape_of-totals-in-Spent
 shape_of-totals-in-Spent c = c.step-moved.ensures.1.long ∙ sym c.requires.2.long
@@ -81,14 +81,14 @@ loop-place-smaller c =
 pub loop-place-preserved : goal.loop-place-preserved
 loop-place-preserved c =
     let i = c.loop-place.invariant in (
-      c.step-moved.auto.1.1.0 ∙ i.0,
-      c.step-moved.auto.1.1.1.0 ∙ i.1,
-      c.step-moved.auto.1.1.1.1.0 ∙ i.2,
-      c.step-moved.auto.1.1.1.1.1.0 ∙ i.3,
-      c.step-moved.auto.1.1.1.1.1.1.0 ∙ i.4,
-      c.step-moved.auto.1.1.1.1.1.1.1.0 ∙ i.5,
-      c.step-moved.auto.1.1.1.1.1.1.1.1.0 ∙ i.6,
-      c.step-moved.auto.1.1.1.1.1.1.1.1.1.0 ∙ i.7,
+      c.step-moved.auto.values ∙ i.0,
+      c.step-moved.auto.elements ∙ i.1,
+      c.step-moved.auto.sums ∙ i.2,
+      c.step-moved.auto.weights ∙ i.3,
+      c.step-moved.auto.scratch ∙ i.4,
+      c.step-moved.auto.x ∙ i.5,
+      c.step-moved.auto.z ∙ i.6,
+      c.step-moved.auto.deltas ∙ i.7,
       going_on _ _ _ _ i.8 _ _ _ _
           (λ recorded ahead states holds. rw c.in-To.is at (c.step-moved.ensures.0.by recorded ahead states holds)),
       c.step-moved.ensures.1,

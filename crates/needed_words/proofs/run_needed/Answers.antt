@@ -9,7 +9,7 @@ execute-r-requires c =
     let ready = c.requires in
     let cleared = c.clear_all.ensures in
     let kept = c.clear_all.auto in
-    ((_, ready.ahead), rows_for ready kept.0 kept.1.0 kept.1.1.0, totals_cleared ready cleared.2 cleared.3)
+    ((_, ready.ahead), rows_for ready kept.x kept.z kept.deltas, totals_cleared ready cleared.2 cleared.3)
 
 pub returns-then-answer-eq0 : goal.returns-then-answer-eq0
 returns-then-answer-eq0 c =
@@ -19,25 +19,25 @@ returns-then-answer-eq0 c =
     let executes = c.execute-r.ensures in
     let kept2 = c.execute-r.auto in
     run_finished ready _ refl (executes.0.by starts (holds_cleared ready cleared.0 cleared.1 cleared.2)) executes.0.within executes.0.leaves executes.1
-    (kept2.1.1.0 ∙ kept.0)
-    (kept2.1.1.1.0 ∙ kept.1.0)
-    (kept2.1.1.1.1.0 ∙ kept.1.1.0)
-    (λ i. (c.slice_known-9-1.given i).fits)
-    (λ i. (c.slice_known-10-1.given i).fits)
-    (λ i. (c.slice_known-11-1.given i).fits)
+    (kept2.x ∙ kept.x)
+    (kept2.z ∙ kept.z)
+    (kept2.deltas ∙ kept.deltas)
+    (λ i. (c.type_inv.x i).fits)
+    (λ i. (c.type_inv.z i).fits)
+    (λ i. (c.type_inv.deltas i).fits)
     c.if-answer-eq0.true
 
 pub shape_of-x : goal.shape_of-x
-shape_of-x c = c.clear_all-2.auto.0 ∙ (c.execute-r.auto.1.1.0 ∙ c.clear_all.auto.0)
+shape_of-x c = c.clear_all-2.auto.x ∙ (c.execute-r.auto.x ∙ c.clear_all.auto.x)
 
 pub shape_of-z : goal.shape_of-z
-shape_of-z c = c.clear_all-2.auto.1.0 ∙ (c.execute-r.auto.1.1.1.0 ∙ c.clear_all.auto.1.0)
+shape_of-z c = c.clear_all-2.auto.z ∙ (c.execute-r.auto.z ∙ c.clear_all.auto.z)
 
 pub shape_of-deltas : goal.shape_of-deltas
-shape_of-deltas c = c.clear_all-2.auto.1.1.0 ∙ (c.execute-r.auto.1.1.1.1.0 ∙ c.clear_all.auto.1.1.0)
+shape_of-deltas c = c.clear_all-2.auto.deltas ∙ (c.execute-r.auto.deltas ∙ c.clear_all.auto.deltas)
 
 pub shape_of-totals : goal.shape_of-totals
-shape_of-totals c = c.clear_all-2.auto.1.1.1.0 ∙ (c.execute-r.auto.1.1.1.1.1.0 ∙ c.clear_all.auto.1.1.1.0)
+shape_of-totals c = c.clear_all-2.auto.totals ∙ (c.execute-r.auto.totals ∙ c.clear_all.auto.totals)
 
 pub returns : goal.returns
 returns c =
@@ -48,9 +48,9 @@ returns c =
     let kept2 = c.execute-r.auto in
     let again = c.clear_all-2.ensures in
     run_stopped ready _ refl (executes.0.by starts (holds_cleared ready cleared.0 cleared.1 cleared.2)) executes.0.within executes.0.leaves executes.1
-    (kept2.1.1.0 ∙ kept.0)
-    (kept2.1.1.1.0 ∙ kept.1.0)
-    (kept2.1.1.1.1.0 ∙ kept.1.1.0)
+    (kept2.x ∙ kept.x)
+    (kept2.z ∙ kept.z)
+    (kept2.deltas ∙ kept.deltas)
     again.0
     again.1
     again.2

@@ -1,9 +1,8 @@
 -- `execution::injection::flip_if` meets its contract. Assumes nothing.
-use borrow.Author.Tests.{not-true, not-false}
 use Rattle.execution.proofs.injection.flip_if.Goals as goal
 
 pub returns-then-not-on : goal.returns-then-not-on
-returns-then-not-on c = rw (not-true c.args.on c.if-not-on.true)
+returns-then-not-on c = rw c.if-not-on.true
 
 pub returns : goal.returns
-returns c = rw (not-false c.args.on c.if-not-on.false) c.flip_bit.ensures
+returns c = rw c.if-not-on.false c.flip_bit.ensures

@@ -19,7 +19,7 @@ pub loop-i-smaller : goal.loop-i-smaller
 loop-i-smaller c = omega arith
 
 pub loop-i-preserved : goal.loop-i-preserved
-loop-i-preserved c = (sym (selected_next _ _ _ _ _ _ c.loop-i-test.true (rw c.qubit_at-q.ensures at c.flip_if.ensures)) ∙ c.loop-i.invariant.0, c.flip_if.auto.0 ∙ c.loop-i.invariant.1)
+loop-i-preserved c = (sym (selected_next _ _ _ _ _ _ c.loop-i-test.true (rw c.qubit_at-q.ensures at c.flip_if.ensures)) ∙ c.loop-i.invariant.0, c.flip_if.auto.rows ∙ c.loop-i.invariant.1)
 
 pub shape_of-rows : goal.shape_of-rows
 shape_of-rows c = c.loop-i.invariant.1

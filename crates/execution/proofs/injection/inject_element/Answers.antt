@@ -1,9 +1,7 @@
 -- `execution::injection::inject_element` meets its contract. Assumes nothing.
 use Rattle.faults.specs.Laws.Drawn.{held_element}
 use Rattle.execution.specs.Laws.Elements.{element_depolarizing, depolarizing_ready, listed_ready}
-use mathlib.Core.List.{[], ◌∷◌}
 use native.Mathlib.Omega.{arith}
-use types.Run.{miss}
 use Rattle.execution.proofs.injection.inject_element.Goals as goal
 
 pub element_x-requires : goal.element_x-requires
@@ -16,7 +14,7 @@ inject_depolarizing-requires c =
     (c.requires.1, c.requires.2, rw qubits r.operands.below, rw qubits r.operands.apart, r.small, c.requires.3)
 
 pub inject_listed-requires : goal.inject_listed-requires
-inject_listed-requires c = (listed_ready c.requires.0 (λ k e. miss (0 ∷ 2 ∷ 3 ∷ []) 1 tt (rw e at c.in_default.keys2)), c.requires.1, c.requires.2, c.requires.3)
+inject_listed-requires c = (listed_ready c.requires.0 c.in_default.not-Depolarizing, c.requires.1, c.requires.2, c.requires.3)
 
 pub returns-in-Depolarizing : goal.returns-in-Depolarizing
 returns-in-Depolarizing c =
@@ -29,5 +27,5 @@ pub returns-in_default : goal.returns-in_default
 returns-in_default c =
     record {
       acts = λ D sums chooses held below m deltas.
-          c.inject_listed.ensures _ (held_element chooses (λ k e. miss (0 ∷ 2 ∷ 3 ∷ []) 1 tt (rw e at c.in_default.keys2)) _ below _ held) m deltas;
+          c.inject_listed.ensures _ (held_element chooses c.in_default.not-Depolarizing _ below _ held) m deltas;
     }

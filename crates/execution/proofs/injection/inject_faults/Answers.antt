@@ -51,7 +51,7 @@ inject_element-requires c =
     )
 
 pub overflow_add-next_shot : goal.overflow_add-next_shot
-overflow_add-next_shot c = let shot = at_shot (found_by c.rule_of-rule.ensures c.next_fault.ensures) _ _ _ c.in-At.is in record { fits = omega (arith, shot, c.well-formed) }
+overflow_add-next_shot c = let shot = at_shot (found_by c.rule_of-rule.ensures c.next_fault.ensures) _ _ _ c.in-At.is in record { fits = omega (arith, shot, c.well_formed) }
 
 pub loop-position-smaller : goal.loop-position-smaller
 loop-position-smaller c = let shot = at_shot (found_by c.rule_of-rule.ensures c.next_fault.ensures) _ _ _ c.in-At.is in omega arith
@@ -64,7 +64,7 @@ loop-position-preserved c =
     let shot = at_shot found _ _ _ k in (
       at_within found _ _ _ k,
       omega arith,
-      c.inject_element.auto.0 ∙ i.2,
-      c.inject_element.auto.1.0 ∙ i.3,
+      c.inject_element.auto.x ∙ i.2,
+      c.inject_element.auto.z ∙ i.3,
       injecting_at _ _ _ _ _ _ _ _ _ _ _ _ _ _ _ i.1 c.requires.in_words _ found i.4 _ _ _ _ _ k c.inject_element.ensures,
     )

@@ -1,14 +1,13 @@
 -- `faults::elements::weight_of` meets its contract.
 use Rattle.faults.specs.Laws.Line.{unweighted, with_weight}
 use Rattle.faults.specs.Laws.Line.{weight_bits}
-use borrow.Author.Tests.{not-true, not-false}
 use Rattle.faults.proofs.elements.weight_of.Goals as goal
 
 pub returns-then-not-weighted : goal.returns-then-not-weighted
-returns-then-not-weighted c = unweighted _ _ _ (not-true c.args.weighted c.if-not-weighted.true)
+returns-then-not-weighted c = unweighted _ _ _ c.if-not-weighted.true
 
 pub float_from_bits-result : goal.float_from_bits-result
-float_from_bits-result c = rw (weight_bits _ (c.requires (c.if-not-weighted.false))) tt
+float_from_bits-result c = rw (weight_bits _ (c.requires c.if-not-weighted.false)) tt
 
 pub returns : goal.returns
-returns c = with_weight _ _ _ (not-false c.args.weighted c.if-not-weighted.false)
+returns c = with_weight _ _ _ c.if-not-weighted.false
