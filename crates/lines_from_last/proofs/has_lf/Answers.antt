@@ -1,6 +1,5 @@
 use native.Mathlib.Omega.{arith}
 use mathlib.Core.Path.{◌≡◌}
-use mathlib.Core.Bool.{false}
 use Rattle.lines_from_last.specs.Laws.Starts.{no_lf_none, found_more}
 use Rattle.lines_from_last.proofs.has_lf.Goals as goal
 

@@ -1,5 +1,5 @@
 -- A job line after line, from the last to the first: what is left before a place. Laws. Assumes nothing.
-use Prim.Native.Nat.{ℕ, suc, ◌+◌, ◌-◌, ◌≤◌, ◌<◌}
+use Prim.Native.Nat.{ℕ, suc, ◌+◌, ◌-◌, ◌<◌}
 use Rattle.std.proofs.Common.{arith, ◌∙◌, eqb-true, length-append}
 use Rattle.std.specs.Prelude.{◌≡◌, true, ◌&&◌, eqb, ltb, leb, get_or, take}
 use Rattle.std.proofs.Math.Path.{sym, ap, ap₂}
@@ -14,7 +14,7 @@ use Rattle.job.specs.Job.{max_bytes, well_ended_of, check_job, gather, gathered,
 use Rattle.job.proofs.Theorems.{checked_sound}
 use Rattle.job.proofs.Laws.Begun.{job_begun}
 use Rattle.instructions.specs.Reading.{line_at}
-use Rattle.lines_from_last.specs.Line.{LineStart, LineBefore, LinesLeft, Known, OfJob}
+use Rattle.lines_from_last.specs.Line.{LineBefore, LinesLeft, Known, OfJob}
 use Rattle.lines_from_last.specs.Laws.Known.{job_known}
 
 -- the last byte of a job is LF
