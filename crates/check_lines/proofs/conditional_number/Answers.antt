@@ -1,7 +1,6 @@
 -- `check_lines::conditional_number` meets its contract. Assumes nothing.
 use native.Mathlib.Omega.{arith}
 use mathlib.Core.Path.{sym, ◌∙◌}
-use borrow.Author.Tests.{not-true, not-false}
 use Rattle.check_values.specs.Laws.Lowest.{none_bad, fails, passes, one_below}
 use Rattle.check_lines.specs.Laws.Lines.{tests_conditional}
 use Rattle.check_lines.proofs.conditional_number.Goals as goal

@@ -1,7 +1,6 @@
 -- `check_lines::flip_number` meets its contract. Assumes nothing.
 use native.Mathlib.Omega.{arith}
 use mathlib.Core.Path.{sym, ◌∙◌}
-use borrow.Author.Tests.{not-true, not-false}
 use Rattle.check_values.specs.Laws.Lowest.{none_bad, fails, passes}
 use Rattle.check_lines.specs.Laws.Lines.{tests_flip}
 use Rattle.check_lines.proofs.flip_number.Goals as goal

@@ -1,7 +1,6 @@
 -- `check_lines::inject_number` meets its contract. Assumes nothing.
 use native.Mathlib.Omega.{arith}
 use mathlib.Core.Path.{sym, ◌∙◌}
-use borrow.Author.Tests.{not-true, not-false}
 use Rattle.check_values.specs.Laws.Lowest.{none_bad, two_fail, two_pass, fails, passes}
 use Rattle.check_lines.specs.Laws.Lines.{tests_inject}
 use Rattle.check_lines.proofs.inject_number.Goals as goal

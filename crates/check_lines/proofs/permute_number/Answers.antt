@@ -1,7 +1,6 @@
 -- `check_lines::permute_number` meets its contract. Assumes nothing.
 use native.Mathlib.Omega.{arith}
 use mathlib.Core.Path.{sym, ◌∙◌}
-use borrow.Author.Tests.{not-true, not-false}
 use Rattle.text.specs.Template.{list_at_of}
 use Rattle.job.specs.Checks.{distinct}
 use Rattle.check_values.specs.Laws.Lowest.{none_bad, fails, passes, left_false, right_false, both_true, one_below}

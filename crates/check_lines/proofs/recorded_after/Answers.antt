@@ -1,9 +1,7 @@
 -- `check_lines::recorded_after` meets its contract. Assumes nothing.
-use types.Run.{miss}
-use mathlib.Core.List.{[], ◌∷◌}
 use Rattle.check_values.specs.Contexts.{context_of}
 use Rattle.check_lines.specs.Laws.Header.{none_recorded, recorded_header, recorded_edition, recorded_measure, recorded_allocate}
-use Rattle.instructions.specs.Laws.Meaning.{others_than, meaning}
+use Rattle.instructions.specs.Laws.Meaning.{meaning}
 use Rattle.check_lines.proofs.recorded_after.Goals as goal
 
 pub returns-in-Header : goal.returns-in-Header

@@ -1,8 +1,5 @@
 -- `check_lines::editions::is_second` meets its contract. Assumes nothing.
-use types.Run.{miss}
-use mathlib.Core.List.{[], ◌∷◌}
 use Rattle.check_lines.specs.Laws.Editions.{unitary_second, reset_second, barrier_second, others_first}
-use Rattle.instructions.specs.Laws.Meaning.{others_than}
 use Rattle.check_lines.proofs.editions.is_second.Goals as goal
 
 pub returns-in-Unitary : goal.returns-in-Unitary

@@ -1,10 +1,8 @@
 -- `check_lines::elements::due_after` meets its contract. Assumes nothing.
-use types.Run.{miss}
-use mathlib.Core.List.{[], ◌∷◌}
 use Rattle.check_values.specs.Contexts.{context_of}
 use mathlib.Core.Path.{◌∙◌}
 use Rattle.check_lines.specs.Laws.Elements.{none_due, due_uniform, due_weighted, due_element, due_weighted_element}
-use Rattle.instructions.specs.Laws.Meaning.{others_than, meaning}
+use Rattle.instructions.specs.Laws.Meaning.{meaning}
 use Rattle.check_lines.proofs.elements.due_after.Goals as goal
 
 pub returns-in-Uniform : goal.returns-in-Uniform

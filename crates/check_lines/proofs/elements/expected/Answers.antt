@@ -1,11 +1,9 @@
 -- `check_lines::elements::expected` meets its contract. Assumes nothing.
-use types.Run.{miss}
-use mathlib.Core.List.{[], ◌∷◌}
 use mathlib.Core.Path.{refl, sym, ◌∙◌}
 use mathlib.Core.Bool.{true≢false}
 use Rattle.check_lines.specs.Laws.Elements.{unread_said}
 use Rattle.check_lines.specs.Laws.Elements.{unread_form, expected_other, expected_element, expected_weighted}
-use Rattle.instructions.specs.Laws.Meaning.{others_than, meaning}
+use Rattle.instructions.specs.Laws.Meaning.{meaning}
 use Rattle.check_values.specs.Contexts.{context_of}
 use Rattle.check_lines.proofs.elements.expected.Goals as goal
 

@@ -1,5 +1,4 @@
 -- `check_lines::elements::missing` meets its contract. Assumes nothing.
-use borrow.Author.Tests.{not-true, not-false}
 use Rattle.check_lines.proofs.elements.missing.Goals as goal
 
 pub returns-then-not-last : goal.returns-then-not-last

@@ -1,13 +1,11 @@
 -- `check_lines::elements::total_after` meets its contract. Assumes nothing.
-use types.Run.{miss}
-use mathlib.Core.List.{[], ◌∷◌}
 use mathlib.Core.Bool.{true≢false}
 use lib.Ieee.{binary64, add}
 use Rattle.check_values.specs.Contexts.{context_of}
 use mathlib.Core.Path.{sym, ap, ◌∙◌}
 use Rattle.check_values.specs.Laws.Floats.{only_refused, only_accepted}
 use Rattle.check_lines.specs.Laws.Elements.{total_begins, total_next, weight_held, weight_passed, passed_expected}
-use Rattle.instructions.specs.Laws.Meaning.{others_than, meaning}
+use Rattle.instructions.specs.Laws.Meaning.{meaning}
 use Rattle.check_lines.proofs.elements.total_after.Goals as goal
 
 pub returns-in_default : goal.returns-in_default

@@ -1,10 +1,8 @@
 -- `check_lines::elements::weighted_after` meets its contract. Assumes nothing.
-use types.Run.{miss}
-use mathlib.Core.List.{[], ◌∷◌}
 use Rattle.instructions.specs.Reading.{has_total}
 use mathlib.Core.Path.{sym, ap}
 use Rattle.check_lines.specs.Laws.Elements.{no_total_after, total_first, total_more}
-use Rattle.instructions.specs.Laws.Meaning.{others_than, meaning}
+use Rattle.instructions.specs.Laws.Meaning.{meaning}
 use Rattle.check_lines.proofs.elements.weighted_after.Goals as goal
 
 pub returns-in-Weighted : goal.returns-in-Weighted

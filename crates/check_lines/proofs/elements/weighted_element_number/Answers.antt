@@ -1,7 +1,7 @@
 -- `check_lines::elements::weighted_element_number` meets its contract. Assumes nothing.
 use native.Mathlib.Omega.{arith}
 use mathlib.Core.Path.{sym, ap, ◌∙◌}
-use borrow.Author.Tests.{not-true, not-false, ne_eqb}
+use borrow.Author.Tests.{ne_eqb}
 use lib.Ieee.{Float, binary64, add}
 use Rattle.job.specs.Float.{float, is_weight_of, is_total}
 use Rattle.text.specs.Template.{number_at}

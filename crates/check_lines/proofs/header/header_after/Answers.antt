@@ -1,9 +1,7 @@
 -- `check_lines::header::header_after` meets its contract. Assumes nothing.
-use types.Run.{miss}
-use mathlib.Core.List.{[], ◌∷◌}
 use Rattle.check_values.specs.Contexts.{context_of}
 use Rattle.check_lines.specs.Laws.Header.{header_before, header_said, edition_said, header_after_lem}
-use Rattle.instructions.specs.Laws.Meaning.{others_than, meaning}
+use Rattle.instructions.specs.Laws.Meaning.{meaning}
 use Rattle.check_lines.proofs.header.header_after.Goals as goal
 
 pub returns-in-Header : goal.returns-in-Header

@@ -1,10 +1,8 @@
 -- `check_lines::header::header_fits` meets its contract. Assumes nothing.
-use types.Run.{miss}
-use mathlib.Core.List.{[], ◌∷◌}
 use mathlib.Core.Path.{◌∙◌}
 use Rattle.check_values.specs.Contexts.{context_of}
 use Rattle.check_lines.specs.Laws.Header.{header_before, header_said, edition_said, fits_header}
-use Rattle.instructions.specs.Laws.Meaning.{others_than, meaning}
+use Rattle.instructions.specs.Laws.Meaning.{meaning}
 use Rattle.check_lines.proofs.header.header_fits.Goals as goal
 
 pub returns-in-Header : goal.returns-in-Header

@@ -2,7 +2,6 @@
 use native.Mathlib.Omega.{arith}
 use Prim.Native.Nat.{◌-◌, ◌^◌}
 use mathlib.Core.Path.{sym, ap, ◌∙◌}
-use borrow.Author.Tests.{not-true, not-false}
 use Rattle.text.specs.Template.{list_at_of}
 use Rattle.job.specs.Checks.{distinct}
 use Rattle.check_lines.specs.Laws.Noise.{tests_depolarizing}

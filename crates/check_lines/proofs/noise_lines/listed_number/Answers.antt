@@ -1,7 +1,7 @@
 -- `check_lines::noise_lines::listed_number` meets its contract. Assumes nothing.
 use native.Mathlib.Omega.{arith}
 use mathlib.Core.Path.{sym, ◌∙◌}
-use borrow.Author.Tests.{not-true, not-false, lt-leb, le-leb}
+use borrow.Author.Tests.{lt-leb, le-leb}
 use lib.Dec.{leb}
 use Rattle.text.specs.Template.{number_at}
 use Rattle.check_lines.specs.Listed.{listed_tests}

@@ -1,7 +1,6 @@
 -- `check_lines::noise_lines::noise_number` meets its contract. Assumes nothing.
 use native.Mathlib.Omega.{arith}
 use mathlib.Core.Path.{sym, ◌∙◌}
-use borrow.Author.Tests.{not-true, not-false}
 use Rattle.check_values.specs.Laws.Floats.{only_refused, only_accepted}
 use Rattle.check_values.specs.Laws.Lowest.{none_bad, fails, passes, one_below}
 use Rattle.check_values.specs.Contexts.{context_of}

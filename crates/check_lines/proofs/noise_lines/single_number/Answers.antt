@@ -1,7 +1,6 @@
 -- `check_lines::noise_lines::single_number` meets its contract. Assumes nothing.
 use native.Mathlib.Omega.{arith}
 use mathlib.Core.Path.{sym, ◌∙◌}
-use borrow.Author.Tests.{not-true, not-false}
 use Rattle.check_lines.specs.Laws.Noise.{tests_single}
 use Rattle.check_values.specs.Laws.Lowest.{fails, passes}
 use Rattle.check_lines.proofs.noise_lines.single_number.Goals as goal
