@@ -1,8 +1,5 @@
 -- `lines::apply_line` meets its contract. Assumes nothing.
 use Rattle.lines.specs.Laws.Obey.{frame_ready, frame_obeyed, obeyed_as, idle_obeyed}
-use Rattle.instructions.specs.Laws.Meaning.{others_than}
-use mathlib.Core.List.{[], ◌∷◌}
-use types.Run.{miss}
 use Rattle.lines.proofs.apply_line.Goals as goal
 
 pub unitary-requires : goal.unitary-requires
@@ -69,19 +66,18 @@ returns-in-Flip c = (obeyed_as c.in-Flip.is (c.flip.ensures.0 _ _ _), c.flip.ens
 
 pub returns-in_default : goal.returns-in_default
 returns-in_default c =
-    let others = others_than (2 ∷ 3 ∷ 5 ∷ 6 ∷ 7 ∷ 8 ∷ 10 ∷ 11 ∷ 12 ∷ 13 ∷ []) in
-    let key = c.in_default.keys11 in (
+    let d = c.in_default in (
       idle_obeyed _ _ _ record {
-        unitary = λ e. miss others 2 tt (rw e at key);
-        clifford = λ e. miss others 3 tt (rw e at key);
-        exponential = λ e. miss others 5 tt (rw e at key);
-        controlled = λ e. miss others 6 tt (rw e at key);
-        permute = λ e. miss others 7 tt (rw e at key);
-        measure = λ e. miss others 8 tt (rw e at key);
-        conditional = λ e. miss others 10 tt (rw e at key);
-        reset = λ e. miss others 11 tt (rw e at key);
-        inject = λ e. miss others 12 tt (rw e at key);
-        flip = λ e. miss others 13 tt (rw e at key);
+        unitary = d.not-Unitary;
+        clifford = d.not-Clifford;
+        exponential = d.not-Exponential;
+        controlled = d.not-Controlled;
+        permute = d.not-Permute;
+        measure = d.not-Measure;
+        conditional = d.not-Conditional;
+        reset = d.not-Reset;
+        inject = d.not-Inject;
+        flip = d.not-Flip;
       },
       c.requires.2,
     )

@@ -1,9 +1,7 @@
 -- `lines_back::line_back` meets its contract. Assumes nothing.
-use types.Run.{miss}
 use mathlib.Core.Path.{refl}
-use mathlib.Core.List.{[], ◌∷◌}
 use Rattle.instructions.specs.Reading.{noise_form}
-use Rattle.instructions.specs.Laws.Meaning.{others_than, other_no_noise}
+use Rattle.instructions.specs.Laws.Meaning.{other_no_noise}
 use Rattle.lines_back.specs.Laws.Forms.{readable_as, acts, ready, acted_as, remembered_as, nothing_done}
 use Rattle.lines_back.proofs.line_back.Goals as goal
 
@@ -105,20 +103,19 @@ returns-in-Weighted c = remembered_as c.in-Weighted.is refl c.requires.1 c.with_
 
 pub returns-in_default : goal.returns-in_default
 returns-in_default c =
-    let others = others_than (2 ∷ 3 ∷ 5 ∷ 6 ∷ 7 ∷ 8 ∷ 10 ∷ 11 ∷ 12 ∷ 13 ∷ 14 ∷ 15 ∷ 16 ∷ 17 ∷ []) in
-    let key = c.in_default.keys15 in
+    let d = c.in_default in
     nothing_done
     record {
-      unitary = λ e. miss others 2 tt (rw e at key);
-      clifford = λ e. miss others 3 tt (rw e at key);
-      exponential = λ e. miss others 5 tt (rw e at key);
-      controlled = λ e. miss others 6 tt (rw e at key);
-      permute = λ e. miss others 7 tt (rw e at key);
-      measure = λ e. miss others 8 tt (rw e at key);
-      conditional = λ e. miss others 10 tt (rw e at key);
-      reset = λ e. miss others 11 tt (rw e at key);
-      inject = λ e. miss others 12 tt (rw e at key);
-      flip = λ e. miss others 13 tt (rw e at key);
+      unitary = d.not-Unitary;
+      clifford = d.not-Clifford;
+      exponential = d.not-Exponential;
+      controlled = d.not-Controlled;
+      permute = d.not-Permute;
+      measure = d.not-Measure;
+      conditional = d.not-Conditional;
+      reset = d.not-Reset;
+      inject = d.not-Inject;
+      flip = d.not-Flip;
     }
-    (other_no_noise _ (λ e. miss others 14 tt (rw e at key)) (λ e. miss others 15 tt (rw e at key)) (λ e. miss others 16 tt (rw e at key)) (λ e. miss others 17 tt (rw e at key)))
+    (other_no_noise _ d.not-Single d.not-Depolarizing d.not-Uniform d.not-Weighted)
     c.requires.1

@@ -1,6 +1,5 @@
 -- `lines_back::carry::conditional_back` meets its contract. Assumes nothing.
 use mathlib.Core.Path.{sym, ◌∙◌}
-use borrow.Author.Tests.{not-true, not-false}
 use Rattle.job.specs.Line.{pauli_of}
 use Rattle.lines_back.specs.Laws.Parts.{none_added, all_added, all_below_lem}
 use Rattle.lines_back.proofs.carry.conditional_back.Goals as goal

@@ -1,6 +1,5 @@
 -- `lines_back::carry::measure_back` meets its contract. Assumes nothing.
 use mathlib.Core.Path.{sym, ◌∙◌}
-use borrow.Author.Tests.{not-true, not-false}
 use Rattle.pauli.proofs.Laws.Group.{∗_identity, when_true, when_false}
 use Rattle.job.specs.Line.{pauli_of}
 use Rattle.lines_back.specs.Laws.Parts.{all_below_lem}

@@ -1,6 +1,5 @@
 -- `lines_back::carry::with_bit` meets its contract. Assumes nothing.
 use mathlib.Core.Path.{sym, ◌∙◌}
-use borrow.Author.Tests.{not-true, not-false}
 use Rattle.pauli.proofs.Laws.Word.{one_shl}
 use Rattle.lines_back.specs.Laws.Packed.{packed_off, packed_on}
 use Rattle.lines_back.proofs.carry.with_bit.Goals as goal
