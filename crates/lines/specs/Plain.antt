@@ -1,5 +1,5 @@
 -- What it is for the words of frames and deltas to follow a plain line. Definitions. Assumes nothing.
-use Rattle.std.specs.Prelude.{ℕ, ◌*◌, ◌≤◌, ◌≡◌, List, length}
+use Rattle.std.specs.Prelude.{ℕ, ◌*◌, ◌≡◌, List, length}
 use Rattle.job.specs.Line.{Line}
 use Rattle.reader.specs.declared.Form.{Form}
 use Rattle.instructions.specs.Plain.{Plain}
