@@ -1,5 +1,6 @@
 -- `correlations::remember` meets its contract. Assumes nothing.
 use borrow.Author.Tests.{not-true, not-false}
+use Prim.Native.Nat.{ℕ}
 use lib.ListN.{length-set}
 use Rattle.correlations.specs.Laws.Links.{remainder_below}
 use Rattle.correlations.specs.Laws.Loops.{remember_none, remember_one}
@@ -13,7 +14,7 @@ pub offset_bounds-links-first : goal.offset_bounds-links-first
 offset_bounds-links-first c = omega (arith, c.remainder-first.ensures, remainder_below c.args.l.correlation)
 
 pub bounds-links-first : goal.bounds-links-first
-bounds-links-first c = omega (arith, c.remainder-first.ensures, remainder_below c.args.l.correlation, c.requires.0.room)
+bounds-links-first c = omega (arith, length-set {A = ℕ}, c.remainder-first.ensures, remainder_below c.args.l.correlation, c.requires.0.room)
 
 pub bounds-links-n : goal.bounds-links-n
 bounds-links-n c = omega (arith, (c.requires.1 (not-false _ c.if-not-l.false)).0, c.requires.0.room)
