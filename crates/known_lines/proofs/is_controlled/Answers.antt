@@ -1,7 +1,6 @@
 -- `known_lines::is_controlled` meets its contract. Assumes nothing.
 use mathlib.Core.Path.{sym}
 use mathlib.Core.Bool.{true≢false}
-use borrow.Author.Tests.{not-false}
 use Rattle.known_lines.proofs.is_controlled.Goals as goal
 
 pub returns-then-not-has_byte : goal.returns-then-not-has_byte

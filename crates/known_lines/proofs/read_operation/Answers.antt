@@ -1,6 +1,5 @@
 -- `known_lines::read_operation` meets its contract. Assumes nothing.
 use native.Mathlib.Omega.{arith}
-use borrow.Author.Tests.{not-false}
 use Rattle.known_lines.specs.Laws.Lists.{control_there, target_there, controlled_parsed}
 use Rattle.known_lines.proofs.read_operation.Goals as goal
 

@@ -1,7 +1,6 @@
 -- `known_lines::read_other` meets its contract. Assumes nothing.
 use native.Mathlib.Omega.{arith}
 use mathlib.Core.Path.{ap, ◌∙◌}
-use borrow.Author.Tests.{not-false}
 use lib.ListN.{set}
 use Rattle.known_lines.specs.Laws.Lists.{lists_there, element_lists, element_parsed, weight_long, weighted_parts, weighted_parsed}
 use Rattle.known_lines.proofs.read_other.Goals as goal
