@@ -1,7 +1,6 @@
 -- `checker::examine` meets its contract. Assumes nothing.
 use native.Mathlib.Omega.{arith}
 use mathlib.Core.Path.{sym, ◌∙◌}
-use borrow.Author.Tests.{not-true, not-false}
 use Rattle.checker.specs.Laws.Job.{badly_ended, bad_job}
 use Rattle.checker.proofs.examine.Goals as goal
 

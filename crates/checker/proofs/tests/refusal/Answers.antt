@@ -1,6 +1,5 @@
 -- `checker::tests::refusal` meets its contract. Assumes nothing.
 use mathlib.Core.Path.{refl, sym, ap, ◌∙◌}
-use borrow.Author.Tests.{not-true, not-false}
 use mathlib.Core.Bool.{not, ◌&&◌, true≢false}
 use Rattle.job.specs.Checks.{expected as Checks·expected, refusal_of}
 use Rattle.check_values.specs.Contexts.{context_of}
