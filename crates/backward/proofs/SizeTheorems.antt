@@ -1,11 +1,11 @@
 -- Theorems about settling's byte figure: with 15 it is the size of the settled text, exactly. Assumes nothing.
 use Rattle.std.proofs.Math.Path.{◌≡◌, refl, sym, ap}
 use Rattle.std.proofs.Common.{◌∙◌, true≢false, arith}
-use Rattle.std.specs.Prelude.{Bool, List, ℕ, ◌≤◌, leb}
+use Rattle.std.specs.Prelude.{Bool, List, ℕ, ◌≤◌}
 use Rattle.std.proofs.Math.Bool.{true, false}
 use Rattle.std.proofs.Math.ListN.{length}
 use Rattle.job.specs.Job.{answer, accepted, max_bytes, job_of, check_job}
-use Rattle.job.specs.Reply.{TextReply, of_call, refused_text, text_fits_of, written_text}
+use Rattle.job.specs.Reply.{TextReply, of_call, refused_text, text_fits_of}
 use Rattle.job.proofs.Laws.Numbers.{check_of_job}
 use Rattle.draws.specs.Settle.{SettledLine, Settled, settled_text}
 use Rattle.run.specs.Run.{Source, outcome_words_of}

@@ -1,5 +1,5 @@
 -- Theorems about the totals of a run: each is the ones in its delta row, and the settled list gives the same. Assumes nothing.
-use Rattle.std.specs.Prelude.{◌≡◌, refl, List, ℕ, ◌<◌, ◌≤◌, length, get_or}
+use Rattle.std.specs.Prelude.{◌≡◌, List, ℕ, ◌<◌, ◌≤◌, length, get_or}
 use Rattle.std.proofs.Common.{sym, ap, ◌∙◌}
 use Rattle.job.specs.declared.Header.{Header}
 use Rattle.job.specs.Line.{Placed}
