@@ -1,5 +1,4 @@
 use native.Mathlib.Omega.{arith}
-use borrow.Author.Tests.{not-false}
 use Rattle.instructions.specs.Reading.{line_at}
 use Rattle.lines_from_last.specs.Laws.Left.{line_known, line_left}
 use Rattle.walker.specs.Laws.Going.{gates_none, gates_on}

@@ -11,4 +11,4 @@ returns-then-not-p c = λ e. absurd (true≢false (sym e))
 
 pub returns : goal.returns
 unfolding inject_begin bytes
-returns c = λ e first third v reads. shot_passed _ _ v first third reads (c.read_on-p.ensures.read (c.if-not-p.false)) (rw (← c.number.ensures) (eqb-false _ _ (not-true _ e)))
+returns c = λ e first third v reads. shot_passed _ _ v first third reads (c.read_on-p.ensures.read (not-false _ c.if-not-p.false)) (rw (← c.number.ensures) (eqb-false _ _ (not-true _ e)))

@@ -1,7 +1,6 @@
 -- `walker::walk` meets its contract. Assumes nothing.
 use mathlib.Core.Path.{sym, ◌∙◌}
 use mathlib.Core.List.{[]}
-use borrow.Author.Tests.{not-true, not-false}
 use Rattle.walker.specs.Laws.Answers.{examined_refused, passes, examined_lines, examined_shot, examined_rising, examined_recorded, examined_below, examined_noise, examined_count}
 use borrow.Author.Rules.{rules}
 use Rattle.walker.proofs.walk.Goals as goal

@@ -1,7 +1,6 @@
 -- `job_shape::lent_words::tested` meets its contract.
 use Rattle.job_shape.specs.Laws.Tested.{tests_refused, tests_passed, tests_short, tests_enough}
 use Rattle.job_shape.specs.Laws.Enough.{range, row_words}
-use borrow.Author.Tests.{not-true, not-false}
 use mathlib.Core.Path.{sym, ◌∙◌}
 use native.Mathlib.Omega.{arith}
 use Rattle.job_shape.proofs.lent_words.tested.Goals as goal
