@@ -1,5 +1,7 @@
 -- Execution from cleared frames and deltas leaves every shot past the last one as it began. Laws. Assumes nothing.
+use Prim.Native.Nat.{◌+◌}
 use Rattle.std.specs.Prelude.{◌≡◌, List, [], ◌∷◌, ℕ, ◌≤◌, ltb}
+use Rattle.job.specs.Job.{recorded_by}
 use Rattle.std.proofs.Math.Path.{refl}
 use Rattle.std.proofs.Common.{sym, ap, ◌∙◌, arith, lt-ltb}
 use Rattle.std.proofs.Math.Bool.{true}
@@ -42,7 +44,7 @@ own_below h r (Instruction.noise n) s = refl
 all_below_lem : (h : Header) (r : ℕ) (is : List Placed) → InstructionsSound h r is → all_own_below h.shots is ≡ true
 unfolding InstructionsSound all_own_below
 all_below_lem h r [] s = refl
-all_below_lem h r (i ∷ is) s = rw (own_below h r i.instruction s.0, all_below_lem h _ is s.1)
+all_below_lem h r (i ∷ is) s = rw (own_below h r i.instruction s.0, all_below_lem h (r + recorded_by i.instruction) is s.1)
 
 -- ---- the states at the end
 
