@@ -1,10 +1,9 @@
 -- The reply of an examination from what was found. Laws. Assumes nothing.
-use Rattle.std.specs.Prelude.{ℕ, ◌≡◌, refl, List}
+use Rattle.std.specs.Prelude.{ℕ, ◌≡◌, List}
 use Rattle.std.proofs.Math.Path.{sym}
 use Rattle.std.proofs.Common.{ap, ◌∙◌}
 use borrow.Author.Tests.{eq-eqb, ne_eqb}
 use Rattle.job.specs.declared.Answer.{Answer}
-use Rattle.job.specs.declared.Header.{Header}
 use Rattle.job.specs.Job.{accepted, check_job}
 use Rattle.checker.specs.declared.Examined.{Examined}
 use Rattle.checker.specs.Examines.{Examines}
