@@ -6,14 +6,14 @@ pub same_rows-requires : goal.same_rows-requires
 same_rows-requires c =
     let e = c.list_ends-e.ensures in
     let p = c.requires in
-    let kept = c.run_lent-r.auto.1.1.1.1 in (
+    let kept = c.run_lent-r.auto in (
       e.2,
       e.3,
       e.4,
       e.5,
       omega (arith, e.6, p.1),
-      omega (arith, e.6, p.2, kept.0),
-      omega (arith, e.6, p.3, kept.1.0),
-      omega (arith, e.6, p.4, kept.1.1.0),
-      omega (arith, e.6, p.5, kept.1.1.1.0),
+      omega (arith, e.6, p.2, kept.x),
+      omega (arith, e.6, p.3, kept.z),
+      omega (arith, e.6, p.4, kept.deltas),
+      omega (arith, e.6, p.5, kept.totals),
     )
