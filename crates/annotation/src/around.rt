@@ -15,7 +15,7 @@ use crate::line_qubits::{fit, noise_qubits};
 use known_lines::next_known;
 use line_writer::new_lines::{put_depolarizing, put_start};
 use reader::Form;
-use template::values::{KEPT, MAX_SLOTS, VALUE_WORDS};
+use template::values::{KEPT, MAX_SLOTS, Values};
 use writer::put_bytes;
 
 // A line's noise, from how its line begins: none over no qubits.
@@ -53,31 +53,28 @@ fn put_around(
 fn noise_before(form: Form) -> bool
     ensures { (vs : List Value) (w : Written) → (form_of form).says vs ≡ some w → result ≡ before_it w }
 {
-    match form {
-        Form::Measure => true,
-        _ => false,
-    }
+    matches!(form, Form::Measure)
 }
 
-// How far annotation came: the line that it does not fit (0 for none), and the bytes of the text.
+// A line that annotation does not fit: its noise would be over too many qubits.
 #[derive(Clone, Copy)]
-pub struct Progress {
-    pub unfit: u64,
-    pub bytes: usize,
+pub struct Unfit {
+    pub line: u64,
 }
 
-// The annotated text of an accepted job.
-pub fn put_annotated(out: &mut [u8], job: &[u8], p: u64) -> Progress
+// The annotated text of an accepted job, and how many bytes it takes.
+pub fn put_annotated(out: &mut [u8], job: &[u8], p: u64) -> Result<usize, Unfit>
     requires { (check_job job.now).number ≡ 0 }
     ensures { Annotates job.now p result out.old out.new }
 {
-    let mut fields = [0u64; VALUE_WORDS];
+    let mut fields = Values::new();
     let mut qubits = [0u64; MAX_SLOTS * KEPT];
     let mut start = [0u8; 50];
     put_start(&mut start, p);
     let mut at = 0;
     let mut k: u64 = 1;
     let mut next = 0;
+    // A while: a line is skipped in one turn, so no range hands out the places.
     while at < job.len() {
         let line = next_known(job, at, &mut fields);
         let form = line.form;
@@ -85,15 +82,12 @@ pub fn put_annotated(out: &mut [u8], job: &[u8], p: u64) -> Progress
         let n = noise_qubits(form, &fields, &mut qubits);
         let over = &qubits[..n];
         if !fit(over) {
-            return Progress { unfit: k, bytes: 0 };
+            return Err(Unfit { line: k });
         }
         let before = noise_before(form);
         next = put_around(&mut *out, next, &job[at..end], before, &start, over);
         at = end;
         k += 1;
     }
-    Progress {
-        unfit: 0,
-        bytes: next,
-    }
+    Ok(next)
 }

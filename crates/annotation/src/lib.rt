@@ -13,8 +13,9 @@ mod line_qubits;
 pub mod locations;
 
 use crate::around::put_annotated;
-use check_values::floats::{Checked, probability};
+use check_values::floats::probability;
 use checker::check;
+use job::refusals::Refusal;
 use job::{Answer, refusals};
 use writer::{TextAnswer, refused, text_fits};
 
@@ -23,23 +24,25 @@ fn annotate_accepted(job: &[u8], p: u64, out: &mut [u8]) -> TextAnswer
     requires { (check_job job.now).number ≡ 0 }
     ensures { text_reply result out.new ≡ annotate_answer job.now p out.old (first_unfit 1 (Bytes·lines job.now)) }
 {
-    let r = put_annotated(&mut out[..0], job, p);
-    if r.unfit != 0 {
-        return refused(Answer {
-            number: refusals::ANNOTATION,
-            line: r.unfit,
-        });
-    }
-    if !text_fits(r.bytes, out.len()) {
+    let bytes = match put_annotated(&mut out[..0], job, p) {
+        Ok(bytes) => bytes,
+        Err(unfit) => {
+            return refused(Answer {
+                number: refusals::ANNOTATION,
+                line: unfit.line,
+            });
+        }
+    };
+    if !text_fits(bytes, out.len()) {
         return refused(Answer {
             number: refusals::ROOM,
             line: 0,
         });
     }
-    put_annotated(out, job, p);
+    let _ = put_annotated(out, job, p);
     TextAnswer {
         answer: Answer { number: 0, line: 0 },
-        figure: r.bytes as u64,
+        figure: bytes as u64,
     }
 }
 
@@ -51,11 +54,8 @@ pub fn annotate(job: &[u8], p: u64, out: &mut [u8]) -> TextAnswer
     if answer.number != 0 {
         return refused(answer);
     }
-    let Checked::Accepted(_) = probability(p) else {
-        return refused(Answer {
-            number: refusals::PROBABILITY,
-            line: 0,
-        });
-    };
+    if probability(p).is_none() {
+        return refused(Answer::refused(Refusal::Probability, 0));
+    }
     annotate_accepted(job, p, out)
 }

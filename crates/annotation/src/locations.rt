@@ -9,17 +9,18 @@ use crate::line_qubits::located;
 use checker::check;
 use job::{Answer, CountReply};
 use known_lines::next_known;
-use template::values::{KEPT, MAX_SLOTS, VALUE_WORDS};
+use template::values::{KEPT, MAX_SLOTS, Values};
 
 // The locations of an accepted job.
 fn count(job: &[u8]) -> u64
     requires { (check_job job.now).number ≡ 0 }
     ensures { result ≡ Annotate·locations (Bytes·lines job.now) }
 {
-    let mut fields = [0u64; VALUE_WORDS];
+    let mut fields = Values::new();
     let mut qubits = [0u64; MAX_SLOTS * KEPT];
     let mut at = 0;
     let mut total: u64 = 0;
+    // A while: a line is skipped in one turn, so no range hands out the places.
     while at < job.len() {
         let line = next_known(job, at, &mut fields);
         let form = line.form;

@@ -17,14 +17,13 @@ fn cross(block: &mut [u64], at: usize, h: usize, mask: u64)
     requires { (at + h + h ≤ length block.old) × (h < 64) }
     ensures { block.new ≡ crossed h mask at h block.old }
 {
-    let mut i = 0;
-    while i < h {
+    // By index: two rows of one block change places.
+    for i in 0..h {
         let low = block[at + i];
         let high = block[at + h + i];
         let moved = ((low >> h) ^ high) & mask;
         block[at + i] = low ^ (moved << h);
         block[at + h + i] = high ^ moved;
-        i += 1;
     }
 }
 
@@ -34,10 +33,8 @@ fn round(block: &mut [u64], h: usize, mask: u64)
     ensures { Crossed h block.old block.new }
 {
     let n = 32 / h;
-    let mut a = 0;
-    while a < n {
+    for a in 0..n {
         cross(block, a * (2 * h), h, mask);
-        a += 1;
     }
 }
 
@@ -57,14 +54,13 @@ pub fn exchange(block: &mut [u64])
 // ---- To and from a block
 
 // The first n words of a block are every step-th word of src, from `from` on.
+// n is a parameter, here and below: the last group of rows has fewer than 64.
 pub fn gather(block: &mut [u64], src: &[u64], from: usize, step: usize, n: usize)
     requires { (n ≤ length block.old) × Within from step n src.now }
     ensures { block.new ≡ overwrite 0 n (λ i. get_or src.now (from + i * step) 0) block.old }
 {
-    let mut i = 0;
-    while i < n {
-        block[i] = src[from + i * step];
-        i += 1;
+    for (i, word) in block[..n].iter_mut().enumerate() {
+        *word = src[from + i * step];
     }
 }
 
@@ -73,9 +69,7 @@ pub fn scatter(dst: &mut [u64], at: usize, step: usize, block: &[u64], n: usize)
     requires { (n ≤ length block.now) × Within at step n dst.old }
     ensures { dst.new ≡ scattered at step n (λ j. get_or block.now j 0) dst.old }
 {
-    let mut j = 0;
-    while j < n {
-        dst[at + j * step] = block[j];
-        j += 1;
+    for (j, &word) in block[..n].iter().enumerate() {
+        dst[at + j * step] = word;
     }
 }

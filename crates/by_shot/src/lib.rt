@@ -5,13 +5,13 @@
 
 ghost use Rattle.std.specs.Prelude.{◌≡◌, ◌+◌, ◌*◌, ◌<◌, ◌≤◌, length};
 ghost use Rattle.rows.specs.Words.{words_per_row};
-ghost use Rattle.by_shot.specs.Reply.{transposed, may_hold_of, rearranged, by_shot_reply, by_outcome_reply};
+ghost use Rattle.by_shot.specs.Reply.{transposed, may_hold_of, enough_words, rearranged, by_shot_reply, by_outcome_reply};
 ghost use Rattle.by_shot.specs.Blocks.{rows_of, Room, DoneTo};
 
 use blocks::{exchange, gather, scatter};
 use job::{Answer, FIRST_EDITION, Header, refusals};
 use job_numbers::in_range;
-use pauli::{LAST_BIT, WORD_BITS};
+use rows::words_per_row;
 
 // ---- The blocks
 
@@ -21,10 +21,7 @@ fn rows_of(n: usize, a: usize) -> usize
     ensures { result ≡ rows_of n a }
 {
     let left = n - 64 * a;
-    if left < 64 {
-        return left;
-    }
-    64
+    left.min(64)
 }
 
 // Block (a, b): group a of the source's rows and group b of its columns.
@@ -39,8 +36,8 @@ fn transpose_block(
     requires { Room rows columns source.now target.old × (a < words_per_row rows) × (b < words_per_row columns) × DoneTo rows columns source.now b a target.old }
     ensures { DoneTo rows columns source.now b (a + 1) target.new }
 {
-    let w = (columns + LAST_BIT) / WORD_BITS;
-    let v = (rows + LAST_BIT) / WORD_BITS;
+    let w = words_per_row(columns);
+    let v = words_per_row(rows);
     let mut block = [0u64; 64];
     gather(&mut block, source, 64 * a * w + b, w, rows_of(rows, a));
     exchange(&mut block);
@@ -52,11 +49,9 @@ fn transpose_group(source: &[u64], target: &mut [u64], rows: usize, columns: usi
     requires { Room rows columns source.now target.old × (b < words_per_row columns) × DoneTo rows columns source.now b 0 target.old }
     ensures { DoneTo rows columns source.now (b + 1) 0 target.new }
 {
-    let v = (rows + LAST_BIT) / WORD_BITS;
-    let mut a = 0;
-    while a < v {
+    let v = words_per_row(rows);
+    for a in 0..v {
         transpose_block(source, target, rows, columns, a, b);
-        a += 1;
     }
 }
 
@@ -65,34 +60,39 @@ fn transpose(source: &[u64], target: &mut [u64], rows: usize, columns: usize)
     requires { Room rows columns source.now target.old × (length target.old ≡ columns * words_per_row rows) }
     ensures { target.new ≡ transposed rows columns source.now }
 {
-    let w = (columns + LAST_BIT) / WORD_BITS;
-    let mut b = 0;
-    while b < w {
+    let w = words_per_row(columns);
+    for b in 0..w {
         transpose_group(source, target, rows, columns, b);
-        b += 1;
     }
 }
 
 // ---- The calls
+
+// A refusal of the call itself, which has no line.
+fn refused(number: u64) -> Answer
+    ensures { result ≡ record { number = number; line = 0 } }
+{
+    Answer { number, line: 0 }
+}
+
+// Whether the lent words are enough on both sides.
+#[tactic(auto, unfolding(crate::specs::Reply::enough_words))]
+fn enough_words(rows: usize, columns: usize, source: &[u64], target: &[u64]) -> bool
+    requires { (rows ≤ 4096) × (columns ≤ 4096) }
+    ensures { result ≡ enough_words rows columns source.now target.now }
+{
+    rows * words_per_row(columns) <= source.len() && columns * words_per_row(rows) <= target.len()
+}
 
 // 13: lent words too few, on either side.
 fn rearrange(rows: usize, columns: usize, source: &[u64], target: &mut [u64]) -> Answer
     requires { (rows ≤ 4096) × (columns ≤ 4096) }
     ensures { rearranged rows columns source.now target.old ≡ record { answered = result; words = target.new } }
 {
-    let needed = columns * ((rows + LAST_BIT) / WORD_BITS);
-    if source.len() < rows * ((columns + LAST_BIT) / WORD_BITS) {
-        return Answer {
-            number: refusals::WORDS,
-            line: 0,
-        };
+    if !enough_words(rows, columns, source, target) {
+        return refused(refusals::WORDS);
     }
-    if target.len() < needed {
-        return Answer {
-            number: refusals::WORDS,
-            line: 0,
-        };
-    }
+    let needed = columns * words_per_row(rows);
     transpose(source, &mut target[..needed], rows, columns);
     Answer { number: 0, line: 0 }
 }
@@ -109,22 +109,13 @@ fn may_hold(outcomes: u64, shots: u64) -> bool
     })
 }
 
-// 3: counts that a header may not hold.
-fn out_of_range() -> Answer
-    ensures { result ≡ record { number = 3; line = 0 } }
-{
-    Answer {
-        number: refusals::HEADER,
-        line: 0,
-    }
-}
-
 // The deltas by shot: each shot becomes a row of ceil(outcomes/64) words. A refusal writes nothing, and words beyond those that are needed stay.
+// Two functions, as C has two calls: they differ in which number counts the rows of the source.
 pub fn by_shot(outcomes: u64, shots: u64, deltas: &[u64], out: &mut [u64]) -> Answer
     ensures { by_shot_reply outcomes shots deltas.now out.old ≡ record { answered = result; words = out.new } }
 {
     if !may_hold(outcomes, shots) {
-        return out_of_range();
+        return refused(refusals::HEADER);
     }
     rearrange(outcomes as usize, shots as usize, deltas, out)
 }
@@ -134,7 +125,7 @@ pub fn by_outcome(outcomes: u64, shots: u64, rows: &[u64], out: &mut [u64]) -> A
     ensures { by_outcome_reply outcomes shots rows.now out.old ≡ record { answered = result; words = out.new } }
 {
     if !may_hold(outcomes, shots) {
-        return out_of_range();
+        return refused(refusals::HEADER);
     }
     rearrange(shots as usize, outcomes as usize, rows, out)
 }

@@ -1,43 +1,43 @@
 // The header, without its edition or with it: whether it stands where it has to and its numbers are in range, its edition, and what it leaves.
 ghost use Rattle.std.specs.Prelude.{◌≡◌, not, ◌&&◌, List, [], ◌∷◌, ◌≤◌};
 ghost use Rattle.text.specs.Template.{Value};
-ghost use Rattle.template.specs.Values.{Whole, held_number};
+ghost use Rattle.template.specs.Values.{held_number};
 ghost use Rattle.job.specs.Grammar.{Written, header_by, edition_by};
+ghost use Rattle.job.specs.Refusals.{refusal_in};
 ghost use Rattle.job.specs.Checks.{in_range, known_edition, test, lowest, header_fits_of, next as Checks·next};
 ghost use Rattle.reader.specs.Parsed.{Said};
 ghost use Rattle.check_values.specs.Contexts.{context_of};
 
 use check_values::context::Context;
 use job::limits::MAX_EDITION;
-use job::{FIRST_EDITION, Header, refusals};
+use job::refusals::Refusal;
+use job::{FIRST_EDITION, Header};
 use job_numbers::in_range;
 use reader::Form;
 use reader::slots::{
     EDITION, EDITION_OUTCOMES, EDITION_QUBITS, EDITION_SHOTS, OUTCOMES, QUBITS, SHOTS,
 };
-use template::values::number;
+use template::values::Values;
 
-fn header_in(f: &[u64]) -> Header
-    requires { Whole f.now }
-    ensures { result ≡ header_by (held_number f.now) }
+fn header_in(f: &Values) -> Header
+    ensures { result ≡ header_by (held_number f.now.words) }
 {
     Header {
         edition: FIRST_EDITION,
-        qubits: number(f, QUBITS),
-        outcomes: number(f, OUTCOMES),
-        shots: number(f, SHOTS),
+        qubits: f.number(QUBITS),
+        outcomes: f.number(OUTCOMES),
+        shots: f.number(SHOTS),
     }
 }
 
-fn edition_in(f: &[u64]) -> Header
-    requires { Whole f.now }
-    ensures { result ≡ edition_by (held_number f.now) }
+fn edition_in(f: &Values) -> Header
+    ensures { result ≡ edition_by (held_number f.now.words) }
 {
     Header {
-        edition: number(f, EDITION),
-        qubits: number(f, EDITION_QUBITS),
-        outcomes: number(f, EDITION_OUTCOMES),
-        shots: number(f, EDITION_SHOTS),
+        edition: f.number(EDITION),
+        qubits: f.number(EDITION_QUBITS),
+        outcomes: f.number(EDITION_OUTCOMES),
+        shots: f.number(EDITION_SHOTS),
     }
 }
 
@@ -45,15 +45,11 @@ fn edition_in(f: &[u64]) -> Header
 fn begins(c: Context, h: Header) -> bool
     ensures { result ≡ (not c.begun && in_range h) }
 {
-    if c.begun {
-        return false;
-    }
-    in_range(h)
+    !c.begun && in_range(h)
 }
 
-pub fn header_fits(c: Context, form: Form, f: &[u64]) -> bool
-    requires { Whole f.now }
-    ensures { (vs : List Value) (w : Written) → Said form f.now vs w → result ≡ header_fits_of (context_of c) w }
+pub fn header_fits(c: Context, form: Form, f: &Values) -> bool
+    ensures { (vs : List Value) (w : Written) → Said form f.now.words vs w → result ≡ header_fits_of (context_of c) w }
 {
     match form {
         Form::Header => begins(c, header_in(f)),
@@ -62,9 +58,8 @@ pub fn header_fits(c: Context, form: Form, f: &[u64]) -> bool
     }
 }
 
-pub fn header_after(c: Context, form: Form, f: &[u64]) -> Header
-    requires { Whole f.now }
-    ensures { (vs : List Value) (w : Written) → Said form f.now vs w → result ≡ (Checks·next (context_of c) w).header }
+pub fn header_after(c: Context, form: Form, f: &Values) -> Header
+    ensures { (vs : List Value) (w : Written) → Said form f.now.words vs w → result ≡ (Checks·next (context_of c) w).header }
 {
     match form {
         Form::Header => header_in(f),
@@ -74,14 +69,14 @@ pub fn header_after(c: Context, form: Form, f: &[u64]) -> Header
 }
 
 // 23: an edition that there is not.
-pub fn edition_number(edition: u64) -> u64
-    ensures { result ≡ lowest (test 23 (known_edition edition) ∷ []) }
+pub fn edition_number(edition: u64) -> Result<(), Refusal>
+    ensures { refusal_in result ≡ lowest (test 23 (known_edition edition) ∷ []) }
 {
     if edition == 0 {
-        return refusals::EDITION;
+        return Err(Refusal::Edition);
     }
     if MAX_EDITION < edition {
-        return refusals::EDITION;
+        return Err(Refusal::Edition);
     }
-    0
+    Ok(())
 }

@@ -1,13 +1,13 @@
-// Tests of the header, of noise lines and of their element lines; and of each other kind of line, but lines that are a Pauli alone, the number that
-// refuses it after 2 and 3, 0 where none does.
+// Tests of the header, of noise lines and of their element lines; and of each other kind of line, but lines that are a Pauli alone, the tests after
+// 2 and 3.
 #![tactic(auto)]
 
 ghost use Rattle.std.specs.Prelude.{◌≡◌, ◌&&◌, List, [], ◌∷◌, ℕ, ◌+◌, ◌^◌, ◌≤◌, ◌<◌, ltb};
 ghost use Rattle.std.proofs.Math.Option.{some};
 ghost use Rattle.text.specs.Template.{Value, list_at_of};
-ghost use Rattle.template.specs.Values.{Whole};
 ghost use Rattle.template.specs.Fields.{Held};
 ghost use Rattle.job.specs.Grammar.{Written};
+ghost use Rattle.job.specs.Refusals.{refusal_in};
 ghost use Rattle.job.specs.Checks.{test, id_test, each_below_of, each_short, lowest, own_tests, distinct, next as Checks·next};
 ghost use Rattle.reader.specs.declared.Form.TheVariants as form;
 ghost use Rattle.reader.specs.Parsed.{form_of, Said};
@@ -22,7 +22,7 @@ pub mod noise_lines;
 use check_values::clifford::is_clifford;
 use check_values::context::Context;
 use check_values::lists::{below, overlap_is_odd, pauli_number, short, slot_distinct};
-use job::refusals;
+use job::refusals::Refusal;
 use pauli::{OutcomeId, Shot};
 use reader::Form;
 use reader::slots::{
@@ -30,156 +30,145 @@ use reader::slots::{
     PLACES, PLACES_END, SHOT, TABLE, TARGET_END, TARGET_X, TARGET_Z, X, Z,
 };
 use tables::{MAX_CLIFFORD_QUBITS, table_words};
-use template::values::{count, kept, list, number};
+use template::values::Values;
 
-// The number that refuses operands of no fixed number, on so many qubits: 4 and 5.
-pub fn operands_number(f: &[u64], qubits: u64) -> u64
-    requires { Whole f.now }
-    ensures { (numbers lists : ℕ) (vs : List Value) → Held f.now numbers lists vs → 1 ≤ lists → result ≡ lowest (test 4 (each_below_of qubits (lists_from 0 1 vs)) ∷ test 5 (distinct (list_at_of 0 vs) && each_short (lists_from 0 1 vs)) ∷ []) }
+// 4 and 5 of operands of no fixed number, on so many qubits.
+pub fn operands_number(f: &Values, qubits: u64) -> Result<(), Refusal>
+    ensures { (numbers lists : ℕ) (vs : List Value) → Held f.now.words numbers lists vs → 1 ≤ lists → refusal_in result ≡ lowest (test 4 (each_below_of qubits (lists_from 0 1 vs)) ∷ test 5 (distinct (list_at_of 0 vs) && each_short (lists_from 0 1 vs)) ∷ []) }
 {
     if !below(f, OPERANDS, OPERANDS_END, qubits) {
-        return refusals::QUBIT;
+        return Err(Refusal::Qubit);
     }
     if !short(f, OPERANDS, OPERANDS_END) {
-        return refusals::OPERANDS;
+        return Err(Refusal::Operands);
     }
     if !slot_distinct(f, OPERANDS) {
-        return refusals::OPERANDS;
+        return Err(Refusal::Operands);
     }
-    0
+    Ok(())
 }
 
-pub fn unitary_number(c: Context, f: &[u64]) -> u64
-    requires { Whole f.now }
-    ensures { (vs : List Value) (w : Written) → Said form.Unitary f.now vs w → result ≡ lowest (own_tests (context_of c) w) }
+pub fn unitary_number(c: Context, f: &Values) -> Result<(), Refusal>
+    ensures { (vs : List Value) (w : Written) → Said form.Unitary f.now.words vs w → refusal_in result ≡ lowest (own_tests (context_of c) w) }
 {
     if !below(f, OPERANDS, OPERANDS_END, c.header.qubits) {
-        return refusals::QUBIT;
+        return Err(Refusal::Qubit);
     }
     // A count that fits is at most 2, so no list is too long here.
-    if count(f, OPERANDS) != pauli::operand_count(number(f, GATE)) as u64 {
-        return refusals::OPERANDS;
+    if f.count(OPERANDS) != pauli::operand_count(f.number(GATE)) as u64 {
+        return Err(Refusal::Operands);
     }
     if !slot_distinct(f, OPERANDS) {
-        return refusals::OPERANDS;
+        return Err(Refusal::Operands);
     }
-    0
+    Ok(())
 }
 
-pub fn clifford_number(c: Context, f: &[u64]) -> u64
-    requires { Whole f.now }
-    ensures { (vs : List Value) (w : Written) → Said form.Clifford f.now vs w → result ≡ lowest (own_tests (context_of c) w) }
+pub fn clifford_number(c: Context, f: &Values) -> Result<(), Refusal>
+    ensures { (vs : List Value) (w : Written) → Said form.Clifford f.now.words vs w → refusal_in result ≡ lowest (own_tests (context_of c) w) }
 {
     if !below(f, OPERANDS, OPERANDS_END, c.header.qubits) {
-        return refusals::QUBIT;
+        return Err(Refusal::Qubit);
     }
-    let k = count(f, OPERANDS);
+    let k = f.count(OPERANDS);
     // A count that passes is at most 8, so no list is too long here.
     if MAX_CLIFFORD_QUBITS < k {
-        return refusals::OPERANDS;
+        return Err(Refusal::Operands);
     }
     if !slot_distinct(f, OPERANDS) {
-        return refusals::OPERANDS;
+        return Err(Refusal::Operands);
     }
     let n = table_words(k as usize);
-    let words = kept(f, TABLE);
+    let words = f.kept(TABLE);
     if !is_clifford(&words[..n], k as usize) {
-        return refusals::CLIFFORD;
+        return Err(Refusal::Clifford);
     }
-    0
+    Ok(())
 }
 
 // Control and target commute where X parts on Z parts, plus the reverse, are even in number.
-pub fn controlled_number(c: Context, f: &[u64]) -> u64
-    requires { Whole f.now }
-    ensures { (vs : List Value) (w : Written) → Said form.Controlled f.now vs w → result ≡ lowest (own_tests (context_of c) w) }
+pub fn controlled_number(c: Context, f: &Values) -> Result<(), Refusal>
+    ensures { (vs : List Value) (w : Written) → Said form.Controlled f.now.words vs w → refusal_in result ≡ lowest (own_tests (context_of c) w) }
 {
     if !below(f, X, TARGET_END, c.header.qubits) {
-        return refusals::QUBIT;
+        return Err(Refusal::Qubit);
     }
     if !short(f, X, TARGET_END) {
-        return refusals::OPERANDS;
+        return Err(Refusal::Operands);
     }
-    let x_on_z = overlap_is_odd(list(f, X), list(f, TARGET_Z));
-    let z_on_x = overlap_is_odd(list(f, Z), list(f, TARGET_X));
+    let x_on_z = overlap_is_odd(f.list(X), f.list(TARGET_Z));
+    let z_on_x = overlap_is_odd(f.list(Z), f.list(TARGET_X));
     if x_on_z != z_on_x {
-        return refusals::CONTROL;
+        return Err(Refusal::Control);
     }
-    0
+    Ok(())
 }
 
-pub fn permute_number(c: Context, f: &[u64]) -> u64
-    requires { Whole f.now }
-    ensures { (vs : List Value) (w : Written) → Said form.Permute f.now vs w → result ≡ lowest (own_tests (context_of c) w) }
+pub fn permute_number(c: Context, f: &Values) -> Result<(), Refusal>
+    ensures { (vs : List Value) (w : Written) → Said form.Permute f.now.words vs w → refusal_in result ≡ lowest (own_tests (context_of c) w) }
 {
     if !below(f, PERMUTED, PERMUTED_END, c.header.qubits) {
-        return refusals::QUBIT;
+        return Err(Refusal::Qubit);
     }
     if !short(f, PLACES, PERMUTED_END) {
-        return refusals::OPERANDS;
+        return Err(Refusal::Operands);
     }
-    let k = count(f, PERMUTED);
+    let k = f.count(PERMUTED);
     if !slot_distinct(f, PERMUTED) {
-        return refusals::OPERANDS;
+        return Err(Refusal::Operands);
     }
-    if count(f, PLACES) != k {
-        return refusals::PERMUTATION;
+    if f.count(PLACES) != k {
+        return Err(Refusal::Permutation);
     }
     if !below(f, PLACES, PLACES_END, k) {
-        return refusals::PERMUTATION;
+        return Err(Refusal::Permutation);
     }
     if !slot_distinct(f, PLACES) {
-        return refusals::PERMUTATION;
+        return Err(Refusal::Permutation);
     }
-    0
+    Ok(())
 }
 
 // 8: an outcome that is not the next one, or not below the header's number of them.
-fn id_number(c: Context, id: OutcomeId) -> u64
-    ensures { result ≡ lowest (id_test (context_of c) id.0 ∷ []) }
+fn id_number(c: Context, id: OutcomeId) -> Result<(), Refusal>
+    ensures { refusal_in result ≡ lowest (id_test (context_of c) id.0 ∷ []) }
 {
     let n = id.0 as u64;
     if n != c.recorded {
-        return refusals::NEXT_ID;
+        return Err(Refusal::NextId);
     }
     if c.header.outcomes <= n {
-        return refusals::NEXT_ID;
+        return Err(Refusal::NextId);
     }
-    0
+    Ok(())
 }
 
-pub fn measure_number(c: Context, f: &[u64]) -> u64
-    requires { Whole f.now }
-    ensures { (vs : List Value) (w : Written) → Said form.Measure f.now vs w → result ≡ lowest (own_tests (context_of c) w) }
+pub fn measure_number(c: Context, f: &Values) -> Result<(), Refusal>
+    ensures { (vs : List Value) (w : Written) → Said form.Measure f.now.words vs w → refusal_in result ≡ lowest (own_tests (context_of c) w) }
 {
-    let refusal = pauli_number(f, X, PAULI_END, c.header.qubits);
-    if refusal != 0 {
-        return refusal;
-    }
-    id_number(c, OutcomeId(number(f, ID) as usize))
+    pauli_number(f, X, PAULI_END, c.header.qubits)?;
+    id_number(c, OutcomeId(f.number(ID) as usize))
 }
 
-pub fn allocate_number(c: Context, f: &[u64]) -> u64
-    requires { Whole f.now }
-    ensures { (vs : List Value) (w : Written) → Said form.Allocate f.now vs w → result ≡ lowest (own_tests (context_of c) w) }
+pub fn allocate_number(c: Context, f: &Values) -> Result<(), Refusal>
+    ensures { (vs : List Value) (w : Written) → Said form.Allocate f.now.words vs w → refusal_in result ≡ lowest (own_tests (context_of c) w) }
 {
-    id_number(c, OutcomeId(number(f, ID) as usize))
+    id_number(c, OutcomeId(f.number(ID) as usize))
 }
 
-pub fn conditional_number(c: Context, f: &[u64]) -> u64
-    requires { Whole f.now }
-    ensures { (vs : List Value) (w : Written) → Said form.Conditional f.now vs w → result ≡ lowest (own_tests (context_of c) w) }
+pub fn conditional_number(c: Context, f: &Values) -> Result<(), Refusal>
+    ensures { (vs : List Value) (w : Written) → Said form.Conditional f.now.words vs w → refusal_in result ≡ lowest (own_tests (context_of c) w) }
 {
     if !below(f, X, PAULI_END, c.header.qubits) {
-        return refusals::QUBIT;
+        return Err(Refusal::Qubit);
     }
     if !short(f, X, IDS_END) {
-        return refusals::OPERANDS;
+        return Err(Refusal::Operands);
     }
     if !below(f, IDS, IDS_END, c.recorded) {
-        return refusals::NOT_RECORDED;
+        return Err(Refusal::NotRecorded);
     }
-    0
+    Ok(())
 }
 
 // Whether an outcome is recorded before the line.
@@ -196,31 +185,26 @@ fn has_shot(c: Context, shot: Shot) -> bool
     (shot.0 as u64) < c.header.shots
 }
 
-pub fn inject_number(c: Context, f: &[u64]) -> u64
-    requires { Whole f.now }
-    ensures { (vs : List Value) (w : Written) → Said form.Inject f.now vs w → result ≡ lowest (own_tests (context_of c) w) }
+pub fn inject_number(c: Context, f: &Values) -> Result<(), Refusal>
+    ensures { (vs : List Value) (w : Written) → Said form.Inject f.now.words vs w → refusal_in result ≡ lowest (own_tests (context_of c) w) }
 {
-    let refusal = pauli_number(f, X, PAULI_END, c.header.qubits);
-    if refusal != 0 {
-        return refusal;
+    pauli_number(f, X, PAULI_END, c.header.qubits)?;
+    if !has_shot(c, Shot(f.number(SHOT) as usize)) {
+        return Err(Refusal::Shot);
     }
-    if !has_shot(c, Shot(number(f, SHOT) as usize)) {
-        return refusals::SHOT;
-    }
-    0
+    Ok(())
 }
 
-pub fn flip_number(c: Context, f: &[u64]) -> u64
-    requires { Whole f.now }
-    ensures { (vs : List Value) (w : Written) → Said form.Flip f.now vs w → result ≡ lowest (own_tests (context_of c) w) }
+pub fn flip_number(c: Context, f: &Values) -> Result<(), Refusal>
+    ensures { (vs : List Value) (w : Written) → Said form.Flip f.now.words vs w → refusal_in result ≡ lowest (own_tests (context_of c) w) }
 {
-    if !is_recorded(c, OutcomeId(number(f, FLIPPED) as usize)) {
-        return refusals::NOT_RECORDED;
+    if !is_recorded(c, OutcomeId(f.number(FLIPPED) as usize)) {
+        return Err(Refusal::NotRecorded);
     }
-    if !has_shot(c, Shot(number(f, SHOT) as usize)) {
-        return refusals::SHOT;
+    if !has_shot(c, Shot(f.number(SHOT) as usize)) {
+        return Err(Refusal::Shot);
     }
-    0
+    Ok(())
 }
 
 // How many outcomes are recorded after the line.
@@ -229,10 +213,8 @@ pub fn recorded_after(c: Context, form: Form) -> u64
     ensures { (vs : List Value) (w : Written) → (form_of form).says vs ≡ some w → result ≡ (Checks·next (context_of c) w).recorded }
 {
     match form {
-        Form::Header => 0,
-        Form::EditionHeader => 0,
-        Form::Measure => c.recorded + 1,
-        Form::Allocate => c.recorded + 1,
+        Form::Header | Form::EditionHeader => 0,
+        Form::Measure | Form::Allocate => c.recorded + 1,
         _ => c.recorded,
     }
 }

@@ -22,10 +22,7 @@ fn paired(k: usize, r: usize, s: usize) -> bool
     requires { (k ≤ 8) × (r < 2 * k) × (s < 2 * k) }
     ensures { result ≡ generators_anticommute k r s }
 {
-    if s == r + k {
-        return true;
-    }
-    r == s + k
+    s == r + k || r == s + k
 }
 
 // Whether two images of a table, by its rows, commute as the generators do.
@@ -33,23 +30,17 @@ fn pair_fits(images: &[u64], k: usize, r: usize, s: usize) -> bool
     requires { (k ≤ 8) × (2 * k ≤ length images.now) × (r < 2 * k) × (s < 2 * k) }
     ensures { (t : ℕ) → RowsOf k t images.now → result ≡ pair_fits_of k t r s }
 {
-    let a = anticommute(images[r], images[s], k);
-    if paired(k, r, s) {
-        return a;
-    }
-    !a
+    anticommute(images[r], images[s], k) == paired(k, r, s)
 }
 
 fn row_fits(images: &[u64], k: usize, r: usize) -> bool
     requires { (k ≤ 8) × (2 * k ≤ length images.now) × (r < 2 * k) }
     ensures { (t : ℕ) → RowsOf k t images.now → result ≡ every (2 * k) (pair_fits_of k t r) }
 {
-    let mut s = 0;
-    while s < 2 * k {
+    for s in 0..2 * k {
         if !pair_fits(images, k, r, s) {
             return false;
         }
-        s += 1;
     }
     true
 }
@@ -58,12 +49,10 @@ fn rows_fit(images: &[u64], k: usize) -> bool
     requires { (k ≤ 8) × (2 * k ≤ length images.now) }
     ensures { (t : ℕ) → RowsOf k t images.now → result ≡ every (2 * k) (λ r. every (2 * k) (pair_fits_of k t r)) }
 {
-    let mut r = 0;
-    while r < 2 * k {
+    for r in 0..2 * k {
         if !row_fits(images, k, r) {
             return false;
         }
-        r += 1;
     }
     true
 }

@@ -3,55 +3,49 @@ ghost use Rattle.std.specs.Prelude.{◌≡◌, true, List, [], ◌∷◌, ℕ, �
 ghost use Rattle.pauli.specs.Bits.{sum_over, members as among};
 ghost use Rattle.text.specs.List.{is_rising_of};
 ghost use Rattle.text.specs.Template.{Value, list_at_of};
-ghost use Rattle.template.specs.Values.{Whole, AllKept};
+ghost use Rattle.template.specs.Values.{AllKept};
 ghost use Rattle.template.specs.Fields.{Held};
+ghost use Rattle.job.specs.Refusals.{refusal_in};
 ghost use Rattle.job.specs.Checks.{test, all_below, each_below_of, each_short, lowest, distinct as Checks·distinct};
 ghost use Rattle.check_values.specs.Slots.{lists_from};
 ghost use Rattle.check_values.specs.Marks.{Unmarked, MarksOf};
 
 use job::limits::{MAX_MEMBERS, MAX_QUBITS};
-use job::refusals;
-use pauli::{QubitId, qubit_at};
-use template::values::{count, largest, list};
+use job::refusals::Refusal;
+use pauli::QubitId;
+use template::values::Values;
 
 // Whether every member of the list in a slot is below n.
-fn slot_below(f: &[u64], slot: usize, n: u64) -> bool
-    requires { (slot < 4) × Whole f.now }
-    ensures { (numbers lists : ℕ) (vs : List Value) → Held f.now numbers lists vs → slot < lists → result ≡ all_below n (list_at_of slot vs) }
+fn slot_below(f: &Values, slot: usize, n: u64) -> bool
+    requires { slot < 4 }
+    ensures { (numbers lists : ℕ) (vs : List Value) → Held f.now.words numbers lists vs → slot < lists → result ≡ all_below n (list_at_of slot vs) }
 {
-    if count(f, slot) == 0 {
-        return true;
-    }
-    largest(f, slot) < n
+    f.count(slot) == 0 || f.largest(slot) < n
 }
 
 // Whether every member of the lists from slot `first` up to slot `end` is below n.
-pub fn below(f: &[u64], first: usize, end: usize, n: u64) -> bool
-    requires { (end ≤ 4) × Whole f.now }
-    ensures { (numbers lists : ℕ) (vs : List Value) → Held f.now numbers lists vs → end ≤ lists → result ≡ each_below_of n (lists_from first (end - first) vs) }
+pub fn below(f: &Values, first: usize, end: usize, n: u64) -> bool
+    requires { end ≤ 4 }
+    ensures { (numbers lists : ℕ) (vs : List Value) → Held f.now.words numbers lists vs → end ≤ lists → result ≡ each_below_of n (lists_from first (end - first) vs) }
 {
-    let mut i = first;
-    while i < end {
+    for i in first..end {
         if !slot_below(f, i, n) {
             return false;
         }
-        i += 1;
     }
     true
 }
 
 // Whether the lists from slot `first` up to slot `end` hold at most 31 each.
-pub fn short(f: &[u64], first: usize, end: usize) -> bool
-    requires { (end ≤ 4) × Whole f.now }
-    ensures by_index { (numbers lists : ℕ) (vs : List Value) → Held f.now numbers lists vs → end ≤ lists → result ≡ each_short (lists_from first (end - first) vs) }
-    ensures all_kept { result ≡ true → (i : ℕ) → first ≤ i → i < end → AllKept f.now i }
+pub fn short(f: &Values, first: usize, end: usize) -> bool
+    requires { end ≤ 4 }
+    ensures by_index { (numbers lists : ℕ) (vs : List Value) → Held f.now.words numbers lists vs → end ≤ lists → result ≡ each_short (lists_from first (end - first) vs) }
+    ensures all_kept { result ≡ true → (i : ℕ) → first ≤ i → i < end → AllKept f.now.words i }
 {
-    let mut i = first;
-    while i < end {
-        if MAX_MEMBERS < count(f, i) {
+    for i in first..end {
+        if MAX_MEMBERS < f.count(i) {
             return false;
         }
-        i += 1;
     }
     true
 }
@@ -60,52 +54,34 @@ pub fn short(f: &[u64], first: usize, end: usize) -> bool
 pub fn all_below(members: &[u64], n: u64) -> bool
     ensures { result ≡ all_below n members.now }
 {
-    let mut i = 0;
-    while i < members.len() {
-        if n <= members[i] {
-            return false;
-        }
-        i += 1;
-    }
-    true
+    members.iter().all(|&m| m < n)
 }
 
 // Whether n is among the members.
 pub fn contains(members: &[u64], n: u64) -> bool
     ensures { result ≡ among members.now n }
 {
-    let mut i = 0;
-    while i < members.len() {
-        if members[i] == n {
-            return true;
-        }
-        i += 1;
-    }
-    false
+    members.contains(&n)
 }
 
 // Whether no member stands twice.
 pub fn distinct(members: &[u64]) -> bool
     ensures { result ≡ Checks·distinct members.now }
 {
-    let mut i = 0;
-    while i < members.len() {
-        let n = members[i];
-        let a = i + 1;
-        if contains(&members[a..], n) {
+    for (i, &n) in members.iter().enumerate() {
+        if contains(&members[i + 1..], n) {
             return false;
         }
-        i += 1;
     }
     true
 }
 
 // Whether a list of at most 31 in a slot has no member twice.
-pub fn slot_distinct(f: &[u64], slot: usize) -> bool
-    requires { (slot < 4) × Whole f.now × AllKept f.now slot }
-    ensures { (numbers lists : ℕ) (vs : List Value) → Held f.now numbers lists vs → slot < lists → result ≡ Checks·distinct (list_at_of slot vs) }
+pub fn slot_distinct(f: &Values, slot: usize) -> bool
+    requires { (slot < 4) × AllKept f.now.words slot }
+    ensures { (numbers lists : ℕ) (vs : List Value) → Held f.now.words numbers lists vs → slot < lists → result ≡ Checks·distinct (list_at_of slot vs) }
 {
-    distinct(list(f, slot))
+    distinct(f.list(slot))
 }
 
 // Marks a qubit, if it has a mark.
@@ -123,10 +99,8 @@ fn mark_all(marks: &mut [bool], members: &[u64])
     requires { Unmarked marks.old }
     ensures { MarksOf marks.new members.now }
 {
-    let mut i = 0;
-    while i < members.len() {
-        mark(marks, qubit_at(members, i));
-        i += 1;
+    for &q in members {
+        mark(marks, QubitId(q as usize));
     }
 }
 
@@ -150,24 +124,22 @@ pub fn overlap_is_odd(a: &[u64], b: &[u64]) -> bool
     let mut marks = [false; MAX_QUBITS as usize];
     mark_all(&mut marks, b);
     let mut odd = false;
-    let mut i = 0;
-    while i < a.len() {
-        odd = odd != is_marked(&marks, b, qubit_at(a, i));
-        i += 1;
+    for &q in a {
+        odd = odd != is_marked(&marks, b, QubitId(q as usize));
     }
     odd
 }
 
-// The number that refuses Paulis on so many qubits: 4 and 5 of the lists from slot `first` up to slot `end`.
-pub fn pauli_number(f: &[u64], first: usize, end: usize, qubits: u64) -> u64
-    requires { (end ≤ 4) × Whole f.now }
-    ensures { (numbers lists : ℕ) (vs : List Value) → Held f.now numbers lists vs → end ≤ lists → result ≡ lowest (test 4 (each_below_of qubits (lists_from first (end - first) vs)) ∷ test 5 (each_short (lists_from first (end - first) vs)) ∷ []) }
+// Tests 4 and 5 of Paulis on so many qubits: of the lists from slot `first` up to slot `end`.
+pub fn pauli_number(f: &Values, first: usize, end: usize, qubits: u64) -> Result<(), Refusal>
+    requires { end ≤ 4 }
+    ensures { (numbers lists : ℕ) (vs : List Value) → Held f.now.words numbers lists vs → end ≤ lists → refusal_in result ≡ lowest (test 4 (each_below_of qubits (lists_from first (end - first) vs)) ∷ test 5 (each_short (lists_from first (end - first) vs)) ∷ []) }
 {
     if !below(f, first, end, qubits) {
-        return refusals::QUBIT;
+        return Err(Refusal::Qubit);
     }
     if !short(f, first, end) {
-        return refusals::OPERANDS;
+        return Err(Refusal::Operands);
     }
-    0
+    Ok(())
 }

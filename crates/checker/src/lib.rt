@@ -1,34 +1,29 @@
 // The tests of a job.
 #![tactic(auto)]
 
-ghost use Rattle.std.specs.Prelude.{◌≡◌, ◌+◌, ◌<◌, ◌^◌, true};
+ghost use Rattle.std.specs.Prelude.{◌≡◌, true};
+ghost use Rattle.job.specs.Refusals.{number_of};
 ghost use Rattle.job.specs.Job.{well_ended_of, check_job};
-ghost use Rattle.template.specs.Values.{Whole};
 ghost use Rattle.checker.specs.Examines.{Examines};
-ghost use Rattle.checker.specs.Passing.{Starts, Steps, Passes};
 
 pub mod tests;
 
 use crate::tests::{next, refusal};
 use check_values::context::{Context, no_context};
 use job::limits::MAX_BYTES;
-use job::{Answer, FIRST_EDITION, Header, refusals};
+use job::refusals::Refusal;
+use job::{Answer, FIRST_EDITION, Header};
 use line_reader::{Reader, next_line};
 use reader::read_line;
-use template::values::VALUE_WORDS;
+use template::values::Values;
 
 // Not empty, not too long, LF at the end.
+#[tactic(auto, unfolding(job::specs::Job::well_ended_of))]
 fn well_ended(job: &[u8]) -> bool
     ensures { result ≡ well_ended_of job.now }
 {
     let n = job.len();
-    if n == 0 {
-        return false;
-    }
-    if MAX_BYTES < n {
-        return false;
-    }
-    job[n - 1] == b'\n'
+    n != 0 && n <= MAX_BYTES && job[n - 1] == b'\n'
 }
 
 // The answer of the tests of a job; of an accepted job also its header's numbers, how many outcomes it records, and how many lines it has.
@@ -40,12 +35,12 @@ pub struct Examined {
     pub lines: u64,
 }
 
-// A job that a number refuses.
-fn refused(number: u64, line: u64) -> Examined
-    ensures { result.answer ≡ record { number = number; line = line } }
+// A job that is refused.
+fn refused(refusal: Refusal, line: u64) -> Examined
+    ensures { result.answer ≡ record { number = number_of refusal; line = line } }
 {
     Examined {
-        answer: Answer { number, line },
+        answer: Answer::refused(refusal, line),
         header: Header {
             edition: FIRST_EDITION,
             qubits: 0,
@@ -57,66 +52,30 @@ fn refused(number: u64, line: u64) -> Examined
     }
 }
 
-// A pass over a job's lines: the number of the test that failed, or 0; how many lines were read; whether there is another to read; what they say.
-#[derive(Clone, Copy)]
-struct Pass {
-    pub number: u64,
-    pub lines: u64,
-    pub going: bool,
-    pub context: Context,
-}
-
-// The pass before the first line.
-fn start(size: usize) -> Pass
-    ensures { Starts size result }
-{
-    let context = no_context();
-    Pass {
-        number: 0,
-        lines: 0,
-        going: 0 < size,
-        context,
-    }
-}
-
-// The pass after one more line. `at` is where the next line begins: the job's end after the last.
-fn step(fields: &mut [u64], line: &[u8], at: usize, size: usize, p: Pass) -> Pass
-    requires { Whole fields.old × (p.lines + 1 < 2 ^ 64) × (p.context.recorded + 1 < 2 ^ 64) }
-    ensures { Steps line.now at size p result }
-{
-    let form = read_line(line, &mut *fields);
-    let context = p.context;
-    let lines = p.lines + 1;
-    let number = refusal(context, at == size, form, &*fields);
-    if number != 0 {
-        return Pass {
-            number,
-            lines,
-            going: false,
-            context,
-        };
-    }
-    let after = next(context, form, &*fields);
-    Pass {
-        number: 0,
-        lines,
-        going: at < size,
-        context: after,
-    }
-}
-
 // One reader hands out every line up to the first that is refused. The values of a line go into the lent words.
-fn all_lines(job: &[u8], fields: &mut [u64]) -> Pass
-    requires { (well_ended_of job.now ≡ true) × Whole fields.old }
-    ensures { Passes job.now result }
+fn all_lines(job: &[u8], fields: &mut Values) -> Examined
+    requires { well_ended_of job.now ≡ true }
+    ensures { Examines job.now result }
 {
     let mut r = Reader { job, at: 0 };
-    let mut p = start(job.len());
-    while p.going {
+    let mut context = no_context();
+    let mut lines = 0;
+    // A while: the reader says where the next line begins.
+    while r.at < job.len() {
         let line = next_line(&mut r);
-        p = step(&mut *fields, line, r.at, job.len(), p);
+        lines += 1;
+        let form = read_line(line, &mut *fields);
+        if let Err(refusal) = refusal(context, r.at == job.len(), form, &*fields) {
+            return refused(refusal, lines);
+        }
+        context = next(context, form, &*fields);
     }
-    p
+    Examined {
+        answer: Answer::accepted(),
+        header: context.header,
+        recorded: context.recorded,
+        lines,
+    }
 }
 
 // The tests of a job, and what the calls after them have to know of the job, so that they need not read it for that.
@@ -124,28 +83,15 @@ pub fn examine(job: &[u8]) -> Examined
     ensures { Examines job.now result }
 {
     if !well_ended(job) {
-        return refused(refusals::LENGTH, 0);
+        return refused(Refusal::Length, 0);
     }
-    let mut fields = [0u64; VALUE_WORDS];
-    let p = all_lines(job, &mut fields);
-    let number = p.number;
-    if number != 0 {
-        return refused(number, p.lines);
-    }
-    let context = p.context;
-    let header = context.header;
-    Examined {
-        answer: Answer { number: 0, line: 0 },
-        header,
-        recorded: context.recorded,
-        lines: p.lines,
-    }
+    let mut fields = Values::new();
+    all_lines(job, &mut fields)
 }
 
 // The tests of a job: the first bad line, and its lowest number.
 pub fn check(job: &[u8]) -> Answer
     ensures { result ≡ check_job job.now }
 {
-    let r = examine(job);
-    r.answer
+    examine(job).answer
 }

@@ -2,8 +2,8 @@
 ghost use Rattle.std.specs.Prelude.{◌≡◌, Bool, true, List, ◌+◌, ◌^◌, ◌≤◌, ◌<◌};
 ghost use Rattle.std.proofs.Math.Option.{some};
 ghost use Rattle.text.specs.Template.{Value};
-ghost use Rattle.template.specs.Values.{Whole};
 ghost use Rattle.job.specs.Grammar.{Written};
+ghost use Rattle.job.specs.Refusals.{refusal_in};
 ghost use Rattle.job.specs.Checks.{lowest, own_tests, expected as Checks·expected, next as Checks·next, refusal_of};
 ghost use Rattle.reader.specs.Parsed.{is_unread, Said};
 ghost use Rattle.check_values.specs.Contexts.{context_of};
@@ -20,19 +20,18 @@ use check_lines::{
 };
 use check_values::context::Context;
 use check_values::lists::pauli_number;
-use job::refusals;
+use job::refusals::Refusal;
 use reader::Form;
 use reader::slots::{EDITION, PAULI_END, X};
-use template::values::number;
+use template::values::Values;
 
-// The number by which the tests of its own form refuse a line, 0 where none does.
-fn own_number(c: Context, form: Form, f: &[u64]) -> u64
-    requires { Whole f.now }
-    ensures { (vs : List Value) (w : Written) → Said form f.now vs w → Checks·expected (context_of c) w ≡ true → result ≡ lowest (own_tests (context_of c) w) }
+// The tests of a line by its own form.
+fn own_number(c: Context, form: Form, f: &Values) -> Result<(), Refusal>
+    ensures { (vs : List Value) (w : Written) → Said form f.now.words vs w → Checks·expected (context_of c) w ≡ true → refusal_in result ≡ lowest (own_tests (context_of c) w) }
 {
     match form {
-        Form::Unread => refusals::FORM,
-        Form::Header => 0,
+        Form::Unread => Err(Refusal::Form),
+        Form::Header => Ok(()),
         Form::Unitary => unitary_number(c, f),
         Form::Clifford => clifford_number(c, f),
         Form::Pauli => pauli_number(f, X, PAULI_END, c.header.qubits),
@@ -51,35 +50,34 @@ fn own_number(c: Context, form: Form, f: &[u64]) -> u64
         Form::Weighted => listed_number(c, f),
         Form::Element => pauli_number(f, X, PAULI_END, c.header.qubits),
         Form::WeightedElement => weighted_element_number(c, f),
-        Form::EditionHeader => edition_number(number(f, EDITION)),
+        Form::EditionHeader => edition_number(f.number(EDITION)),
         Form::Barrier => operands_number(f, c.header.qubits),
     }
 }
 
-// The number that refuses a line, 0 where none does. `last` says whether it is the job's last.
-pub fn refusal(c: Context, last: bool, form: Form, f: &[u64]) -> u64
-    requires { Whole f.now }
-    ensures { (is_unread form ≡ true → result ≡ 2) × ((vs : List Value) (w : Written) → Said form f.now vs w → result ≡ refusal_of (context_of c) last (some w)) }
+// The tests of a line. `last` says whether it is the job's last.
+pub fn refusal(c: Context, last: bool, form: Form, f: &Values) -> Result<(), Refusal>
+    ensures { (is_unread form ≡ true → refusal_in result ≡ 2) × ((vs : List Value) (w : Written) → Said form f.now.words vs w → refusal_in result ≡ refusal_of (context_of c) last (some w)) }
 {
     if !expected(c, form, f) {
-        return refusals::FORM;
+        return Err(Refusal::Form);
     }
     if missing(c, last, form, f) {
-        return refusals::FORM;
+        return Err(Refusal::Form);
     }
     if !in_edition(c, form, f) {
-        return refusals::FORM;
+        return Err(Refusal::Form);
     }
     if !header_fits(c, form, f) {
-        return refusals::HEADER;
+        return Err(Refusal::Header);
     }
     own_number(c, form, f)
 }
 
 // The context behind a line that passed: a header has come, with it or before it.
-pub fn next(c: Context, form: Form, f: &[u64]) -> Context
-    requires { Whole f.now × (c.recorded + 1 < 2 ^ 64) }
-    ensures { (last : Bool) (vs : List Value) (w : Written) → Said form f.now vs w → refusal_of (context_of c) last (some w) ≡ 0 → context_of result ≡ Checks·next (context_of c) w }
+pub fn next(c: Context, form: Form, f: &Values) -> Context
+    requires { c.recorded + 1 < 2 ^ 64 }
+    ensures { (last : Bool) (vs : List Value) (w : Written) → Said form f.now.words vs w → refusal_of (context_of c) last (some w) ≡ 0 → context_of result ≡ Checks·next (context_of c) w }
 {
     Context {
         begun: true,

@@ -1,5 +1,5 @@
 -- What a choice by the code says. Definitions. Assumes nothing.
-use Rattle.std.specs.Prelude.{ℕ, ◌<◌, ◌≤◌, ◌≡◌, Bool, cond, List, [], ◌∷◌, length, drop, Float}
+use Rattle.std.specs.Prelude.{ℕ, ◌<◌, ◌≤◌, ◌≡◌, Bool, cond, Option, Some, None, List, [], ◌∷◌, length, drop, Float}
 use Rattle.job.specs.Line.{Distribution}
 use Rattle.job.specs.Float.{float, zero_float, one, total_from}
 use Rattle.draws.specs.Draws.{Choice, limit_of, running_sums_of, is_positive, place_of, by_weight, choose_from}
@@ -7,27 +7,26 @@ use Rattle.draws.specs.Known.{any_positive_of}
 use Rattle.noise.specs.declared.PauliDistribution.{PauliDistribution}
 use Rattle.noise.specs.declared.PauliDistribution.TheVariants.{Weighted}
 use Rattle.choice.specs.declared.Chooser.{Chooser}
-use Rattle.choice.specs.declared.Choice.{Choice as Answer}
-use Rattle.choice.specs.declared.Choice.TheVariants.{Chosen, Spent}
+use Rattle.choice.specs.declared.Chosen.{Chosen}
 use Rattle.noise.specs.Kinds.{bound_of, PlacesBy, Chooses}
 
 -- the words that are left are those from a position on
-unfoldable pub choice_of : List ℕ → Answer → Choice
-choice_of words (Chosen e next) = Choice.chosen e (drop next words)
-choice_of words Spent = Choice.spent
+unfoldable pub choice_of : List ℕ → Option Chosen → Choice
+choice_of words (Some c) = Choice.chosen c.element (drop c.position words)
+choice_of words None = Choice.spent
 
 -- the position of the next word
-unfoldable pub next_of : Answer → ℕ
-next_of (Chosen e next) = next
-next_of Spent = 0
+unfoldable pub next_of : Option Chosen → ℕ
+next_of (Some c) = c.position
+next_of None = 0
 
 -- a choice, of which the definitions say that it is o
-pub record Chose (words : List ℕ) (o : Choice) (r : Answer) : Type 0 where
+pub record Chose (words : List ℕ) (o : Choice) (r : Option Chosen) : Type 0 where
   pub within : next_of r ≤ length words
   pub is : choice_of words r ≡ o
 
 -- a choice by sums, from a position of the words on: for all weights beside which these sums lie
-pub record Weighed (words : List ℕ) (at : ℕ) (sums : List Float) (r : Answer) : Type 0 where
+pub record Weighed (words : List ℕ) (at : ℕ) (sums : List Float) (r : Option Chosen) : Type 0 where
   pub within : next_of r ≤ length words
   pub is : (weights : List Float) → PlacesBy weights sums → choice_of words r ≡ by_weight (place_of weights) (drop at words)
 
@@ -62,6 +61,6 @@ pub record SumsOf (d : PauliDistribution) (weights sums : List Float) : Type 0 w
   pub is : (t : Float) → d ≡ Weighted t → sums ≡ marked_by weights (running_sums_of weights)
 
 -- the choice of an element, from a position of the words on: for every distribution that the kind and the sums stand for
-pub record ElementChosen (words : List ℕ) (at : ℕ) (d : PauliDistribution) (sums : List Float) (r : Answer) : Type 0 where
+pub record ElementChosen (words : List ℕ) (at : ℕ) (d : PauliDistribution) (sums : List Float) (r : Option Chosen) : Type 0 where
   pub within : next_of r ≤ length words
   pub is : (D : Distribution) → Chooses D d sums → choice_of words r ≡ choose_from D (drop at words)

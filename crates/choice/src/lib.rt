@@ -9,14 +9,14 @@ ghost use Rattle.noise.specs.Kinds.{bound_of, Small};
 ghost use Rattle.choice.specs.Choice.{Chose, Weighed, Sized, ElementChosen, Totals, marked, marked_by, SumsOf};
 
 use job_numbers::depolarizing_size;
+use noise::PauliDistribution;
 use noise::words::{next_word, unit};
-use noise::{NextWord, PauliDistribution};
 
-// An element, with the position of the next word; or a word was needed past the end.
+// An element that words chose, with the position of the next word. A choice has none where a word was needed past the end.
 #[derive(Clone, Copy)]
-pub enum Choice {
-    Chosen { element: u64, position: usize },
-    Spent,
+pub struct Chosen {
+    pub element: u64,
+    pub position: usize,
 }
 
 // A distribution; for a choice in which each element is as likely as another also its bound, how many elements it is among, and its limit, which
@@ -28,11 +28,10 @@ pub struct Chooser {
     pub limit: u64,
 }
 
-const MAX_WORD: u64 = 0xffffffffffffffff;
-
 // ---- A choice in which each element is as likely as another
 
 // The bound of such a choice; 0 for the kinds that choose otherwise.
+// 0 and no Option: choose_element has one arm for both kinds with a bound, and would take an Option apart at each choice.
 fn bound(distribution: PauliDistribution) -> u64
     requires { Small distribution }
     ensures { result ≡ bound_of distribution }
@@ -52,29 +51,30 @@ fn limit(bound: u64) -> u64
     if bound == 0 {
         return 0;
     }
-    MAX_WORD - MAX_WORD % bound
+    u64::MAX - u64::MAX % bound
 }
 
 // The first word that is not rejected, mod the bound. The limit is handed in, since it takes a division.
-pub fn choose_uniform(words: &[u64], more: &[u64], at: usize, bound: u64, limit: u64) -> Choice
+pub fn choose_uniform(
+    words: &[u64],
+    more: &[u64],
+    at: usize,
+    bound: u64,
+    limit: u64,
+) -> Option<Chosen>
     requires { limit ≡ limit_of bound }
     ensures { Chose (words.now ++ more.now) (bounded bound (drop at (words.now ++ more.now))) result }
 {
     let mut i = at;
+    // A loop: words are rejected until one isn't, and it is not known how many.
     loop {
-        match next_word(words, more, i) {
-            NextWord::Word(word) => {
-                i += 1;
-                if word < limit {
-                    return Choice::Chosen {
-                        element: word % bound,
-                        position: i,
-                    };
-                }
-            }
-            NextWord::Spent => {
-                return Choice::Spent;
-            }
+        let word = next_word(words, more, i)?;
+        i += 1;
+        if word < limit {
+            return Some(Chosen {
+                element: word % bound,
+                position: i,
+            });
         }
     }
 }
@@ -86,10 +86,8 @@ pub fn total(weights: &[f64]) -> f64
     ensures { result ≡ total_from zero_float weights.now }
 {
     let mut sum = 0.0;
-    let mut i = 0;
-    while i < weights.len() {
-        sum = sum + weights[i];
-        i += 1;
+    for &weight in weights {
+        sum += weight;
     }
     sum
 }
@@ -100,11 +98,9 @@ pub fn running_sums(sums: &mut [f64], weights: &[f64], total: f64)
     ensures { sums.new ≡ running_sums_of weights.now }
 {
     let mut sum = 0.0;
-    let mut i = 0;
-    while i < weights.len() {
-        sum = sum + weights[i] / total;
+    for (i, &weight) in weights.iter().enumerate() {
+        sum += weight / total;
         sums[i] = sum;
-        i += 1;
     }
     sums[weights.len() - 1] = 1.0;
 }
@@ -127,10 +123,7 @@ fn mark(weight: f64, sum: f64, positive_behind: bool) -> f64
 fn any_positive(weight: f64, positive_behind: bool) -> bool
     ensures { result ≡ (positive_behind || is_positive weight) }
 {
-    if positive_behind {
-        return true;
-    }
-    0.0 < weight
+    positive_behind || 0.0 < weight
 }
 
 // Marks the running sums of the weights, from the last to the first.
@@ -139,9 +132,8 @@ fn mark_sums(sums: &mut [f64], weights: &[f64])
     ensures { sums.new ≡ marked_by weights.now sums.old }
 {
     let mut positive_behind = false;
-    let mut i = weights.len();
-    while 0 < i {
-        i -= 1;
+    // By places, from the last on: a sum and its weight have one place.
+    for i in (0..weights.len()).rev() {
         let weight = weights[i];
         sums[i] = mark(weight, sums[i], positive_behind);
         positive_behind = any_positive(weight, positive_behind);
@@ -153,12 +145,9 @@ pub fn fill_sums(distribution: PauliDistribution, sums: &mut [f64], weights: &[f
     requires { (length sums.old ≡ length weights.now) × Totals distribution weights.now }
     ensures { SumsOf distribution weights.now sums.new }
 {
-    match distribution {
-        PauliDistribution::Weighted { total } => {
-            running_sums(&mut *sums, weights, total);
-            mark_sums(sums, weights)
-        }
-        _ => {}
+    if let PauliDistribution::Weighted { total } = distribution {
+        running_sums(&mut *sums, weights, total);
+        mark_sums(sums, weights);
     }
 }
 
@@ -168,6 +157,7 @@ fn element_by(sums: &[f64], u: f64) -> usize
     ensures { result ≡ rust_place u sums.now }
 {
     let mut i = 0;
+    // A while: each turn looks at two sums.
     while 2 < sums.len() - i {
         if !(sums[i] < u) {
             return i;
@@ -185,52 +175,51 @@ fn element_by(sums: &[f64], u: f64) -> usize
 }
 
 // One word chooses an element by its running sum.
-pub fn choose_weighted(words: &[u64], more: &[u64], at: usize, sums: &[f64]) -> Choice
+pub fn choose_weighted(words: &[u64], more: &[u64], at: usize, sums: &[f64]) -> Option<Chosen>
     ensures { Weighed (words.now ++ more.now) at sums.now result }
 {
-    match next_word(words, more, at) {
-        NextWord::Word(word) => Choice::Chosen {
-            element: element_by(sums, unit(word)) as u64,
-            position: at + 1,
-        },
-        NextWord::Spent => Choice::Spent,
-    }
+    let word = next_word(words, more, at)?;
+    Some(Chosen {
+        element: element_by(sums, unit(word)) as u64,
+        position: at + 1,
+    })
 }
 
 // ---- A choice by the kind of distribution
 
-// A distribution with its bound and limit, which are the same for all shots of a line.
-pub fn chooser_of(distribution: PauliDistribution) -> Chooser
-    requires { Small distribution }
-    ensures { (result.distribution ≡ distribution) × Sized result }
-{
-    let bound = bound(distribution);
-    Chooser {
-        distribution,
-        bound,
-        limit: limit(bound),
+impl Chooser {
+    // A distribution with its bound and limit, which are the same for all shots of a line.
+    pub fn of(distribution: PauliDistribution) -> Chooser
+        requires { Small distribution }
+        ensures { (result.distribution ≡ distribution) × Sized result }
+    {
+        let bound = bound(distribution);
+        Chooser {
+            distribution,
+            bound,
+            limit: limit(bound),
+        }
     }
-}
 
-// The element that the words from a position on choose.
-pub fn choose_element(
-    words: &[u64],
-    more: &[u64],
-    at: usize,
-    chooser: Chooser,
-    sums: &[f64],
-) -> Choice
-    requires { (at ≤ length (words.now ++ more.now)) × Sized chooser }
-    ensures { ElementChosen (words.now ++ more.now) at chooser.distribution sums.now result }
-{
-    let distribution = chooser.distribution;
-    match distribution {
-        PauliDistribution::Single => Choice::Chosen {
-            element: 0,
-            position: at,
-        },
-        PauliDistribution::Weighted { total: _ } => choose_weighted(words, more, at, sums),
-        // Both other kinds in one arm: so the code stays small enough to be inlined where a shot is drawn.
-        _ => choose_uniform(words, more, at, chooser.bound, chooser.limit),
+    // The element that the words from a position on choose.
+    pub fn choose_element(
+        self,
+        words: &[u64],
+        more: &[u64],
+        at: usize,
+        sums: &[f64],
+    ) -> Option<Chosen>
+        requires { (at ≤ length (words.now ++ more.now)) × Sized self }
+        ensures { ElementChosen (words.now ++ more.now) at self.distribution sums.now result }
+    {
+        match self.distribution {
+            PauliDistribution::Single => Some(Chosen {
+                element: 0,
+                position: at,
+            }),
+            PauliDistribution::Weighted { total: _ } => choose_weighted(words, more, at, sums),
+            // Both other kinds in one arm: so the code stays small enough to be inlined where a shot is drawn.
+            _ => choose_uniform(words, more, at, self.bound, self.limit),
+        }
     }
 }

@@ -1,10 +1,15 @@
 -- Correlations that are found by their remainder. Definitions. Assumes nothing.
-use Rattle.std.specs.Prelude.{ℕ, ◌+◌, ◌%◌, ◌≤◌, ◌<◌, ◌^◌, ◌≡◌, List, length, get_or, take}
+use Rattle.std.specs.Prelude.{ℕ, ◌+◌, ◌%◌, ◌≤◌, ◌<◌, ◌^◌, ◌≡◌, List, length, get_or, take, Option as Maybe, Some, None}
 use Rattle.text.specs.Bytes.{until}
 
 -- a correlation that is none of those that were seen
 abbrev pub Unseen : ℕ → List ℕ → Type 0
 Unseen c seen = until c seen ≡ length seen
+
+-- the first place of a correlation among those that were seen, if it is one of them
+pub record PlaceOf (c : ℕ) (seen : List ℕ) (r : Maybe ℕ) : Type 0 where
+  pub found : (i : ℕ) → r ≡ Some i → (i ≡ until c seen) × (i < length seen)
+  pub unseen : r ≡ None → Unseen c seen
 
 -- the remainder by which a correlation is found
 unfoldable pub remainder_of : ℕ → ℕ

@@ -1,9 +1,10 @@
 -- The correlation and the size that a line says. Definitions. Assumes nothing.
-use Rattle.std.specs.Prelude.{ℕ, Bool, true, false, cond, List, [], ◌∷◌, ◌++◌, eqb}
+use Rattle.std.specs.Prelude.{ℕ, Bool, true, false, cond, List, [], ◌∷◌, ◌++◌, eqb, Option as Maybe, Some, None, Result, Ok, Err}
 use Rattle.std.proofs.Math.Option.{Option, none, some}
 use Rattle.job.specs.Grammar.{Written}
 use Rattle.circuit.specs.Correlation.{Seen}
-use Rattle.correlations.specs.declared.Compared.{Compared}
+use Rattle.correlations.specs.declared.Correlated.{Correlated}
+use Rattle.correlations.specs.declared.Differing.{Differing}
 
 -- the correlation of what a line says; only noise has one
 unfoldable pub correlation_in : Written → Option ℕ
@@ -37,15 +38,37 @@ unfoldable pub size_for : List Seen → ℕ → Option ℕ
 size_for [] c = none
 size_for (s ∷ seen) c = let later = size_for seen c in cond (eqb s.correlation c) (some s.size) later
 
--- a correlation and a size, beside the size that was seen: whether they fit, and whether the correlation is new
-unfoldable pub look_for : ℕ → ℕ → Option ℕ → Compared
-look_for c size none = record { fits = true; fresh = true; correlation = c; size = size }
-look_for c size (some t) = record { fits = eqb t size; fresh = false; correlation = c; size = size }
+-- what comes of a line beside a table: what is new, or that the sizes differ
+abbrev pub Looked : Type 0
+Looked = Result (Maybe Correlated) Differing
 
-unfoldable pub look_of : List Seen → Option ℕ → ℕ → Compared
-look_of seen none size = record { fits = true; fresh = false; correlation = 0; size = 0 }
-look_of seen (some c) size = look_for c size (size_for seen c)
+-- a correlation and a size, beside the size that was seen
+unfoldable pub look_for : ℕ → ℕ → ℕ → Option ℕ → Looked
+look_for line c size none = Ok (Some (record { correlation = c; size = size }))
+look_for line c size (some t) = cond (eqb t size) (Ok None) (Err (record { line = line }))
+
+unfoldable pub look_of : ℕ → List Seen → Option ℕ → ℕ → Looked
+look_of line seen none size = Ok None
+look_of line seen (some c) size = look_for line c size (size_for seen c)
+
+-- whether the size fits
+unfoldable pub fitting : Looked → Bool
+fitting (Ok new) = true
+fitting (Err d) = false
+
+-- what is new
+unfoldable pub new_in : Looked → Maybe Correlated
+new_in (Ok new) = new
+new_in (Err d) = None
 
 -- the table with what is new
-abbrev pub grown : List Seen → Compared → List Seen
-grown seen l = cond l.fresh (seen ++ record { correlation = l.correlation; size = l.size } ∷ []) seen
+unfoldable pub grown : List Seen → Maybe Correlated → List Seen
+grown seen None = seen
+grown seen (Some l) = seen ++ record { correlation = l.correlation; size = l.size } ∷ []
+
+-- ---- lines
+
+-- a line, if there is one
+unfoldable pub line_in : Maybe ℕ → Option ℕ
+line_in None = none
+line_in (Some k) = some k

@@ -2,20 +2,18 @@
 // rest of the job begins, with an empty table. Correlations with one remainder are linked, so that one is found without a look at the others.
 #![tactic(auto)]
 
-ghost use Rattle.std.specs.Prelude.{◌≡◌, ◌&&◌, true, List, [], ◌<◌, eqb, length, take};
-ghost use Rattle.text.specs.Bytes.{until};
+ghost use Rattle.std.specs.Prelude.{◌≡◌, ◌+◌, ◌^◌, List, [], ◌<◌, length};
 ghost use Rattle.text.specs.Template.{Value};
-ghost use Rattle.template.specs.Values.{Whole};
 ghost use Rattle.job.specs.Grammar.{NoiseLine, Written};
 ghost use Rattle.job.specs.Job.{check_job, job_of};
 ghost use Rattle.reader.specs.Parsed.{Said};
-ghost use Rattle.instructions.specs.Lines.{Left, numbered};
+ghost use Rattle.instructions.specs.Lines.{Left};
 ghost use Rattle.instructions.specs.Ahead.{instructions_at};
 ghost use Rattle.circuit.specs.Correlation.{first_differing_of};
 ghost use Rattle.circuit.specs.Replies.{correlation_reply};
-ghost use Rattle.correlations.specs.Sizes.{correlation_in, present, table_of};
-ghost use Rattle.correlations.specs.Links.{remainder_of, Unseen, Linked, Table};
-ghost use Rattle.correlations.specs.Rounds.{unlike, earliest, Looks, Remembers, Collects, RoundOf};
+ghost use Rattle.correlations.specs.Sizes.{correlation_in, present, table_of, line_in};
+ghost use Rattle.correlations.specs.Links.{remainder_of, PlaceOf, Linked, Table};
+ghost use Rattle.correlations.specs.Rounds.{unlike, earliest, full_of, RoomFor, Looks, Remembers, Collects, RoundOf};
 
 use checker::check;
 use instructions::is_noise;
@@ -23,7 +21,7 @@ use job::{Answer, refusals};
 use known_lines::next_known;
 use reader::Form;
 use reader::slots::{CORRELATION, LISTED_SIZE, SIZE};
-use template::values::{VALUE_WORDS, count, member, number};
+use template::values::Values;
 
 // How many correlations the table holds.
 const SEEN: usize = 4096;
@@ -37,6 +35,11 @@ const FEW_BYTES: usize = 16384;
 // A prime, so that correlations at equal distances have many remainders, whatever the distance.
 const REMAINDERS: usize = 4093;
 
+// The links of a large table, and of a small one: for each remainder, and for each place.
+const LINKS: usize = REMAINDERS + SEEN;
+
+const FEW_LINKS: usize = REMAINDERS + FEW_SEEN;
+
 // The remainder by which a correlation is found.
 fn remainder(correlation: u64) -> usize
     ensures { result ≡ remainder_of correlation }
@@ -45,104 +48,108 @@ fn remainder(correlation: u64) -> usize
 }
 
 // Whether a line is noise with a corr.
-fn is_correlated(form: Form, f: &[u64]) -> bool
-    requires { Whole f.now }
-    ensures { (vs : List Value) (w : Written) → Said form f.now vs w → result ≡ present (correlation_in w) }
+fn is_correlated(form: Form, f: &Values) -> bool
+    ensures { (vs : List Value) (w : Written) → Said form f.now.words vs w → result ≡ present (correlation_in w) }
 {
     if !is_noise(form) {
         return false;
     }
-    count(f, CORRELATION) != 0
+    f.count(CORRELATION) != 0
 }
 
 // The size that a noise line says.
-pub fn size(form: Form, f: &[u64]) -> u64
-    requires { Whole f.now }
-    ensures { (vs : List Value) (n : NoiseLine) → Said form f.now vs (Written.noise n) → result ≡ n.size }
+pub fn size(form: Form, f: &Values) -> u64
+    ensures { (vs : List Value) (n : NoiseLine) → Said form f.now.words vs (Written.noise n) → result ≡ n.size }
 {
     match form {
-        Form::Uniform => number(f, LISTED_SIZE),
-        Form::Weighted => number(f, LISTED_SIZE),
-        _ => number(f, SIZE),
+        Form::Uniform | Form::Weighted => f.number(LISTED_SIZE),
+        _ => f.number(SIZE),
     }
 }
 
-// The place of a correlation among those that were seen, or their number where it is none of them. A link is one more than the place that it leads
-// to, or 0: for each remainder the last place with it, then for each place the one before it with the same remainder.
-fn place(seen: &[u64], links: &[u16], correlation: u64) -> usize
+// The place of a correlation, if it is among those that were seen. A link is one more than the place that it leads to, or 0: for each remainder the
+// last place with it, then for each place the one before it with the same remainder.
+// A link is a u16 and no Option, which takes twice the memory: a large table has 8,189 of them, and each round makes one anew.
+fn place(seen: &[u64], links: &[u16], correlation: u64) -> Option<usize>
     requires { Linked seen.now links.now }
-    ensures { result ≡ until correlation seen.now }
+    ensures { PlaceOf correlation seen.now result }
 {
     let first = remainder(correlation);
     let mut link = links[first];
+    // A while: the links lead from place to place, so no range hands them out.
     while link != 0 {
         let i = link as usize - 1;
         if seen[i] == correlation {
-            return i;
+            return Some(i);
         }
         link = links[REMAINDERS + i];
     }
-    seen.len()
+    None
 }
 
-// A line's correlation and size beside the table: whether they fit, and whether the correlation is new.
+// A correlation and the size that its line says.
 #[derive(Clone, Copy)]
-struct Compared {
-    fits: bool,
-    fresh: bool,
+struct Correlated {
     correlation: u64,
     size: u64,
 }
 
-fn look(form: Form, f: &[u64], seen: &[u64], sizes: &[u64], links: &[u16]) -> Compared
-    requires { Whole f.now × (length seen.now ≡ length sizes.now) × Linked seen.now links.now }
-    ensures { Looks form f.now seen.now sizes.now result }
+// A line whose size is not that of its correlation.
+#[derive(Clone, Copy)]
+struct Differing {
+    line: u64,
+}
+
+// What a line has that is new to the table.
+fn look(
+    form: Form,
+    f: &Values,
+    line: u64,
+    seen: &[u64],
+    sizes: &[u64],
+    links: &[u16],
+) -> Result<Option<Correlated>, Differing>
+    requires { (length seen.now ≡ length sizes.now) × Linked seen.now links.now }
+    ensures { Looks form f.now.words line seen.now sizes.now result }
 {
     if !is_correlated(form, f) {
-        return Compared {
-            fits: true,
-            fresh: false,
-            correlation: 0,
-            size: 0,
-        };
+        return Ok(None);
     }
-    let correlation = member(f, CORRELATION, 0);
+    let correlation = f.member(CORRELATION, 0);
     let size = size(form, f);
-    let i = place(seen, links, correlation);
-    if i == seen.len() {
-        return Compared {
-            fits: true,
-            fresh: true,
-            correlation,
-            size,
-        };
+    let Some(i) = place(seen, links, correlation) else {
+        return Ok(Some(Correlated { correlation, size }));
+    };
+    if sizes[i] != size {
+        return Err(Differing { line });
     }
-    Compared {
-        fits: sizes[i] == size,
-        fresh: false,
-        correlation,
-        size,
-    }
+    Ok(None)
 }
 
 // Whether the table has no room for what is new.
-fn is_full(l: Compared, n: usize, room: usize) -> bool
-    ensures { result ≡ (l.fresh && eqb n room) }
+fn is_full(new: Option<Correlated>, n: usize, room: usize) -> bool
+    ensures { result ≡ full_of new n room }
 {
-    if !l.fresh {
-        return false;
+    match new {
+        Some(_) => n == room,
+        None => false,
     }
-    n == room
 }
 
 // The table with what is new, and how many it holds.
-fn remember(l: Compared, n: usize, seen: &mut [u64], sizes: &mut [u64], links: &mut [u16]) -> usize
-    requires { Table n seen.old sizes.old links.old × (l.fresh ≡ true → (n < length seen.old) × Unseen l.correlation (take n seen.old)) }
-    ensures { Remembers l n seen.old sizes.old result seen.new sizes.new links.new }
+fn remember(
+    new: Option<Correlated>,
+    n: usize,
+    seen: &mut [u64],
+    sizes: &mut [u64],
+    links: &mut [u16],
+) -> usize
+    requires { Table n seen.old sizes.old links.old × RoomFor new n seen.old }
+    ensures { Remembers new n seen.old sizes.old result seen.new sizes.new links.new }
 {
-    if !l.fresh {
+    let Some(l) = new else {
         return n;
-    }
+    };
     let first = remainder(l.correlation);
     links[REMAINDERS + n] = links[first];
     links[first] = (n + 1) as u16;
@@ -151,11 +158,9 @@ fn remember(l: Compared, n: usize, seen: &mut [u64], sizes: &mut [u64], links: &
     n + 1
 }
 
-// How far the table went: a line that differs (0 for none); or how many correlations it holds, and the line that it has no room for,
-// or the job's end.
+// How many correlations the table holds, and the line that it has no room for, or the job's end.
 #[derive(Clone, Copy)]
 struct Collected {
-    differing: u64,
     n: usize,
     at: usize,
     number: u64,
@@ -169,71 +174,61 @@ fn collect(
     seen: &mut [u64],
     sizes: &mut [u64],
     links: &mut [u16],
-) -> Collected
+) -> Result<Collected, Differing>
     requires { Left job.now number from × (from < length job.now) × (0 < length seen.old) × Table 0 seen.old sizes.old links.old }
     ensures { Collects job.now number from result seen.new sizes.new links.new }
 {
-    let mut fields = [0u64; VALUE_WORDS];
+    let mut fields = Values::new();
     let mut at = from;
     let mut k = number;
     let mut n = 0;
+    // A while: a line is skipped in one turn, so no range hands out the places.
     while at < job.len() {
         let line = next_known(job, at, &mut fields);
         let form = line.form;
-        let l = look(form, &fields, &seen[..n], &sizes[..n], &*links);
-        if !l.fits {
-            return Collected {
-                differing: k,
-                n,
-                at,
-                number: k,
-            };
+        let new = look(form, &fields, k, &seen[..n], &sizes[..n], &*links)?;
+        if is_full(new, n, seen.len()) {
+            return Ok(Collected { n, at, number: k });
         }
-        if is_full(l, n, seen.len()) {
-            return Collected {
-                differing: 0,
-                n,
-                at,
-                number: k,
-            };
-        }
-        n = remember(l, n, &mut *seen, &mut *sizes, &mut *links);
+        n = remember(new, n, &mut *seen, &mut *sizes, &mut *links);
         at = line.end + 1;
         k += 1;
     }
-    Collected {
-        differing: 0,
-        n,
-        at,
-        number: k,
-    }
+    Ok(Collected { n, at, number: k })
 }
 
 // The first line from a line on that differs from the table.
-fn compare(job: &[u8], from: usize, number: u64, seen: &[u64], sizes: &[u64], links: &[u16]) -> u64
+fn compare(
+    job: &[u8],
+    from: usize,
+    number: u64,
+    seen: &[u64],
+    sizes: &[u64],
+    links: &[u16],
+) -> Option<u64>
     requires { Left job.now number from × (length seen.now ≡ length sizes.now) × Linked seen.now links.now }
-    ensures { numbered result ≡ unlike (table_of seen.now sizes.now) (instructions_at job.now number from) }
+    ensures { line_in result ≡ unlike (table_of seen.now sizes.now) (instructions_at job.now number from) }
 {
-    let mut fields = [0u64; VALUE_WORDS];
+    let mut fields = Values::new();
     let mut at = from;
     let mut k = number;
+    // A while, as in `collect`.
     while at < job.len() {
         let line = next_known(job, at, &mut fields);
         let form = line.form;
-        let l = look(form, &fields, seen, sizes, links);
-        if !l.fits {
-            return k;
+        if let Err(d) = look(form, &fields, k, seen, sizes, links) {
+            return Some(d.line);
         }
         at = line.end + 1;
         k += 1;
     }
-    0
+    None
 }
 
-// A line that differs (0 for none), and where the next round begins.
+// A line that differs, if there is one, and where the next round begins.
 #[derive(Clone, Copy)]
 struct Found {
-    differing: u64,
+    differing: Option<u64>,
     at: usize,
     number: u64,
 }
@@ -250,14 +245,16 @@ fn round_with(
     requires { Left job.now number from × (from < length job.now) × (0 < length seen.old) × Table 0 seen.old sizes.old links.old }
     ensures { RoundOf job.now number from result }
 {
-    let c = collect(job, from, number, &mut *seen, &mut *sizes, &mut *links);
-    if c.differing != 0 {
-        return Found {
-            differing: c.differing,
-            at: job.len(),
-            number: 0,
-        };
-    }
+    let c = match collect(job, from, number, &mut *seen, &mut *sizes, &mut *links) {
+        Ok(c) => c,
+        Err(d) => {
+            return Found {
+                differing: Some(d.line),
+                at: job.len(),
+                number: 0,
+            };
+        }
+    };
     let n = c.n;
     let differing = compare(job, c.at, c.number, &seen[..n], &sizes[..n], &*links);
     Found {
@@ -267,24 +264,14 @@ fn round_with(
     }
 }
 
-// A round with a small table, and one with a large one.
-fn small_round(job: &[u8], from: usize, number: u64) -> Found
-    requires { Left job.now number from × (from < length job.now) }
+// A round with an empty table for N correlations, and L links.
+fn round_of<const N: usize, const L: usize>(job: &[u8], from: usize, number: u64) -> Found
+    requires { Left job.now number from × (from < length job.now) × (0 < N) × (L ≡ 4093 + N) × (N < 2 ^ 16) }
     ensures { RoundOf job.now number from result }
 {
-    let mut seen = [0u64; FEW_SEEN];
-    let mut sizes = [0u64; FEW_SEEN];
-    let mut links = [0u16; REMAINDERS + FEW_SEEN];
-    round_with(job, from, number, &mut seen, &mut sizes, &mut links)
-}
-
-fn large_round(job: &[u8], from: usize, number: u64) -> Found
-    requires { Left job.now number from × (from < length job.now) }
-    ensures { RoundOf job.now number from result }
-{
-    let mut seen = [0u64; SEEN];
-    let mut sizes = [0u64; SEEN];
-    let mut links = [0u16; REMAINDERS + SEEN];
+    let mut seen = [0u64; N];
+    let mut sizes = [0u64; N];
+    let mut links = [0u16; L];
     round_with(job, from, number, &mut seen, &mut sizes, &mut links)
 }
 
@@ -293,35 +280,33 @@ fn round(job: &[u8], from: usize, number: u64) -> Found
     ensures { RoundOf job.now number from result }
 {
     if job.len() - from <= FEW_BYTES {
-        return small_round(job, from, number);
+        return round_of::<FEW_SEEN, FEW_LINKS>(job, from, number);
     }
-    large_round(job, from, number)
+    round_of::<SEEN, LINKS>(job, from, number)
 }
 
-// The earlier of two lines, where 0 is none.
-fn earlier(a: u64, b: u64) -> u64
-    ensures { numbered result ≡ earliest (numbered a) (numbered b) }
+// The earlier of two lines, of which there may be none.
+fn earlier(a: Option<u64>, b: Option<u64>) -> Option<u64>
+    ensures { line_in result ≡ earliest (line_in a) (line_in b) }
 {
-    if a == 0 {
+    let Some(x) = a else {
         return b;
-    }
-    if b == 0 {
+    };
+    let Some(y) = b else {
         return a;
-    }
-    if a < b {
-        return a;
-    }
-    b
+    };
+    Some(x.min(y))
 }
 
 // The first line of an accepted job whose size is not that of the first line with its corr.
-fn first_differing(job: &[u8]) -> u64
+fn first_differing(job: &[u8]) -> Option<u64>
     requires { (check_job job.now).number ≡ 0 }
-    ensures { numbered result ≡ first_differing_of [] (job_of job.now).instructions }
+    ensures { line_in result ≡ first_differing_of [] (job_of job.now).instructions }
 {
     let mut at = 0;
     let mut k: u64 = 1;
-    let mut differing: u64 = 0;
+    let mut differing = None;
+    // A while: a round goes over many lines, so no range hands out the places.
     while at < job.len() {
         let r = round(job, at, k);
         differing = earlier(differing, r.differing);
@@ -339,12 +324,11 @@ pub fn correlation(job: &[u8]) -> Answer
     if answer.number != 0 {
         return answer;
     }
-    let line = first_differing(job);
-    if line == 0 {
-        return Answer { number: 0, line: 0 };
-    }
-    Answer {
-        number: refusals::SIZES,
-        line,
+    match first_differing(job) {
+        Some(line) => Answer {
+            number: refusals::SIZES,
+            line,
+        },
+        None => Answer { number: 0, line: 0 },
     }
 }

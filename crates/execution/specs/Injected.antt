@@ -1,5 +1,5 @@
 -- What it is to inject faults in place, as the code does it. Definitions. Assumes nothing.
-use Rattle.std.specs.Prelude.{◌≡◌, List, ℕ, ◌*◌, ◌<◌, ◌≤◌, length, drop, Float}
+use Rattle.std.specs.Prelude.{◌≡◌, Option, Some, None, List, ℕ, ◌*◌, ◌<◌, ◌≤◌, length, drop, Float}
 use Rattle.job.specs.Grammar.{header_with}
 use Rattle.job.specs.Line.{SparsePauli, Line, Distribution, size_of, Noise}
 use Rattle.job.specs.Sound.{PauliSound, DistributionSound}
@@ -10,8 +10,6 @@ use Rattle.noise.specs.declared.PauliDistribution.{PauliDistribution}
 use Rattle.noise.specs.Kinds.{Small, Chooses, Represents}
 use Rattle.noise.specs.Condition.{Masks}
 use Rattle.faults.specs.Elements.{AllInside, ElementHeld, DistributionHeld}
-use Rattle.execution.specs.declared.injection.Drawn.{Drawn}
-use Rattle.execution.specs.declared.injection.Drawn.TheVariants.{Done, Spent}
 use Rattle.execution.specs.Holds.{Holds}
 
 -- ---- one element
@@ -59,25 +57,25 @@ pub record FaultsReady (qubits shots w : ℕ) (p : Float) (d : PauliDistribution
   pub of_x : length x ≡ qubits * w
   pub of_z : length z ≡ qubits * w
 
--- what execution comes to where these states are left
-unfoldable pub executed_as : List ℕ → States → Drawn → Executed
-executed_as words states (Done at) = Executed.done states (drop at words)
-executed_as words states Spent = Executed.spent
+-- what execution comes to where these states are left, and the next word has a position, or none where the words are spent
+unfoldable pub executed_as : List ℕ → States → Option ℕ → Executed
+executed_as words states (Some at) = Executed.done states (drop at words)
+executed_as words states None = Executed.spent
 
 -- the position of the next word
-unfoldable pub place_of : Drawn → ℕ
-place_of (Done at) = at
-place_of Spent = 0
+unfoldable pub place_of : Option ℕ → ℕ
+place_of (Some at) = at
+place_of None = 0
 
 -- the words of frames and deltas hold what execution comes to
-pub record Injected (o : Executed) (words : List ℕ) (w : ℕ) (x z d : List ℕ) (r : Drawn) : Type 0 where
+pub record Injected (o : Executed) (words : List ℕ) (w : ℕ) (x z d : List ℕ) (r : Option ℕ) : Type 0 where
   pub states : States
   pub holds : Holds w x z d states
   pub is : o ≡ executed_as words states r
   pub within : place_of r ≤ length words
 
 -- for every noise line that the values stand for, and all states, whatever the edition and the number of outcomes
-pub record FaultsInjected (qubits shots w : ℕ) (p : Float) (d : PauliDistribution) (sums : List Float) (elements mask words x z x' z' : List ℕ) (r : Drawn)
+pub record FaultsInjected (qubits shots w : ℕ) (p : Float) (d : PauliDistribution) (sums : List Float) (elements mask words x z x' z' : List ℕ) (r : Option ℕ)
     : Type 0 where
   pub by : (edition outcomes : ℕ) (n : Noise) (lent : Lent) → LineReady n lent w qubits p d sums elements mask → (deltas : List ℕ) (states : States)
       → Holds w x z deltas states → Injected (inject_shots (header_with edition qubits outcomes shots) lent n shots 0 words states) words w x' z' deltas r

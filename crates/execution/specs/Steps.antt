@@ -1,5 +1,5 @@
 -- Execution of one instruction of an accepted job, as the code does it. Definitions. Assumes nothing.
-use Rattle.std.specs.Prelude.{◌≡◌, List, ◌∷◌, ℕ, suc, ◌+◌, ◌*◌, ◌<◌, ◌≤◌, length, drop, Float}
+use Rattle.std.specs.Prelude.{◌≡◌, Result, Ok, Err, List, ◌∷◌, ℕ, suc, ◌+◌, ◌*◌, ◌<◌, ◌≤◌, length, drop, Float}
 use Rattle.job.specs.declared.Header.{Header}
 use Rattle.job.specs.Line.{Instruction, Placed}
 use Rattle.job.specs.Grammar.{header_with}
@@ -16,8 +16,7 @@ use Rattle.template.specs.Values.{Whole}
 use Rattle.faults.specs.Elements.{AllInside}
 use Rattle.faults.specs.Prepared.{NoiseLines, noise_in}
 use Rattle.execution.specs.Holds.{Holds}
-use Rattle.execution.specs.declared.Moved.{Moved}
-use Rattle.execution.specs.declared.Moved.TheVariants.{To, Spent}
+use Rattle.execution.specs.declared.Spent.{Spent}
 
 -- ---- what is lent
 
@@ -65,11 +64,11 @@ pub record SpentIn (main : List ℕ) (all : Ending) (k position : ℕ) : Type 0 
   pub leaves : drop position main ≡ all.left
 
 -- so that what is left ends as `all`, either way
-unfoldable pub EndsBy : List ℕ → Shape → Lent → List ℕ → Ending → ℕ → ℕ → List ℕ → List ℕ → List ℕ → Moved → Type 0
-EndsBy job shape lent main all count k x z d (To next) = GoesOnFrom job shape lent main all count x z d next
-EndsBy job shape lent main all count k x z d (Spent position) = SpentIn main all k position
+unfoldable pub EndsBy : List ℕ → Shape → Lent → List ℕ → Ending → ℕ → ℕ → List ℕ → List ℕ → List ℕ → Result Place Spent → Type 0
+EndsBy job shape lent main all count k x z d (Ok next) = GoesOnFrom job shape lent main all count x z d next
+EndsBy job shape lent main all count k x z d (Err spent) = SpentIn main all k spent.position
 
-pub record EndsAs (job : List ℕ) (shape : Shape) (lent : Lent) (main : List ℕ) (all : Ending) (count k : ℕ) (x z d : List ℕ) (r : Moved) : Type 0 where
+pub record EndsAs (job : List ℕ) (shape : Shape) (lent : Lent) (main : List ℕ) (all : Ending) (count k : ℕ) (x z d : List ℕ) (r : Result Place Spent) : Type 0 where
   pub by : EndsBy job shape lent main all count k x z d r
 
 -- a noise line at a place was read; its element lines begin behind it
@@ -90,7 +89,7 @@ pub record NoiseRoom (shape : Shape) (values elements : List ℕ) (sums weights 
   pub of_z : length z ≡ shape.qubits * shape.width
 
 pub record NoiseDone (job : List ℕ) (place : Place) (line : LineRead) (values : List ℕ) (shape : Shape) (noiseless main second : List ℕ) (base : ℕ)
-    (x z x' z' : List ℕ) (r : Moved) : Type 0 where
+    (x z x' z' : List ℕ) (r : Result Place Spent) : Type 0 where
   pub by : (q : NoiseLines job (line.end + 1) line.form values noiseless shape.width) → q.header ≡ header_of job shape → q.line ≡ place.line + 1
       → (text deltas : List ℕ) (states : States) → Holds shape.width x z deltas states
       → EndsAs job shape (lent_by shape noiseless second base) main
@@ -108,7 +107,7 @@ pub record StepReady (job : List ℕ) (shape : Shape) (place : Place) (values el
   pub of_weights : 64 ≤ length weights
   pub within : place.position ≤ length main
 
-pub record Stepped (job : List ℕ) (shape : Shape) (noiseless main second : List ℕ) (base : ℕ) (place : Place) (x z d x' z' d' : List ℕ) (r : Moved) : Type 0
+pub record Stepped (job : List ℕ) (shape : Shape) (noiseless main second : List ℕ) (base : ℕ) (place : Place) (x z d x' z' d' : List ℕ) (r : Result Place Spent) : Type 0
   where
     pub by : (recorded : ℕ) → Ahead job (header_of job shape) recorded place.line place.byte → (states : States) → Holds shape.width x z d states
         → EndsAs job shape (lent_by shape noiseless second base) main

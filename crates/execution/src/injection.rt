@@ -1,4 +1,5 @@
 // The faults of a noise line, injected in their shots.
+// The lengths of x and z are spelt in each contract, as in propagator.
 ghost use Rattle.std.specs.Prelude.{◌≡◌, true, cond, List, ◌++◌, ℕ, ◌+◌, ◌*◌, ◌^◌, ◌<◌, ◌≤◌, length};
 ghost use Rattle.job.specs.Line.{SparsePauli, Line};
 ghost use Rattle.job.specs.Checks.{all_below, distinct};
@@ -11,13 +12,14 @@ ghost use Rattle.execution.specs.Injected.{ListedHeld, ElementReady, ElementInje
 
 use faults::elements::{element_x, element_z};
 use noise::{PauliDistribution, PauliFault};
-use pauli::{QubitId, Shot, qubit_at};
+use pauli::{QubitId, Shot};
 use rows::Shape;
 use shots::{NextFault, next_fault, rule_of};
 
 // ---- The elements of d=2
 
 // Adds 1 to a qubit's bit in one shot, if asked to.
+// The condition is a parameter, so that one contract says both cases.
 fn flip_if(rows: &mut [u64], width: usize, qubit: QubitId, shot: Shot, on: bool)
     requires { (qubit.0 * width + width ≤ length rows.old) × (shot.0 < 64 * width) }
     ensures { rows.new ≡ cond on (flipped width shot.0 qubit.0 rows.old) rows.old }
@@ -34,12 +36,9 @@ fn flip_selected(rows: &mut [u64], width: usize, qubits: &[u64], bits: u64, shot
     ensures { rows.new ≡ over_list (flipped width shot.0) (selected bits qubits.now) rows.old }
 {
     let mut left = bits;
-    let mut i = 0;
-    while i < qubits.len() {
-        let q = qubit_at(qubits, i);
-        flip_if(rows, width, q, shot, left % 2 == 1);
-        left = left / 4;
-        i += 1;
+    for &q in qubits {
+        flip_if(rows, width, QubitId(q as usize), shot, left % 2 == 1);
+        left /= 4;
     }
 }
 
@@ -100,15 +99,8 @@ pub fn inject_element(
 
 // ---- The faults of a line
 
-// The faults of all shots were injected, with the position of the next word; or a word was needed past the end.
-#[derive(Clone, Copy)]
-pub enum Drawn {
-    Done { position: usize },
-    Spent,
-}
-
-// Injects the faults of a noise line, from shot to shot. The words are its part of the draws, in two pieces; the mask has the shots whose condition
-// is satisfied.
+// Injects the faults of a noise line, from shot to shot, and returns the position of the next word; None where a word was needed past the end. The
+// words are the line's part of the draws, in two pieces; the mask has the shots whose condition is satisfied.
 pub fn inject_faults(
     words: &[u64],
     more: &[u64],
@@ -119,7 +111,7 @@ pub fn inject_faults(
     x: &mut [u64],
     z: &mut [u64],
     shape: Shape,
-) -> Drawn
+) -> Option<usize>
     requires { FaultsReady shape.qubits shape.shots shape.width fault.probability fault.distribution sums.now elements.now mask.now x.old z.old }
     ensures { FaultsInjected shape.qubits shape.shots shape.width fault.probability fault.distribution sums.now elements.now mask.now (words.now ++ more.now) x.old z.old x.new z.new result }
 {
@@ -129,13 +121,14 @@ pub fn inject_faults(
     let shots = shape.shots;
     let mut at = 0;
     let mut next_shot = 0;
+    // A loop: the shot of a fault says where the next turn begins.
     loop {
         match next_fault(words, more, at, mask, Shot(next_shot), shots, rule, sums) {
             NextFault::Spent => {
-                return Drawn::Spent;
+                return None;
             }
             NextFault::Done { position } => {
-                return Drawn::Done { position };
+                return Some(position);
             }
             NextFault::At {
                 shot,

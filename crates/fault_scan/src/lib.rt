@@ -3,11 +3,10 @@
 // the words before the fault.
 #![tactic(auto)]
 
-ghost use Rattle.std.specs.Prelude.{◌≡◌, ◌+◌, ◌-◌, ◌^◌, ◌≤◌, min, true, false, ◌++◌, length, if◌then◌else◌, nat_le, slice_index, Float};
+ghost use Rattle.std.specs.Prelude.{◌≡◌, ◌+◌, ◌-◌, ◌^◌, ◌≤◌, true, false, ◌++◌, length, if◌then◌else◌, nat_le, slice_index, Float};
 ghost use Rattle.draws.specs.Draws.{falls};
 ghost use Rattle.fault_scan.specs.Scan.{threshold_of, Quiet, Passed, Stopped, Skipped};
 
-use noise::NextWord;
 use noise::words::{STEP_WORDS, STEPS, STEPS_FLOAT, count, is_fault, next_word, word_at};
 
 // The words of a block.
@@ -41,7 +40,7 @@ pub fn threshold(p: f64) -> u64
 fn difference(word: u64, threshold: u64) -> u64
     ensures { (p : Float) → threshold ≡ threshold_of p → nat_le (2 ^ 63) result ≡ falls word p }
 {
-    std::num::wrapping_sub_u64(word / STEP_WORDS, threshold)
+    (word / STEP_WORDS).wrapping_sub(threshold)
 }
 
 // ---- Blocks passed over
@@ -52,10 +51,8 @@ fn has_fault(words: &[u64], at: usize, threshold: u64) -> bool
     ensures { result ≡ false → (p : Float) → threshold ≡ threshold_of p → Quiet p words.now at 8 }
 {
     let mut seen = 0;
-    let mut i = 0;
-    while i < BLOCK {
-        seen = seen | difference(words[at + i], threshold);
-        i += 1;
+    for &word in &words[at..at + BLOCK] {
+        seen |= difference(word, threshold);
     }
     seen >= TOP_BIT
 }
@@ -66,6 +63,7 @@ fn pass_blocks(words: &[u64], at: usize, n: usize, threshold: u64) -> usize
     ensures { Passed threshold words.now at n result }
 {
     let mut i = 0;
+    // A while: the position may lie past the end, where there is no slice of the words whose blocks a for could go over.
     while BLOCK <= n - i {
         if has_fault(words, at + i, threshold) {
             return i;
@@ -92,9 +90,8 @@ fn quiet_start(words: &[u64], at: usize, threshold: u64) -> usize
     ensures { Passed threshold words.now at 8 result }
 {
     let mut first = BLOCK;
-    let mut i = BLOCK;
-    while 0 < i {
-        i -= 1;
+    // By places: the place of the first fault is what is asked.
+    for i in (0..BLOCK).rev() {
         first = earlier(words[at + i], threshold, i, first);
     }
     first
@@ -112,23 +109,13 @@ fn pass_quiet(words: &[u64], at: usize, n: usize, threshold: u64) -> usize
     i + quiet_start(words, at + i, threshold)
 }
 
-// The lesser of two numbers.
-fn lesser(a: usize, b: usize) -> usize
-    ensures { result ≡ min a b }
-{
-    if a < b {
-        return a;
-    }
-    b
-}
-
 // `pass_quiet` on words in two parts, the second after the first: up to the end of the part that holds the position.
 fn pass_far(words: &[u64], more: &[u64], at: usize, n: usize, threshold: u64) -> usize
     requires { n ≤ length (words.now ++ more.now) - at }
     ensures { Passed threshold (words.now ++ more.now) at n result }
 {
     if at < words.len() {
-        return pass_quiet(words, at, lesser(n, words.len() - at), threshold);
+        return pass_quiet(words, at, n.min(words.len() - at), threshold);
     }
     pass_quiet(more, at - words.len(), n, threshold)
 }
@@ -140,8 +127,8 @@ pub fn falls_next(words: &[u64], more: &[u64], at: usize, p: f64) -> bool
     ensures { result ≡ true → falls (slice_index (words.now ++ more.now) at) p ≡ true }
 {
     match next_word(words, more, at) {
-        NextWord::Word(word) => is_fault(word, p),
-        NextWord::Spent => false,
+        Some(word) => is_fault(word, p),
+        None => false,
     }
 }
 
@@ -150,14 +137,13 @@ fn pass_near(words: &[u64], more: &[u64], at: usize, n: usize, p: f64) -> usize
     requires { n ≤ length (words.now ++ more.now) - at }
     ensures { Stopped p (words.now ++ more.now) at n result }
 {
-    let mut i = 0;
-    while i < n {
+    // By places: the words lie in two parts, so that no slice has them all.
+    for i in 0..n {
         if is_fault(word_at(words, more, at + i), p) {
             return i;
         }
-        i += 1;
     }
-    i
+    n
 }
 
 // The number of shots, at most `shots`, before the next fault; each takes one word. It is less if the words end first. Blocks are passed over up to a
@@ -173,11 +159,12 @@ pub fn next_skip(
     requires { (at ≤ length (words.now ++ more.now)) × (threshold ≡ threshold_of p) }
     ensures { Skipped p (words.now ++ more.now) at shots result }
 {
-    let n = lesser(shots, count(words, more) - at);
+    let n = shots.min(count(words, more) - at);
     let mut i = 0;
+    // A loop: each turn passes over as many words as it finds without a fault.
     loop {
         i += pass_far(words, more, at + i, n - i, threshold);
-        let near = pass_near(words, more, at + i, lesser(n - i, BLOCK), p);
+        let near = pass_near(words, more, at + i, (n - i).min(BLOCK), p);
         i += near;
         if near < BLOCK {
             return i;

@@ -1,19 +1,17 @@
 -- The groups of a lent list, and the words in which what is carried back of each lies. Definitions. Assumes nothing.
-use Rattle.std.specs.Prelude.{ℕ, zero, suc, ◌+◌, ◌*◌, ◌≤◌, ◌≡◌, true, cond, List, [], ◌∷◌, length, take, drop, replicate}
+use Rattle.std.specs.Prelude.{ℕ, zero, suc, ◌+◌, ◌*◌, ◌≤◌, ◌≡◌, true, cond, List, [], ◌∷◌, length, take, drop, replicate, Option, Some, None}
 use Rattle.pauli.specs.Bits.{members}
 use Rattle.pauli.specs.Pauli.{identity}
 use Rattle.pauli.specs.Fixed.{in_set}
 use Rattle.backward.specs.Walk.{Carried}
 use Rattle.single_faults.specs.Groups.{Groups, groups_of, all_recorded}
-use Rattle.fault_table.specs.declared.groups.Tested.{Tested}
-use Rattle.fault_table.specs.declared.groups.Tested.TheVariants as tested
 
 -- ---- the list
 
--- 17, or how many groups there are, n of them before these
-unfoldable pub grouping_of : ℕ → ℕ → Groups → Tested
-grouping_of recorded n Groups.cut_short = tested.Refused
-grouping_of recorded n (Groups.whole gs) = cond (all_recorded recorded gs) (tested.Count (n + length gs)) tested.Refused
+-- how many groups there are, n of them before these; none where 17 refuses them
+unfoldable pub grouping_of : ℕ → ℕ → Groups → Option ℕ
+grouping_of recorded n Groups.cut_short = None
+grouping_of recorded n (Groups.whole gs) = cond (all_recorded recorded gs) (Some (n + length gs)) None
 
 -- ---- the words
 

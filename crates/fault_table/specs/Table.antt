@@ -1,16 +1,15 @@
 -- The table's bytes, and what its loops begin with. Definitions. Assumes nothing.
-use Rattle.std.specs.Prelude.{ℕ, ◌+◌, ◌*◌, ◌≤◌, ◌≡◌, true, List, [], ◌∷◌, map, length}
-use Rattle.std.proofs.Math.Option.{none}
+use Rattle.std.specs.Prelude.{ℕ, ◌+◌, ◌*◌, ◌≤◌, ◌≡◌, true, List, [], ◌∷◌, map, length, Result, Ok, Err}
+use Rattle.std.proofs.Math.Option.{Option, none, some}
 use Rattle.text.specs.Bytes.{lines}
 use Rattle.job.specs.Line.{Instruction, Placed}
 use Rattle.job.specs.Grammar.{Written}
 use Rattle.job.specs.Job.{check_job, job_of, recorded_in}
-use Rattle.instructions.specs.Lines.{numbered}
 use Rattle.single_faults.specs.Groups.{Groups, groups_of, all_recorded}
 use Rattle.single_faults.specs.Table.{first_wide}
 use Rattle.fault_table.specs.Lent.{all_carried, start_of}
 use Rattle.fault_table.specs.Rows.{rows_bytes}
-use Rattle.fault_table.specs.declared.Measured.{Measured}
+use Rattle.fault_table.specs.declared.WideLine.{WideLine}
 
 -- ---- bytes
 
@@ -23,10 +22,15 @@ unfoldable pub table_bytes : ℕ → List Placed → ℕ
 table_bytes groups [] = 0
 table_bytes groups (i ∷ is) = instruction_bytes groups i.line i.instruction + table_bytes groups is
 
+-- the line that is too wide, if one was found
+unfoldable pub wide_line : Result ℕ WideLine → Option ℕ
+wide_line (Ok n) = none
+wide_line (Err w) = some w.line
+
 -- the first line that is too wide was found, or the bytes of the table counted
-pub record Measures (job : List ℕ) (groups : ℕ) (r : Measured) : Type 0 where
-  pub wide : first_wide (job_of job).instructions ≡ numbered r.wide
-  pub bytes : r.wide ≡ 0 → r.bytes ≡ table_bytes groups (job_of job).instructions
+pub record Measures (job : List ℕ) (groups : ℕ) (r : Result ℕ WideLine) : Type 0 where
+  pub wide : first_wide (job_of job).instructions ≡ wide_line r
+  pub bytes : (n : ℕ) → r ≡ Ok n → n ≡ table_bytes groups (job_of job).instructions
 
 -- ---- going back
 

@@ -26,9 +26,7 @@ pub fn rows_length(line: u64, size: u64, groups: usize) -> usize
 {
     let rest = row_rest(line, groups);
     let mut bytes = 0;
-    let mut e = size;
-    while 0 < e {
-        e -= 1;
+    for e in (0..size).rev() {
         bytes += rest + digits(e);
     }
     bytes
@@ -68,11 +66,9 @@ pub fn put_kept_rows(
     ensures { RowsBefore place result (rows_by line (kept_at groups n kept.now) n 0) out.old out.new }
 {
     let mut begin = place;
-    let mut e = n;
-    let mut a = KEPT_ELEMENTS * KEPT_BYTES;
-    while 0 < e {
-        e -= 1;
-        a -= KEPT_BYTES;
+    // By number, which the row says.
+    for e in (0..n).rev() {
+        let a = (KEPT_ELEMENTS - n + e) * KEPT_BYTES;
         let end = a + groups;
         begin = put_row(&mut *out, begin, line, e as u64, &kept[a..end]);
     }

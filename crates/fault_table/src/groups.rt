@@ -11,38 +11,32 @@ use numbers::rising::is_rising;
 // How many words a group has.
 pub const GROUP_WORDS: usize = 24;
 
-// Refused by 17, or so many groups.
-#[derive(Clone, Copy)]
-pub enum Tested {
-    Refused,
-    Count(usize),
-}
-
-// 17, for all groups: one that is cut short, isn't strictly rising or has an outcome that isn't recorded.
-pub fn grouping(list: &[u64], recorded: u64) -> Tested
+// How many groups there are; none where 17 refuses one that is cut short, isn't strictly rising or has an outcome that isn't recorded.
+pub fn grouping(list: &[u64], recorded: u64) -> Option<usize>
     ensures { result ≡ grouping_of recorded 0 (groups_of list.now) }
 {
     let mut n = 0;
     let mut at = 0;
+    // A while: a group is skipped in one turn, so no range hands out the places.
     while at < list.len() {
         let count = list[at];
         let from = at + 1;
         let left = list.len() - from;
         if (left as u64) < count {
-            return Tested::Refused;
+            return None;
         }
         let end = from + count as usize;
         let ids = &list[from..end];
         if !is_rising(ids) {
-            return Tested::Refused;
+            return None;
         }
         if !all_below(ids, recorded) {
-            return Tested::Refused;
+            return None;
         }
         n += 1;
         at = end;
     }
-    Tested::Count(n)
+    Some(n)
 }
 
 // The words of one group, where nothing is carried back yet.
@@ -60,6 +54,7 @@ pub fn start(list: &[u64], state: &mut [u64])
 {
     let mut at = 0;
     let mut a = 0;
+    // A while, as in `grouping`.
     while at < list.len() {
         let from = at + 1;
         let end = from + list[at] as usize;

@@ -11,6 +11,7 @@ use crate::groups::GROUP_WORDS;
 use lines_back::{Walk, line_back};
 use pauli::{Pauli, Shot};
 use reader::Form;
+use template::values::Values;
 
 // ---- One group
 
@@ -28,31 +29,23 @@ fn keep(group: &mut [u64], b: Pauli)
     requires { length group.old ≡ 24 }
     ensures { carried_in group.new ≡ record { observable = as_pauli b; set = (carried_in group.old).set } }
 {
-    let x = b.x;
-    let z = b.z;
-    group[0] = x[0];
-    group[1] = x[1];
-    group[2] = x[2];
-    group[3] = x[3];
-    group[4] = z[0];
-    group[5] = z[1];
-    group[6] = z[2];
-    group[7] = z[3];
+    group[..4].copy_from_slice(&b.x);
+    group[4..8].copy_from_slice(&b.z);
 }
 
 // A gate, of which there are many, changes the observable alone.
-fn gate_back(group: &mut [u64], values: &[u64])
-    requires { Readable Forms.Unitary values.now × (length group.old ≡ 24) }
-    ensures { GroupBack Forms.Unitary values.now group.old group.new }
+fn gate_back(group: &mut [u64], values: &Values)
+    requires { Readable Forms.Unitary values.now.words × (length group.old ≡ 24) }
+    ensures { GroupBack Forms.Unitary values.now.words group.old group.new }
 {
     let b = observable(group);
     keep(group, lines_back::unitary(values, b));
 }
 
 // Any line. What is carried back depends on no shot and no count.
-fn group_back(group: &mut [u64], form: Form, values: &[u64])
-    requires { Readable form values.now × (length group.old ≡ 24) }
-    ensures { GroupBack form values.now group.old group.new }
+fn group_back(group: &mut [u64], form: Form, values: &Values)
+    requires { Readable form values.now.words × (length group.old ≡ 24) }
+    ensures { GroupBack form values.now.words group.old group.new }
 {
     if is_gate(form) {
         gate_back(group, values);
@@ -61,7 +54,7 @@ fn group_back(group: &mut [u64], form: Form, values: &[u64])
     let w = Walk {
         observable: observable(group),
         count: 0,
-        noise: 0,
+        noise: None,
     };
     let r = line_back(w, form, values, &mut group[8..], Shot(0), 0);
     let b = r.observable;
@@ -71,10 +64,7 @@ fn group_back(group: &mut [u64], form: Form, values: &[u64])
 fn is_gate(form: Form) -> bool
     ensures { result ≡ true → form ≡ Forms.Unitary }
 {
-    match form {
-        Form::Unitary => true,
-        _ => false,
-    }
+    matches!(form, Form::Unitary)
 }
 
 // ---- All groups
@@ -83,33 +73,31 @@ fn is_gate(form: Form) -> bool
 fn is_still(form: Form) -> bool
     ensures { result ≡ true → still_form form ≡ true }
 {
-    match form {
-        Form::Pauli => true,
-        Form::Allocate => true,
-        Form::Inject => true,
-        Form::Flip => true,
-        Form::Single => true,
-        Form::Depolarizing => true,
-        Form::Uniform => true,
-        Form::Weighted => true,
-        Form::Element => true,
-        Form::WeightedElement => true,
-        Form::Barrier => true,
-        _ => false,
-    }
+    matches!(
+        form,
+        Form::Pauli
+            | Form::Allocate
+            | Form::Inject
+            | Form::Flip
+            | Form::Single
+            | Form::Depolarizing
+            | Form::Uniform
+            | Form::Weighted
+            | Form::Element
+            | Form::WeightedElement
+            | Form::Barrier
+    )
 }
 
 // A line that was read once, back for every group.
-pub fn line_on_groups(state: &mut [u64], groups: usize, form: Form, values: &[u64])
-    requires { Readable form values.now × (length state.old ≡ groups * 24) }
-    ensures { GroupsBack form values.now groups state.old state.new }
+pub fn line_on_groups(state: &mut [u64], groups: usize, form: Form, values: &Values)
+    requires { Readable form values.now.words × (length state.old ≡ groups * 24) }
+    ensures { GroupsBack form values.now.words groups state.old state.new }
 {
     if is_still(form) {
         return;
     }
-    let mut i = groups;
-    while 0 < i {
-        i -= 1;
+    for i in (0..groups).rev() {
         let a = i * GROUP_WORDS;
         let end = a + GROUP_WORDS;
         group_back(&mut state[a..end], form, values);
@@ -121,9 +109,7 @@ pub fn put_marks(marks: &mut [u8], p: Pauli, state: &[u64])
     requires { length state.now ≡ length marks.old * 24 }
     ensures { marks.new ≡ map (mark_by 256 (as_pauli p)) (all_carried (length marks.old) state.now) }
 {
-    let mut i = marks.len();
-    while 0 < i {
-        i -= 1;
+    for i in (0..marks.len()).rev() {
         let a = i * GROUP_WORDS;
         let end = a + GROUP_WORDS;
         let on = p.anticommutes(observable(&state[a..end]));

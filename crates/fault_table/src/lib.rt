@@ -5,7 +5,6 @@
 ghost use Rattle.std.specs.Prelude.{◌≡◌, List, ℕ, ◌+◌, ◌^◌, ◌<◌, ◌≤◌, length};
 ghost use Rattle.text.specs.Bytes.{unlines};
 ghost use Rattle.text.specs.Template.{Value};
-ghost use Rattle.template.specs.Values.{Whole};
 ghost use Rattle.job.specs.Grammar.{Written};
 ghost use Rattle.job.specs.Job.{check_job, job_of};
 ghost use Rattle.reader.specs.Parsed.{Said};
@@ -23,7 +22,7 @@ mod groups_back;
 mod noise_rows;
 
 use crate::fault_rows::{KEPT_BYTES, KEPT_ELEMENTS, rows_length};
-use crate::groups::{GROUP_WORDS, Tested, grouping};
+use crate::groups::{GROUP_WORDS, grouping};
 use crate::groups_back::line_on_groups;
 use crate::noise_rows::{is_wide, keep_marks, put_rows};
 use checker::examine;
@@ -33,7 +32,7 @@ use job::{Answer, refusals};
 use known_lines::next_known;
 use lines_from_last::line_start;
 use reader::{Form, read_line};
-use template::values::VALUE_WORDS;
+use template::values::Values;
 use writer::{TextAnswer, refused, text_fits};
 
 const MAX_GROUPS: usize = 16;
@@ -41,9 +40,9 @@ const MAX_GROUPS: usize = 16;
 // ---- How long the table is
 
 // The bytes of the rows of line k.
-fn line_bytes(form: Form, f: &[u64], k: u64, groups: usize) -> usize
-    requires { (groups ≤ 16) × Whole f.now × ((vs : List Value) × (w : Written) × Said form f.now vs w × (size_said w ≤ 255)) }
-    ensures { (vs : List Value) (w : Written) → Said form f.now vs w → result ≡ rows_bytes groups k (size_said w) 0 }
+fn line_bytes(form: Form, f: &Values, k: u64, groups: usize) -> usize
+    requires { (groups ≤ 16) × ((vs : List Value) × (w : Written) × Said form f.now.words vs w × (size_said w ≤ 255)) }
+    ensures { (vs : List Value) (w : Written) → Said form f.now.words vs w → result ≡ rows_bytes groups k (size_said w) 0 }
 {
     if !is_noise(form) {
         return 0;
@@ -51,32 +50,33 @@ fn line_bytes(form: Form, f: &[u64], k: u64, groups: usize) -> usize
     rows_length(k, size(form, f), groups)
 }
 
-// The first line that is too wide, 0 for none, and the bytes of the table.
+// A noise line that is too wide for a table.
 #[derive(Clone, Copy)]
-struct Measured {
-    wide: u64,
-    bytes: usize,
+struct WideLine {
+    line: u64,
 }
 
-fn measure(job: &[u8], groups: usize) -> Measured
+// The bytes of the table, or the first line that is too wide.
+fn measure(job: &[u8], groups: usize) -> Result<usize, WideLine>
     requires { ((check_job job.now).number ≡ 0) × (groups ≤ 16) }
     ensures { Measures job.now groups result }
 {
-    let mut fields = [0u64; VALUE_WORDS];
+    let mut fields = Values::new();
     let mut at = 0;
     let mut k: u64 = 1;
     let mut bytes = 0;
+    // A while: a line is skipped in one turn, so no range hands out the places.
     while at < job.len() {
         let line = next_known(job, at, &mut fields);
         let form = line.form;
         if is_wide(form, &fields) {
-            return Measured { wide: k, bytes: 0 };
+            return Err(WideLine { line: k });
         }
         bytes += line_bytes(form, &fields, k, groups);
         at = line.end + 1;
         k += 1;
     }
-    Measured { wide: 0, bytes }
+    Ok(bytes)
 }
 
 // ---- The table
@@ -87,10 +87,8 @@ fn kept_after(form: Form, n: usize) -> usize
     ensures { (f : List ℕ) (vs : List Value) (w : Written) → Said form f vs w → result ≡ kept_after_of w n }
 {
     match form {
-        Form::Element => n + 1,
-        Form::WeightedElement => n + 1,
-        Form::Header => n,
-        Form::EditionHeader => n,
+        Form::Element | Form::WeightedElement => n + 1,
+        Form::Header | Form::EditionHeader => n,
         _ => 0,
     }
 }
@@ -100,12 +98,13 @@ fn put_table(out: &mut [u8], job: &[u8], lines: u64, state: &mut [u64], groups: 
     requires { TableReady job.now lines state.old groups out.old }
     ensures { (q : TableReady job.now lines state.old groups out.old) → out.new ≡ unlines (carried_rows (job_of job.now).header q.are (job_of job.now).instructions) }
 {
-    let mut values = [0u64; VALUE_WORDS];
+    let mut values = Values::new();
     let mut kept = [0u8; KEPT_ELEMENTS * KEPT_BYTES];
     let mut n = 0;
     let mut place = out.len();
     let mut e = job.len();
     let mut k = lines;
+    // A while, as in `measure`, from the last line to the first.
     while 0 < e {
         let at = line_start(job, e - 1);
         let form = read_line(&job[at..e - 1], &mut values);
@@ -132,11 +131,10 @@ fn table_accepted(job: &[u8], lines: u64, list: &[u64], groups: usize, out: &mut
     requires { Grouped job.now lines list.now groups }
     ensures { (q : Grouped job.now lines list.now groups) → text_reply result out.new ≡ table_answer (table_text (job_of job.now) q.are) (first_wide (job_of job.now).instructions) out.old }
 {
-    let m = measure(job, groups);
-    if m.wide != 0 {
-        return refusal(refusals::GROUPS, m.wide);
-    }
-    let bytes = m.bytes;
+    let bytes = match measure(job, groups) {
+        Ok(bytes) => bytes,
+        Err(wide) => return refusal(refusals::GROUPS, wide.line),
+    };
     if !text_fits(bytes, out.len()) {
         return refusal(refusals::ROOM, 0);
     }
@@ -159,16 +157,14 @@ pub fn fault_table(job: &[u8], groups: &[u64], out: &mut [u8]) -> TextAnswer
     if answer.number != 0 {
         return refused(answer);
     }
-    match grouping(groups, found.recorded) {
-        Tested::Refused => refusal(refusals::WALK, 0),
-        Tested::Count(n) => {
-            if n == 0 {
-                return refusal(refusals::GROUPS, 0);
-            }
-            if MAX_GROUPS < n {
-                return refusal(refusals::GROUPS, 0);
-            }
-            table_accepted(job, found.lines, groups, n, out)
-        }
+    let Some(n) = grouping(groups, found.recorded) else {
+        return refusal(refusals::WALK, 0);
+    };
+    if n == 0 {
+        return refusal(refusals::GROUPS, 0);
     }
+    if MAX_GROUPS < n {
+        return refusal(refusals::GROUPS, 0);
+    }
+    table_accepted(job, found.lines, groups, n, out)
 }

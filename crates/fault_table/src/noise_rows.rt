@@ -4,7 +4,6 @@ ghost use Rattle.std.specs.Prelude.{◌≡◌, true, List, [], ◌∷◌, ℕ, �
 ghost use Rattle.std.proofs.Math.Option.{some};
 ghost use Rattle.pauli.specs.Fixed.{as_pauli};
 ghost use Rattle.text.specs.Template.{Value};
-ghost use Rattle.template.specs.Values.{Whole};
 ghost use Rattle.job.specs.Line.{pauli_of, WeightedPauli};
 ghost use Rattle.job.specs.Checks.{all_below};
 ghost use Rattle.job.specs.Grammar.{Written};
@@ -23,28 +22,27 @@ use noise_text::lists::select;
 use pauli::Pauli;
 use reader::Form;
 use reader::slots::{DEPOLARIZED, SINGLE_X, X};
-use template::values::{KEPT, count, list};
+use template::values::{KEPT, Values};
 
 // The most qubits of d=2 that a table takes.
 const MAX_DEPOLARIZED: u64 = 4;
 
 // 24: d=2 over more qubits.
-pub fn is_wide(form: Form, f: &[u64]) -> bool
-    requires { Whole f.now }
-    ensures { (vs : List Value) (w : Written) → Said form f.now vs w → result ≡ wide_said w }
+pub fn is_wide(form: Form, f: &Values) -> bool
+    ensures { (vs : List Value) (w : Written) → Said form f.now.words vs w → result ≡ wide_said w }
 {
     match form {
-        Form::Depolarizing => MAX_DEPOLARIZED < count(f, DEPOLARIZED),
+        Form::Depolarizing => MAX_DEPOLARIZED < f.count(DEPOLARIZED),
         _ => false,
     }
 }
 
 // The Pauli that two lists of a line make, the one in slot `first` and the next.
-fn pauli_at(f: &[u64], first: usize) -> Pauli
-    requires { PauliHeld f.now first }
-    ensures { as_pauli result ≡ pauli_of (held_pauli f.now first) }
+fn pauli_at(f: &Values, first: usize) -> Pauli
+    requires { PauliHeld f.now.words first }
+    ensures { as_pauli result ≡ pauli_of (held_pauli f.now.words first) }
 {
-    Pauli::from_lists(list(f, first), list(f, first + 1))
+    Pauli::from_lists(f.list(first), f.list(first + 1))
 }
 
 // ---- Element lines
@@ -52,17 +50,13 @@ fn pauli_at(f: &[u64], first: usize) -> Pauli
 fn is_element(form: Form) -> bool
     ensures { (vs : List Value) (w : Written) → (form_of form).says vs ≡ some w → result ≡ is_element_of w }
 {
-    match form {
-        Form::Element => true,
-        Form::WeightedElement => true,
-        _ => false,
-    }
+    matches!(form, Form::Element | Form::WeightedElement)
 }
 
 // Keeps the characters of an element line, in front of those of the n elements behind it. Other lines change nothing.
-pub fn keep_marks(kept: &mut [u8], n: usize, groups: usize, form: Form, f: &[u64], state: &[u64])
-    requires { ElementKnown form f.now × (groups ≤ 16) × (length state.now ≡ groups * 24) × (length kept.old ≡ 1024) }
-    ensures { (q : ElementKnown form f.now) (es : List WeightedPauli) → n ≡ length es → KeptFor groups (all_carried groups state.now) kept.old es → KeptFor groups (all_carried groups state.now) kept.new (elements_with q.written es) }
+pub fn keep_marks(kept: &mut [u8], n: usize, groups: usize, form: Form, f: &Values, state: &[u64])
+    requires { ElementKnown form f.now.words × (groups ≤ 16) × (length state.now ≡ groups * 24) × (length kept.old ≡ 1024) }
+    ensures { (q : ElementKnown form f.now.words) (es : List WeightedPauli) → n ≡ length es → KeptFor groups (all_carried groups state.now) kept.old es → KeptFor groups (all_carried groups state.now) kept.new (elements_with q.written es) }
 {
     if !is_element(form) {
         return;
@@ -123,9 +117,7 @@ fn put_depolarizing_rows(
     ensures { RowsBefore place result (rows_by line (λ (e : ℕ). marks_of (all_carried groups state.now) (depolarizing_element_of qubits.now e)) n 0) out.old out.new }
 {
     let mut begin = place;
-    let mut e = n;
-    while 0 < e {
-        e -= 1;
+    for e in (0..n).rev() {
         let p = depolarizing_element(qubits, e);
         begin = put_element_row(&mut *out, begin, line, e, p, state, groups);
     }
@@ -138,13 +130,13 @@ pub fn put_rows(
     place: usize,
     line: u64,
     form: Form,
-    f: &[u64],
+    f: &Values,
     state: &[u64],
     groups: usize,
     kept: &[u8],
 ) -> usize
-    requires { RowsReady form f.now state.now groups kept.now line place out.old }
-    ensures { (q : RowsReady form f.now state.now groups kept.now line place out.old) → RowsBefore place result (rows_said line (all_carried groups state.now) q.written q.elements) out.old out.new }
+    requires { RowsReady form f.now.words state.now groups kept.now line place out.old }
+    ensures { (q : RowsReady form f.now.words state.now groups kept.now line place out.old) → RowsBefore place result (rows_said line (all_carried groups state.now) q.written q.elements) out.old out.new }
 {
     match form {
         Form::Single => {
@@ -153,13 +145,9 @@ pub fn put_rows(
         }
         Form::Depolarizing => {
             let n = size(form, f);
-            put_depolarizing_rows(out, place, line, list(f, DEPOLARIZED), n, state, groups)
+            put_depolarizing_rows(out, place, line, f.list(DEPOLARIZED), n, state, groups)
         }
-        Form::Uniform => {
-            let n = size(form, f);
-            put_kept_rows(out, place, line, kept, n as usize, groups)
-        }
-        Form::Weighted => {
+        Form::Uniform | Form::Weighted => {
             let n = size(form, f);
             put_kept_rows(out, place, line, kept, n as usize, groups)
         }

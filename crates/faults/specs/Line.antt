@@ -1,5 +1,5 @@
 -- A noise line by value, as lent words hold its values. Definitions. Assumes nothing.
-use Rattle.std.specs.Prelude.{ℕ, ◌≤◌, ◌<◌, ◌≡◌, List, length, take, Float}
+use Rattle.std.specs.Prelude.{ℕ, ◌≤◌, ◌<◌, ◌≡◌, Option, List, length, take, Float}
 use Rattle.text.specs.Template.{Value, number_at, list_at_of}
 use Rattle.template.specs.Fields.{Held}
 use Rattle.job.specs.Float.{float}
@@ -8,7 +8,6 @@ use Rattle.reader.specs.declared.Form.{Form}
 use Rattle.reader.specs.Parsed.{Said}
 use Rattle.noise.specs.declared.PauliDistribution.{PauliDistribution}
 use Rattle.noise.specs.declared.PauliDistribution.TheVariants.{Single, Depolarizing, Uniform, Weighted}
-use Rattle.noise.specs.declared.Correlation.{Correlation}
 use Rattle.noise.specs.declared.OutcomeCondition.{OutcomeCondition}
 use Rattle.noise.specs.declared.PauliFault.{PauliFault}
 use Rattle.noise.specs.Kinds.{correlation_of}
@@ -21,7 +20,7 @@ kind_by (Kind.uniform n) t = Uniform n
 kind_by (Kind.weighted n) t = Weighted t
 
 -- corr is the first list of a noise line
-pub record CorrelationHeld (words : List ℕ) (r : Correlation) : Type 0 where
+pub record CorrelationHeld (words : List ℕ) (r : Option ℕ) : Type 0 where
   pub is : (a b : ℕ) (vs : List Value) → Held words a b vs → 0 < b → correlation_of r ≡ optional (list_at_of 0 vs)
 
 -- cond is the second list, and parity the second number

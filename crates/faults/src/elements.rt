@@ -1,7 +1,7 @@
 // The elements of a distribution in lent words. Each begins with the counts of its two lists, and has 31 words for the members of each. The qubits of
 // a depolarizing distribution stand as the first list of element 0.
-ghost use Rattle.std.specs.Prelude.{◌≡◌, Bool, true, cond, ◌*◌, ◌≤◌, ◌<◌, min, length};
-ghost use Rattle.template.specs.Values.{Whole, held_count};
+ghost use Rattle.std.specs.Prelude.{◌≡◌, Bool, true, cond, ◌+◌, ◌*◌, ◌≤◌, ◌<◌, min, length, take, drop};
+ghost use Rattle.template.specs.Values.{held_count};
 ghost use Rattle.job.specs.Float.{float, zero_float, is_weight_of};
 ghost use Rattle.faults.specs.Elements.{Inside, x_count, z_count, element_X, element_Z, element_counts_of, element_members_of, Kept};
 ghost use Rattle.faults.specs.Prepared.{ElementLines, Gathered};
@@ -9,7 +9,7 @@ ghost use Rattle.faults.specs.Prepared.{ElementLines, Gathered};
 use job::limits::MAX_ELEMENTS;
 use known_lines::next_known;
 use reader::slots::{WEIGHT, X};
-use template::values::{KEPT, VALUE_WORDS, count, number};
+use template::values::{KEPT, Values};
 
 // ---- Where they lie
 
@@ -27,15 +27,21 @@ pub const ELEMENT_WORDS: usize = Z_MEMBERS + KEPT;
 
 pub const ELEMENTS_WORDS: usize = MAX_ELEMENTS as usize * ELEMENT_WORDS;
 
+// A list of an element: its members begin at `from`, and there are so many.
+fn list_at<'a>(elements: &'a [u64], from: usize, count: u64) -> &'a [u64]
+    requires { from + count ≤ length elements.now }
+    ensures { result.now ≡ take count (drop from elements.now) }
+{
+    &elements[from..from + count as usize]
+}
+
 // The first list of element e.
 pub fn element_x<'a>(elements: &'a [u64], e: usize) -> &'a [u64]
     requires { Inside elements.now e × (x_count elements.now e ≤ 31) }
     ensures { result.now ≡ element_X elements.now e }
 {
     let start = e * ELEMENT_WORDS;
-    let from = start + X_MEMBERS;
-    let to = from + elements[start] as usize;
-    &elements[from..to]
+    list_at(elements, start + X_MEMBERS, elements[start])
 }
 
 // The second list.
@@ -44,9 +50,7 @@ pub fn element_z<'a>(elements: &'a [u64], e: usize) -> &'a [u64]
     ensures { result.now ≡ element_Z elements.now e }
 {
     let start = e * ELEMENT_WORDS;
-    let from = start + Z_MEMBERS;
-    let to = from + elements[start + Z_COUNT] as usize;
-    &elements[from..to]
+    list_at(elements, start + Z_MEMBERS, elements[start + Z_COUNT])
 }
 
 // Both counts.
@@ -55,8 +59,7 @@ pub fn element_counts<'a>(elements: &'a [u64], e: usize) -> &'a [u64]
     ensures { result.now ≡ element_counts_of elements.now e }
 {
     let from = e * ELEMENT_WORDS;
-    let to = from + COUNTS;
-    &elements[from..to]
+    &elements[from..from + COUNTS]
 }
 
 // The words for the members of both lists.
@@ -65,42 +68,37 @@ pub fn element_members<'a>(elements: &'a [u64], e: usize) -> &'a [u64]
     ensures { result.now ≡ element_members_of elements.now e }
 {
     let from = e * ELEMENT_WORDS + X_MEMBERS;
-    let to = from + 2 * KEPT;
-    &elements[from..to]
+    &elements[from..from + 2 * KEPT]
 }
 
 // How many members of a list are kept.
-fn kept_count(values: &[u64], i: usize) -> usize
-    requires { (i < 4) × Whole values.now }
-    ensures { result ≡ min (held_count values.now i) 31 }
+fn kept_count(values: &Values, i: usize) -> usize
+    requires { i < 4 }
+    ensures { result ≡ min (held_count values.now.words i) 31 }
 {
-    let n = count(values, i) as usize;
-    if KEPT < n {
-        return KEPT;
-    }
-    n
+    (values.count(i) as usize).min(KEPT)
 }
 
 // Keeps two lists of a line, the one in slot `first` and the next, as element e. What the words behind their members hold is not promised.
-pub fn keep_element(elements: &mut [u64], e: usize, values: &[u64], first: usize)
-    requires { Inside elements.old e × Whole values.now × (first ≤ 2) }
-    ensures { Kept e first values.now elements.old elements.new }
+pub fn keep_element(elements: &mut [u64], e: usize, values: &Values, first: usize)
+    requires { Inside elements.old e × (first ≤ 2) }
+    ensures { Kept e first values.now.words elements.old elements.new }
 {
     let start = e * ELEMENT_WORDS;
     let second = first + 1;
-    elements[start] = count(values, first);
-    elements[start + Z_COUNT] = count(values, second);
+    elements[start] = values.count(first);
+    elements[start + Z_COUNT] = values.count(second);
     row_loops::copy(
         &mut *elements,
         start + X_MEMBERS,
-        template::values::kept(values, first),
+        values.kept(first),
         0,
         kept_count(values, first),
     );
     row_loops::copy(
         elements,
         start + Z_MEMBERS,
-        template::values::kept(values, second),
+        values.kept(second),
         0,
         kept_count(values, second),
     );
@@ -113,13 +111,11 @@ fn weight_of(weighted: bool, bits: u64) -> f64
     requires { weighted ≡ true → is_weight_of (float bits) ≡ true }
     ensures { result ≡ cond weighted (float bits) zero_float }
 {
-    if !weighted {
-        return 0.0;
-    }
-    f64::from_bits(bits)
+    if weighted { f64::from_bits(bits) } else { 0.0 }
 }
 
 // Reads n element lines from a place on. Answers the place behind them.
+// One function for both kinds, which differ in the weights alone: two would be twins.
 pub fn gather(
     job: &[u8],
     from: usize,
@@ -135,15 +131,14 @@ pub fn gather(
     if n == 0 {
         return from;
     }
-    let mut values = [0u64; VALUE_WORDS];
+    let mut values = Values::new();
     let mut at = from;
-    let mut e = 0;
-    while e < n {
+    // By number: an element, its weight and its line have the same one.
+    for e in 0..n {
         let line = next_known(job, at, &mut values);
         keep_element(&mut *elements, e, &values, X);
-        weights[e] = weight_of(weighted, number(&values, WEIGHT));
+        weights[e] = weight_of(weighted, values.number(WEIGHT));
         at = line.end + 1;
-        e += 1;
     }
     at
 }

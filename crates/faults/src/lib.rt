@@ -17,6 +17,7 @@ use instructions::{LineRead, element_lines, has_weights};
 use noise::condition::condition_mask;
 use noise::{OutcomeCondition, PauliFault};
 use reader::slots::OWN_LISTS;
+use template::values::Values;
 
 // A noise line by value, how many element lines follow it, and the place in the job behind them.
 #[derive(Clone, Copy)]
@@ -31,24 +32,22 @@ fn read_fault(
     job: &[u8],
     line: LineRead,
     element_lines: usize,
-    values: &[u64],
+    values: &Values,
     elements: &mut [u64],
     sums: &mut [f64],
     weights: &mut [f64],
 ) -> Prepared
-    requires { SomeNoise job.now line values.now element_lines × FaultRoom element_lines values.now elements.old sums.old weights.old }
-    ensures { (noiseless : List ℕ) (w : ℕ) (q : NoiseLines job.now (line.end + 1) line.form values.now noiseless w) → FaultRead q elements.new sums.new result }
+    requires { SomeNoise job.now line values.now.words element_lines × FaultRoom element_lines values.now.words elements.old sums.old weights.old }
+    ensures { (noiseless : List ℕ) (w : ℕ) (q : NoiseLines job.now (line.end + 1) line.form values.now.words noiseless w) → FaultRead q elements.new sums.new result }
 {
-    let form = line.form;
     let from = line.end + 1;
-    let weighted = has_weights(form);
+    let weighted = has_weights(line.form);
     // Element 0 is the Pauli of d=1, or has the qubits of d=2 as its first list; its second is then an earlier line's, and not looked at. d=3 and d=4
     // have neither: `gather` writes over what is kept here.
     keep_element(&mut *elements, 0, values, OWN_LISTS);
     let behind = gather(job, from, element_lines, weighted, elements, &mut *weights);
-    let fault = fault_of(form, values, total(weights));
-    let distribution = fault.distribution;
-    fill_sums(distribution, sums, weights);
+    let fault = fault_of(line.form, values, total(weights));
+    fill_sums(fault.distribution, sums, weights);
     Prepared {
         fault,
         element_lines,
@@ -61,16 +60,15 @@ fn satisfied_shots(condition: OutcomeCondition, noiseless: &[u64], width: usize,
     requires { (condition.count ≤ 31) × RowsIn width (take condition.count condition.outcomes) noiseless.now × (width ≤ length mask.old) }
     ensures { Masks width mask.new (condition_of (take condition.count condition.outcomes) condition.parity) (bit_in width noiseless.now) }
 {
-    let outcomes = condition.outcomes;
-    let count = condition.count;
-    condition_mask(mask, &outcomes[..count], condition.parity, noiseless, width);
+    let outcomes = &condition.outcomes[..condition.count];
+    condition_mask(mask, outcomes, condition.parity, noiseless, width);
 }
 
 // Makes ready the noise line that was read, by its values. Its element lines begin behind it.
 pub fn prepare(
     job: &[u8],
     line: LineRead,
-    values: &[u64],
+    values: &Values,
     noiseless: &[u64],
     width: usize,
     elements: &mut [u64],
@@ -78,11 +76,10 @@ pub fn prepare(
     weights: &mut [f64],
     mask: &mut [u64],
 ) -> Prepared
-    requires { NoiseLines job.now (line.end + 1) line.form values.now noiseless.now width × Room values.now elements.old sums.old weights.old mask.old width }
-    ensures { (q : NoiseLines job.now (line.end + 1) line.form values.now noiseless.now width) → PreparedAs q elements.new sums.new mask.new result }
+    requires { NoiseLines job.now (line.end + 1) line.form values.now.words noiseless.now width × Room values.now.words elements.old sums.old weights.old mask.old width }
+    ensures { (q : NoiseLines job.now (line.end + 1) line.form values.now.words noiseless.now width) → PreparedAs q elements.new sums.new mask.new result }
 {
-    let form = line.form;
-    let element_lines = element_lines(form, values);
+    let element_lines = element_lines(line.form, values);
     let ready = read_fault(
         job,
         line,
@@ -92,8 +89,6 @@ pub fn prepare(
         &mut sums[..element_lines],
         &mut weights[..element_lines],
     );
-    let fault = ready.fault;
-    let condition = fault.condition;
-    satisfied_shots(condition, noiseless, width, mask);
+    satisfied_shots(ready.fault.condition, noiseless, width, mask);
     ready
 }

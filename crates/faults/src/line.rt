@@ -1,69 +1,64 @@
 // A noise line by value, from its values in lent words.
 ghost use Rattle.std.specs.Prelude.{◌≡◌, true, List};
 ghost use Rattle.text.specs.Template.{Value};
-ghost use Rattle.template.specs.Values.{Whole, held_number};
+ghost use Rattle.template.specs.Values.{held_number};
 ghost use Rattle.job.specs.Float.{float, is_probability};
 ghost use Rattle.job.specs.Grammar.{NoiseLine, Written};
 ghost use Rattle.reader.specs.Parsed.{Said};
 ghost use Rattle.faults.specs.Line.{kind_by, CorrelationHeld, ConditionHeld, FaultHeld};
 
-use noise::{Correlation, OutcomeCondition, PauliDistribution, PauliFault};
+use noise::{OutcomeCondition, PauliDistribution, PauliFault};
 use reader::Form;
 use reader::slots::{CONDITION, CORRELATION, DEPOLARIZED, ELEMENT_COUNT, PARITY, PROBABILITY};
-use template::values::{KEPT, count, kept, member, number};
+use template::values::{KEPT, Values};
 
 // The kind of a noise line. The weighted one has this total.
-fn distribution_of(form: Form, values: &[u64], total: f64) -> PauliDistribution
-    requires { Whole values.now }
-    ensures { (vs : List Value) (n : NoiseLine) → Said form values.now vs (Written.noise n) → result ≡ kind_by n.kind total }
+fn distribution_of(form: Form, values: &Values, total: f64) -> PauliDistribution
+    ensures { (vs : List Value) (n : NoiseLine) → Said form values.now.words vs (Written.noise n) → result ≡ kind_by n.kind total }
 {
     match form {
         Form::Depolarizing => PauliDistribution::Depolarizing {
-            qubit_count: count(values, DEPOLARIZED),
+            qubit_count: values.count(DEPOLARIZED),
         },
         Form::Uniform => PauliDistribution::Uniform {
-            element_count: number(values, ELEMENT_COUNT),
+            element_count: values.number(ELEMENT_COUNT),
         },
         Form::Weighted => PauliDistribution::Weighted { total },
         _ => PauliDistribution::Single,
     }
 }
 
-fn correlation_of(values: &[u64]) -> Correlation
-    requires { Whole values.now }
-    ensures { CorrelationHeld values.now result }
+// The correlation that a noise line says, if any.
+fn correlation_of(values: &Values) -> Option<u64>
+    ensures { CorrelationHeld values.now.words result }
 {
-    if count(values, CORRELATION) == 0 {
-        return Correlation::Uncorrelated;
+    if values.count(CORRELATION) == 0 {
+        return None;
     }
-    Correlation::Shared {
-        correlation: member(values, CORRELATION, 0),
-    }
+    Some(values.member(CORRELATION, 0))
 }
 
-fn condition_of(values: &[u64]) -> OutcomeCondition
-    requires { Whole values.now }
-    ensures { ConditionHeld values.now result }
+fn condition_of(values: &Values) -> OutcomeCondition
+    ensures { ConditionHeld values.now.words result }
 {
     let mut outcomes = [0u64; KEPT];
-    row_loops::copy(&mut outcomes, 0, kept(values, CONDITION), 0, KEPT);
+    row_loops::copy(&mut outcomes, 0, values.kept(CONDITION), 0, KEPT);
     OutcomeCondition {
         outcomes,
-        count: count(values, CONDITION) as usize,
-        parity: number(values, PARITY),
+        count: values.count(CONDITION) as usize,
+        parity: values.number(PARITY),
     }
 }
 
 // The noise line that the values say. The total of its elements' weights is known once they are read.
-pub fn fault_of(form: Form, values: &[u64], total: f64) -> PauliFault
-    requires { Whole values.now × (is_probability (float (held_number values.now 0)) ≡ true) }
-    ensures { FaultHeld form values.now total result }
+pub fn fault_of(form: Form, values: &Values, total: f64) -> PauliFault
+    requires { is_probability (float (held_number values.now.words 0)) ≡ true }
+    ensures { FaultHeld form values.now.words total result }
 {
-    let condition = condition_of(values);
     PauliFault {
-        probability: f64::from_bits(number(values, PROBABILITY)),
+        probability: f64::from_bits(values.number(PROBABILITY)),
         distribution: distribution_of(form, values, total),
         correlation: correlation_of(values),
-        condition,
+        condition: condition_of(values),
     }
 }

@@ -9,6 +9,7 @@ use numbers::known::read_digits;
 use pauli::QubitId;
 
 // Where the letter of an operation stands, behind `op=`, and where it ends.
+// reader has the same two: this crate stands beside it, so that its check loads no reader.
 const LETTER: usize = 3;
 
 const LETTER_END: usize = LETTER + 1;

@@ -7,14 +7,13 @@ ghost use Rattle.std.proofs.Math.Option.{some};
 ghost use Rattle.text.specs.Template.{Value};
 ghost use Rattle.job.specs.Grammar.{NoiseLine, Written};
 ghost use Rattle.job.specs.Checks.{element_lines_of};
-ghost use Rattle.template.specs.Values.{Whole};
 ghost use Rattle.reader.specs.Parsed.{form_of, Said};
 ghost use Rattle.instructions.specs.Reading.{noise_form};
 ghost use Rattle.instructions.specs.Ahead.{has_weights_of};
 
 use reader::Form;
 use reader::slots::ELEMENT_COUNT;
-use template::values::number;
+use template::values::Values;
 
 // A line that was read: its form, and the place of the LF that ends it. The next line begins after that.
 #[derive(Clone, Copy)]
@@ -36,13 +35,12 @@ pub fn is_noise(form: Form) -> bool
 }
 
 // How many element lines follow a noise line.
-pub fn element_lines(form: Form, f: &[u64]) -> usize
-    requires { Whole f.now }
-    ensures { (vs : List Value) (n : NoiseLine) → Said form f.now vs (Written.noise n) → result ≡ element_lines_of n.kind }
+pub fn element_lines(form: Form, f: &Values) -> usize
+    ensures { (vs : List Value) (n : NoiseLine) → Said form f.now.words vs (Written.noise n) → result ≡ element_lines_of n.kind }
 {
     match form {
-        Form::Uniform => number(f, ELEMENT_COUNT) as usize,
-        Form::Weighted => number(f, ELEMENT_COUNT) as usize,
+        Form::Uniform => f.number(ELEMENT_COUNT) as usize,
+        Form::Weighted => f.number(ELEMENT_COUNT) as usize,
         _ => 0,
     }
 }

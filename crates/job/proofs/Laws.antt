@@ -33,6 +33,8 @@ pub mod Second
 pub mod Instructions
 -- The numbers of a job's tests are none of the calls' own.
 pub mod Numbers
+-- No refusal has the number 0.
+pub mod Refusals
 -- Sound lines pass: the other way round.
 pub mod Passes
 -- Texts that say instructions, noise with its element lines: they are accepted, and say what is gathered of them.

@@ -9,6 +9,8 @@ pub mod Checks
 pub mod Job
 pub mod Reply
 pub mod InRange
+-- The numbers of refusals, for contracts of single functions.
+pub mod Refusals
 -- What an accepted job is known for, and what a line by its form alone; and, for theorems, the marks of lines, the contexts between lines, and a
 -- reader of the first edition.
 pub mod Sound

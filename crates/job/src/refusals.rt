@@ -1,4 +1,7 @@
 // The numbers of refusals, by the names that they have in C (include/kundatrezo.h). docs/REFUSALS.md says what each means.
+ghost use Rattle.std.specs.Prelude.{◌≡◌};
+ghost use Rattle.job.specs.Refusals.{number_of};
+
 pub const LENGTH: u64 = 1;
 
 pub const FORM: u64 = 2;
@@ -50,3 +53,70 @@ pub const GROUPS: u64 = 24;
 pub const SHARES: u64 = 25;
 
 pub const CALLER: u64 = 26;
+
+// Why a test or a call refuses.
+#[derive(Clone, Copy, PartialEq, Eq, Debug)]
+pub enum Refusal {
+    Length,
+    Form,
+    Header,
+    Qubit,
+    Operands,
+    Permutation,
+    Clifford,
+    NextId,
+    NotRecorded,
+    Shot,
+    Probability,
+    Elements,
+    Words,
+    Draws,
+    Room,
+    Noise,
+    Walk,
+    Annotation,
+    Sizes,
+    Control,
+    Size,
+    Seed,
+    Edition,
+    Groups,
+    Shares,
+    Caller,
+}
+
+impl Refusal {
+    // Its number.
+    pub fn number(self) -> u64
+        ensures { result ≡ number_of self }
+    {
+        match self {
+            Refusal::Length => LENGTH,
+            Refusal::Form => FORM,
+            Refusal::Header => HEADER,
+            Refusal::Qubit => QUBIT,
+            Refusal::Operands => OPERANDS,
+            Refusal::Permutation => PERMUTATION,
+            Refusal::Clifford => CLIFFORD,
+            Refusal::NextId => NEXT_ID,
+            Refusal::NotRecorded => NOT_RECORDED,
+            Refusal::Shot => SHOT,
+            Refusal::Probability => PROBABILITY,
+            Refusal::Elements => ELEMENTS,
+            Refusal::Words => WORDS,
+            Refusal::Draws => DRAWS,
+            Refusal::Room => ROOM,
+            Refusal::Noise => NOISE,
+            Refusal::Walk => WALK,
+            Refusal::Annotation => ANNOTATION,
+            Refusal::Sizes => SIZES,
+            Refusal::Control => CONTROL,
+            Refusal::Size => SIZE,
+            Refusal::Seed => SEED,
+            Refusal::Edition => EDITION,
+            Refusal::Groups => GROUPS,
+            Refusal::Shares => SHARES,
+            Refusal::Caller => CALLER,
+        }
+    }
+}

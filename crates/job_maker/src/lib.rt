@@ -53,13 +53,11 @@ fn put_job(out: &mut [u8], h: Header, lines: u64, state: u64) -> usize
         recorded: 0,
         state,
     };
-    let mut i = 0;
-    while i < lines {
+    for i in 0..lines {
         if MAX_BYTES < m.at {
             return m.at;
         }
         m = put_instruction(&mut *out, m, h);
-        i += 1;
     }
     m.at
 }

@@ -11,19 +11,11 @@ use job::limits::{MAX_OUTCOMES, MAX_QUBITS, MAX_SHOTS};
 pub fn in_range(h: Header) -> bool
     ensures { result ≡ in_range h }
 {
-    if h.qubits == 0 {
-        return false;
-    }
-    if MAX_QUBITS < h.qubits {
-        return false;
-    }
-    if MAX_OUTCOMES < h.outcomes {
-        return false;
-    }
-    if h.shots == 0 {
-        return false;
-    }
-    h.shots <= MAX_SHOTS
+    1 <= h.qubits
+        && h.qubits <= MAX_QUBITS
+        && h.outcomes <= MAX_OUTCOMES
+        && 1 <= h.shots
+        && h.shots <= MAX_SHOTS
 }
 
 // How many elements depolarizing noise over k qubits has: every Pauli on them but the identity.

@@ -5,7 +5,8 @@ ghost use Rattle.job_shape.specs.Tested.{Tests};
 ghost use Rattle.job_shape.specs.Enough.{suffice, enough_lent};
 
 use crate::{Tested, test};
-use job::{Answer, refusals};
+use job::Answer;
+use job::refusals::Refusal;
 use rows::Shape;
 
 // How many words are lent of each list that a run tests.
@@ -20,35 +21,18 @@ pub struct Lengths {
 
 // Whether so many words are lent as a run of that shape needs: for each qubit a row of the X and of the Z part, for each outcome a row of the deltas
 // and of the noiseless bits, and a total.
+#[tactic(auto, unfolding(crate::specs::Enough::suffice))]
 fn enough(shape: Shape, lent: Lengths) -> bool
     requires { (shape.qubits * shape.width < 2 ^ 64) × (shape.outcomes * shape.width < 2 ^ 64) }
     ensures { result ≡ suffice shape lent }
 {
     let frame_words = shape.qubits * shape.width;
     let outcome_words = shape.outcomes * shape.width;
-    if lent.x < frame_words {
-        return false;
-    }
-    if lent.z < frame_words {
-        return false;
-    }
-    if lent.deltas < outcome_words {
-        return false;
-    }
-    if lent.totals < shape.outcomes {
-        return false;
-    }
-    outcome_words <= lent.noiseless
-}
-
-// 13: lent words too few.
-fn too_few() -> Answer
-    ensures { result ≡ record { number = 13; line = 0 } }
-{
-    Answer {
-        number: refusals::WORDS,
-        line: 0,
-    }
+    frame_words <= lent.x
+        && frame_words <= lent.z
+        && outcome_words <= lent.deltas
+        && shape.outcomes <= lent.totals
+        && outcome_words <= lent.noiseless
 }
 
 // The tests of a job, then 13.
@@ -63,7 +47,7 @@ pub fn tested(job: &[u8], lent: Lengths) -> Tested
     let shape = r.shape;
     if !enough(shape, lent) {
         return Tested {
-            answer: too_few(),
+            answer: Answer::refused(Refusal::Words, 0),
             shape,
         };
     }

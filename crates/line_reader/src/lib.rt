@@ -72,6 +72,7 @@ fn nth_start(job: &[u8], count: u64) -> usize
 {
     let mut r = Reader { job, at: 0 };
     let mut left = count;
+    // A while: behind the job's end no line is left, however many were asked for.
     while 0 < left {
         next_line(&mut r);
         left = lines_left(left, r.at, job.len());

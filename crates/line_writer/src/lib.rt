@@ -36,6 +36,7 @@ fn put_number_by(out: &mut [u8], at: usize, t: u8, n: u64) -> usize
 }
 
 // A line of a template with these values: the numbers in order, and the lists, each with its count and, 31 words a list, its members.
+// Counts and members are two slices, as the values of a line lie, so that an element is put from where it is kept.
 pub fn put_line(
     out: &mut [u8],
     at: usize,
@@ -50,10 +51,7 @@ pub fn put_line(
     let mut next = at;
     let mut n = 0;
     let mut l = 0;
-    let mut i = 0;
-    while i < template.len() {
-        let t = template[i];
-        i += 1;
+    for &t in template {
         if !is_letter(t) {
             next = put_byte(&mut *out, next, t);
             continue;

@@ -1,5 +1,5 @@
 -- A line as lent words hold its values, and what it is to go back over it. Definitions. Assumes nothing.
-use Rattle.std.specs.Prelude.{ℕ, ◌≤◌, ◌≡◌, Bool, List, length}
+use Rattle.std.specs.Prelude.{ℕ, ◌≤◌, ◌≡◌, Bool, List, length, Option, Some}
 use Rattle.pauli.specs.declared.Pauli.{Pauli as PauliWords}
 use Rattle.pauli.specs.Bits.{Bits}
 use Rattle.pauli.specs.Fixed.{in_set, as_pauli}
@@ -60,10 +60,10 @@ written_back c (Written.line l) w = backward c l w
 written_back c (Written.noise n) w = w
 written_back c (Written.element v P) w = w
 
-unfoldable pub noise_back : ℕ → Written → ℕ → ℕ
+unfoldable pub noise_back : ℕ → Written → Option ℕ → Option ℕ
 noise_back k (Written.header h) before = before
 noise_back k (Written.line l) before = before
-noise_back k (Written.noise n) before = k
+noise_back k (Written.noise n) before = Some k
 noise_back k (Written.element v P) before = before
 
 -- the walk after the line of number k is what that line makes of the walk before

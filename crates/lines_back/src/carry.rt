@@ -16,22 +16,23 @@ ghost use Rattle.frames.specs.Forward.{exponentiate, controlled_pauli, placed, i
 ghost use Rattle.backward.specs.Walk.{clifford_back_of, permute_back_of};
 ghost use Rattle.lines_back.specs.Packed.{Packed, in_words};
 
-use pauli::{OutcomeId, Pauli, qubit_at};
+use pauli::{OutcomeId, Pauli, QubitId, qubit_at};
 
 // ---- Gates
 
-// The last operand is the second of two; a gate on one qubit does not look at it.
-pub fn unitary_back(b: Pauli, gate: u64, qubits: &[u64]) -> Pauli
-    requires { (gate ≤ 15) × (length qubits.now ≡ operand_count_of (gate_of gate)) × (all_below 256 qubits.now ≡ true) }
-    ensures { as_pauli result ≡ by_gate conjugated_back (gate_of gate) (get_or qubits.now 0 0) (get_or qubits.now 1 0) (as_pauli b) }
+// The gate of a code. The last operand is the second of two; a gate on one qubit does not look at it.
+pub fn unitary_back(b: Pauli, code: u64, qubits: &[u64]) -> Pauli
+    requires { (code ≤ 15) × (length qubits.now ≡ operand_count_of (gate_of code)) × (all_below 256 qubits.now ≡ true) }
+    ensures { as_pauli result ≡ by_gate conjugated_back (gate_of code) (get_or qubits.now 0 0) (get_or qubits.now 1 0) (as_pauli b) }
 {
     let last = qubits.len() - 1;
-    b.conjugate_back(gate, qubit_at(qubits, 0), qubit_at(qubits, last))
+    b.conjugate_back_by_code(code, qubit_at(qubits, 0), qubit_at(qubits, last))
 }
 
 // ---- Exponentials and controlled Paulis
 
 // The product with p, if asked to.
+// The condition is a parameter, here and in `with_bit`, so that one contract says both cases.
 fn multiply_if(b: Pauli, on: bool, p: Pauli) -> Pauli
     ensures { as_pauli result ≡ (as_pauli b times when on (as_pauli p)) }
 {
@@ -80,10 +81,8 @@ fn parts_at(set: [u64; 4], qubits: &[u64]) -> u64
     ensures { Packed (length qubits.now) (λ j. in_set set (get_or qubits.now j 0)) result }
 {
     let mut w: u64 = 0;
-    let mut i = 0;
-    while i < qubits.len() {
-        w = with_bit(w, i, pauli::has_qubit(set, qubit_at(qubits, i)));
-        i += 1;
+    for (i, &q) in qubits.iter().enumerate() {
+        w = with_bit(w, i, pauli::has_qubit(set, QubitId::from(q)));
     }
     w
 }
@@ -94,11 +93,8 @@ fn add_parts(b: Pauli, qubits: &[u64], x: u64, z: u64) -> Pauli
     ensures { (in_set result.x ≡ in_set b.x △ placed (bit x) qubits.now) × (in_set result.z ≡ in_set b.z △ placed (bit z) qubits.now) }
 {
     let mut r = b;
-    let mut i = 0;
-    while i < qubits.len() {
-        let q = qubit_at(qubits, i);
-        r = r.add_at(q, (x >> i) % 2 == 1, (z >> i) % 2 == 1);
-        i += 1;
+    for (i, &q) in qubits.iter().enumerate() {
+        r = r.add_at(QubitId::from(q), (x >> i) % 2 == 1, (z >> i) % 2 == 1);
     }
     r
 }
@@ -118,14 +114,12 @@ fn rows_anticommute(x: u64, z: u64, table: &[u64], k: usize, from: usize) -> u64
     ensures { Packed k (λ i. Pauli·anticommutes k (in_words x z) (row_over k (table_of table.now) (from + i))) result }
 {
     let mut w: u64 = 0;
-    let mut i = 0;
-    while i < k {
+    for i in 0..k {
         w = with_bit(
             w,
             i,
             row_anticommutes(x, z, tables::row(table, k, from + i), k),
         );
-        i += 1;
     }
     w
 }
@@ -151,10 +145,8 @@ fn fetch(w: u64, places: &[u64]) -> u64
     ensures { Packed (length places.now) (λ i. bit w (get_or places.now i 0)) result }
 {
     let mut r: u64 = 0;
-    let mut i = 0;
-    while i < places.len() {
-        r = with_bit(r, i, (w >> places[i]) % 2 == 1);
-        i += 1;
+    for (i, &place) in places.iter().enumerate() {
+        r = with_bit(r, i, (w >> place) % 2 == 1);
     }
     r
 }
@@ -179,10 +171,8 @@ pub fn reset_back(b: Pauli, qubits: &[u64]) -> Pauli
     ensures { as_pauli result ≡ cleared qubits.now (as_pauli b) }
 {
     let mut r = b;
-    let mut i = 0;
-    while i < qubits.len() {
-        r = r.clear_qubit(qubit_at(qubits, i));
-        i += 1;
+    for &q in qubits {
+        r = r.clear_qubit(QubitId::from(q));
     }
     r
 }

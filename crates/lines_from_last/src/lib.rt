@@ -16,10 +16,8 @@ fn has_lf(job: &[u8], from: usize) -> bool
     ensures { result ≡ false → NoLf job.now from (from + 8) }
 {
     let mut found = false;
-    let mut k = 0;
-    while k < BLOCK {
+    for k in 0..BLOCK {
         found = found | (job[from + k] == b'\n');
-        k += 1;
     }
     found
 }
@@ -30,6 +28,7 @@ fn skip_blocks(job: &[u8], e: usize) -> usize
     ensures { (result ≤ e) × Free LF (line_at job.now result e) }
 {
     let mut i = e;
+    // A while: the places go down by a block in a turn.
     while BLOCK <= i {
         if has_lf(job, i - BLOCK) {
             return i;
@@ -45,6 +44,7 @@ pub fn line_start(job: &[u8], e: usize) -> usize
     ensures { LineBefore job.now e result }
 {
     let mut i = skip_blocks(job, e);
+    // A while: the places go down by two in a turn.
     while 1 < i {
         if job[i - 1] == b'\n' {
             return i;

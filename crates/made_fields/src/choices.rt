@@ -1,5 +1,5 @@
 // What the words of the stream choose, by the rule of docs/MAKING.md: numbers, and lists of numbers in lent words.
-ghost use Rattle.std.specs.Prelude.{◌≡◌, ◌&&◌, ◌+◌, ◌^◌, ◌≤◌, ◌<◌, min, ltb, length, take};
+ghost use Rattle.std.specs.Prelude.{◌≡◌, ◌&&◌, ◌+◌, ◌^◌, ◌≤◌, ◌<◌, ltb, length, take};
 ghost use Rattle.made.specs.Choice.{pick, marked, few, cyclic, stretch};
 ghost use Rattle.made_fields.specs.Chosen.{NumberIs, ListIs, Kept};
 
@@ -13,6 +13,7 @@ pub struct Number {
 }
 
 // How many numbers a lent list has from its first word on, and the state of the stream behind them.
+// No generic struct with Number: `count` names a length where `value` would name no list.
 #[derive(Clone, Copy)]
 pub struct Numbers {
     pub count: usize,
@@ -31,29 +32,16 @@ pub fn pick(n: u64, state: u64) -> Number
     }
 }
 
-// The lesser of two numbers.
-fn lesser(a: u64, b: u64) -> u64
-    ensures { result ≡ min a b }
-{
-    if a < b {
-        return a;
-    }
-    b
-}
-
 // Puts a number behind the first ones of a list, if asked to and if it is below top. Answers how many there are then.
 fn keep(list: &mut [u64], count: usize, on: bool, q: u64, top: u64) -> usize
     requires { count < length list.old }
     ensures { Kept list.old count (on && ltb q top) q list.new result }
 {
-    if !on {
-        return count;
+    if on && q < top {
+        list[count] = q;
+        return count + 1;
     }
-    if top <= q {
-        return count;
-    }
-    list[count] = q;
-    count + 1
+    count
 }
 
 // Of the 8 numbers from q on, those below top whose bit of m is 1. Answers how many there are.
@@ -62,14 +50,10 @@ fn mark(list: &mut [u64], top: u64, from: u64, m: u64) -> usize
     ensures { (take result list.new ≡ marked 8 top from m) × (result ≤ 8) }
 {
     let mut count = 0;
-    let mut q = from;
     let mut bits = m;
-    let mut i = 0usize;
-    while i < 8 {
+    for q in from..from + 8 {
         count = keep(&mut *list, count, bits % 2 == 1, q, top);
-        q += 1;
         bits /= 2;
-        i += 1;
     }
     count
 }
@@ -95,10 +79,9 @@ pub fn cyclic(list: &mut [u64], k: usize, n: u64, a: u64)
     requires { (k ≤ length list.old) × (0 < n) × (a + k < 2 ^ 64) }
     ensures { take k list.new ≡ cyclic k n a }
 {
-    let mut i = 0;
-    while i < k {
+    // By places: the value goes by the place.
+    for i in 0..k {
         list[i] = (a + i as u64) % n;
-        i += 1;
     }
 }
 
@@ -107,7 +90,7 @@ pub fn stretch(n: u64, most: u64, state: u64, list: &mut [u64]) -> Numbers
     requires { (8 ≤ length list.old) × (0 < n) × (0 < most) × (most ≤ 8) × (n + 8 < 2 ^ 64) }
     ensures { ListIs most (stretch n most state) list.new result }
 {
-    let k = pick(lesser(n, most), state);
+    let k = pick(n.min(most), state);
     let a = pick(n, k.state);
     let count = k.value as usize + 1;
     cyclic(list, count, n, a.value);

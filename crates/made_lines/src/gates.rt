@@ -9,13 +9,14 @@ ghost use Rattle.made_fields.specs.Lines.{FieldIs, MadeIs, Ready};
 
 use job::{Header, SECOND_EDITION};
 use made_fields::choices::{Numbers, cyclic, pick};
-use made_fields::{Making, end_line, moved, put_members, put_value};
+use made_fields::{Making, put_members, put_value};
 use pauli::QubitId;
 use writer::{put_byte, put_bytes, put_hex};
 
 // ---- Gates
 
 // How many gate codes there are to choose from.
+// Gates and tables are numbers here: docs/MAKING.md chooses them by their codes and places.
 fn gate_codes(h: Header) -> u64
     ensures { result ≡ gate_codes_of h 0 }
 {
@@ -55,10 +56,9 @@ pub fn put_unitary(out: &mut [u8], m: Making, h: Header) -> Making
     let mut list = [0u64; 8];
     let first = QubitId(a.value as usize);
     let q = gate_qubits(h, g.value, first, a.state, &mut list);
-    let k = q.count;
     let next = put_value(&mut *out, m.at, b"op=u g=", g.value);
-    let end = put_members(&mut *out, next, b" q=", &list[..k]);
-    end_line(out, moved(m, end, q.state))
+    let end = put_members(&mut *out, next, b" q=", &list[..q.count]);
+    m.moved(end, q.state).end_line(out)
 }
 
 // ---- Cliffords
@@ -130,5 +130,5 @@ pub fn put_clifford(out: &mut [u8], m: Making, h: Header) -> Making
     let next = put_members(&mut *out, m.at, b"op=c q=", &list[..k]);
     let at = put_bytes(&mut *out, next, b" t=");
     let end = put_table(&mut *out, at, i.value);
-    end_line(out, moved(m, end, a.state))
+    m.moved(end, a.state).end_line(out)
 }

@@ -4,17 +4,39 @@
 ghost use Rattle.std.specs.Prelude.{◌≡◌, ℕ, ◌<◌, length};
 ghost use Rattle.made.specs.Making.{ring, instruction};
 ghost use Rattle.made_fields.specs.Lines.{MadeIs, Ready};
-ghost use Rattle.made_lines.specs.Ring.{entry_at, Stands, StandsFor};
+ghost use Rattle.made_lines.specs.Ring.{index_of, entry_at, Stands, StandsFor};
 
 mod gates;
 mod noise_lines;
 mod other_lines;
 
 use job::{Header, SECOND_EDITION};
+use made_fields::Making;
 use made_fields::choices::pick;
-use made_fields::{Making, moved};
 
 // ---- The ring of kinds
+
+// The kinds of instructions, in the order of the ring. A barrier is of the second edition alone.
+#[derive(Clone, Copy)]
+pub enum Kind {
+    Unitary,
+    Clifford,
+    Pauli,
+    Exponential,
+    Controlled,
+    Permute,
+    Conditional,
+    Reset,
+    Injection,
+    Single,
+    Depolarizing,
+    Uniform,
+    Weighted,
+    Flip,
+    Measure,
+    Allocate,
+    Barrier,
+}
 
 // How many kinds the ring has.
 fn ring_length(h: Header) -> u64
@@ -26,70 +48,95 @@ fn ring_length(h: Header) -> u64
     16
 }
 
-// The kind that is made where no outcome can be recorded: b, or behind the last u.
-fn standing_last(h: Header) -> u64
-    ensures { (recorded : ℕ) → StandsFor h recorded 16 result }
+// The kind at a place of the ring.
+fn kind_at(place: u64) -> Kind
+    requires { place < 17 }
+    ensures { index_of result ≡ place }
 {
-    if h.edition == SECOND_EDITION {
-        return 16;
+    match place {
+        0 => Kind::Unitary,
+        1 => Kind::Clifford,
+        2 => Kind::Pauli,
+        3 => Kind::Exponential,
+        4 => Kind::Controlled,
+        5 => Kind::Permute,
+        6 => Kind::Conditional,
+        7 => Kind::Reset,
+        8 => Kind::Injection,
+        9 => Kind::Single,
+        10 => Kind::Depolarizing,
+        11 => Kind::Uniform,
+        12 => Kind::Weighted,
+        13 => Kind::Flip,
+        14 => Kind::Measure,
+        15 => Kind::Allocate,
+        _ => Kind::Barrier,
     }
-    0
 }
 
-// The kind that is made where o or r was chosen.
-fn standing_recording(h: Header, recorded: u64, k: u64) -> u64
-    requires { (13 < k) × (k < 16) }
-    ensures { StandsFor h recorded k result }
+// The kind that is made where no outcome can be recorded: a barrier, or behind the ring's last a gate.
+fn standing_last(h: Header) -> Kind
+    ensures { (recorded : ℕ) → StandsFor h recorded 16 (index_of result) }
+{
+    if h.edition == SECOND_EDITION {
+        return Kind::Barrier;
+    }
+    Kind::Unitary
+}
+
+// The kind that is made where a measurement or an allocation was chosen.
+fn standing_recording(h: Header, recorded: u64, kind: Kind) -> Kind
+    requires { (13 < index_of kind) × (index_of kind < 16) }
+    ensures { StandsFor h recorded (index_of kind) (index_of result) }
 {
     if recorded < h.outcomes {
-        return k;
+        return kind;
     }
     standing_last(h)
 }
 
-// The kind that is made where the ring's kind k was chosen: the first from it on that can stand here, and behind the last the first.
-fn standing(h: Header, recorded: u64, k: u64) -> u64
-    requires { k < length (ring h recorded) }
-    ensures { StandsFor h recorded k result }
+// The kind that is made where a kind was chosen: the first from it on in the ring that can stand here, and behind the last the first.
+fn standing(h: Header, recorded: u64, kind: Kind) -> Kind
+    requires { index_of kind < length (ring h recorded) }
+    ensures { StandsFor h recorded (index_of kind) (index_of result) }
 {
-    if k < 13 {
-        return k;
+    match kind {
+        Kind::Flip => {
+            if 0 < recorded {
+                return Kind::Flip;
+            }
+            standing_recording(h, recorded, Kind::Measure)
+        }
+        Kind::Measure => standing_recording(h, recorded, kind),
+        Kind::Allocate => standing_recording(h, recorded, kind),
+        _ => kind,
     }
-    if k == 16 {
-        return 16;
-    }
-    if 13 < k {
-        return standing_recording(h, recorded, k);
-    }
-    if 0 < recorded {
-        return 13;
-    }
-    standing_recording(h, recorded, 14)
 }
 
 // An instruction of a kind.
-fn put_kind(out: &mut [u8], m: Making, h: Header, kind: u64) -> Making
-    requires { Ready h m × Stands h m.recorded kind }
-    ensures { MadeIs ((entry_at h m.recorded kind).made m.state) m result out.old out.new }
+#[tactic(auto, unfolding(made::specs::Making::ring))]
+fn put_kind(out: &mut [u8], m: Making, h: Header, kind: Kind) -> Making
+    requires { Ready h m × Stands h m.recorded (index_of kind) }
+    ensures { MadeIs ((entry_at h m.recorded (index_of kind)).made m.state) m result out.old out.new }
 {
     match kind {
-        1 => gates::put_clifford(out, m, h),
-        2 => other_lines::put_p(out, m, h),
-        3 => other_lines::put_e(out, m, h),
-        4 => other_lines::put_controlled(out, m, h),
-        5 => other_lines::put_permute(out, m, h),
-        6 => other_lines::put_conditional(out, m, h),
-        7 => other_lines::put_reset(out, m, h),
-        8 => other_lines::put_injection(out, m, h),
-        9 => noise_lines::put_single(out, m, h),
-        10 => noise_lines::put_spread(out, m, h),
-        11 => noise_lines::put_listed(out, m, h, false),
-        12 => noise_lines::put_listed(out, m, h, true),
-        13 => other_lines::put_flip(out, m, h),
-        14 => other_lines::put_measure(out, m, h),
-        15 => other_lines::put_allocate(out, m, h),
-        16 => other_lines::put_barrier(out, m, h),
-        _ => gates::put_unitary(out, m, h),
+        Kind::Unitary => gates::put_unitary(out, m, h),
+        Kind::Clifford => gates::put_clifford(out, m, h),
+        Kind::Pauli => other_lines::put_pauli_line(out, m, h, b"op=p x="),
+        Kind::Exponential => other_lines::put_pauli_line(out, m, h, b"op=e x="),
+        Kind::Controlled => other_lines::put_controlled(out, m, h),
+        Kind::Permute => other_lines::put_permute(out, m, h),
+        Kind::Conditional => other_lines::put_conditional(out, m, h),
+        Kind::Reset => other_lines::put_reset(out, m, h),
+        Kind::Injection => other_lines::put_injection(out, m, h),
+        Kind::Single => noise_lines::put_single(out, m, h),
+        Kind::Depolarizing => noise_lines::put_spread(out, m, h),
+        Kind::Uniform => noise_lines::put_listed(out, m, h, false),
+        Kind::Weighted => noise_lines::put_listed(out, m, h, true),
+        Kind::Flip => other_lines::put_flip(out, m, h),
+        Kind::Measure => other_lines::put_measure(out, m, h),
+        Kind::Allocate => other_lines::put_allocate(out, m, h),
+        Kind::Barrier => other_lines::put_barrier(out, m, h),
     }
 }
 
@@ -98,7 +145,7 @@ pub fn put_instruction(out: &mut [u8], m: Making, h: Header) -> Making
     requires { Ready h m }
     ensures { MadeIs (instruction h m.recorded m.state) m result out.old out.new }
 {
-    let k = pick(ring_length(h), m.state);
-    let kind = standing(h, m.recorded, k.value);
-    put_kind(out, moved(m, m.at, k.state), h, kind)
+    let place = pick(ring_length(h), m.state);
+    let kind = standing(h, m.recorded, kind_at(place.value));
+    put_kind(out, m.moved(m.at, place.state), h, kind)
 }

@@ -13,7 +13,7 @@ ghost use Rattle.made_lines.specs.Noise.{beginning, StartIs, count_text, listed_
 use job::Header;
 use job_numbers::depolarizing_size;
 use made_fields::choices::{Number, few, pick, stretch};
-use made_fields::{Making, end_line, moved, put_members, put_pauli, put_value};
+use made_fields::{Making, put_members, put_pauli, put_value};
 use writer::{put_bytes, put_hex};
 
 // The probabilities, by their bits: 0, 0.001, 0.01, 0.1, 0.5 and 1.
@@ -75,7 +75,7 @@ fn put_probability(out: &mut [u8], m: Making) -> Making
     let at = put_hex(&mut *out, next, probability(p.value));
     let c = pick(16, p.state);
     let end = put_correlation(out, at, c.value);
-    moved(m, end, c.state)
+    m.moved(end, c.state)
 }
 
 // What every noise line has in front.
@@ -86,11 +86,10 @@ fn put_start(out: &mut [u8], m: Making) -> Making
     let start = put_probability(&mut *out, m);
     let mut list = [0u64; 8];
     let ids = few(m.recorded, start.state, &mut list);
-    let k = ids.count;
-    let at = put_members(&mut *out, start.at, b" cond=", &list[..k]);
-    let b = parity(k, ids.state);
+    let at = put_members(&mut *out, start.at, b" cond=", &list[..ids.count]);
+    let b = parity(ids.count, ids.state);
     let end = put_value(out, at, b" parity=", b.value);
-    moved(m, end, b.state)
+    m.moved(end, b.state)
 }
 
 pub fn put_single(out: &mut [u8], m: Making, h: Header) -> Making
@@ -100,7 +99,7 @@ pub fn put_single(out: &mut [u8], m: Making, h: Header) -> Making
     let start = put_start(&mut *out, m);
     let next = put_pauli(&mut *out, start, b" d=1 x=", h.qubits);
     let end = put_bytes(&mut *out, next.at, b" size=1");
-    end_line(out, moved(m, end, next.state))
+    m.moved(end, next.state).end_line(out)
 }
 
 // d=2.
@@ -111,10 +110,9 @@ pub fn put_spread(out: &mut [u8], m: Making, h: Header) -> Making
     let start = put_start(&mut *out, m);
     let mut list = [0u64; 8];
     let q = stretch(h.qubits, 4, start.state, &mut list);
-    let k = q.count;
-    let at = put_members(&mut *out, start.at, b" d=2 q=", &list[..k]);
-    let end = put_value(&mut *out, at, b" size=", depolarizing_size(k as u64));
-    end_line(out, moved(m, end, q.state))
+    let at = put_members(&mut *out, start.at, b" d=2 q=", &list[..q.count]);
+    let end = put_value(&mut *out, at, b" size=", depolarizing_size(q.count as u64));
+    m.moved(end, q.state).end_line(out)
 }
 
 // ---- Listed elements
@@ -124,11 +122,8 @@ fn put_count(out: &mut [u8], at: usize, n: u64, weighted: bool) -> usize
     requires { at + 80 < 2 ^ 64 }
     ensures { Puts at (count_text weighted n) out.old out.new result × (result ≤ at + 80) }
 {
-    if weighted {
-        let next = put_value(&mut *out, at, b" d=4 n=", n);
-        return put_value(out, next, b" size=", n);
-    }
-    let next = put_value(&mut *out, at, b" d=3 n=", n);
+    let name: &[u8] = if weighted { b" d=4 n=" } else { b" d=3 n=" };
+    let next = put_value(&mut *out, at, name, n);
     put_value(out, next, b" size=", n)
 }
 
@@ -139,12 +134,12 @@ fn put_element(out: &mut [u8], m: Making, n: u64, weighted: bool, place: usize) 
 {
     if !weighted {
         let next = put_pauli(&mut *out, m, b"x=", n);
-        return end_line(out, next);
+        return next.end_line(out);
     }
     let next = put_bytes(&mut *out, m.at, b"w=");
     let at = put_hex(&mut *out, next, weight(place));
-    let end = put_pauli(&mut *out, moved(m, at, m.state), b" x=", n);
-    end_line(out, end)
+    let end = put_pauli(&mut *out, m.moved(at, m.state), b" x=", n);
+    end.end_line(out)
 }
 
 fn put_elements(out: &mut [u8], m: Making, n: u64, weighted: bool, count: usize) -> Making
@@ -152,15 +147,14 @@ fn put_elements(out: &mut [u8], m: Making, n: u64, weighted: bool, count: usize)
     ensures { PartIs 2000 (unlines (elements n weighted count 0 m.state).value) (elements n weighted count 0 m.state).state m result out.old out.new }
 {
     let mut next = m;
-    let mut i = 0;
-    while i < count {
+    for i in 0..count {
         next = put_element(&mut *out, next, n, weighted, i);
-        i += 1;
     }
     next
 }
 
 // d=3 and d=4.
+// One function for both, here and above: they differ in a name and in the weights, and two would be twins.
 pub fn put_listed(out: &mut [u8], m: Making, h: Header, weighted: bool) -> Making
     requires { Ready h m }
     ensures { MadeIs (listed h m.recorded weighted (listed_template weighted) m.state) m result out.old out.new }
@@ -169,6 +163,6 @@ pub fn put_listed(out: &mut [u8], m: Making, h: Header, weighted: bool) -> Makin
     let n = pick(4, start.state);
     let count = n.value + 1;
     let at = put_count(&mut *out, start.at, count, weighted);
-    let first = end_line(&mut *out, moved(m, at, n.state));
+    let first = m.moved(at, n.state).end_line(&mut *out);
     put_elements(out, first, h.qubits, weighted, count as usize)
 }

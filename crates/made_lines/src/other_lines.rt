@@ -2,32 +2,27 @@
 ghost use Rattle.std.specs.Prelude.{◌≡◌, List, ◌+◌, ◌^◌, ◌≤◌, ◌<◌, length};
 ghost use Rattle.text.specs.Bytes.{bytes};
 ghost use Rattle.text.specs.Template.{line_text};
-ghost use Rattle.made.specs.Making.{one_sided, pauli_line, controlled, permute, conditional, reset_qubits_of, reset, inject, flip, measure, allocate, barrier};
+ghost use Rattle.made.specs.Choice.{pauli};
+ghost use Rattle.made.specs.Making.{one_sided, controlled, permute, conditional, reset_qubits_of, reset, inject, flip, measure, allocate, barrier};
 ghost use Rattle.made_fields.specs.Chosen.{ListIs};
 ghost use Rattle.writer.specs.Placed.{Puts};
 ghost use Rattle.made_fields.specs.Lines.{FieldIs, MadeIs, Ready};
+ghost use Rattle.made_lines.specs.Plain.{PauliLineIs};
 
 use job::{Header, SECOND_EDITION};
 use made_fields::choices::{Numbers, cyclic, few, pick, stretch};
-use made_fields::{Making, end_line, moved, put_members, put_pauli, put_value};
+use made_fields::{Making, put_members, put_pauli, put_value};
 use writer::put_bytes;
 
 // ---- Lines with Paulis
 
-pub fn put_p(out: &mut [u8], m: Making, h: Header) -> Making
-    requires { Ready h m }
-    ensures { MadeIs (pauli_line h m.recorded "op=p x=L z=L" m.state) m result out.old out.new }
+// A Pauli behind the bytes up to it, and no more.
+pub fn put_pauli_line(out: &mut [u8], m: Making, h: Header, name: &[u8]) -> Making
+    requires { Ready h m × (length name.now ≤ 16) }
+    ensures { PauliLineIs name.now (pauli h.qubits m.state) m result out.old out.new }
 {
-    let next = put_pauli(&mut *out, m, b"op=p x=", h.qubits);
-    end_line(out, next)
-}
-
-pub fn put_e(out: &mut [u8], m: Making, h: Header) -> Making
-    requires { Ready h m }
-    ensures { MadeIs (pauli_line h m.recorded "op=e x=L z=L" m.state) m result out.old out.new }
-{
-    let next = put_pauli(&mut *out, m, b"op=e x=", h.qubits);
-    end_line(out, next)
+    let next = put_pauli(&mut *out, m, name, h.qubits);
+    next.end_line(out)
 }
 
 // Control and target of X parts alone, or of Z parts alone.
@@ -51,12 +46,10 @@ pub fn put_controlled(out: &mut [u8], m: Making, h: Header) -> Making
     let y = pick(2, m.state);
     let mut x = [0u64; 8];
     let xs = few(h.qubits, y.state, &mut x);
-    let a = xs.count;
     let mut z = [0u64; 8];
     let zs = few(h.qubits, xs.state, &mut z);
-    let b = zs.count;
-    let end = put_sides(&mut *out, m.at, y.value, &x[..a], &z[..b]);
-    end_line(out, moved(m, end, zs.state))
+    let end = put_sides(&mut *out, m.at, y.value, &x[..xs.count], &z[..zs.count]);
+    m.moved(end, zs.state).end_line(out)
 }
 
 pub fn put_conditional(out: &mut [u8], m: Making, h: Header) -> Making
@@ -66,11 +59,10 @@ pub fn put_conditional(out: &mut [u8], m: Making, h: Header) -> Making
     let next = put_pauli(&mut *out, m, b"op=f x=", h.qubits);
     let mut list = [0u64; 8];
     let ids = few(m.recorded, next.state, &mut list);
-    let k = ids.count;
-    let at = put_members(&mut *out, next.at, b" id=", &list[..k]);
+    let at = put_members(&mut *out, next.at, b" id=", &list[..ids.count]);
     let b = pick(2, ids.state);
     let end = put_value(&mut *out, at, b" parity=", b.value);
-    end_line(out, moved(m, end, b.state))
+    m.moved(end, b.state).end_line(out)
 }
 
 pub fn put_injection(out: &mut [u8], m: Making, h: Header) -> Making
@@ -79,20 +71,8 @@ pub fn put_injection(out: &mut [u8], m: Making, h: Header) -> Making
 {
     let shot = pick(h.shots, m.state);
     let at = put_value(&mut *out, m.at, b"op=i shot=", shot.value);
-    let next = put_pauli(&mut *out, moved(m, at, shot.state), b" x=", h.qubits);
-    end_line(out, next)
-}
-
-// One outcome more is recorded.
-fn recorded(m: Making, at: usize, state: u64) -> Making
-    requires { m.recorded + 1 < 2 ^ 64 }
-    ensures { result ≡ record { at = at; recorded = m.recorded + 1; state = state } }
-{
-    Making {
-        at,
-        recorded: m.recorded + 1,
-        state,
-    }
+    let next = put_pauli(&mut *out, m.moved(at, shot.state), b" x=", h.qubits);
+    next.end_line(out)
 }
 
 pub fn put_measure(out: &mut [u8], m: Making, h: Header) -> Making
@@ -101,7 +81,7 @@ pub fn put_measure(out: &mut [u8], m: Making, h: Header) -> Making
 {
     let next = put_pauli(&mut *out, m, b"op=o x=", h.qubits);
     let end = put_value(&mut *out, next.at, b" id=", m.recorded);
-    end_line(out, recorded(m, end, next.state))
+    m.with_outcome(end, next.state).end_line(out)
 }
 
 // ---- Lines with lists of qubits
@@ -112,13 +92,12 @@ pub fn put_permute(out: &mut [u8], m: Making, h: Header) -> Making
 {
     let mut list = [0u64; 8];
     let q = stretch(h.qubits, 8, m.state, &mut list);
-    let k = q.count;
-    let r = pick(k as u64, q.state);
+    let r = pick(q.count as u64, q.state);
     let mut places = [0u64; 8];
-    cyclic(&mut places, k, k as u64, r.value);
-    let next = put_members(&mut *out, m.at, b"op=m s=", &places[..k]);
-    let end = put_members(&mut *out, next, b" q=", &list[..k]);
-    end_line(out, moved(m, end, r.state))
+    cyclic(&mut places, q.count, q.count as u64, r.value);
+    let next = put_members(&mut *out, m.at, b"op=m s=", &places[..q.count]);
+    let end = put_members(&mut *out, next, b" q=", &list[..q.count]);
+    m.moved(end, r.state).end_line(out)
 }
 
 // One qubit in the first edition.
@@ -143,9 +122,8 @@ pub fn put_reset(out: &mut [u8], m: Making, h: Header) -> Making
 {
     let mut list = [0u64; 8];
     let q = reset_qubits(h, m.state, &mut list);
-    let k = q.count;
-    let end = put_members(&mut *out, m.at, b"op=z q=", &list[..k]);
-    end_line(out, moved(m, end, q.state))
+    let end = put_members(&mut *out, m.at, b"op=z q=", &list[..q.count]);
+    m.moved(end, q.state).end_line(out)
 }
 
 pub fn put_barrier(out: &mut [u8], m: Making, h: Header) -> Making
@@ -154,9 +132,8 @@ pub fn put_barrier(out: &mut [u8], m: Making, h: Header) -> Making
 {
     let mut list = [0u64; 8];
     let q = stretch(h.qubits, 8, m.state, &mut list);
-    let k = q.count;
-    let end = put_members(&mut *out, m.at, b"op=b q=", &list[..k]);
-    end_line(out, moved(m, end, q.state))
+    let end = put_members(&mut *out, m.at, b"op=b q=", &list[..q.count]);
+    m.moved(end, q.state).end_line(out)
 }
 
 // ---- Lines of numbers
@@ -169,7 +146,7 @@ pub fn put_flip(out: &mut [u8], m: Making, h: Header) -> Making
     let next = put_value(&mut *out, m.at, b"op=t shot=", shot.value);
     let id = pick(m.recorded, shot.state);
     let end = put_value(&mut *out, next, b" id=", id.value);
-    end_line(out, moved(m, end, id.state))
+    m.moved(end, id.state).end_line(out)
 }
 
 pub fn put_allocate(out: &mut [u8], m: Making, h: Header) -> Making
@@ -179,5 +156,5 @@ pub fn put_allocate(out: &mut [u8], m: Making, h: Header) -> Making
     let next = put_value(&mut *out, m.at, b"op=r id=", m.recorded);
     let angle = pick(2, m.state);
     let end = put_value(&mut *out, next, b" angle=", angle.value);
-    end_line(out, recorded(m, end, angle.state))
+    m.with_outcome(end, angle.state).end_line(out)
 }

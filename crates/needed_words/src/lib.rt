@@ -10,18 +10,19 @@ ghost use Rattle.execution.specs.Steps.{header_of, RowsFor};
 ghost use Rattle.needed_words.specs.Executed.{Executes};
 ghost use Rattle.needed_words.specs.Needed.{NeededReady, NeededRun};
 
-use execution::{Moved, step};
+use execution::{Draws, step};
 use faults::elements::ELEMENTS_WORDS;
 use job::limits::{MAX_ELEMENTS, MAX_WIDTH};
 use job::{Answer, refusals};
 use noise::{FIRST_INSTRUCTION_LINE, Place};
 use rows::Shape;
-use template::values::{KEPT, VALUE_WORDS};
+use template::values::{KEPT, Values};
 
 // As many rows as a line has operands.
 const SCRATCH_WORDS: usize = KEPT * MAX_WIDTH;
 
-// An answer, and how many words of the main list were taken for it.
+// An answer, and how many words of the main list were taken for it. Not generic over the answer with that of settling: neither crate is below the
+// other.
 #[derive(Clone, Copy)]
 pub struct Answered {
     pub answer: Answer,
@@ -39,15 +40,12 @@ fn execute<'a>(
     totals: &mut [u64],
     shape: Shape,
     noiseless: &[u64],
-    main: &'a [u64],
-    more: &'a [u64],
-    second: &'a [u64],
-    base: u64,
+    draws: Draws<'a>,
 ) -> Answered
     requires { ((recorded : ℕ) × Ahead job.now (header_of job.now shape) recorded 2 from) × RowsFor shape x.old z.old deltas.old noiseless.now × TotalsHeld shape.width shape.outcomes deltas.old totals.old }
-    ensures { Executes job.now shape noiseless.now (main.now ++ more.now) second.now base from x.old z.old deltas.old x.new z.new deltas.new result × TotalsHeld shape.width shape.outcomes deltas.new totals.new }
+    ensures { Executes job.now shape noiseless.now (draws.entry.main.now ++ draws.entry.more.now) draws.entry.second.now draws.entry.base from x.old z.old deltas.old x.new z.new deltas.new result × TotalsHeld shape.width shape.outcomes deltas.new totals.new }
 {
-    let mut values = [0u64; VALUE_WORDS];
+    let mut values = Values::new();
     let mut elements = [0u64; ELEMENTS_WORDS];
     let mut sums = [0.0; MAX_ELEMENTS as usize];
     let mut weights = [0.0; MAX_ELEMENTS as usize];
@@ -57,6 +55,7 @@ fn execute<'a>(
         line: FIRST_INSTRUCTION_LINE,
         position: 0,
     };
+    // A while: each instruction says where the next one begins.
     while place.byte < job.len() {
         let moved = step(
             job,
@@ -72,22 +71,19 @@ fn execute<'a>(
             &mut *totals,
             shape,
             noiseless,
-            main,
-            more,
-            second,
-            base,
+            draws,
         );
         match moved {
-            Moved::Spent { position } => {
+            Err(spent) => {
                 return Answered {
                     answer: Answer {
                         number: refusals::DRAWS,
                         line: place.line,
                     },
-                    taken: position,
+                    taken: spent.position,
                 };
             }
-            Moved::To(next) => {
+            Ok(next) => {
                 place = next;
             }
         }
@@ -111,7 +107,7 @@ fn clear_all(x: &mut [u64], z: &mut [u64], deltas: &mut [u64], totals: &mut [u64
     row_loops::clear(totals, 0, total_words);
 }
 
-// The main list lies in two parts, `main`, and behind it `more`. The words and the totals are cleared first, and again where the draws were spent.
+// The words and the totals are cleared first, and again where the draws were spent.
 pub fn run_needed<'a>(
     job: &[u8],
     from: usize,
@@ -121,13 +117,10 @@ pub fn run_needed<'a>(
     totals: &mut [u64],
     shape: Shape,
     noiseless: &[u64],
-    main: &'a [u64],
-    more: &'a [u64],
-    second: &'a [u64],
-    base: u64,
+    draws: Draws<'a>,
 ) -> Answered
     requires { NeededReady job.now shape from x.old z.old deltas.old totals.old noiseless.now }
-    ensures { NeededRun job.now (header_of job.now shape) (record { noiseless = noiseless.entry.now; main = main.now ++ more.now; second = second.now; base = base }) from x.new z.new deltas.new totals.new result }
+    ensures { NeededRun job.now (header_of job.now shape) (record { noiseless = noiseless.entry.now; main = draws.entry.main.now ++ draws.entry.more.now; second = draws.entry.second.now; base = draws.entry.base }) from x.new z.new deltas.new totals.new result }
 {
     clear_all(&mut *x, &mut *z, &mut *deltas, &mut *totals);
     let r = execute(
@@ -139,10 +132,7 @@ pub fn run_needed<'a>(
         &mut *totals,
         shape,
         noiseless,
-        main,
-        more,
-        second,
-        base,
+        draws,
     );
     let answer = r.answer;
     if answer.number == 0 {

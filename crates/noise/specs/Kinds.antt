@@ -1,5 +1,5 @@
 -- What the code's values say of a noise line. Definitions. Assumes nothing.
-use Rattle.std.specs.Prelude.{◌≡◌, ℕ, ◌-◌, ◌^◌, ◌<◌, List, length, Float}
+use Rattle.std.specs.Prelude.{◌≡◌, ℕ, ◌-◌, ◌^◌, ◌<◌, List, length, Float, Some, None, Option as Given}
 use Rattle.std.proofs.Math.Option.{Option, none, some}
 use Rattle.job.specs.Line.{WeightedPauli, Distribution, Noise}
 use Rattle.job.specs.Float.{float, zero_float, total_from}
@@ -8,13 +8,11 @@ use Rattle.draws.specs.Draws.{unit_of, place_of}
 use Rattle.draws.specs.Known.{rust_place}
 use Rattle.noise.specs.declared.PauliDistribution.{PauliDistribution}
 use Rattle.noise.specs.declared.PauliDistribution.TheVariants.{Single, Depolarizing, Uniform, Weighted}
-use Rattle.noise.specs.declared.Correlation.{Correlation}
-use Rattle.noise.specs.declared.Correlation.TheVariants.{Uncorrelated, Shared}
 
 -- the number of a correlation, if there is one
-unfoldable pub correlation_of : Correlation → Option ℕ
-correlation_of Uncorrelated = none
-correlation_of (Shared c) = some c
+unfoldable pub correlation_of : Given ℕ → Option ℕ
+correlation_of None = none
+correlation_of (Some c) = some c
 
 -- ---- distributions
 

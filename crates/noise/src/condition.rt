@@ -3,23 +3,10 @@ ghost use Rattle.std.specs.Prelude.{◌≡◌, ℕ, ◌<◌, ◌≤◌, not, ◌
 ghost use Rattle.pauli.specs.Bits.{bit};
 ghost use Rattle.job.specs.Grammar.{is_one};
 ghost use Rattle.rows.specs.Words.{bit_in};
-ghost use Rattle.rows.specs.Overwrite.{overwrite};
 ghost use Rattle.rows.specs.Listed.{RowsIn};
 ghost use Rattle.noise.specs.Condition.{condition_of, Masks};
 
-// Sets the first n words to v.
-fn fill(words: &mut [u64], n: usize, v: u64)
-    requires { n ≤ length words.old }
-    ensures { words.new ≡ overwrite 0 n (λ j. v) words.old }
-{
-    let mut i = 0;
-    while i < n {
-        words[i] = v;
-        i += 1;
-    }
-}
-
-const ALL_SHOTS: u64 = 0xffffffffffffffff;
+const ALL_SHOTS: u64 = u64::MAX;
 
 // Each word of the mask before the noiseless bits are added: all its shots where there is no condition or its parity is 0, and else none.
 fn start_mask(count: usize, parity: u64) -> u64
@@ -45,6 +32,6 @@ pub fn condition_mask(
     requires { (width ≤ length mask.old) × RowsIn width outcomes.now noiseless.now }
     ensures { Masks width mask.new (condition_of outcomes.now parity) (bit_in width noiseless.now) }
 {
-    fill(&mut *mask, width, start_mask(outcomes.len(), parity));
+    mask[..width].fill(start_mask(outcomes.len(), parity));
     row_loops::add_listed(mask, 0, noiseless, width, outcomes);
 }

@@ -17,21 +17,8 @@ pub enum PauliDistribution {
     Weighted { total: f64 },
 }
 
-// Words come from the main list, or from the second, from position base + correlation on.
-#[derive(Clone, Copy)]
-pub enum Correlation {
-    Uncorrelated,
-    Shared { correlation: u64 },
-}
-
-// The word at a position, or that the words have ended there.
-#[derive(Clone, Copy)]
-pub enum NextWord {
-    Word(u64),
-    Spent,
-}
-
 // The noiseless bits of the first `count` of `outcomes` sum to `parity`, 0 or 1. A count of 0 is no condition.
+// A list in a fixed array and its count, since nothing is allocated; the parity is a number, as a line says it.
 #[derive(Clone, Copy)]
 pub struct OutcomeCondition {
     pub outcomes: [u64; MAX_MEMBERS as usize],
@@ -40,11 +27,12 @@ pub struct OutcomeCondition {
 }
 
 // What a noise line says: its probability, distribution, correlation and condition travel together. What falls in a shot is one element of it.
+// Words come from the main list, or with a correlation c from the second, from position base + c on.
 #[derive(Clone, Copy)]
 pub struct PauliFault {
     pub probability: f64,
     pub distribution: PauliDistribution,
-    pub correlation: Correlation,
+    pub correlation: Option<u64>,
     pub condition: OutcomeCondition,
 }
 

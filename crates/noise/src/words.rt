@@ -5,8 +5,6 @@ ghost use Rattle.draws.specs.Draws.{unit_of, falls, Lent, part_of};
 ghost use Rattle.noise.specs.Kinds.{correlation_of};
 ghost use Rattle.noise.specs.Words.{more_of, position_after_of, WordRead};
 
-use crate::{Correlation, NextWord};
-
 // A word w stands for u = floor(w / 2048) / 2^53: 2048 words in a row, a step, have the same u, and there are 2^53 steps.
 pub const STEP_WORDS: u64 = 2048;
 
@@ -32,39 +30,22 @@ pub fn is_fault(word: u64, p: f64) -> bool
 fn tail<'a>(words: &'a [u64], from: usize) -> &'a [u64]
     ensures { result.now ≡ drop from words.now }
 {
-    if from <= words.len() {
-        &words[from..]
-    } else {
-        &words[words.len()..]
-    }
-}
-
-// A position counted from another: 0 where it lies before.
-fn offset(position: usize, from: usize) -> usize
-    ensures { result ≡ position - from }
-{
-    if position < from {
-        return 0;
-    }
-    position - from
+    &words[from.min(words.len())..]
 }
 
 // The part of one of the two lists that a noise line reads from: the main list from a position on, or the second from base + c on, wrapping at 2^64.
 pub fn part<'a>(
     main: &'a [u64],
     second: &'a [u64],
-    correlation: Correlation,
+    correlation: Option<u64>,
     base: u64,
     position: usize,
 ) -> &'a [u64]
     ensures { (lent : Lent) → lent.second ≡ second.now → lent.base ≡ base → result.now ≡ part_of lent (correlation_of correlation) (drop position main.now) }
 {
     match correlation {
-        Correlation::Uncorrelated => tail(main, position),
-        Correlation::Shared { correlation: c } => tail(
-            second,
-            std::num::wrapping_add_u64(base, c) as usize,
-        ),
+        None => tail(main, position),
+        Some(c) => tail(second, base.wrapping_add(c) as usize),
     }
 }
 
@@ -72,26 +53,26 @@ pub fn part<'a>(
 // a correlated line, which reads the second list.
 pub fn more_part<'a>(
     more: &'a [u64],
-    correlation: Correlation,
+    correlation: Option<u64>,
     position: usize,
     first_len: usize,
 ) -> &'a [u64]
     ensures { result.now ≡ more_of (correlation_of correlation) (drop (position - first_len) more.now) }
 {
     match correlation {
-        Correlation::Uncorrelated => tail(more, offset(position, first_len)),
-        Correlation::Shared { correlation: _ } => tail(more, more.len()),
+        None => tail(more, position.saturating_sub(first_len)),
+        Some(_) => &[],
     }
 }
 
 // The position in the main list behind a noise line: only a line without correlation reads on.
-pub fn position_after(correlation: Correlation, position: usize, read: usize) -> usize
+pub fn position_after(correlation: Option<u64>, position: usize, read: usize) -> usize
     requires { correlation_of correlation ≡ none → position + read < 2 ^ 64 }
     ensures { result ≡ position_after_of correlation position read }
 {
     match correlation {
-        Correlation::Uncorrelated => position + read,
-        Correlation::Shared { correlation: _ } => position,
+        None => position + read,
+        Some(_) => position,
     }
 }
 
@@ -114,15 +95,15 @@ pub fn word_at(words: &[u64], more: &[u64], at: usize) -> u64
 }
 
 // The same where there may be none. It is one look: a count before it would be another.
-pub fn next_word(words: &[u64], more: &[u64], at: usize) -> NextWord
+pub fn next_word(words: &[u64], more: &[u64], at: usize) -> Option<u64>
     ensures { WordRead (words.now ++ more.now) at result }
 {
     if at < words.len() {
-        return NextWord::Word(words[at]);
+        return Some(words[at]);
     }
     let i = at - words.len();
     if i < more.len() {
-        return NextWord::Word(more[i]);
+        return Some(more[i]);
     }
-    NextWord::Spent
+    None
 }

@@ -72,12 +72,26 @@ fn put_element(
 
 // ---- A noise line
 
-// A word was needed past the end, or all shots have drawn. Each with the position behind the words that were read: in the line's part of a list for
+// The draws of a job: the main list, which lies in two parts, `main`, and behind it `more`; the second list, and its base.
+#[derive(Clone, Copy)]
+pub struct Draws<'a> {
+    pub main: &'a [u64],
+    pub more: &'a [u64],
+    pub second: &'a [u64],
+    pub base: u64,
+}
+
+// All shots have drawn, or a word was needed past the end. Each with the position behind the words that were read: in the line's part of a list for
 // `put_faults`, in the main list for `put_noise`. `text` is the place of the text's next byte.
 #[derive(Clone, Copy)]
-pub enum Drawn {
-    Spent { position: usize },
-    Done { position: usize, text: usize },
+pub struct Drawn {
+    pub position: usize,
+    pub text: usize,
+}
+
+#[derive(Clone, Copy)]
+pub struct Spent {
+    pub position: usize,
 }
 
 // The injections of the faults that the words bring.
@@ -91,7 +105,7 @@ fn put_faults(
     fault: PauliFault,
     sums: &[f64],
     elements: &[u64],
-) -> Drawn
+) -> Result<Drawn, Spent>
     requires { (text + 1342 * shots < 2 ^ 64) × Ready fault.probability fault.distribution sums.now mask.now elements.now shots }
     ensures { (q : Ready fault.probability fault.distribution sums.now mask.now elements.now shots) → StepPut (words.now ++ more.now) text shots out.old [] (injected q.noise.distribution (draw_shots q.lent q.noise shots 0 (words.now ++ more.now))) out.new result }
 {
@@ -101,18 +115,19 @@ fn put_faults(
     let mut next = text;
     let mut at = 0;
     let mut shot = 0;
+    // A loop: the shot of a fault says where the next turn begins.
     loop {
         match next_fault(words, more, at, mask, Shot(shot), shots, rule, sums) {
             NextFault::Spent => {
-                return Drawn::Spent {
+                return Err(Spent {
                     position: count(words, more),
-                };
+                });
             }
             NextFault::Done { position } => {
-                return Drawn::Done {
+                return Ok(Drawn {
                     position,
                     text: next,
-                };
+                });
             }
             NextFault::At {
                 shot: s,
@@ -127,8 +142,8 @@ fn put_faults(
     }
 }
 
-// The injections that stand for a noise line. A line without correlation reads the main list, which lies in two parts, `main`, and behind it `more`,
-// from a position on; a correlated one reads the second, and the position stays.
+// The injections that stand for a noise line. A line without correlation reads the main list from a position on; a correlated one reads the
+// second, and the position stays.
 pub fn put_noise<'a>(
     out: &mut [u8],
     text: usize,
@@ -137,33 +152,27 @@ pub fn put_noise<'a>(
     mask: &[u64],
     elements: &[u64],
     shots: usize,
-    main: &'a [u64],
-    more: &'a [u64],
-    second: &'a [u64],
-    base: u64,
+    draws: Draws<'a>,
     position: usize,
-) -> Drawn
-    requires { (text + 1342 * shots < 2 ^ 64) × (position ≤ length (main.now ++ more.now)) × ReadyOf fault.probability fault.distribution sums.now mask.now elements.now shots fault.correlation second.now base }
-    ensures { (q : ReadyOf fault.probability fault.distribution sums.now mask.now elements.now shots fault.correlation second.now base) (source : List ℕ) → StepPut (main.now ++ more.now) text shots out.old (left_spent (Instruction.noise q.ready.noise) (drop position (main.now ++ more.now))) (step_of q.ready.lent (drop position (main.now ++ more.now)) source (Instruction.noise q.ready.noise)) out.new result }
+) -> Result<Drawn, Spent>
+    requires { (text + 1342 * shots < 2 ^ 64) × (position ≤ length (draws.main.now ++ draws.more.now)) × ReadyOf fault.probability fault.distribution sums.now mask.now elements.now shots fault.correlation draws.second.now draws.base }
+    ensures { (q : ReadyOf fault.probability fault.distribution sums.now mask.now elements.now shots fault.correlation draws.entry.second.now draws.entry.base) (source : List ℕ) → StepPut (draws.entry.main.now ++ draws.entry.more.now) text shots out.old (left_spent (Instruction.noise q.ready.noise) (drop position (draws.entry.main.now ++ draws.entry.more.now))) (step_of q.ready.lent (drop position (draws.entry.main.now ++ draws.entry.more.now)) source (Instruction.noise q.ready.noise)) out.new result }
 {
     if fault.probability <= 0.0 {
-        return Drawn::Done { position, text };
+        return Ok(Drawn { position, text });
     }
     let correlation = fault.correlation;
-    let words = part(main, second, correlation, base, position);
-    let more_words = more_part(more, correlation, position, main.len());
+    let words = part(draws.main, draws.second, correlation, draws.base, position);
+    let more_words = more_part(draws.more, correlation, position, draws.main.len());
     match put_faults(
         out, text, words, more_words, mask, shots, fault, sums, elements,
     ) {
-        Drawn::Spent { position: read } => Drawn::Spent {
-            position: position_after(correlation, position, read),
-        },
-        Drawn::Done {
-            position: read,
-            text: next,
-        } => Drawn::Done {
-            position: position_after(correlation, position, read),
-            text: next,
-        },
+        Err(spent) => Err(Spent {
+            position: position_after(correlation, position, spent.position),
+        }),
+        Ok(drawn) => Ok(Drawn {
+            position: position_after(correlation, position, drawn.position),
+            text: drawn.text,
+        }),
     }
 }

@@ -1,5 +1,5 @@
 -- Numbers and lists that are known to stand at a place of some bytes, and what reading them says. Definitions. Assumes nothing.
-use Rattle.std.specs.Prelude.{ℕ, ◌+◌, ◌^◌, ◌≤◌, ◌<◌, ◌≡◌, cond, List, [], ◌∷◌, ltb, length, take, drop}
+use Rattle.std.specs.Prelude.{ℕ, ◌+◌, ◌^◌, ◌≤◌, ◌<◌, ◌≡◌, cond, List, [], ◌∷◌, ltb, length, take, drop, Some}
 use Rattle.std.proofs.Math.Option.{some}
 use Rattle.text.specs.Bytes.{space, until}
 use Rattle.text.specs.Number.{decimal_from}
@@ -44,5 +44,5 @@ pub record ListThere (s : List ℕ) (from : ℕ) : Type 0 where
 
 -- it was read, up to the place behind it, and its members are in the lent words
 pub record KnownRead (s : List ℕ) (from : ℕ) (r : KnownList) (before after : List ℕ) : Type 0 where
-  pub list : ListRead (list_L (field s from)) r.list before after
+  pub list : ListRead (list_L (field s from)) (Some r.list) before after
   pub behind : r.behind ≡ from + until space (drop from s)

@@ -1,20 +1,18 @@
 -- What the readers of numbers and lists say by their results, and how lent words hold the members of a list. Definitions. Assumes nothing.
-use Rattle.std.specs.Prelude.{ℕ, ◌+◌, ◌-◌, ◌≤◌, max, ◌≡◌, Bool, true, false, List, [], ◌∷◌, ◌++◌, length, take, drop}
+use Rattle.std.specs.Prelude.{ℕ, ◌+◌, ◌-◌, ◌≤◌, max, ◌≡◌, Bool, List, [], ◌∷◌, ◌++◌, length, take, drop, Option as Answer, Some, None}
 use Rattle.std.proofs.Math.Option.{Option, none, some}
 use Rattle.text.specs.Bytes.{comma, until}
 use Rattle.text.specs.Number.{number_of}
 use Rattle.text.specs.List.{is_rising_of, piece_of}
-use Rattle.numbers.specs.declared.Value.{Value}
-use Rattle.numbers.specs.declared.Value.TheVariants.{Of, Bad}
 use Rattle.numbers.specs.declared.lists.Listed.{Listed}
 use Rattle.numbers.specs.declared.lists.Member.{Member}
 
 -- ---- a number
 
--- the number that some bytes are, if any
-unfoldable pub read : Value → Option ℕ
-read (Of n) = some n
-read Bad = none
+-- the number that some bytes are, if any, by what a reader answers
+unfoldable pub read : Answer ℕ → Option ℕ
+read (Some n) = some n
+read None = none
 
 -- these bytes begin with a number of so many digits, at most three, up to a comma or the end
 pub record ShortIn (digits value : ℕ) (l : List ℕ) : Type 0 where
@@ -36,10 +34,13 @@ unfoldable pub largest_of : List ℕ → ℕ
 largest_of [] = 0
 largest_of (n ∷ l) = max n (largest_of l)
 
--- a list as the struct that tells of it
-unfoldable pub listed_as : Option (List ℕ) → Listed
-listed_as none = record { ok = false; count = 0; largest = 0; rising = true }
-listed_as (some l) = record { ok = true; count = length l; largest = largest_of l; rising = is_rising_of l }
+-- a list as the struct that tells of it, and what a reader of lists answers
+unfoldable pub listed_of : List ℕ → Listed
+listed_of l = record { count = length l; largest = largest_of l; rising = is_rising_of l }
+
+unfoldable pub listed_as : Option (List ℕ) → Answer Listed
+listed_as none = None
+listed_as (some l) = Some (listed_of l)
 
 -- lent words with the members of a list in them, as many as there is room for; the words after them stay
 unfoldable pub stored : List ℕ → List ℕ → List ℕ
@@ -48,7 +49,7 @@ stored [] (n ∷ l) = []
 stored (w ∷ out) (n ∷ l) = n ∷ stored out l
 
 -- what a reader of lists says by its result and leaves in the lent words, where its bytes are the list `o`
-pub record ListRead (o : Option (List ℕ)) (r : Listed) (before after : List ℕ) : Type 0 where
+pub record ListRead (o : Option (List ℕ)) (r : Answer Listed) (before after : List ℕ) : Type 0 where
   pub result : r ≡ listed_as o
   pub members : (l : List ℕ) → o ≡ some l → after ≡ stored before l
 

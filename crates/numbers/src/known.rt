@@ -6,7 +6,7 @@ ghost use Rattle.text.specs.Number.{all_hex_of, hex_from};
 ghost use Rattle.numbers.specs.Known.{DigitsThere, DigitsRead, ListThere, KnownRead};
 
 use crate::hex_value;
-use crate::lists::{Listed, empty, push, store};
+use crate::lists::Listed;
 
 // A number by its digits, and the place behind them.
 #[derive(Clone, Copy)]
@@ -22,6 +22,7 @@ pub fn read_digits(s: &[u8], from: usize) -> Digits
 {
     let mut v: u64 = 0;
     let mut i = from;
+    // A while: the place where the digits end is a part of the answer.
     while i < s.len() {
         let b = s[i];
         if b < b'0' {
@@ -46,10 +47,8 @@ pub fn known_hex(s: &[u8]) -> u64
     ensures { result ≡ hex_from 0 s.now }
 {
     let mut v: u64 = 0;
-    let mut i = 0;
-    while i < 16 {
+    for i in 0..16 {
         v = v * 16 + hex_value(s[i]) as u64;
-        i += 1;
     }
     v
 }
@@ -58,10 +57,7 @@ pub fn known_hex(s: &[u8]) -> u64
 fn is_comma(s: &[u8], at: usize) -> bool
     ensures { result ≡ eqb (get_or s.now at 0) comma }
 {
-    if s.len() <= at {
-        return false;
-    }
-    s[at] == b','
+    at < s.len() && s[at] == b','
 }
 
 // A list, and the place behind it.
@@ -76,7 +72,7 @@ pub fn known_list(s: &[u8], from: usize, out: &mut [u64]) -> KnownList
     requires { ListThere s.now from }
     ensures { KnownRead s.now from result out.old out.new }
 {
-    let mut list = empty();
+    let mut list = Listed::empty();
     if s[from] == b'-' {
         return KnownList {
             list,
@@ -84,11 +80,11 @@ pub fn known_list(s: &[u8], from: usize, out: &mut [u64]) -> KnownList
         };
     }
     let mut at = from;
+    // A loop: a member says where the next one begins.
     loop {
         let n = read_digits(s, at);
         let behind = n.behind;
-        store(&mut *out, list.count, n.value);
-        list = push(list, n.value);
+        list = list.push(n.value, &mut *out);
         if !is_comma(s, behind) {
             return KnownList { list, behind };
         }

@@ -11,13 +11,6 @@ ghost use Rattle.text.specs.Number.{proper as Number·proper, number_of, hex_dig
 ghost use Rattle.numbers.specs.Read.{read};
 ghost use Rattle.numbers.specs.Hex.{hex_value_of};
 
-// What some bytes are, or that they are no such value.
-#[derive(Clone, Copy)]
-pub enum Value {
-    Of(u64),
-    Bad,
-}
-
 // Whether there are bytes, and no 0 in front of others.
 fn proper(s: &[u8]) -> bool
     ensures { result ≡ Number·proper s.now }
@@ -49,30 +42,28 @@ fn fits(v: u64, d: u64) -> bool
 }
 
 // A number in decimal, below 2^64, without leading zeros, that takes all of the bytes.
-pub fn number(s: &[u8]) -> Value
+pub fn number(s: &[u8]) -> Option<u64>
     ensures { read result ≡ number_of s.now }
 {
     if !proper(s) {
-        return Value::Bad;
+        return None;
     }
     let mut v: u64 = 0;
-    let mut i = 0;
-    while i < s.len() {
+    for i in 0..s.len() {
         let b = s[i];
         if b < b'0' {
-            return Value::Bad;
+            return None;
         }
         if b'9' < b {
-            return Value::Bad;
+            return None;
         }
         let d = (b - b'0') as u64;
         if !fits(v, d) {
-            return Value::Bad;
+            return None;
         }
         v = v * 10 + d;
-        i += 1;
     }
-    Value::Of(v)
+    Some(v)
 }
 
 // The lower-case hexadecimal digit that a byte is, if it is one. Its low four bits are the digit for `0` to `9`; for a letter, whose b / 64 is 1,
@@ -101,43 +92,39 @@ fn all_hex(s: &[u8]) -> bool
     ensures { result ≡ all_hex_of s.now }
 {
     let mut wrong = 0u8;
-    let mut i = 0;
-    while i < 16 {
+    for i in 0..16 {
         wrong |= not_hex(s[i]);
-        i += 1;
     }
     wrong == 0
 }
 
 // H: 16 lower-case hexadecimal digits, and no other bytes.
-pub fn hex16(s: &[u8]) -> Value
+pub fn hex16(s: &[u8]) -> Option<u64>
     ensures { read result ≡ hex_of s.now }
 {
     if s.len() != 16 {
-        return Value::Bad;
+        return None;
     }
     if !all_hex(s) {
-        return Value::Bad;
+        return None;
     }
     let mut v: u64 = 0;
-    let mut i = 0;
-    while i < 16 {
+    for i in 0..16 {
         v = v * 16 + hex_value(s[i]) as u64;
-        i += 1;
     }
-    Value::Of(v)
+    Some(v)
 }
 
 // B: 0 or 1.
-pub fn bit(s: &[u8]) -> Value
+pub fn bit(s: &[u8]) -> Option<u64>
     ensures { read result ≡ bit_of s.now }
 {
     if s.len() != 1 {
-        return Value::Bad;
+        return None;
     }
     match s[0] {
-        b'0' => Value::Of(0),
-        b'1' => Value::Of(1),
-        _ => Value::Bad,
+        b'0' => Some(0),
+        b'1' => Some(1),
+        _ => None,
     }
 }

@@ -1,19 +1,17 @@
 // Lists of numbers or words with commas. The members go into lent words, as many as there is room for; a list is read to its end, however long it is.
-ghost use Rattle.std.specs.Prelude.{◌≡◌, ◌&&◌, ◌||◌, List, [], ◌∷◌, ◌++◌, ℕ, ◌+◌, ◌^◌, ◌<◌, ◌≤◌, max, eqb, ltb, set, length};
-ghost use Rattle.std.proofs.Math.Option.{none, some};
+ghost use Rattle.std.specs.Prelude.{◌≡◌, ◌&&◌, ◌||◌, List, [], ◌∷◌, ◌++◌, ℕ, ◌+◌, ◌^◌, ◌<◌, ◌≤◌, max, eqb, ltb, set, length, Some, IfSome};
 ghost use Rattle.text.specs.Bytes.{comma, split};
 ghost use Rattle.text.specs.List.{pieces_of, piece_of, list_Q, list_L, list_C, is_dash_of};
 ghost use Rattle.text.specs.Number.{is_decimal};
-ghost use Rattle.numbers.specs.declared.Value.TheVariants.{Of};
-ghost use Rattle.numbers.specs.Read.{read, listed_as, ListRead, ShortIn, MemberAt};
+ghost use Rattle.numbers.specs.Read.{read, listed_of, ListRead, ShortIn, MemberAt};
 
 use crate::pieces::find;
-use crate::{Value, hex16, number};
+use crate::{hex16, number};
 
-// A list as it was read: whether each member is a number, how many there are, the largest (0 of none), and whether they rise strictly.
+// A list as it was read: how many members it has, the largest (0 of none), and whether they rise strictly.
+// The largest of none is 0 and no Option: it goes into lent words, and the count beside it says whether there is one.
 #[derive(Clone, Copy)]
 pub struct Listed {
-    pub ok: bool,
     pub count: usize,
     pub largest: u64,
     pub rising: bool,
@@ -22,66 +20,45 @@ pub struct Listed {
 pub fn larger(a: u64, b: u64) -> u64
     ensures { result ≡ max a b }
 {
-    if a < b { b } else { a }
+    a.max(b)
 }
 
-fn rises(l: Listed, n: u64) -> bool
-    ensures { result ≡ (l.rising && (eqb l.count 0 || ltb l.largest n)) }
-{
-    if !l.rising {
-        return false;
+impl Listed {
+    pub fn empty() -> Listed
+        ensures { result ≡ listed_of [] }
+    {
+        Listed {
+            count: 0,
+            largest: 0,
+            rising: true,
+        }
     }
-    if l.count == 0 {
-        return true;
-    }
-    l.largest < n
-}
 
-// The list with one more member at its end.
-pub fn push(l: Listed, n: u64) -> Listed
-    requires { l.count + 1 < 2 ^ 64 }
-    ensures { (d : List ℕ) → l ≡ listed_as (some d) → result ≡ listed_as (some (d ++ n ∷ [])) }
-{
-    Listed {
-        ok: l.ok,
-        count: l.count + 1,
-        largest: larger(l.largest, n),
-        rising: rises(l, n),
+    fn rises(self, n: u64) -> bool
+        ensures { result ≡ (self.rising && (eqb self.count 0 || ltb self.largest n)) }
+    {
+        self.rising && (self.count == 0 || self.largest < n)
     }
-}
 
-pub fn store(out: &mut [u64], at: usize, n: u64)
-    ensures { out.new ≡ set out.old at n }
-{
-    if at < out.len() {
-        out[at] = n;
-    }
-}
-
-pub fn no_list() -> Listed
-    ensures { result ≡ listed_as none }
-{
-    Listed {
-        ok: false,
-        count: 0,
-        largest: 0,
-        rising: true,
-    }
-}
-
-pub fn empty() -> Listed
-    ensures { result ≡ listed_as (some []) }
-{
-    Listed {
-        ok: true,
-        count: 0,
-        largest: 0,
-        rising: true,
+    // The list with one more member at its end, which goes into the lent words if there is room.
+    pub fn push(self, n: u64, out: &mut [u64]) -> Listed
+        requires { self.count + 1 < 2 ^ 64 }
+        ensures listed { (d : List ℕ) → self ≡ listed_of d → result ≡ listed_of (d ++ n ∷ []) }
+        ensures stored { out.new ≡ set out.old self.count n }
+    {
+        if self.count < out.len() {
+            out[self.count] = n;
+        }
+        Listed {
+            count: self.count + 1,
+            largest: self.largest.max(n),
+            rising: self.rises(n),
+        }
     }
 }
 
 // A piece: a word by its 16 hexadecimal digits, or a number.
-fn piece(s: &[u8], hex: bool) -> Value
+fn piece(s: &[u8], hex: bool) -> Option<u64>
     ensures { read result ≡ piece_of hex s.now }
 {
     if hex {
@@ -90,74 +67,62 @@ fn piece(s: &[u8], hex: bool) -> Value
     number(s)
 }
 
-// A number of at most three digits that ends at a comma: its digits, 0 where there is no such number, and its value.
+// A number of at most three digits that ends at a comma: its digits, and its value.
 #[derive(Clone, Copy)]
 struct Short {
     digits: usize,
     value: u64,
 }
 
-fn not_short() -> Short
-    ensures { result.digits ≡ 0 }
-{
-    Short {
-        digits: 0,
-        value: 0,
-    }
-}
-
 fn is_digit(b: u8) -> bool
     ensures { result ≡ is_decimal b }
 {
-    if b < b'0' {
-        return false;
-    }
-    b <= b'9'
+    b'0' <= b && b <= b'9'
 }
 
 // The short number that four bytes begin with.
-fn short_number(a: u8, b: u8, c: u8, d: u8) -> Short
-    ensures { 0 < result.digits → (rest : List ℕ) → ShortIn result.digits result.value (a ∷ b ∷ c ∷ d ∷ rest) }
+fn short_number(a: u8, b: u8, c: u8, d: u8) -> Option<Short>
+    ensures { IfSome result (λ s. (rest : List ℕ) → ShortIn s.digits s.value (a ∷ b ∷ c ∷ d ∷ rest)) }
 {
     if !is_digit(a) {
-        return not_short();
+        return None;
     }
     let one = (a - b'0') as u64;
     if b == b',' {
-        return Short {
+        return Some(Short {
             digits: 1,
             value: one,
-        };
+        });
     }
     if !is_digit(b) {
-        return not_short();
+        return None;
     }
     if a == b'0' {
-        return not_short();
+        return None;
     }
     let two = one * 10 + (b - b'0') as u64;
     if c == b',' {
-        return Short {
+        return Some(Short {
             digits: 2,
             value: two,
-        };
+        });
     }
     if !is_digit(c) {
-        return not_short();
+        return None;
     }
     if d != b',' {
-        return not_short();
+        return None;
     }
-    Short {
+    Some(Short {
         digits: 3,
         value: two * 10 + (c - b'0') as u64,
-    }
+    })
 }
 
 // A member of a list, and where it ends.
 #[derive(Clone, Copy)]
 struct Member {
-    value: Value,
+    value: Option<u64>,
     end: usize,
 }
 
@@ -172,15 +137,15 @@ fn cut_member(s: &[u8], at: usize, hex: bool) -> Member
 }
 
 // The short number from `at` on.
-fn short_at(s: &[u8], at: usize, hex: bool) -> Short
+fn short_at(s: &[u8], at: usize, hex: bool) -> Option<Short>
     requires { at ≤ length s.now }
-    ensures { 0 < result.digits → MemberAt hex s.now at (record { value = Of result.value; end = at + result.digits }) }
+    ensures { IfSome result (λ short. MemberAt hex s.now at (record { value = Some short.value; end = at + short.digits })) }
 {
     if hex {
-        return not_short();
+        return None;
     }
     if s.len() - at < 4 {
-        return not_short();
+        return None;
     }
     let second = at + 1;
     let third = second + 1;
@@ -193,40 +158,35 @@ fn read_member(s: &[u8], at: usize, hex: bool) -> Member
     requires { at ≤ length s.now }
     ensures { MemberAt hex s.now at result }
 {
-    let short = short_at(s, at, hex);
-    if short.digits == 0 {
-        return cut_member(s, at, hex);
-    }
-    Member {
-        value: Value::Of(short.value),
-        end: at + short.digits,
+    match short_at(s, at, hex) {
+        Some(short) => Member {
+            value: Some(short.value),
+            end: at + short.digits,
+        },
+        None => cut_member(s, at, hex),
     }
 }
 
 // A list of pieces in any order, never empty.
-pub fn list_by(s: &[u8], hex: bool, out: &mut [u64]) -> Listed
+pub fn list_by(s: &[u8], hex: bool, out: &mut [u64]) -> Option<Listed>
     ensures { ListRead (pieces_of (piece_of hex) (split comma s.now)) result out.old out.new }
 {
-    let mut l = empty();
+    let mut l = Listed::empty();
     let mut at = 0;
+    // A loop: a member says where the next one begins.
     loop {
         let member = read_member(s, at, hex);
-        let e = member.end;
-        let value = member.value;
-        let Value::Of(n) = value else {
-            return no_list();
-        };
-        store(&mut *out, l.count, n);
-        l = push(l, n);
-        if e == s.len() {
-            return l;
+        let n = member.value?;
+        l = l.push(n, &mut *out);
+        if member.end == s.len() {
+            return Some(l);
         }
-        at = e + 1;
+        at = member.end + 1;
     }
 }
 
 // Q: numbers in any order, never empty.
-pub fn list_q(s: &[u8], out: &mut [u64]) -> Listed
+pub fn list_q(s: &[u8], out: &mut [u64]) -> Option<Listed>
     ensures { ListRead (list_Q s.now) result out.old out.new }
 {
     list_by(s, false, out)
@@ -235,39 +195,30 @@ pub fn list_q(s: &[u8], out: &mut [u64]) -> Listed
 fn is_dash(s: &[u8]) -> bool
     ensures { result ≡ is_dash_of s.now }
 {
-    if s.len() != 1 {
-        return false;
-    }
-    s[0] == b'-'
+    s.len() == 1 && s[0] == b'-'
 }
 
 // L: a strictly rising list, `-` when empty.
-pub fn list_l(s: &[u8], out: &mut [u64]) -> Listed
+pub fn list_l(s: &[u8], out: &mut [u64]) -> Option<Listed>
     ensures { ListRead (list_L s.now) result out.old out.new }
 {
     if is_dash(s) {
-        return empty();
+        return Some(Listed::empty());
     }
-    let l = list_q(s, out);
-    if !l.ok {
-        return l;
-    }
+    let l = list_q(s, out)?;
     if !l.rising {
-        return no_list();
+        return None;
     }
-    l
+    Some(l)
 }
 
 // C: a number, or `-` for none.
-pub fn list_c(s: &[u8], out: &mut [u64]) -> Listed
+pub fn list_c(s: &[u8], out: &mut [u64]) -> Option<Listed>
     ensures { ListRead (list_C s.now) result out.old out.new }
 {
     if is_dash(s) {
-        return empty();
+        return Some(Listed::empty());
     }
-    let Value::Of(n) = number(s) else {
-        return no_list();
-    };
-    store(out, 0, n);
-    push(empty(), n)
+    let n = number(s)?;
+    Some(Listed::empty().push(n, out))
 }

@@ -9,6 +9,7 @@ fn find_singly(s: &[u8], at: usize, sep: u8) -> usize
     ensures lower_bound { (at ≤ result) × (result ≤ length s.now) }
 {
     let mut i = at;
+    // A while: the place is the answer, also where sep stands nowhere.
     while i < s.len() {
         if s[i] == sep {
             return i;
@@ -25,6 +26,7 @@ pub fn find(s: &[u8], at: usize, sep: u8) -> usize
     ensures lower_bound { (at ≤ result) × (result ≤ length s.now) }
 {
     let mut i = at;
+    // A while: four bytes are looked at in a turn.
     while 4 <= s.len() - i {
         if s[i] == sep {
             return i;
@@ -57,10 +59,8 @@ fn has_sep(s: &[u8], at: usize, sep: u8) -> bool
     ensures { result ≡ false → until sep (drop at s.now) ≡ 16 + until sep (drop (at + 16) s.now) }
 {
     let mut seen = 0u8;
-    let mut i = 0;
-    while i < BLOCK {
+    for i in 0..BLOCK {
         seen |= (s[at + i] == sep) as u8;
-        i += 1;
     }
     seen != 0
 }
@@ -71,6 +71,7 @@ fn pass_blocks(s: &[u8], at: usize, sep: u8) -> usize
     ensures { (at + until sep (drop at s.now) ≡ result + until sep (drop result s.now)) × (at ≤ result) × (result ≤ length s.now) }
 {
     let mut i = at;
+    // A while: a block is passed over in a turn.
     while BLOCK <= s.len() - i {
         if has_sep(s, i, sep) {
             return i;

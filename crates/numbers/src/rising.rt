@@ -6,12 +6,10 @@ ghost use Rattle.text.specs.List.{is_rising_of};
 pub fn is_rising(numbers: &[u64]) -> bool
     ensures { result ≡ is_rising_of numbers.now }
 {
-    let mut i = 1;
-    while i < numbers.len() {
+    for i in 1..numbers.len() {
         if numbers[i] <= numbers[i - 1] {
             return false;
         }
-        i += 1;
     }
     true
 }

@@ -3,14 +3,15 @@
 
 mod sets;
 
-ghost use Rattle.std.specs.Prelude.{◌≡◌, [], ◌∷◌, ◌<◌, length, get_or};
+ghost use Rattle.std.specs.Prelude.{◌≡◌, [], ◌∷◌, ◌<◌, ◌≤◌, length, get_or};
+ghost use Rattle.std.proofs.Math.Option.{some};
 ghost use Rattle.pauli.specs.Bits.{members};
 ghost use Rattle.pauli.specs.Pauli.{◌∗◌ as ◌times◌, identity as Pauli·identity, anticommutes as Pauli·anticommutes, added_at, cleared};
 ghost use Rattle.pauli.specs.Gate.{swap_XZ, add_xto_Z, add_zto_X, controlled_X, controlled_Z, controlled_Y, swap_rows_of, gate_of, conjugated, conjugated_back};
-ghost use Rattle.pauli.specs.Code.{by_gate, operand_count_of};
+ghost use Rattle.pauli.specs.Code.{by_gate, operand_count_of, gate_named, named_or_none};
 ghost use Rattle.pauli.specs.Fixed.{as_pauli, AllBelow};
 
-pub use sets::{add_outcomes, has_outcome, has_qubit, outcomes, qubits, sum_of_qubits};
+pub use sets::{add_outcomes, has_outcome, has_qubit, set_of, sum_of_qubits};
 
 // A qubit's number is never taken for an outcome's or a shot's.
 #[derive(Clone, Copy)]
@@ -22,14 +23,29 @@ pub struct OutcomeId(pub usize);
 #[derive(Clone, Copy)]
 pub struct Shot(pub usize);
 
-// A list in lent words is a list of numbers; its members are taken out as ids by these two alone.
+// A list in lent words is a list of numbers; its members are taken out as ids, by these alone.
+impl From<u64> for QubitId {
+    fn from(number: u64) -> QubitId
+        ensures { result.0 ≡ number }
+    {
+        QubitId(number as usize)
+    }
+}
+
+impl From<u64> for OutcomeId {
+    fn from(number: u64) -> OutcomeId
+        ensures { result.0 ≡ number }
+    {
+        OutcomeId(number as usize)
+    }
+}
 
 // The qubit at place i of a list.
 pub fn qubit_at(list: &[u64], i: usize) -> QubitId
     requires { i < length list.now }
     ensures { result.0 ≡ get_or list.now i 0 }
 {
-    QubitId(list[i] as usize)
+    QubitId::from(list[i])
 }
 
 // The outcome at place i of a list.
@@ -37,7 +53,7 @@ pub fn outcome_at(list: &[u64], i: usize) -> OutcomeId
     requires { i < length list.now }
     ensures { result.0 ≡ get_or list.now i 0 }
 {
-    OutcomeId(list[i] as usize)
+    OutcomeId::from(list[i])
 }
 
 // The bits of a word, and the number of the last.
@@ -65,6 +81,72 @@ pub fn operand_count(code: u64) -> u8
     0
 }
 
+// The gates, in the order of their codes.
+#[derive(Clone, Copy, PartialEq, Eq, Debug)]
+pub enum Gate {
+    I,
+    X,
+    Y,
+    Z,
+    Hadamard,
+    SqrtZ,
+    SqrtZInv,
+    SqrtX,
+    SqrtXInv,
+    SqrtY,
+    SqrtYInv,
+    ControlledX,
+    ControlledZ,
+    Swap,
+    PrepareBell,
+    ControlledY,
+}
+
+impl Gate {
+    // The gate of a code on a line, and none above the last. Codes to 10 take one qubit, the others two.
+    pub fn from_code(code: u64) -> Option<Gate>
+        ensures { named_or_none result ≡ gate_of code }
+    {
+        match code {
+            0..=10 => Some(Gate::on_one_qubit(code)),
+            11..=15 => Some(Gate::on_two_qubits(code)),
+            _ => None,
+        }
+    }
+
+    fn on_one_qubit(code: u64) -> Gate
+        requires { code ≤ 10 }
+        ensures { gate_of code ≡ some (gate_named result) }
+    {
+        match code {
+            0 => Gate::I,
+            1 => Gate::X,
+            2 => Gate::Y,
+            3 => Gate::Z,
+            4 => Gate::Hadamard,
+            5 => Gate::SqrtZ,
+            6 => Gate::SqrtZInv,
+            7 => Gate::SqrtX,
+            8 => Gate::SqrtXInv,
+            9 => Gate::SqrtY,
+            _ => Gate::SqrtYInv,
+        }
+    }
+
+    fn on_two_qubits(code: u64) -> Gate
+        requires { (11 ≤ code) × (code ≤ 15) }
+        ensures { gate_of code ≡ some (gate_named result) }
+    {
+        match code {
+            11 => Gate::ControlledX,
+            12 => Gate::ControlledZ,
+            13 => Gate::Swap,
+            14 => Gate::PrepareBell,
+            _ => Gate::ControlledY,
+        }
+    }
+}
+
 // A Pauli operator up to its phase: the qubits with an X part, and those with a Z part. Y has both.
 #[derive(Clone, Copy)]
 pub struct Pauli {
@@ -88,8 +170,8 @@ impl Pauli {
         ensures { as_pauli result ≡ record { x = members x.entry.now; z = members z.now } }
     {
         Pauli {
-            x: qubits(x),
-            z: qubits(z),
+            x: set_of(x),
+            z: set_of(z),
         }
     }
 
@@ -97,13 +179,9 @@ impl Pauli {
     pub fn multiply(self, other: Pauli) -> Pauli
         ensures { as_pauli result ≡ (as_pauli self times as_pauli other) }
     {
-        let x = self.x;
-        let z = self.z;
-        let other_x = other.x;
-        let other_z = other.z;
         Pauli {
-            x: sum_of_qubits(x, other_x),
-            z: sum_of_qubits(z, other_z),
+            x: sum_of_qubits(self.x, other.x),
+            z: sum_of_qubits(self.z, other.z),
         }
     }
 
@@ -117,10 +195,9 @@ impl Pauli {
         let other_x = other.x;
         let other_z = other.z;
         let mut w: u64 = 0;
-        let mut i = 0;
-        while i < 4 {
+        // By index: four arrays are read at one place, for which a zip is no plainer.
+        for i in 0..4 {
             w ^= (x[i] & other_z[i]) ^ (z[i] & other_x[i]);
-            i += 1;
         }
         u64::count_ones(w) % 2 == 1
     }
@@ -131,16 +208,14 @@ impl Pauli {
     pub fn has_x(self, q: QubitId) -> bool
         ensures { result ≡ (as_pauli self).x q.0 }
     {
-        let x = self.x;
-        has_qubit(x, q)
+        has_qubit(self.x, q)
     }
 
     // Whether there is a Z part on q.
     pub fn has_z(self, q: QubitId) -> bool
         ensures { result ≡ (as_pauli self).z q.0 }
     {
-        let z = self.z;
-        has_qubit(z, q)
+        has_qubit(self.z, q)
     }
 
     // With x and z added to the parts on q.
@@ -232,49 +307,54 @@ impl Pauli {
         self.add_at(b, x, z).add_at(a, x, z)
     }
 
-    // Conjugated by the gate of a code on its operands a and b, of which a gate on one qubit has
-    // no b. A code above the last has no gate and changes nothing.
-    pub fn conjugate(self, gate: u64, a: QubitId, b: QubitId) -> Pauli
+    // Conjugated by a gate on its operands a and b, of which a gate on one qubit has no b.
+    pub fn conjugate(self, gate: Gate, a: QubitId, b: QubitId) -> Pauli
         requires { (a.0 < 256) × (b.0 < 256) }
-        ensures { as_pauli result ≡ by_gate conjugated (gate_of gate) a.0 b.0 (as_pauli self) }
+        ensures { as_pauli result ≡ conjugated (gate_named gate) a.0 b.0 (as_pauli self) }
     {
         match gate {
-            // I, X, Y, Z
-            0..=3 => self,
-            // Hadamard
-            4 => self.swap_parts(a),
-            // SqrtZ and its inverse
-            5..=6 => self.add_x_to_z(a),
-            // SqrtX and its inverse
-            7..=8 => self.add_z_to_x(a),
-            // SqrtY and its inverse
-            9..=10 => self.swap_parts(a),
-            // ControlledX
-            11 => self.controlled_x(a, b),
-            // ControlledZ
-            12 => self.controlled_z(a, b),
-            // Swap
-            13 => self.swap(a, b),
-            // PrepareBell
-            14 => self.swap_parts(a).controlled_x(a, b),
-            // ControlledY
-            15 => self.controlled_y(a, b),
-            _ => self,
+            Gate::I | Gate::X | Gate::Y | Gate::Z => self,
+            Gate::Hadamard | Gate::SqrtY | Gate::SqrtYInv => self.swap_parts(a),
+            Gate::SqrtZ | Gate::SqrtZInv => self.add_x_to_z(a),
+            Gate::SqrtX | Gate::SqrtXInv => self.add_z_to_x(a),
+            Gate::ControlledX => self.controlled_x(a, b),
+            Gate::ControlledZ => self.controlled_z(a, b),
+            Gate::ControlledY => self.controlled_y(a, b),
+            Gate::Swap => self.swap(a, b),
+            Gate::PrepareBell => self.swap_parts(a).controlled_x(a, b),
         }
     }
 
     // The same going back: PrepareBell with its halves reversed, the other gates as forwards.
-    pub fn conjugate_back(self, gate: u64, a: QubitId, b: QubitId) -> Pauli
+    pub fn conjugate_back(self, gate: Gate, a: QubitId, b: QubitId) -> Pauli
         requires { (a.0 < 256) × (b.0 < 256) }
-        ensures { as_pauli result ≡ by_gate conjugated_back (gate_of gate) a.0 b.0 (as_pauli self) }
+        ensures { as_pauli result ≡ conjugated_back (gate_named gate) a.0 b.0 (as_pauli self) }
     {
         match gate {
-            0..=13 => self.conjugate(gate, a, b),
-            // PrepareBell
-            14 => self.controlled_x(a, b).swap_parts(a),
-            // ControlledY
-            15 => self.controlled_y(a, b),
-            _ => self,
+            Gate::PrepareBell => self.controlled_x(a, b).swap_parts(a),
+            _ => self.conjugate(gate, a, b),
+        }
+    }
+
+    // Conjugated by the gate of a line's code. A code above the last has no gate and changes nothing.
+    pub fn conjugate_by_code(self, code: u64, a: QubitId, b: QubitId) -> Pauli
+        requires { (a.0 < 256) × (b.0 < 256) }
+        ensures { as_pauli result ≡ by_gate conjugated (gate_of code) a.0 b.0 (as_pauli self) }
+    {
+        match Gate::from_code(code) {
+            Some(gate) => self.conjugate(gate, a, b),
+            None => self,
+        }
+    }
+
+    // The same going back.
+    pub fn conjugate_back_by_code(self, code: u64, a: QubitId, b: QubitId) -> Pauli
+        requires { (a.0 < 256) × (b.0 < 256) }
+        ensures { as_pauli result ≡ by_gate conjugated_back (gate_of code) a.0 b.0 (as_pauli self) }
+    {
+        match Gate::from_code(code) {
+            Some(gate) => self.conjugate_back(gate, a, b),
+            None => self,
         }
     }
 }

@@ -4,7 +4,7 @@
 // QubitId or OutcomeId, or by the list of numbers that a line holds. Every contract says the set as a
 // function from numbers to Bool, and nothing of words.
 ghost use Rattle.std.specs.Prelude.{◌≡◌, true, ◌*◌, ◌/◌, ◌<◌, length};
-ghost use Rattle.pauli.specs.Bits.{◌△◌, ◌∪◌, replaced, members};
+ghost use Rattle.pauli.specs.Bits.{◌△◌, replaced, members};
 ghost use Rattle.pauli.specs.Fixed.{in_set, AllBelow};
 
 use super::{OutcomeId, QubitId, WORD_BITS};
@@ -14,10 +14,7 @@ fn contains(set: &[u64], n: usize) -> bool
     ensures { result ≡ in_set set.now n }
 {
     let k = n / WORD_BITS;
-    if set.len() <= k {
-        return false;
-    }
-    (set[k] >> (n % WORD_BITS)) % 2 == 1
+    k < set.len() && (set[k] >> (n % WORD_BITS)) % 2 == 1
 }
 
 // Adds a set of as many words to another: the symmetric difference.
@@ -25,10 +22,8 @@ fn add_set(set: &mut [u64], other: &[u64])
     requires { length other.now ≡ length set.old }
     ensures { (length set.new ≡ length set.old) × (in_set set.new ≡ in_set set.old △ in_set other.now) }
 {
-    let mut j = 0;
-    while j < set.len() {
+    for j in 0..set.len() {
         set[j] ^= other[j];
-        j += 1;
     }
 }
 
@@ -41,52 +36,32 @@ fn insert(set: &mut [u64], n: usize)
     set[k] |= 1u64 << (n % WORD_BITS);
 }
 
-// Puts the listed numbers into a set.
-fn insert_all(set: &mut [u64], numbers: &[u64])
-    requires { AllBelow (64 * length set.old) numbers.now }
-    ensures { (length set.new ≡ length set.old) × (in_set set.new ≡ in_set set.old ∪ members numbers.now) }
+// The set of the listed numbers, in as many words as its reader asks for: four for qubits, sixteen for outcomes.
+pub fn set_of<const N: usize>(numbers: &[u64]) -> [u64; N]
+    requires { AllBelow (64 * N) numbers.now }
+    ensures { in_set result ≡ members numbers.now }
 {
-    let mut i = 0;
-    while i < numbers.len() {
-        insert(set, numbers[i] as usize);
-        i += 1;
+    let mut set = [0u64; N];
+    for &n in numbers {
+        insert(&mut set, n as usize);
     }
+    set
 }
 
-// The set of the listed qubits.
-pub fn qubits(numbers: &[u64]) -> [u64; 4]
-    requires { AllBelow 256 numbers.now }
-    ensures { in_set result ≡ members numbers.now }
-{
-    let mut r = [0u64; 4];
-    insert_all(&mut r, numbers);
-    r
-}
-
-// The set of the listed outcomes.
-pub fn outcomes(numbers: &[u64]) -> [u64; 16]
-    requires { AllBelow 1024 numbers.now }
-    ensures { in_set result ≡ members numbers.now }
-{
-    let mut r = [0u64; 16];
-    insert_all(&mut r, numbers);
-    r
-}
+// Two functions, since an id says which kind of set it is looked up in.
 
 // Whether a qubit is in a set.
 pub fn has_qubit(set: [u64; 4], q: QubitId) -> bool
     ensures { result ≡ in_set set q.0 }
 {
-    let q = q.0;
-    contains(&set, q)
+    contains(&set, q.0)
 }
 
 // Whether an outcome is in a lent set.
 pub fn has_outcome(set: &[u64], id: OutcomeId) -> bool
     ensures { result ≡ in_set set.now id.0 }
 {
-    let id = id.0;
-    contains(set, id)
+    contains(set, id.0)
 }
 
 // The sum of two sets of qubits.
@@ -103,6 +78,6 @@ pub fn add_outcomes(set: &mut [u64], ids: &[u64])
     requires { (length set.old ≡ 16) × AllBelow 1024 ids.now }
     ensures { (length set.new ≡ 16) × (in_set set.new ≡ in_set set.old △ members ids.now) }
 {
-    let other = outcomes(ids);
+    let other: [u64; 16] = set_of(ids);
     add_set(set, &other);
 }

@@ -1,8 +1,8 @@
 -- What the functions that try one form, or some forms, say to the functions that chose them. Definitions. Assumes nothing.
-use Rattle.std.specs.Prelude.{ℕ, ◌≡◌, Bool, true, false, cond, ◌&&◌, List, [], ◌∷◌, eqb, length}
+use Rattle.std.specs.Prelude.{ℕ, ◌≡◌, Bool, true, false, cond, ◌&&◌, List, [], ◌∷◌, eqb, length, Option as Answer, Some, None}
 use Rattle.text.specs.Bytes.{bytes}
 use Rattle.text.specs.Template.{Value, number_at, list_at_of}
-use Rattle.template.specs.Fields.{ReadAs, Begins, ReadOn}
+use Rattle.template.specs.Fields.{ReadAs, Begins, ReadOn, ends_at}
 use Rattle.template.specs.declared.Progress.{Progress}
 use Rattle.job.specs.Grammar.{Form as TableForm, is_one, read_by, read_line_of}
 use Rattle.reader.specs.declared.Form.{Form}
@@ -12,6 +12,11 @@ use Rattle.reader.specs.Parsed.{form_of, Parsed}
 -- the line is parsed, where it says what it says by one of these forms
 pub record Tried (fs : List TableForm) (line : List ℕ) (r : Form) (fields : List ℕ) : Type 0 where
   pub parsed : read_line_of line ≡ read_by fs line → Parsed line r fields
+
+-- the form that was found; a line has none where there is no such
+abbrev pub found : Answer Form → Form
+found None = form.Unread
+found (Some f) = f
 
 -- one form alone, the forms of noise lines, and those of headers
 abbrev pub only : Form → List TableForm
@@ -25,20 +30,20 @@ header_forms = form_of form.Header ∷ form_of form.EditionHeader ∷ []
 
 -- ---- by one template
 
--- the form, where it is the line's; else none
-abbrev pub form_if : Bool → Form → Form
-form_if b f = cond b f form.Unread
+-- the form, where it is the line's
+abbrev pub form_if : Bool → Form → Answer Form
+form_if b f = cond b (Some f) None
 
 -- the line was read by a template
-pub record FormBy (line template : List ℕ) (f r : Form) (fields : List ℕ) : Type 0 where
+pub record FormBy (line template : List ℕ) (f : Form) (r : Answer Form) (fields : List ℕ) : Type 0 where
   pub ok : Bool
   pub result : r ≡ form_if ok f
   pub reads : ReadAs line template ok fields
 
 -- the line was read on, by the rest of a template, to its end
-pub record KindBy (line rest : List ℕ) (p : Progress) (f r : Form) (before after : List ℕ) : Type 0 where
-  pub on : Progress
-  pub result : r ≡ form_if (on.ok && eqb on.at (length line)) f
+pub record KindBy (line rest : List ℕ) (p : Progress) (f : Form) (r : Answer Form) (before after : List ℕ) : Type 0 where
+  pub on : Answer Progress
+  pub result : r ≡ form_if (ends_at (length line) on) f
   pub reads : ReadOn line rest p.at p.numbers p.lists on before after
 
 -- the part of a template that is a Pauli's two lists
@@ -59,7 +64,6 @@ parity_alone_of v = eqb (length (list_at_of 1 v)) 0 && is_one (number_at 1 v)
 
 -- a line begins as noise lines do, and was read up to its digit of d
 pub record NoiseBegun (line : List ℕ) (p : Progress) (fields : List ℕ) : Type 0 where
-  pub ok : p.ok ≡ true
   pub before : List ℕ
   pub begins : Begins line noise_begin_of 0 0 0 p before fields
   pub parity : parity_alone_of begins.values ≡ false

@@ -1,6 +1,7 @@
 // The slots of a line's values (crate template): of a number among the numbers of its form, of a list among the lists, from 0 in the order of the
 // template. A value that stands elsewhere in another form has a name for each. The angle of an allocation and the parity of a conditional Pauli,
 // which nothing asks for, have no name.
+// Numbers and no enum: a slot is a place in the words of a line's values.
 
 // ---- Numbers
 

@@ -1,9 +1,6 @@
-// What calls answered and left, compared with what they must. The first difference of a case is printed, with the place of its record.
-ghost use Rattle.std.specs.Prelude.{◌≡◌, ◌+◌, ◌≤◌, ◌<◌, ◌^◌, length};
-ghost use Rattle.template.specs.Values.{Whole};
-
-use template::values;
-use writer::TextAnswer;
+// What calls answered and left, compared with what they must.
+ghost use Rattle.std.specs.Prelude.{◌≡◌, ◌↔◌, ◌+◌, ◌≤◌, ◌<◌, ◌^◌, IsOk, OnOk};
+ghost use Rattle.replay.specs.Front.{BeginsAs};
 
 // Where this is printed.
 const STDOUT_FILENO: i32 = 1;
@@ -15,111 +12,78 @@ pub struct Tally {
     pub differ: u64,
 }
 
-pub fn counted(t: Tally, same: bool) -> Tally
-    requires { (t.differ ≤ t.cases) × (t.cases + 1 < 2 ^ 64) }
-    ensures { (result.cases ≡ t.cases + 1) × (result.differ ≤ result.cases) }
-{
-    let cases = t.cases + 1;
-    if same {
-        return Tally {
+impl Tally {
+    // One case more.
+    pub fn counted(self, same: bool) -> Tally
+        requires { (self.differ ≤ self.cases) × (self.cases + 1 < 2 ^ 64) }
+        ensures { (result.cases ≡ self.cases + 1) × (result.differ ≤ result.cases) }
+    {
+        let cases = self.cases + 1;
+        if same {
+            return Tally { cases, ..self };
+        }
+        Tally {
             cases,
-            differ: t.differ,
-        };
-    }
-    Tally {
-        cases,
-        differ: t.differ + 1,
-    }
-}
-
-pub fn print_tally(t: Tally) {
-    io::print_decimal(STDOUT_FILENO, t.cases);
-    io::write_all(STDOUT_FILENO, b" cases, ");
-    io::print_decimal(STDOUT_FILENO, t.differ);
-    io::write_all(STDOUT_FILENO, b" differ\n");
-}
-
-pub fn unreadable(at: usize) -> bool {
-    io::write_all(STDOUT_FILENO, b"no case by the record at byte ");
-    io::print_decimal(STDOUT_FILENO, at as u64);
-    io::write_all(STDOUT_FILENO, b"\n");
-    false
-}
-
-// That a number is not what it must be.
-fn differs(at: usize, number: u64, must: u64) -> bool {
-    io::write_all(STDOUT_FILENO, b"record at byte ");
-    io::print_decimal(STDOUT_FILENO, at as u64);
-    io::write_all(STDOUT_FILENO, b": ");
-    io::print_decimal(STDOUT_FILENO, number);
-    io::write_all(STDOUT_FILENO, b", not ");
-    io::print_decimal(STDOUT_FILENO, must);
-    io::write_all(STDOUT_FILENO, b"\n");
-    false
-}
-
-// Whether an answer, with its count or byte figure, is what the first numbers of the record say.
-pub fn same_answer(at: usize, fields: &[u64], number: u64, line: u64, figure: u64) -> bool
-    requires { Whole fields.now }
-{
-    let must = values::number(fields, 0);
-    if number != must {
-        return differs(at, number, must);
-    }
-    let must = values::number(fields, 1);
-    if line != must {
-        return differs(at, line, must);
-    }
-    let must = values::number(fields, 2);
-    if figure != must {
-        return differs(at, figure, must);
-    }
-    true
-}
-
-// Whether words are, from their first on, those that they must be.
-pub fn same_words(at: usize, words: &[u64], must: &[u64]) -> bool
-    requires { length must.now ≤ length words.now }
-{
-    let mut i = 0;
-    while i < must.len() {
-        let a = words[i];
-        let b = must[i];
-        if a != b {
-            return differs(at, a, b);
+            differ: self.differ + 1,
         }
-        i += 1;
     }
-    true
+
+    pub fn print(self) {
+        io::print_decimal(STDOUT_FILENO, self.cases);
+        io::write_all(STDOUT_FILENO, b" cases, ");
+        io::print_decimal(STDOUT_FILENO, self.differ);
+        io::write_all(STDOUT_FILENO, b" differ\n");
+    }
 }
 
-fn wide(b: u8) -> u64 {
-    b as u64
+// The first difference of a case: its record names no case, or a number is not what it must be.
+#[derive(Clone, Copy)]
+pub enum Difference {
+    Unreadable,
+    Number { found: u64, must: u64 },
 }
 
-// The same of bytes.
-fn same_bytes(at: usize, bytes: &[u8], must: &[u8]) -> bool
-    requires { length must.now ≤ length bytes.now }
-{
-    let mut i = 0;
-    while i < must.len() {
-        let a = bytes[i];
-        let b = must[i];
-        if a != b {
-            return differs(at, wide(a), wide(b));
+impl Difference {
+    // Prints the difference of the case whose record is at a place.
+    pub fn print(self, at: usize) {
+        match self {
+            Difference::Unreadable => {
+                io::write_all(STDOUT_FILENO, b"no case by the record at byte ");
+                io::print_decimal(STDOUT_FILENO, at as u64);
+                io::write_all(STDOUT_FILENO, b"\n");
+            }
+            Difference::Number { found, must } => {
+                io::write_all(STDOUT_FILENO, b"record at byte ");
+                io::print_decimal(STDOUT_FILENO, at as u64);
+                io::write_all(STDOUT_FILENO, b": ");
+                io::print_decimal(STDOUT_FILENO, found);
+                io::write_all(STDOUT_FILENO, b", not ");
+                io::print_decimal(STDOUT_FILENO, must);
+                io::write_all(STDOUT_FILENO, b"\n");
+            }
         }
-        i += 1;
     }
-    true
 }
 
-// Whether a call that writes text answers and leaves what it must.
-pub fn same_text(at: usize, fields: &[u64], r: TextAnswer, out: &[u8], text: &[u8]) -> bool
-    requires { Whole fields.now × (length text.now ≤ length out.now) }
+// That a number is what it must be.
+pub fn same(found: u64, must: u64) -> Result<(), Difference>
+    ensures { IsOk result ↔ (found ≡ must) }
 {
-    let a = r.answer;
-    if !same_answer(at, fields, a.number, a.line, r.figure) {
-        return false;
+    if found != must {
+        return Err(Difference::Number { found, must });
     }
-    same_bytes(at, out, text)
+    Ok(())
+}
+
+// That words or bytes are, from their first on, those that they must be. A case that has more of them than fit is none.
+pub fn same_front<T: Copy + Into<u64>>(found: &[T], must: &[T]) -> Result<(), Difference>
+    ensures { OnOk result (BeginsAs T.converts found.now must.now) }
+{
+    if found.len() < must.len() {
+        return Err(Difference::Unreadable);
+    }
+    for (&a, &b) in found.iter().zip(must) {
+        same(a.into(), b.into())?;
+    }
+    Ok(())
 }

@@ -3,15 +3,15 @@
 // the other; the record after them names the call, and says what it must answer.
 #![tactic(auto)]
 
-ghost use Rattle.std.specs.Prelude.{◌≡◌, ◌+◌, ◌≤◌, ◌<◌, length};
-ghost use Rattle.template.specs.Values.{Whole};
+ghost use Rattle.std.specs.Prelude.{◌≡◌, ◌+◌, ◌≤◌, ◌<◌, min, length};
 
+use crate::compare::{Difference, Tally};
+use crate::record::Record;
+use numbers::hex16;
 use numbers::pieces::find;
-use numbers::{Value, hex16};
-use template::{read_all, values};
 
 pub mod compare;
-pub mod lists;
+pub mod record;
 
 // Room for a list of cases.
 pub fn list_buffer() -> [u8; 786432]
@@ -35,6 +35,7 @@ pub fn words_buffer() -> [u64; 32768]
 }
 
 // How far a list was read: the place of the next record, and how many bytes of a case are held.
+// The bytes lie at the front of a buffer of fixed size, since nothing is allocated.
 #[derive(Clone, Copy)]
 struct Gathered {
     at: usize,
@@ -44,12 +45,9 @@ struct Gathered {
 // Where a part of n ends that begins at a place; not past the end of the whole.
 pub fn part_end(from: usize, n: u64, whole: usize) -> usize
     requires { from ≤ whole }
-    ensures { (from ≤ result) × (result ≤ whole) }
+    ensures { result ≡ min (from + n) whole }
 {
-    if ((whole - from) as u64) < n {
-        return whole;
-    }
-    from + n as usize
+    from + n.min((whole - from) as u64) as usize
 }
 
 // Some bytes so many times behind those that are held; how many are held then. Where there is no room for them no more are held than before.
@@ -59,22 +57,14 @@ fn put_times(src: &[u8], times: u64, held: usize, dst: &mut [u8]) -> usize
 {
     let n = src.len();
     let mut to = held;
-    let mut k: u64 = 0;
-    while k < times {
+    for _ in 0..times {
         if dst.len() - to < n {
             return held;
         }
         dst[to..to + n].copy_from_slice(src);
         to += n;
-        k += 1;
     }
     to
-}
-
-fn is_add(line: &[u8], fields: &mut [u64]) -> bool
-    requires { Whole fields.old }
-{
-    read_all(line, b"add bytes=N times=N", fields)
 }
 
 // One record `add` more; nothing more where none stands there.
@@ -82,17 +72,16 @@ fn add(list: &[u8], g: Gathered, dst: &mut [u8]) -> Gathered
     requires { (g.at ≤ length list.now) × (g.held ≤ length dst.old) }
     ensures { (g.at ≤ result.at) × (result.at ≤ length list.now) × (result.held ≤ length dst.old) }
 {
-    let mut fields = [0u64; values::VALUE_WORDS];
     let at = g.at;
     let e = find(list, at, b'\n');
-    if !is_add(&list[at..e], &mut fields) {
+    let Some(record) = Record::read(&list[at..e], b"add bytes=N times=N") else {
         return g;
-    }
+    };
     let a = part_end(e, 1, list.len());
-    let b = part_end(a, values::number(&fields, 0), list.len());
+    let b = part_end(a, record.number(0), list.len());
     Gathered {
         at: b,
-        held: put_times(&list[a..b], values::number(&fields, 1), g.held, dst),
+        held: put_times(&list[a..b], record.number(1), g.held, dst),
     }
 }
 
@@ -102,6 +91,7 @@ fn gather(list: &[u8], from: usize, dst: &mut [u8]) -> Gathered
     ensures { (from ≤ result.at) × (result.at ≤ length list.now) × (result.held ≤ length dst.old) }
 {
     let mut g = Gathered { at: from, held: 0 };
+    // A loop: a record says where the next one begins.
     loop {
         let next = add(list, g, &mut *dst);
         if next.at == g.at {
@@ -127,16 +117,53 @@ pub fn next_case(list: &[u8], from: usize, dst: &mut [u8]) -> Case
 {
     let g = gather(list, from, dst);
     let end = find(list, g.at, b'\n');
-    let mut next = end;
-    if end < list.len() {
-        next = end + 1;
-    }
+    let next = if end < list.len() { end + 1 } else { end };
     Case {
         held: g.held,
         at: g.at,
         end,
         next,
     }
+}
+
+// Replays the cases of a list, each by the line of its record and its bytes. Prints where one differs.
+fn replay<F: Fn(&[u8], &[u8]) -> Result<(), Difference>>(
+    list: &[u8],
+    bytes: &mut [u8],
+    replay_case: F,
+) -> Tally
+    requires { F.IsAlwaysCallable replay_case }
+{
+    let mut t = Tally {
+        cases: 0,
+        differ: 0,
+    };
+    let mut at = 0;
+    // A while: a case says where the next one begins.
+    while at < list.len() {
+        let c = next_case(list, at, &mut *bytes);
+        match replay_case(&list[c.at..c.end], &bytes[..c.held]) {
+            Ok(_) => {
+                t = t.counted(true);
+            }
+            Err(difference) => {
+                difference.print(c.at);
+                t = t.counted(false);
+            }
+        }
+        at = c.next;
+    }
+    t
+}
+
+// Replays the cases from standard input, then prints how many there were and how many differ.
+pub fn replay_input<F: Fn(&[u8], &[u8]) -> Result<(), Difference>>(replay_case: F)
+    requires { F.IsAlwaysCallable replay_case }
+{
+    let mut list = list_buffer();
+    let mut bytes = bytes_buffer();
+    let n = io::read_full(0, &mut list);
+    replay(&list[..n], &mut bytes, replay_case).print();
 }
 
 // The words that some bytes are, a line of 16 hexadecimal digits each, at the front of dst, up to the first that is none or has no room;
@@ -146,11 +173,12 @@ pub fn words(src: &[u8], dst: &mut [u64]) -> usize
 {
     let mut k = 0;
     let mut i = 0;
+    // A while: the first line that is no word ends it.
     while k < dst.len() {
         if src.len() - i < 17 {
             return k;
         }
-        let Value::Of(v) = hex16(&src[i..i + 16]) else {
+        let Some(v) = hex16(&src[i..i + 16]) else {
             return k;
         };
         dst[k] = v;

@@ -7,8 +7,8 @@ ghost use Rattle.rows.specs.Overwrite.{cleared, copied, xored, swapped, flipped}
 ghost use Rattle.rows.specs.Listed.{RowsIn, over_list, collected};
 ghost use Rattle.rows.specs.Shape.{shape_of};
 
-use pauli::{LAST_BIT, Shot, WORD_BITS};
-use rows::Shape;
+use pauli::{Shot, WORD_BITS};
+use rows::{Shape, words_per_row};
 
 // The shape for so many qubits, outcomes and shots: a row has as many words as its shots need.
 pub fn shape_of(qubits: usize, outcomes: usize, shots: usize) -> Shape
@@ -19,21 +19,20 @@ pub fn shape_of(qubits: usize, outcomes: usize, shots: usize) -> Shape
         qubits,
         outcomes,
         shots,
-        width: (shots + LAST_BIT) / WORD_BITS,
+        width: words_per_row(shots),
     }
 }
 
 // ---- Runs of words
 
 // Sets n words from `at` on to 0.
+// Not by `fill`, which took 0.38 s where a loop took 0.35, over 30 million calls of 1 to 16 words.
 pub fn clear(words: &mut [u64], at: usize, n: usize)
     requires { at + n ≤ length words.old }
     ensures { words.new ≡ cleared at n words.old }
 {
-    let mut j = 0;
-    while j < n {
-        words[at + j] = 0;
-        j += 1;
+    for word in &mut words[at..at + n] {
+        *word = 0;
     }
 }
 
@@ -42,22 +41,20 @@ pub fn copy(dst: &mut [u64], at: usize, src: &[u64], from: usize, n: usize)
     requires { (at + n ≤ length dst.old) × (from + n ≤ length src.now) }
     ensures { dst.new ≡ copied at from n src.now dst.old }
 {
-    let mut j = 0;
-    while j < n {
+    // By index: copy_from_slice takes 0.7 ns more a call, a tenth of a copy of 8 words.
+    for j in 0..n {
         dst[at + j] = src[from + j];
-        j += 1;
     }
 }
 
 // Adds n words of src, from `from` on, to those of dst from `at` on.
+// By index, here and below: a zip of two parts is no plainer, and its `next` tests both ends at each word.
 pub fn xor_words(dst: &mut [u64], at: usize, src: &[u64], from: usize, n: usize)
     requires { (at + n ≤ length dst.old) × (from + n ≤ length src.now) }
     ensures { dst.new ≡ xored at from n src.now dst.old }
 {
-    let mut j = 0;
-    while j < n {
+    for j in 0..n {
         dst[at + j] ^= src[from + j];
-        j += 1;
     }
 }
 
@@ -75,14 +72,12 @@ fn xor_four(
     requires { (at + n ≤ length dst.old) × (first + n ≤ length src.now) × (second + n ≤ length src.now) × (third + n ≤ length src.now) × (fourth + n ≤ length src.now) }
     ensures { dst.new ≡ xored at fourth n src.now (xored at third n src.now (xored at second n src.now (xored at first n src.now dst.old))) }
 {
-    let mut j = 0;
-    while j < n {
+    for j in 0..n {
         dst[at + j] = dst[at + j]
             ^ src[first + j]
             ^ src[second + j]
             ^ src[third + j]
             ^ src[fourth + j];
-        j += 1;
     }
 }
 
@@ -92,30 +87,27 @@ fn xor_twice(dst: &mut [u64], first: usize, second: usize, src: &[u64], from: us
     requires { (first + n ≤ length dst.old) × (second + n ≤ length dst.old) × (from + n ≤ length src.now) × (first < second → first + n ≤ second) }
     ensures { dst.new ≡ xored second from n src.now (xored first from n src.now dst.old) }
 {
-    let mut j = 0;
-    while j < n {
+    for j in 0..n {
         let word = src[from + j];
         dst[first + j] ^= word;
         dst[second + j] ^= word;
-        j += 1;
     }
 }
 
-// Exchanges n words of x from `at` on with n words of z from `at` on.
+// Exchanges n words of x from `at` on with n words of z from `at` on. By index: `swap_with_slice` is never inlined.
 pub fn swap_words(x: &mut [u64], z: &mut [u64], at: usize, n: usize)
     requires { (at + n ≤ length x.old) × (at + n ≤ length z.old) }
     ensures { (x.new ≡ copied at at n z.old x.old) × (z.new ≡ copied at at n x.old z.old) }
 {
-    let mut j = 0;
-    while j < n {
+    for j in 0..n {
         let word = x[at + j];
         x[at + j] = z[at + j];
         z[at + j] = word;
-        j += 1;
     }
 }
 
 // ---- Rows of one matrix
+// Not by `xor_words` and `swap_words`: two rows of one slice are no two slices, and split_at_mut would want to know which row is the first.
 
 // Adds row src to row dst.
 pub fn add_row(rows: &mut [u64], w: usize, dst: usize, src: usize)
@@ -124,10 +116,8 @@ pub fn add_row(rows: &mut [u64], w: usize, dst: usize, src: usize)
 {
     let at = dst * w;
     let from = src * w;
-    let mut j = 0;
-    while j < w {
+    for j in 0..w {
         rows[at + j] ^= rows[from + j];
-        j += 1;
     }
 }
 
@@ -138,12 +128,10 @@ pub fn swap_rows(rows: &mut [u64], w: usize, a: usize, b: usize)
 {
     let first = a * w;
     let second = b * w;
-    let mut j = 0;
-    while j < w {
+    for j in 0..w {
         let word = rows[first + j];
         rows[first + j] = rows[second + j];
         rows[second + j] = word;
-        j += 1;
     }
 }
 
@@ -165,19 +153,22 @@ pub fn add_listed(sums: &mut [u64], r: usize, rows: &[u64], w: usize, list: &[u6
     ensures { sums.new ≡ over_list (λ q. xored (r * w) (q * w) w rows.now) list.now sums.old }
 {
     let at = r * w;
-    let mut i = 0;
-    while 4 <= list.len() - i {
-        let a = list[i] as usize;
-        let b = list[i + 1] as usize;
-        let c = list[i + 2] as usize;
-        let d = list[i + 3] as usize;
-        xor_four(&mut *sums, at, rows, a * w, b * w, c * w, d * w, w);
-        i += 4;
+    let mut left = list;
+    while let [a, b, c, d, rest @ ..] = left {
+        xor_four(
+            &mut *sums,
+            at,
+            rows,
+            *a as usize * w,
+            *b as usize * w,
+            *c as usize * w,
+            *d as usize * w,
+            w,
+        );
+        left = rest;
     }
-    while i < list.len() {
-        let row = list[i] as usize;
-        xor_words(sums, at, rows, row * w, w);
-        i += 1;
+    for &row in left {
+        xor_words(sums, at, rows, row as usize * w, w);
     }
 }
 
@@ -196,17 +187,13 @@ pub fn add_mask_listed(rows: &mut [u64], w: usize, list: &[u64], masks: &[u64], 
     ensures { rows.new ≡ over_list (λ q. xored (q * w) (r * w) w masks.now) list.now rows.old }
 {
     let from = r * w;
-    let mut i = 0;
-    while 2 <= list.len() - i {
-        let a = list[i] as usize;
-        let b = list[i + 1] as usize;
-        xor_twice(&mut *rows, a * w, b * w, masks, from, w);
-        i += 2;
+    let mut left = list;
+    while let [a, b, rest @ ..] = left {
+        xor_twice(&mut *rows, *a as usize * w, *b as usize * w, masks, from, w);
+        left = rest;
     }
-    while i < list.len() {
-        let row = list[i] as usize;
-        xor_words(rows, row * w, masks, from, w);
-        i += 1;
+    for &row in left {
+        xor_words(rows, row as usize * w, masks, from, w);
     }
 }
 
@@ -215,11 +202,8 @@ pub fn clear_listed(rows: &mut [u64], w: usize, list: &[u64])
     requires { RowsIn w list.now rows.old }
     ensures { rows.new ≡ over_list (λ q. cleared (q * w) w) list.now rows.old }
 {
-    let mut i = 0;
-    while i < list.len() {
-        let row = list[i] as usize;
-        clear(rows, row * w, w);
-        i += 1;
+    for &row in list {
+        clear(rows, row as usize * w, w);
     }
 }
 
@@ -228,11 +212,8 @@ pub fn flip_listed(rows: &mut [u64], w: usize, list: &[u64], shot: Shot)
     requires { (shot.0 < 64 * w) × RowsIn w list.now rows.old }
     ensures { rows.new ≡ over_list (flipped w shot.0) list.now rows.old }
 {
-    let mut i = 0;
-    while i < list.len() {
-        let row = list[i] as usize;
-        flip_bit(rows, w, row, shot);
-        i += 1;
+    for &row in list {
+        flip_bit(rows, w, row as usize, shot);
     }
 }
 
@@ -241,10 +222,7 @@ pub fn save_listed(saved: &mut [u64], first: usize, rows: &[u64], w: usize, list
     requires { (first + length list.now < 2 ^ 64) × ((first + length list.now) * w ≤ length saved.old) × RowsIn w list.now rows.now }
     ensures { saved.new ≡ collected w rows.now first list.now saved.old }
 {
-    let mut i = 0;
-    while i < list.len() {
-        let row = list[i] as usize;
-        copy(saved, (first + i) * w, rows, row * w, w);
-        i += 1;
+    for (i, &row) in list.iter().enumerate() {
+        copy(saved, (first + i) * w, rows, row as usize * w, w);
     }
 }

@@ -4,3 +4,5 @@ pub mod Overwrite
 pub mod Listed
 pub mod Column
 pub mod Pack
+pub mod Part
+pub mod Rest

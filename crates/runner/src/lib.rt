@@ -5,6 +5,7 @@ ghost use Rattle.std.specs.Prelude.{◌≡◌, ◌++◌};
 ghost use Rattle.run.specs.Run.{Source, Memory, RunReply, run_reply};
 ghost use Rattle.runner.specs.Ran.{RunReady, RanTo};
 
+use execution::Draws;
 use job::Answer;
 use job_shape::behind_header;
 use job_shape::lent_words::{Lengths, tested};
@@ -40,10 +41,12 @@ pub fn run_tested<'a>(
         &mut totals[..shape.outcomes],
         shape,
         noiseless,
-        main,
-        more,
-        second,
-        base,
+        Draws {
+            main,
+            more,
+            second,
+            base,
+        },
     )
 }
 

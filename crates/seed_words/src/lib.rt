@@ -46,13 +46,11 @@ fn jump(state: u64) -> Starts
     let mut third = 0;
     let mut fourth = 0;
     let mut ahead = state;
-    let mut k = 0u64;
-    while k < STATE_BITS {
+    for k in 0u64..STATE_BITS {
         second ^= ahead * (JUMP_1024 >> k & 1);
         third ^= ahead * (JUMP_2048 >> k & 1);
         fourth ^= ahead * (JUMP_3072 >> k & 1);
         ahead = step(ahead);
-        k += 1;
     }
     Starts {
         second,
@@ -71,8 +69,8 @@ fn fill_block(state: u64, words: &mut [u64]) -> u64
     let mut b = from.second;
     let mut c = from.third;
     let mut d = from.fourth;
-    let mut i = 0;
-    while i < QUARTER {
+    // By index: four chains go side by side, each over its quarter.
+    for i in 0..QUARTER {
         a = step(a);
         words[i] = a;
         b = step(b);
@@ -81,7 +79,6 @@ fn fill_block(state: u64, words: &mut [u64]) -> u64
         words[2 * QUARTER + i] = c;
         d = step(d);
         words[3 * QUARTER + i] = d;
-        i += 1;
     }
     d
 }
@@ -97,18 +94,17 @@ pub fn fill(seed: u64, words: &mut [u64]) -> Answer
         };
     }
     let mut state = seed;
-    let mut i = 0;
     let rest = words.len() % BLOCK;
-    while i < rest {
+    let blocks = words.len() / BLOCK;
+    for i in 0..rest {
         let word = step(state);
         words[i] = word;
         state = word;
-        i += 1;
     }
-    while i < words.len() {
-        let end = i + BLOCK;
-        state = fill_block(state, &mut words[i..end]);
-        i = end;
+    for k in 0..blocks {
+        let from = rest + k * BLOCK;
+        let end = from + BLOCK;
+        state = fill_block(state, &mut words[from..end]);
     }
     Answer { number: 0, line: 0 }
 }

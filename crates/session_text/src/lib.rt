@@ -10,7 +10,8 @@ ghost use Rattle.session_text.specs.Lines.{header_text, delta_text};
 
 use job::{Answer, Header};
 use line_writer::put_numbers;
-use pauli::{LAST_BIT, OutcomeId, Shot, WORD_BITS};
+use pauli::{OutcomeId, Shot, WORD_BITS};
+use rows::words_per_row;
 use writer::put_byte;
 
 // `ok=0 refusal=N line=N`
@@ -32,16 +33,15 @@ fn put_header(out: &mut [u8], h: Header) -> usize
 }
 
 // The delta of an outcome in a shot, as 0 or 1, where a row has w words.
+#[tactic(auto, unfolding(rows::specs::Words::bit_in, pauli::specs::Bits::bit))]
 fn delta_byte(deltas: &[u64], w: usize, id: OutcomeId, shot: Shot) -> u8
     requires { (id.0 * w + w ≤ length deltas.now) × (shot.0 / 64 < w) }
     ensures { result ≡ cond (bit_in w deltas.now id.0 shot.0) 49 48 }
 {
     let row = id.0;
     let s = shot.0;
-    if (deltas[row * w + s / WORD_BITS] >> (s % WORD_BITS)) % 2 == 1 {
-        return b'1';
-    }
-    b'0'
+    let set = (deltas[row * w + s / WORD_BITS] >> (s % WORD_BITS)) % 2 == 1;
+    if set { b'1' } else { b'0' }
 }
 
 // The deltas of an outcome, shot 0 first.
@@ -49,13 +49,11 @@ fn put_bits(out: &mut [u8], at: usize, deltas: &[u64], id: OutcomeId, shots: usi
     requires { (shots ≤ 64) × (at + shots < 2 ^ 64) × (id.0 * words_per_row shots + words_per_row shots ≤ length deltas.now) }
     ensures { Puts at (bit_text (bit_in (words_per_row shots) deltas.now id.0) shots 0) out.old out.new result }
 {
-    let w = (shots + LAST_BIT) / WORD_BITS;
+    let w = words_per_row(shots);
     let mut next = at;
-    let mut s = 0;
-    while s < shots {
+    for s in 0..shots {
         let b = delta_byte(deltas, w, id, Shot(s));
         next = put_byte(&mut *out, next, b);
-        s += 1;
     }
     next
 }
@@ -77,10 +75,8 @@ fn put_deltas(out: &mut [u8], at: usize, h: Header, deltas: &[u64], n: usize) ->
     ensures { Puts at (unlines (delta_lines h deltas.now n 0)) out.old out.new result }
 {
     let mut next = at;
-    let mut id = 0;
-    while id < n {
+    for id in 0..n {
         next = put_delta(&mut *out, next, deltas, OutcomeId(id), h.shots as usize);
-        id += 1;
     }
     next
 }

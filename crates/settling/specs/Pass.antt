@@ -1,5 +1,5 @@
 -- What a pass over a job puts for one of its instructions. Definitions. Assumes nothing.
-use Rattle.std.specs.Prelude.{◌≡◌, List, ℕ, ◌+◌, ◌*◌, ◌≤◌, ◌<◌, length, drop}
+use Rattle.std.specs.Prelude.{◌≡◌, Result, Ok, Err, List, ℕ, ◌+◌, ◌*◌, ◌≤◌, ◌<◌, length, drop}
 use Rattle.job.specs.declared.Header.{Header}
 use Rattle.instructions.specs.Ahead.{instructions_at, Ahead}
 use Rattle.writer.specs.Placed.{Puts}
@@ -9,8 +9,7 @@ use Rattle.draws.specs.Settle.{SettledLine, Settled, prefixed, settle}
 use Rattle.rows.specs.declared.Shape.{Shape}
 use Rattle.rows.specs.Words.{words_per_row, bit_in}
 use Rattle.settling.specs.declared.instruction_text.Reached.{Reached}
-use Rattle.settling.specs.declared.instruction_text.Moved.{Moved}
-use Rattle.settling.specs.declared.instruction_text.Moved.TheVariants as moved
+use Rattle.noise_text.specs.declared.Spent.{Spent}
 use Rattle.noise_text.specs.Injections.{text_of}
 
 -- what a pass reads: the job, the noiseless bits in rows of its shape, and the two lists of draws
@@ -65,9 +64,9 @@ pub record SpentHere (p : Pass) (here : Reached) (position : ℕ) : Type 0 where
   pub within : position ≤ length p.main
   pub leaves : drop position p.main ≡ left_from p here
 
-unfoldable pub MovedTo : Pass → List ℕ → Reached → List ℕ → Moved → Type 0
-MovedTo p out here after (moved.Spent position) = SpentHere p here position
-MovedTo p out here after (moved.To next) = Onward p out here after next
+unfoldable pub MovedTo : Pass → List ℕ → Reached → List ℕ → Result Reached Spent → Type 0
+MovedTo p out here after (Err spent) = SpentHere p here spent.position
+MovedTo p out here after (Ok next) = Onward p out here after next
 
-pub record InstructionPut (p : Pass) (out : List ℕ) (here : Reached) (after : List ℕ) (r : Moved) : Type 0 where
+pub record InstructionPut (p : Pass) (out : List ℕ) (here : Reached) (after : List ℕ) (r : Result Reached Spent) : Type 0 where
   pub put : MovedTo p out here after r

@@ -1,5 +1,5 @@
 -- The settled text of a whole job, put by a pass over it, and where the job leaves the main list. Definitions. Assumes nothing.
-use Rattle.std.specs.Prelude.{◌≡◌, cond, ◌||◌, List, ℕ, ◌*◌, ◌≤◌, eqb, length, drop}
+use Rattle.std.specs.Prelude.{◌≡◌, Result, Ok, Err, cond, ◌||◌, List, ℕ, ◌*◌, ◌≤◌, eqb, length, drop}
 use Rattle.job.specs.Job.{job_of, check_job}
 use Rattle.writer.specs.Placed.{Puts}
 use Rattle.writer.specs.Reply.{text_reply}
@@ -9,8 +9,8 @@ use Rattle.rows.specs.Words.{words_per_row}
 use Rattle.run.specs.Run.{Source, lent_of}
 use Rattle.backward.specs.Settling.{settle_reply}
 use Rattle.settling.specs.declared.Answered.{Answered}
-use Rattle.settling.specs.declared.TextLength.{TextLength}
-use Rattle.settling.specs.declared.TextLength.TheVariants as length-of
+use Rattle.settling.specs.declared.Length.{Length}
+use Rattle.settling.specs.declared.SpentAt.{SpentAt}
 use Rattle.settling.specs.Pass.{Pass, lent_by}
 
 -- what all instructions come to
@@ -29,21 +29,21 @@ pub record Fits (p : Pass) : Type 0 where
   pub rows : (job_of p.job).header.outcomes * p.shape.width ≤ length p.noiseless
 
 -- the words of the main list that were taken
-unfoldable pub taken_for : TextLength → ℕ
-taken_for (length-of.Length long taken) = taken
-taken_for (length-of.SpentAt k taken) = taken
+unfoldable pub taken_for : Result Length SpentAt → ℕ
+taken_for (Ok length) = length.taken
+taken_for (Err spent) = spent.taken
 
 -- the settled text was put from place 0 on, and is so long; or the draws of a line were spent
-pub record TextPut (p : Pass) (out : List ℕ) (ls : List SettledLine) (after : List ℕ) (r : TextLength) : Type 0 where
+pub record TextPut (p : Pass) (out : List ℕ) (ls : List SettledLine) (after : List ℕ) (r : Result Length SpentAt) : Type 0 where
   pub long : ℕ
-  pub is : r ≡ length-of.Length long (taken_for r)
+  pub is : r ≡ Ok (record { bytes = long; taken = taken_for r })
   pub puts : Puts 0 (settled_text (job_of p.job).text ls) out after long
 
-unfoldable pub PutAll : Pass → List ℕ → Settled → List ℕ → TextLength → Type 0
-PutAll p out (Settled.spent_at k) after r = r ≡ length-of.SpentAt k (taken_for r)
+unfoldable pub PutAll : Pass → List ℕ → Settled → List ℕ → Result Length SpentAt → Type 0
+PutAll p out (Settled.spent_at k) after r = r ≡ Err (record { line = k; taken = taken_for r })
 PutAll p out (Settled.settled ls) after r = TextPut p out ls after r
 
-pub record SettledPut (p : Pass) (out after : List ℕ) (r : TextLength) : Type 0 where
+pub record SettledPut (p : Pass) (out after : List ℕ) (r : Result Length SpentAt) : Type 0 where
   pub put : PutAll p out (settled_by p) after r
   pub within : taken_for r ≤ length p.main
   pub leaves : drop (taken_for r) p.main ≡ left_by_all p

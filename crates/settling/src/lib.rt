@@ -12,24 +12,33 @@ ghost use Rattle.settling.specs.Whole.{Fits, SettledPut, SettledTo};
 
 mod instruction_text;
 
-use crate::instruction_text::{Moved, Reached, put_instruction};
+use crate::instruction_text::{Reached, put_instruction};
 use faults::elements::ELEMENTS_WORDS;
 use job::limits::{MAX_ELEMENTS, MAX_WIDTH};
 use job::{Answer, refusals};
 use job_shape::{Tested, behind_header};
 use noise::{FIRST_INSTRUCTION_LINE, Place};
+use noise_text::Draws;
 use rows::Shape;
-use template::values::VALUE_WORDS;
+use template::values::Values;
 use writer::{TextAnswer, put_bytes, refused, text_fits};
 
-// The text is so long; or the line of the noise whose draws were spent. Each with the words of the main list that were taken.
+// How long the text is, and how many words of the main list were taken for it.
 #[derive(Clone, Copy)]
-pub enum TextLength {
-    Length { bytes: usize, taken: usize },
-    SpentAt { line: u64, taken: usize },
+pub struct Length {
+    pub bytes: usize,
+    pub taken: usize,
 }
 
-// An answer, and how many words of the main list were taken for it.
+// The line of the noise whose draws were spent, and how many words of the main list were taken.
+#[derive(Clone, Copy)]
+pub struct SpentAt {
+    pub line: u64,
+    pub taken: usize,
+}
+
+// An answer, and how many words of the main list were taken for it. Not generic over the answer with that of needed_words: neither crate is below the
+// other.
 #[derive(Clone, Copy)]
 pub struct Answered {
     pub answer: TextAnswer,
@@ -43,15 +52,12 @@ fn put_settled<'a>(
     job: &[u8],
     shape: Shape,
     noiseless: &[u64],
-    main: &'a [u64],
-    more: &'a [u64],
-    second: &'a [u64],
-    base: u64,
-) -> TextLength
-    requires { Fits (pass_of job.now shape noiseless.now (main.now ++ more.now) second.now base) }
-    ensures { SettledPut (pass_of job.now shape noiseless.now (main.now ++ more.now) second.now base) out.old out.new result }
+    draws: Draws<'a>,
+) -> Result<Length, SpentAt>
+    requires { Fits (pass_of job.now shape noiseless.now (draws.main.now ++ draws.more.now) draws.second.now draws.base) }
+    ensures { SettledPut (pass_of job.now shape noiseless.now (draws.entry.main.now ++ draws.entry.more.now) draws.entry.second.now draws.entry.base) out.old out.new result }
 {
-    let mut values = [0u64; VALUE_WORDS];
+    let mut values = Values::new();
     let mut elements = [0u64; ELEMENTS_WORDS];
     let mut sums = [0.0; MAX_ELEMENTS as usize];
     let mut weights = [0.0; MAX_ELEMENTS as usize];
@@ -66,6 +72,7 @@ fn put_settled<'a>(
         },
         text,
     };
+    // A while: each instruction says where the next one begins.
     while here.place.byte < job.len() {
         match put_instruction(
             &mut *out,
@@ -78,26 +85,23 @@ fn put_settled<'a>(
             &mut mask,
             shape,
             noiseless,
-            main,
-            more,
-            second,
-            base,
+            draws,
         ) {
-            Moved::Spent { position } => {
-                return TextLength::SpentAt {
+            Err(spent) => {
+                return Err(SpentAt {
                     line: here.place.line,
-                    taken: position,
-                };
+                    taken: spent.position,
+                });
             }
-            Moved::To(next) => {
+            Ok(next) => {
                 here = next;
             }
         }
     }
-    TextLength::Length {
+    Ok(Length {
         bytes: here.text,
         taken: here.place.position,
-    }
+    })
 }
 
 // An answer without a line, with the bytes that the text needs.
@@ -146,46 +150,37 @@ pub fn settle_tested<'a>(
     requires { Fits (pass_of job.now shape noiseless.now (main.now ++ more.now) second.now base) }
     ensures { SettledTo job.now (record { noiseless = noiseless.entry.now; main = main.now ++ more.now; second = second.now; base = base }) out.old out.new result }
 {
-    let mut nothing = [0u8; 1];
-    match put_settled(
-        &mut nothing[..0],
-        job,
-        shape,
-        noiseless,
+    let draws = Draws {
         main,
         more,
         second,
         base,
-    ) {
-        TextLength::SpentAt { line: k, taken } => Answered {
-            answer: refused(Answer {
-                number: refusals::DRAWS,
-                line: k,
-            }),
-            taken,
-        },
-        TextLength::Length { bytes: need, taken } => {
-            if !text_fits(need, out.len()) {
-                return Answered {
-                    answer: measured(refusals::ROOM, need),
-                    taken: 0,
-                };
-            }
-            put_settled(
-                &mut out[..need],
-                job,
-                shape,
-                noiseless,
-                main,
-                more,
-                second,
-                base,
-            );
-            Answered {
-                answer: measured(0, need),
-                taken,
-            }
+    };
+    let mut nothing = [0u8; 1];
+    let length = match put_settled(&mut nothing[..0], job, shape, noiseless, draws) {
+        Ok(length) => length,
+        Err(spent) => {
+            return Answered {
+                answer: refused(Answer {
+                    number: refusals::DRAWS,
+                    line: spent.line,
+                }),
+                taken: spent.taken,
+            };
         }
+    };
+    let need = length.bytes;
+    if !text_fits(need, out.len()) {
+        return Answered {
+            answer: measured(refusals::ROOM, need),
+            taken: 0,
+        };
+    }
+    // The second pass comes to what the first came to.
+    let _ = put_settled(&mut out[..need], job, shape, noiseless, draws);
+    Answered {
+        answer: measured(0, need),
+        taken: length.taken,
     }
 }
 

@@ -1,11 +1,13 @@
 // The shares of the main list: their tests, a caller's two parts of the list, and the marks after a job.
+// Shares and marks are two lists, as C lends them; the marks have one more, for the common part.
 #![tactic(auto)]
 
 ghost use Rattle.std.specs.Prelude.{◌≡◌, ℕ, ◌+◌, ◌-◌, ◌^◌, ◌<◌, ◌≤◌, min, length, get_or, take};
+ghost use Rattle.job.specs.Refusals.{refusal_in};
 ghost use Rattle.shares.specs.Shares.{sum, own_left, common_left, moved, each_within_of, shares_fit_of};
 ghost use Rattle.share_marks.specs.Fit.{Fit, share_number_of};
 
-use job::refusals;
+use job::refusals::Refusal;
 
 const MAX_CALLERS: usize = 8;
 
@@ -15,14 +17,12 @@ fn sum_up_to(shares: &[u64], n: usize, most: usize) -> usize
     ensures { result ≡ min (sum (take n shares.now)) (most + 1) }
 {
     let mut total = 0;
-    let mut i = 0;
-    while i < n {
-        let share = shares[i] as usize;
+    for &share in &shares[..n] {
+        let share = share as usize;
         if most - total < share {
             return most + 1;
         }
         total += share;
-        i += 1;
     }
     total
 }
@@ -32,12 +32,10 @@ fn each_within(shares: &[u64], marks: &[u64]) -> bool
     requires { length shares.now ≤ length marks.now }
     ensures { result ≡ each_within_of shares.now marks.now }
 {
-    let mut caller = 0;
-    while caller < shares.len() {
+    for caller in 0..shares.len() {
         if shares[caller] < marks[caller] {
             return false;
         }
-        caller += 1;
     }
     true
 }
@@ -58,26 +56,23 @@ fn shares_fit(main: &[u64], shares: &[u64], marks: &[u64]) -> bool
     if main.len() < total {
         return false;
     }
-    if !each_within(shares, marks) {
-        return false;
-    }
-    marks[callers] as usize <= main.len() - total
+    each_within(shares, marks) && marks[callers] as usize <= main.len() - total
 }
 
-// The number that refuses a caller's share of the list: 13, 25 or 26; 0 if none does.
-pub fn share_number(main: &[u64], shares: &[u64], marks: &[u64], caller: u64) -> u64
-    ensures { result ≡ share_number_of (record { shares = shares.entry.now; marks = marks.now; caller = caller }) main.now }
+// What refuses a caller's share of the list, if anything: 13, 25 or 26.
+pub fn share_number(main: &[u64], shares: &[u64], marks: &[u64], caller: u64) -> Result<(), Refusal>
+    ensures { refusal_in result ≡ share_number_of (record { shares = shares.entry.now; marks = marks.now; caller = caller }) main.now }
 {
     if marks.len() <= shares.len() {
-        return refusals::WORDS;
+        return Err(Refusal::Words);
     }
     if !shares_fit(main, shares, marks) {
-        return refusals::SHARES;
+        return Err(Refusal::Shares);
     }
     if shares.len() as u64 <= caller {
-        return refusals::CALLER;
+        return Err(Refusal::Caller);
     }
-    0
+    Ok(())
 }
 
 // What is left of a caller's stretch: from its mark to its end.
@@ -101,22 +96,13 @@ pub fn common<'a>(main: &'a [u64], shares: &[u64], marks: &[u64]) -> &'a [u64]
     &main[from..]
 }
 
-fn lesser(a: usize, b: usize) -> usize
-    ensures { result ≡ min a b }
-{
-    if a < b {
-        return a;
-    }
-    b
-}
-
 // Marks so many words as taken: of the caller's own ones, of which so many are left, first, and the rest of the common part, which is marked behind
 // all callers.
 pub fn mark_taken(marks: &mut [u64], callers: usize, caller: usize, own: usize, taken: usize)
     requires { (caller < callers) × (callers < length marks.old) × (get_or marks.old caller 0 + own < 2 ^ 64) × (get_or marks.old callers 0 + (taken - own) < 2 ^ 64) }
     ensures { marks.new ≡ moved (moved marks.old caller (min taken own)) callers (taken - min taken own) }
 {
-    let first = lesser(taken, own);
+    let first = taken.min(own);
     marks[caller] += first as u64;
     marks[callers] += (taken - first) as u64;
 }

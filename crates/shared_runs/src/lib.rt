@@ -20,9 +20,9 @@ fn first_refusal(answer: Answer, main: &[u64], shares: &[u64], marks: &[u64], ca
     if answer.number != 0 {
         return answer;
     }
-    Answer {
-        number: share_number(main, shares, marks, caller),
-        line: 0,
+    match share_number(main, shares, marks, caller) {
+        Ok(()) => Answer::accepted(),
+        Err(refusal) => Answer::refused(refusal, 0),
     }
 }
 

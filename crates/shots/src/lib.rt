@@ -7,7 +7,7 @@ ghost use Rattle.noise.specs.Kinds.{Small};
 ghost use Rattle.choice.specs.Choice.{Sized};
 ghost use Rattle.shots.specs.Shots.{Ruled, RuleOf, ShotDrawn, FaultFound};
 
-use choice::{Choice, Chooser, choose_element, chooser_of};
+use choice::{Chooser, Chosen};
 use fault_scan::{falls_next, next_skip, threshold};
 use noise::PauliDistribution;
 use noise::words::count;
@@ -30,11 +30,12 @@ pub fn rule_of(p: f64, distribution: PauliDistribution) -> DrawRule
     DrawRule {
         p,
         threshold: threshold(p),
-        chooser: chooser_of(distribution),
+        chooser: Chooser::of(distribution),
     }
 }
 
 // What one shot draws: no fault, or an element, each with the position of the next word; or a word was needed past the end.
+// An enum of its own, here and below: three cases, which an Option in a Result would say no plainer.
 #[derive(Clone, Copy)]
 pub enum ShotDraw {
     Spent,
@@ -61,9 +62,9 @@ pub fn draw_shot(
     if !satisfied {
         return ShotDraw::Quiet { position: at + 1 };
     }
-    match choose_element(words, more, at + 1, chooser, sums) {
-        Choice::Chosen { element, position } => ShotDraw::Fault { element, position },
-        Choice::Spent => ShotDraw::Spent,
+    match chooser.choose_element(words, more, at + 1, sums) {
+        Some(Chosen { element, position }) => ShotDraw::Fault { element, position },
+        None => ShotDraw::Spent,
     }
 }
 
@@ -110,6 +111,7 @@ fn fault_from(
     let chooser = rule.chooser;
     let mut next = at;
     let mut s = shot.0;
+    // A while: each turn passes over the shots whose words bring no fault.
     while s < shots {
         let skip = next_skip(words, more, next, shots - s, p, threshold);
         next += skip;
@@ -151,21 +153,18 @@ pub fn next_fault(
     requires { (at ≤ length (words.now ++ more.now)) × (shot.0 ≤ shots) × (shots ≤ 64 * length mask.now) × Ruled rule }
     ensures { FaultFound (words.now ++ more.now) at mask.now shot.0 shots rule.p rule.chooser.distribution sums.now result }
 {
-    if shot.0 < shots {
-        if falls_next(words, more, at, rule.p) {
-            let chooser = rule.chooser;
-            match draw_shot(words, more, at, chooser, sums, is_set(mask, shot)) {
-                ShotDraw::Spent => {
-                    return NextFault::Spent;
-                }
-                ShotDraw::Quiet { position: _ } => {}
-                ShotDraw::Fault { element, position } => {
-                    return NextFault::At {
-                        shot,
-                        element,
-                        position,
-                    };
-                }
+    if shot.0 < shots && falls_next(words, more, at, rule.p) {
+        match draw_shot(words, more, at, rule.chooser, sums, is_set(mask, shot)) {
+            ShotDraw::Spent => {
+                return NextFault::Spent;
+            }
+            ShotDraw::Quiet { position: _ } => {}
+            ShotDraw::Fault { element, position } => {
+                return NextFault::At {
+                    shot,
+                    element,
+                    position,
+                };
             }
         }
     }

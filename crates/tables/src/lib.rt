@@ -6,7 +6,7 @@ ghost use Rattle.std.specs.Prelude.{◌≡◌, not, ◌&&◌, ◌*◌, ◌^◌, 
 ghost use Rattle.job.specs.Clifford.{max_clifford_qubits, table_words_of, table_of};
 ghost use Rattle.tables.specs.Rows.{TableFor, row_word, RowsOf};
 
-use pauli::{LAST_BIT, WORD_BITS};
+use pauli::WORD_BITS;
 
 pub const MAX_CLIFFORD_QUBITS: u64 = 8;
 
@@ -26,17 +26,14 @@ pub fn table_words(k: usize) -> usize
     requires { k ≤ 8 }
     ensures { result ≡ table_words_of k }
 {
-    (table_bits(k) + LAST_BIT) / WORD_BITS
+    table_bits(k).div_ceil(WORD_BITS)
 }
 
 // Whether a line with so many operands may have so many words: above 8 operands it may have any.
 pub fn words_fit(k: u64, words: u64) -> bool
     ensures { result ≡ not (leb k max_clifford_qubits && not (eqb words (table_words_of k))) }
 {
-    if MAX_CLIFFORD_QUBITS < k {
-        return true;
-    }
-    words == table_words(k as usize) as u64
+    MAX_CLIFFORD_QUBITS < k || words == table_words(k as usize) as u64
 }
 
 // Row r of the table, its 2k bits.
@@ -50,9 +47,10 @@ pub fn row(words: &[u64], k: usize, r: usize) -> u64
     let mask = (1u64 << (2 * k)) - 1;
     let low = words[i] >> from;
     if from + 2 * k <= WORD_BITS {
-        return low & mask;
+        low & mask
+    } else {
+        (low | (words[i + 1] << (WORD_BITS - from))) & mask
     }
-    (low | (words[i + 1] << (WORD_BITS - from))) & mask
 }
 
 // All rows.
@@ -60,10 +58,8 @@ pub fn rows(words: &[u64], k: usize, out: &mut [u64])
     requires { TableFor k words.now × (2 * k ≤ length out.old) }
     ensures { RowsOf k (table_of words.now) out.new }
 {
-    let mut r = 0;
-    while r < 2 * k {
-        out[r] = row(words, k, r);
-        r += 1;
+    for (r, word) in out[..2 * k].iter_mut().enumerate() {
+        *word = row(words, k, r);
     }
 }
 
@@ -73,8 +69,5 @@ pub fn no_more_bits(words: &[u64], k: usize) -> bool
     ensures { result ≡ ltb (table_of words.now) (2 ^ (4 * (k * k))) }
 {
     let used = table_bits(k) % WORD_BITS;
-    if used == 0 {
-        return true;
-    }
-    words[words.len() - 1] >> used == 0
+    used == 0 || words[words.len() - 1] >> used == 0
 }

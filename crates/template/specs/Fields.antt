@@ -1,5 +1,5 @@
 -- How lent words hold the values of a line, and what reading a line by its template says. Definitions. Assumes nothing.
-use Rattle.std.specs.Prelude.{ℕ, ◌+◌, ◌*◌, ◌≤◌, ◌<◌, ◌≢◌, ◌≡◌, Bool, true, false, cond, not, ◌&&◌, ◌||◌, List, [], ◌∷◌, ◌++◌, eqb, length, get_or, drop}
+use Rattle.std.specs.Prelude.{ℕ, ◌+◌, ◌*◌, ◌≤◌, ◌<◌, ◌≢◌, ◌≡◌, Bool, true, false, cond, not, ◌&&◌, ◌||◌, List, [], ◌∷◌, ◌++◌, eqb, length, get_or, drop, Option as Answer, Some, None}
 use Rattle.std.proofs.Math.Option.{Option, none, some}
 use Rattle.text.specs.Bytes.{space, until}
 use Rattle.text.specs.List.{list_L, list_Q, list_T, list_C}
@@ -8,7 +8,6 @@ use Rattle.numbers.specs.Read.{largest_of, in_front}
 use Rattle.numbers.specs.Known.{field}
 use Rattle.template.specs.Values.{held_number, held_count, held_largest, held_member}
 use Rattle.template.specs.declared.Progress.{Progress}
-use Rattle.template.specs.declared.Stored.{Stored}
 
 -- a list by its letter: L, Q, T, else C
 unfoldable pub list_by_of : ℕ → List ℕ → Option (List ℕ)
@@ -79,24 +78,28 @@ pub record Begins (line template : List ℕ) (from numbers lists : ℕ) (p : Pro
   pub lists_read : p.lists ≡ lists + list_letters template
   pub holds : (vs : List Value) → Held before numbers lists vs → Held after p.numbers p.lists (vs ++ values)
 
--- what reading on by a template says: a refusal, that no template which begins so is the line's from that place on
-pub record ReadOn (line template : List ℕ) (from numbers lists : ℕ) (p : Progress) (before after : List ℕ) : Type 0 where
-  pub refused : p.ok ≡ false → Room numbers lists template → (rest : List ℕ) → values_of (template ++ rest) (drop from line) ≡ none
-  pub read : p.ok ≡ true → Begins line template from numbers lists p before after
+-- what reading on by a template says: `None`, that no template which begins so is the line's from that place on
+pub record ReadOn (line template : List ℕ) (from numbers lists : ℕ) (r : Answer Progress) (before after : List ℕ) : Type 0 where
+  pub refused : r ≡ None → Room numbers lists template → (rest : List ℕ) → values_of (template ++ rest) (drop from line) ≡ none
+  pub read : (p : Progress) → r ≡ Some p → Begins line template from numbers lists p before after
+
+-- the same, from where a line was read to
+abbrev pub ReadNext : List ℕ → List ℕ → Progress → Answer Progress → List ℕ → List ℕ → Type 0
+ReadNext line part p r before after = ReadOn line part p.at p.numbers p.lists r before after
 
 -- nothing of a line was read
 abbrev pub started : Progress
-started = record { ok = true; at = 0; numbers = 0; lists = 0 }
+started = record { at = 0; numbers = 0; lists = 0 }
+
+-- whether a line of so many bytes was read to its end
+abbrev pub ends_at : ℕ → Answer Progress → Bool
+ends_at size None = false
+ends_at size (Some p) = eqb p.at size
 
 -- a part of a template whose bytes stand for themselves
 abbrev pub is_plain : List ℕ → Bool
 is_plain [] = true
 is_plain (t ∷ ts) = not (is_letter_of t) && is_plain ts
-
--- A line that was read up to p, read on by the next part of its template; one that was refused stays so.
-pub record ReadNext (line part : List ℕ) (p r : Progress) (before after : List ℕ) : Type 0 where
-  pub stays : p.ok ≡ false → r.ok ≡ false
-  pub goes : p.ok ≡ true → ReadOn line part p.at p.numbers p.lists r before after
 
 -- ---- a whole line
 
@@ -113,14 +116,15 @@ pub record ReadAs (line template : List ℕ) (r : Bool) (fields : List ℕ) : Ty
 
 -- ---- one value more, between the functions of the code
 
--- the value `o` was put after n numbers and l lists; it is a numbers and b lists, where one of a and b is 1, the other 0
-pub record StoresOne (a b : ℕ) (o : Option Value) (n l : ℕ) (p : Stored) (before after : List ℕ) : Type 0 where
+-- the value `o` was put after those that were read up to p; it is a numbers and b lists, where one of a and b is 1, the other 0
+pub record StoresOne (a b : ℕ) (o : Option Value) (p q : Progress) (before after : List ℕ) : Type 0 where
   pub value : Value
   pub reads : o ≡ some value
-  pub numbers_read : p.numbers ≡ n + a
-  pub lists_read : p.lists ≡ l + b
-  pub holds : (vs : List Value) → Held before n l vs → Held after (n + a) (l + b) (vs ++ value ∷ [])
+  pub stays : q.at ≡ p.at
+  pub numbers_read : q.numbers ≡ p.numbers + a
+  pub lists_read : q.lists ≡ p.lists + b
+  pub holds : (vs : List Value) → Held before p.numbers p.lists vs → Held after (p.numbers + a) (p.lists + b) (vs ++ value ∷ [])
 
-pub record StoresAs (a b : ℕ) (o : Option Value) (n l : ℕ) (p : Stored) (before after : List ℕ) : Type 0 where
-  pub refused : p.ok ≡ false → n + a ≤ 4 → l + b ≤ 4 → o ≡ none
-  pub put : p.ok ≡ true → StoresOne a b o n l p before after
+pub record StoresAs (a b : ℕ) (o : Option Value) (p : Progress) (r : Answer Progress) (before after : List ℕ) : Type 0 where
+  pub refused : r ≡ None → p.numbers + a ≤ 4 → p.lists + b ≤ 4 → o ≡ none
+  pub put : (q : Progress) → r ≡ Some q → StoresOne a b o p q before after

@@ -1,12 +1,11 @@
-// The values of a line in lent words: its numbers, at most 4; of each of its lists, at most 4, how many members it has, the largest of them (0 of
-// none), and the members, of which the first 31 are kept.
-ghost use Rattle.std.specs.Prelude.{◌≡◌, List, ℕ, ◌≤◌, ◌<◌, set};
-ghost use Rattle.template.specs.Values.{Whole, AllKept, held_number, held_count, held_largest, held_member, held_list, kept_members};
+// The values of a line: its numbers, at most 4; of each of its lists, at most 4, how many members it has, the largest of them (0 of none), and the
+// members, of which the first 31 are kept. A line is read into values that are lent, so that none are copied.
+ghost use Rattle.std.specs.Prelude.{◌≡◌, List, ℕ, ◌<◌, set, replicate};
+ghost use Rattle.template.specs.Values.{AllKept, Whole, held_number, held_count, held_largest, held_member, held_list, kept_members};
 ghost use Rattle.template.specs.Fields.{FewAre, ListPut, KnownPut};
 ghost use Rattle.numbers.specs.Known.{ListThere};
 
 use numbers::known::known_list;
-use numbers::lists::larger;
 
 // At most so many numbers, and so many lists.
 pub const MAX_SLOTS: usize = 4;
@@ -24,91 +23,109 @@ pub const MEMBERS: usize = LARGEST + MAX_SLOTS;
 // All the words.
 pub const VALUE_WORDS: usize = MEMBERS + MAX_SLOTS * KEPT;
 
-// The i-th number.
-pub fn number(v: &[u64], i: usize) -> u64
-    requires { (i < 4) × Whole v.now }
-    ensures { result ≡ held_number v.now i }
-{
-    v[i]
+// They lie in as many words as that takes.
+#[derive(Clone, Copy)]
+pub struct Values {
+    pub words: [u64; VALUE_WORDS],
+    ghost whole: { Whole words },
 }
 
-// How many members the i-th list has on the line.
-pub fn count(v: &[u64], i: usize) -> u64
-    requires { (i < 4) × Whole v.now }
-    ensures { result ≡ held_count v.now i }
-{
-    v[COUNTS + i]
-}
+impl Values {
+    // All words 0.
+    pub fn new() -> Values
+        ensures { result.words ≡ replicate 136 0 }
+    {
+        Values {
+            words: [0u64; VALUE_WORDS],
+        }
+    }
 
-// The largest member of the i-th list.
-pub fn largest(v: &[u64], i: usize) -> u64
-    requires { (i < 4) × Whole v.now }
-    ensures { result ≡ held_largest v.now i }
-{
-    v[LARGEST + i]
-}
+    // The i-th number.
+    pub fn number(&self, i: usize) -> u64
+        requires { i < 4 }
+        ensures { result ≡ held_number self.now.words i }
+    {
+        self.words[i]
+    }
 
-// Member j of the i-th list.
-pub fn member(v: &[u64], i: usize, j: usize) -> u64
-    requires { (i < 4) × (j < 31) × Whole v.now }
-    ensures { result ≡ held_member v.now i j }
-{
-    v[MEMBERS + i * KEPT + j]
-}
+    // How many members the i-th list has on the line.
+    pub fn count(&self, i: usize) -> u64
+        requires { i < 4 }
+        ensures { result ≡ held_count self.now.words i }
+    {
+        self.words[COUNTS + i]
+    }
 
-// The i-th list, where all its members are kept.
-pub fn list<'a>(v: &'a [u64], i: usize) -> &'a [u64]
-    requires { (i < 4) × Whole v.now × AllKept v.now i }
-    ensures { result.now ≡ held_list v.now i }
-{
-    let a = MEMBERS + i * KEPT;
-    let e = a + v[COUNTS + i] as usize;
-    &v[a..e]
-}
+    // The largest member of the i-th list.
+    pub fn largest(&self, i: usize) -> u64
+        requires { i < 4 }
+        ensures { result ≡ held_largest self.now.words i }
+    {
+        self.words[LARGEST + i]
+    }
 
-// The words in which members of the i-th list are kept.
-pub fn kept<'a>(v: &'a [u64], i: usize) -> &'a [u64]
-    requires { (i < 4) × Whole v.now }
-    ensures { result.now ≡ kept_members v.now i }
-{
-    let a = MEMBERS + i * KEPT;
-    let e = a + KEPT;
-    &v[a..e]
-}
+    // Member j of the i-th list.
+    pub fn member(&self, i: usize, j: usize) -> u64
+        requires { (i < 4) × (j < 31) }
+        ensures { result ≡ held_member self.now.words i j }
+    {
+        self.words[MEMBERS + i * KEPT + j]
+    }
 
-// ---- Values that were read elsewhere
+    // The i-th list, where all its members are kept.
+    pub fn list<'a>(&'a self, i: usize) -> &'a [u64]
+        requires { (i < 4) × AllKept self.now.words i }
+        ensures { result.now ≡ held_list self.now.words i }
+    {
+        let a = MEMBERS + i * KEPT;
+        let e = a + self.words[COUNTS + i] as usize;
+        &self.words[a..e]
+    }
 
-// Puts the i-th number.
-pub fn set_number(v: &mut [u64], i: usize, n: u64)
-    requires { (i < 4) × Whole v.old }
-    ensures { v.new ≡ set v.old i n }
-{
-    v[i] = n;
-}
+    // The words in which members of the i-th list are kept.
+    pub fn kept<'a>(&'a self, i: usize) -> &'a [u64]
+        requires { i < 4 }
+        ensures { result.now ≡ kept_members self.now.words i }
+    {
+        let a = MEMBERS + i * KEPT;
+        let e = a + KEPT;
+        &self.words[a..e]
+    }
 
-// Puts the i-th list, of at most two members, by how many they are; `first` and `second` are 0 where it has no such member.
-pub fn set_few(v: &mut [u64], i: usize, count: u64, first: u64, second: u64)
-    requires { (i < 4) × Whole v.old }
-    ensures { (members : List ℕ) → FewAre members count first second → ListPut v.old v.new i members }
-{
-    let most = larger(first, second);
-    let a = MEMBERS + i * KEPT;
-    v[COUNTS + i] = count;
-    v[LARGEST + i] = most;
-    v[a] = first;
-    v[a + 1] = second;
-}
+    // ---- Values that were read elsewhere
 
-// Puts the i-th list, which is known to stand at a place of a line. Answers the place behind it.
-pub fn set_known(v: &mut [u64], i: usize, line: &[u8], from: usize) -> usize
-    requires { (i < 4) × Whole v.old × ListThere line.now from }
-    ensures { KnownPut line.now from i result v.old v.new }
-{
-    let a = MEMBERS + i * KEPT;
-    let b = a + KEPT;
-    let known = known_list(line, from, &mut v[a..b]);
-    let list = known.list;
-    v[COUNTS + i] = list.count as u64;
-    v[LARGEST + i] = list.largest;
-    known.behind
+    // Puts the i-th number.
+    pub fn set_number(&mut self, i: usize, n: u64)
+        requires { i < 4 }
+        ensures { self.new.words ≡ set self.old.words i n }
+    {
+        self.words[i] = n;
+    }
+
+    // Puts the i-th list, of at most two members, by how many they are; `first` and `second` are 0 where it has no such member.
+    pub fn set_few(&mut self, i: usize, count: u64, first: u64, second: u64)
+        requires { i < 4 }
+        ensures { (members : List ℕ) → FewAre members count first second → ListPut self.old.words self.new.words i members }
+    {
+        let most = first.max(second);
+        let a = MEMBERS + i * KEPT;
+        self.words[COUNTS + i] = count;
+        self.words[LARGEST + i] = most;
+        self.words[a] = first;
+        self.words[a + 1] = second;
+    }
+
+    // Puts the i-th list, which is known to stand at a place of a line. Answers the place behind it.
+    pub fn set_known(&mut self, i: usize, line: &[u8], from: usize) -> usize
+        requires { (i < 4) × ListThere line.now from }
+        ensures { KnownPut line.now from i result self.old.words self.new.words }
+    {
+        let a = MEMBERS + i * KEPT;
+        let b = a + KEPT;
+        let known = known_list(line, from, &mut self.words[a..b]);
+        let list = known.list;
+        self.words[COUNTS + i] = list.count as u64;
+        self.words[LARGEST + i] = list.largest;
+        known.behind
+    }
 }

@@ -6,50 +6,46 @@ ghost use Rattle.std.specs.Prelude.{◌≡◌, false, ℕ, ◌+◌, ◌*◌, ◌
 ghost use Rattle.rows.specs.Words.{bit_in};
 ghost use Rattle.rows.specs.Overwrite.{flipped};
 ghost use Rattle.rows.specs.Listed.{RowsIn};
-ghost use Rattle.totals.specs.Ones.{ones_to};
+ghost use Rattle.totals.specs.Ones.{ones_to, ones_in};
 ghost use Rattle.totals.specs.Held.{TotalsHeld};
 ghost use Rattle.totals.specs.Sum.{delta_sum_of};
 
-use pauli::{OutcomeId, Shot, WORD_BITS, outcome_at};
+use pauli::{OutcomeId, Shot, WORD_BITS};
 use rows::Shape;
 
-// Whether a bit is 1 in n words from a place on.
-fn any_set(rows: &[u64], from: usize, n: usize) -> bool
-    requires { from + n ≤ length rows.now }
-    ensures { result ≡ false → (i : ℕ) → i < n → get_or rows.now (from + i) 0 ≡ 0 }
+// Whether a bit of these words is 1.
+fn any_set(words: &[u64]) -> bool
+    ensures { result ≡ false → (i : ℕ) → i < length words.now → get_or words.now i 0 ≡ 0 }
 {
     let mut sum = 0u64;
-    let mut i = 0;
-    while i < n {
-        sum |= rows[from + i];
-        i += 1;
+    for &word in words {
+        sum |= word;
     }
     sum != 0
 }
 
-// How many bits of n words are 1, from a place on.
-fn count_words(rows: &[u64], from: usize, n: usize) -> u64
-    requires { (from + n ≤ length rows.now) × (64 * n < 2 ^ 64) }
-    ensures { result ≡ ones_to (64 * n) (bit_in 1 rows.now from) }
+// How many bits of these words are 1.
+fn count_words(words: &[u64]) -> u64
+    requires { 64 * length words.now < 2 ^ 64 }
+    ensures { result ≡ ones_in words.now }
 {
     let mut ones = 0u64;
-    let mut j = 0;
-    while j < n {
-        ones += u64::count_ones(rows[from + j]) as u64;
-        j += 1;
+    for word in words {
+        ones += word.count_ones() as u64;
     }
     ones
 }
 
 // The same, where often none is 1: then the words are not counted one by one.
-fn count_few(rows: &[u64], from: usize, n: usize) -> u64
-    requires { (from + n ≤ length rows.now) × (64 * n < 2 ^ 64) }
-    ensures { result ≡ ones_to (64 * n) (bit_in 1 rows.now from) }
+fn count_few(words: &[u64]) -> u64
+    requires { 64 * length words.now < 2 ^ 64 }
+    ensures { result ≡ ones_in words.now }
 {
-    if !any_set(rows, from, n) {
-        return 0;
+    if any_set(words) {
+        count_words(words)
+    } else {
+        0
     }
-    count_words(rows, from, n)
 }
 
 // As many words make a block.
@@ -60,14 +56,13 @@ fn count_row(rows: &[u64], w: usize, r: usize) -> u64
     requires { (r * w + w ≤ length rows.now) × (64 * w < 2 ^ 64) }
     ensures { result ≡ ones_to (64 * w) (bit_in w rows.now r) }
 {
-    let at = r * w;
+    let mut left = &rows[r * w..r * w + w];
     let mut ones = 0u64;
-    let mut j = 0;
-    while BLOCK <= w - j {
-        ones += count_few(rows, at + j, BLOCK);
-        j += BLOCK;
+    while let Some((block, rest)) = left.split_at_checked(BLOCK) {
+        ones += count_few(block);
+        left = rest;
     }
-    ones + count_words(rows, at + j, w - j)
+    ones + count_words(left)
 }
 
 // Puts the ones of an outcome's row for its total, after the row changed.
@@ -105,12 +100,8 @@ pub fn delta_sum(deltas: &[u64], w: usize, shot: Shot, set: &[u64]) -> u64
     let s = shot.0;
     let place = s / WORD_BITS;
     let mut word = 0u64;
-    let mut k = 0;
-    while k < set.len() {
-        let id = outcome_at(set, k);
-        let row = id.0;
-        word ^= deltas[row * w + place];
-        k += 1;
+    for &outcome in set {
+        word ^= deltas[outcome as usize * w + place];
     }
     (word >> (s % WORD_BITS)) % 2
 }

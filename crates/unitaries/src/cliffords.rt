@@ -17,6 +17,7 @@ use rows::Shape;
 // ---- Cliffords
 
 // Adds row i of src to a qubit's row, if asked to.
+// The condition is a parameter, so that one contract says both cases.
 fn add_row_if(dst: &mut [u64], w: usize, qubit: QubitId, src: &[u64], i: usize, on: bool)
     requires { (qubit.0 * w + w ≤ length dst.old) × (i * w + w ≤ length src.now) }
     ensures { RowAdded w on qubit.0 i src.now dst.old dst.new }
@@ -43,12 +44,10 @@ fn add_image(
 {
     let k = qubits.len();
     let row = tables::row(table, k, r);
-    let mut j = 0;
-    while j < k {
+    for j in 0..k {
         let q = qubit_at(qubits, j);
         add_row_if(x, shape.width, q, saved, r, (row >> j) % 2 == 1);
         add_row_if(z, shape.width, q, saved, r, (row >> (k + j)) % 2 == 1);
-        j += 1;
     }
 }
 
@@ -65,11 +64,9 @@ fn add_images(
     ensures { ImagesAdded shape.width qubits.now (table_of table.now) saved.now x.old z.old x.new z.new }
 {
     let k = qubits.len();
-    let mut i = 0;
-    while i < k {
+    for i in 0..k {
         add_image(x, z, shape, qubits, table, saved, i);
         add_image(x, z, shape, qubits, table, saved, k + i);
-        i += 1;
     }
 }
 
@@ -100,13 +97,11 @@ fn add_to_places(rows: &mut [u64], shape: Shape, places: &[u64], qubits: &[u64],
     ensures { PlacesAdded shape.width places.now qubits.now saved.now rows.old rows.new }
 {
     let w = shape.width;
-    let mut i = 0;
-    while i < places.len() {
+    for i in 0..places.len() {
         let place = places[i] as usize;
         let qubit = qubit_at(qubits, place);
         let q = qubit.0;
         row_loops::xor_words(rows, q * w, saved, i * w, w);
-        i += 1;
     }
 }
 

@@ -1,14 +1,13 @@
 // Unitary gates. A frame goes through a gate by conjugation; signs are not kept, so that a gate and its inverse do the same.
-ghost use Rattle.std.specs.Prelude.{◌≡◌, true, List, ℕ, ◌*◌, ◌<◌, ◌≤◌, length};
-ghost use Rattle.std.proofs.Math.Option.{some};
-ghost use Rattle.pauli.specs.Gate.{Gate, gate_of, swap_XZ, add_xto_Z, add_zto_X, controlled_X, controlled_Z, controlled_Y, swap_rows_of};
-ghost use Rattle.pauli.specs.Code.{operand_count_of};
+ghost use Rattle.std.specs.Prelude.{◌≡◌, true, List, ℕ, ◌*◌, ◌<◌, length};
+ghost use Rattle.pauli.specs.Gate.{operands_of, swap_XZ, add_xto_Z, add_zto_X, controlled_X, controlled_Z, controlled_Y, swap_rows_of};
+ghost use Rattle.pauli.specs.Code.{gate_named};
 ghost use Rattle.job.specs.Line.{Line};
 ghost use Rattle.job.specs.Checks.{all_below, distinct};
 ghost use Rattle.frames.specs.Forward.{on_frame};
 ghost use Rattle.propagator.specs.Acts.{Acts, line_rule};
 
-use pauli::{QubitId, qubit_at};
+use pauli::{Gate, QubitId, qubit_at};
 use rows::Shape;
 
 // Hadamard and SqrtY swap X and Z rows.
@@ -93,37 +92,25 @@ pub fn apply_swap(x: &mut [u64], z: &mut [u64], shape: Shape, first: QubitId, se
     row_loops::swap_rows(z, shape.width, first_row, second_row);
 }
 
-// The gate of a code on as many operands as it takes. The last operand is the second of two; a gate on one qubit does not look at it.
-pub fn apply_unitary_op(x: &mut [u64], z: &mut [u64], shape: Shape, gate: u64, qubits: &[u64])
-    requires { (length x.old ≡ shape.qubits * shape.width) × (length z.old ≡ shape.qubits * shape.width) × (gate ≤ 15) × (length qubits.now ≡ operand_count_of (gate_of gate)) × (all_below shape.qubits qubits.now ≡ true) × (distinct qubits.now ≡ true) }
-    ensures { (g : Gate) → gate_of gate ≡ some g → (m : ℕ) (d : List ℕ) → Acts shape.width (line_rule shape.qubits m (Line.unitary g qubits.now)) x.old z.old d x.new z.new d }
+// A gate on as many operands as it takes. The last operand is the second of two; a gate on one qubit does not look at it.
+pub fn apply_unitary_op(x: &mut [u64], z: &mut [u64], shape: Shape, gate: Gate, qubits: &[u64])
+    requires { (length x.old ≡ shape.qubits * shape.width) × (length z.old ≡ shape.qubits * shape.width) × (length qubits.now ≡ operands_of (gate_named gate)) × (all_below shape.qubits qubits.now ≡ true) × (distinct qubits.now ≡ true) }
+    ensures { (m : ℕ) (d : List ℕ) → Acts shape.width (line_rule shape.qubits m (Line.unitary (gate_named gate) qubits.now)) x.old z.old d x.new z.new d }
 {
     let a = qubit_at(qubits, 0);
     let b = qubit_at(qubits, qubits.len() - 1);
     match gate {
-        // I, X, Y, Z
-        0..=3 => {}
-        // Hadamard
-        4 => apply_h(x, z, shape, a),
-        // SqrtZ and its inverse
-        5..=6 => apply_s(x, z, shape, a),
-        // SqrtX and its inverse
-        7..=8 => apply_sqrt_x(x, z, shape, a),
-        // SqrtY and its inverse
-        9..=10 => apply_h(x, z, shape, a),
-        // ControlledX
-        11 => apply_cnot(x, z, shape, a, b),
-        // ControlledZ
-        12 => apply_cz(x, z, shape, a, b),
-        // Swap
-        13 => apply_swap(x, z, shape, a, b),
-        // PrepareBell
-        14 => {
+        Gate::I | Gate::X | Gate::Y | Gate::Z => {}
+        Gate::Hadamard | Gate::SqrtY | Gate::SqrtYInv => apply_h(x, z, shape, a),
+        Gate::SqrtZ | Gate::SqrtZInv => apply_s(x, z, shape, a),
+        Gate::SqrtX | Gate::SqrtXInv => apply_sqrt_x(x, z, shape, a),
+        Gate::ControlledX => apply_cnot(x, z, shape, a, b),
+        Gate::ControlledZ => apply_cz(x, z, shape, a, b),
+        Gate::ControlledY => apply_cy(x, z, shape, a, b),
+        Gate::Swap => apply_swap(x, z, shape, a, b),
+        Gate::PrepareBell => {
             apply_h(x, z, shape, a);
             apply_cnot(x, z, shape, a, b);
         }
-        // ControlledY
-        15 => apply_cy(x, z, shape, a, b),
-        _ => {}
     }
 }

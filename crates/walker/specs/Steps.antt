@@ -1,5 +1,5 @@
 -- The steps of the walk. Definitions. Assumes nothing.
-use Rattle.std.specs.Prelude.{ℕ, zero, suc, ◌+◌, ◌≤◌, ◌≡◌, List, length}
+use Rattle.std.specs.Prelude.{ℕ, suc, ◌+◌, ◌≤◌, ◌≡◌, List, length, Option as CodeOption, Some, None}
 use Rattle.std.proofs.Math.Option.{Option, none, some}
 use Rattle.pauli.specs.Bits.{Bits}
 use Rattle.pauli.specs.Pauli.{identity}
@@ -19,12 +19,12 @@ use Rattle.lines_back.specs.Back.{walk_of, written_back, noise_back}
 pub record Started (w : WalkWords) : Type 0 where
   pub observable : as_pauli w.observable ≡ identity
   pub count : w.count ≡ 0
-  pub noise : w.noise ≡ 0
+  pub noise : w.noise ≡ None
 
--- a line's number, from 1, or none
-unfoldable pub line_or_none : ℕ → Option ℕ
-line_or_none zero = none
-line_or_none (suc k) = some (suc k)
+-- a line's number, or none: the code's Option as the definitions'
+unfoldable pub line_or_none : CodeOption ℕ → Option ℕ
+line_or_none None = none
+line_or_none (Some k) = some k
 
 -- what the walk of a set S over all lines of an accepted job comes to
 pub record WalkedBack (job : List ℕ) (shot : ℕ) (S : Bits) (r : WalkWords) : Type 0 where
@@ -36,7 +36,7 @@ pub record WalkedBack (job : List ℕ) (shot : ℕ) (S : Bits) (r : WalkWords) :
 -- what a line says does nothing in a walk of this shot
 pub record PassedOver (shot : ℕ) (v : Written) : Type 0 where
   pub walks : (w : Walk) → w ≡ written_back (full shot) v w
-  pub noise : (k before : ℕ) → before ≡ noise_back k v before
+  pub noise : (k : ℕ) (before : CodeOption ℕ) → before ≡ noise_back k v before
 
 -- the walk after the line of number k is what that line makes of the walk before
 pub record TextBack (text : List ℕ) (shot k : ℕ) (w w' : WalkWords) (set set' : List ℕ) : Type 0 where
@@ -69,5 +69,5 @@ pub record Left (job : List ℕ) (k e : ℕ) : Type 0 where
 pub record GatesGone (job : List ℕ) (b₀ : PauliWords) (k₀ e₀ : ℕ) (b : PauliWords) (k e : ℕ) : Type 0 where
   pub within : e ≤ e₀
   pub left : Left job k e
-  pub going : (shot : ℕ) (S : Bits) (c n : ℕ) (set : List ℕ) → Going job shot S (record { observable = b₀; count = c; noise = n }) set k₀ e₀
+  pub going : (shot : ℕ) (S : Bits) (c : ℕ) (n : CodeOption ℕ) (set : List ℕ) → Going job shot S (record { observable = b₀; count = c; noise = n }) set k₀ e₀
       → Going job shot S (record { observable = b; count = c; noise = n }) set k e

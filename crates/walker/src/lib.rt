@@ -9,7 +9,6 @@ ghost use Rattle.text.specs.Bytes.{lines as Bytes·lines};
 ghost use Rattle.job.specs.Grammar.{Written, read_line_of};
 ghost use Rattle.job.specs.Job.{check_job};
 ghost use Rattle.backward.specs.Walking.{walk_reply};
-ghost use Rattle.template.specs.Values.{Whole};
 ghost use Rattle.lines_from_last.specs.Line.{LineBefore, OfJob};
 ghost use Rattle.walker.specs.Steps.{Started, WalkedBack, PassedOver, TextBack, Left, GatesGone};
 
@@ -17,53 +16,45 @@ use check_values::lists::all_below;
 use checker::examine;
 use gate_text::{is_gate, read_gate};
 use job::{Answer, CountReply, refusals};
-use lines_back::{Walk, line_back, with_observable};
+use lines_back::{Walk, line_back};
 use lines_from_last::line_start;
 use numbers::rising::is_rising;
 use pauli::{Pauli, Shot};
 use reader::slots::SHOT;
 use reader::{LETTER, LETTER_END, read_line};
 use template::read_on;
-use template::values::{VALUE_WORDS, number};
+use template::values::Values;
 
 // ---- One line
 
 // Whether a line that begins as an injection does is one in another shot: read up to its shot alone.
-fn other_shot(line: &[u8], shot: Shot, values: &mut [u64]) -> bool
-    requires { Whole values.old }
+fn other_shot(line: &[u8], shot: Shot, values: &mut Values) -> bool
     ensures { result ≡ true → get_or line.now 0 0 ≡ 111 → get_or line.now 3 0 ≡ 105 → (v : Written) → read_line_of line.now ≡ some v → PassedOver shot.0 v }
 {
-    let p = read_on(line, b"op=i shot=N ", 0, 0, 0, &mut *values);
-    if !p.ok {
+    let Some(_) = read_on(line, b"op=i shot=N ", template::start(), &mut *values) else {
         return false;
-    }
-    number(values, SHOT) as usize != shot.0
+    };
+    values.number(SHOT) as usize != shot.0
 }
 
 // Whether a line is passed over without being read to its end:
 // a Pauli, an allocation, a barrier, or an injection in another shot, of which there are many.
-fn passed_over(line: &[u8], shot: Shot, values: &mut [u64]) -> bool
-    requires { Whole values.old }
+fn passed_over(line: &[u8], shot: Shot, values: &mut Values) -> bool
     ensures { result ≡ true → (v : Written) → read_line_of line.now ≡ some v → PassedOver shot.0 v }
 {
-    if line.len() < LETTER_END {
-        return false;
-    }
-    if line[0] != b'o' {
+    if line.len() < LETTER_END || line[0] != b'o' {
         return false;
     }
     match line[LETTER] {
         b'i' => other_shot(line, shot, values),
-        b'p' => true,
-        b'r' => true,
-        b'b' => true,
+        b'p' | b'r' | b'b' => true,
         _ => false,
     }
 }
 
 // A line of an accepted job, of number k, by its first bytes, or by its form and its values.
-fn text_back(w: Walk, line: &[u8], values: &mut [u64], set: &mut [u64], shot: Shot, k: u64) -> Walk
-    requires { OfJob line.now × Whole values.old × (length set.old ≡ 16) × (w.count + 1 < 2 ^ 64) }
+fn text_back(w: Walk, line: &[u8], values: &mut Values, set: &mut [u64], shot: Shot, k: u64) -> Walk
+    requires { OfJob line.now × (length set.old ≡ 16) × (w.count + 1 < 2 ^ 64) }
     ensures { TextBack line.now shot.0 k w result set.old set.new }
 {
     if passed_over(line, shot, &mut *values) {
@@ -87,35 +78,32 @@ struct Gates {
 
 // Back over the gate lines before a place, in front of which there are so many lines. They are read without testing their form again, and the
 // observable alone is carried: the rest of the walk would be copied with it at each line.
-fn gates_back(observable: Pauli, job: &[u8], end: usize, number: u64) -> Gates
+fn gates_back(mut observable: Pauli, job: &[u8], mut end: usize, mut number: u64) -> Gates
     requires { ((check_job job.now).number ≡ 0) × Left job.now number end }
     ensures { GatesGone job.now observable number end result.observable result.number result.end × (0 < result.end → LineBefore job.now (result.end - 1) result.start) }
 {
-    let mut b = observable;
-    let mut e = end;
-    let mut k = number;
-    while 0 < e {
-        let at = line_start(job, e - 1);
-        if !is_gate(&job[at..e - 1]) {
+    // A while: each turn begins where the line behind starts.
+    while 0 < end {
+        let start = line_start(job, end - 1);
+        let line = &job[start..end - 1];
+        if !is_gate(line) {
             return Gates {
-                observable: b,
-                start: at,
-                end: e,
-                number: k,
+                observable,
+                start,
+                end,
+                number,
             };
         }
-        let g = read_gate(&job[at..e - 1]);
-        let first = g.first;
-        let second = g.second;
-        b = b.conjugate_back(g.code, first, second);
-        k -= 1;
-        e = at;
+        let gate = read_gate(line);
+        observable = observable.conjugate_back_by_code(gate.code, gate.first, gate.second);
+        number -= 1;
+        end = start;
     }
     Gates {
-        observable: b,
-        start: e,
-        end: e,
-        number: k,
+        observable,
+        start: end,
+        end,
+        number,
     }
 }
 
@@ -127,7 +115,7 @@ fn start() -> Walk
     Walk {
         observable: Pauli::identity(),
         count: 0,
-        noise: 0,
+        noise: None,
     }
 }
 
@@ -136,35 +124,31 @@ fn walk_lines(job: &[u8], lines: u64, shot: Shot, set: &mut [u64]) -> Walk
     requires { ((check_job job.now).number ≡ 0) × (lines ≡ length (Bytes·lines job.now)) × (length set.old ≡ 16) }
     ensures { WalkedBack job.now shot.0 (in_set set.old) result }
 {
-    let mut values = [0u64; VALUE_WORDS];
+    let mut values = Values::new();
     let mut w = start();
     let mut e = job.len();
     let mut k = lines;
+    // A while: each turn begins where the line behind starts.
     while 0 < e {
-        let g = gates_back(w.observable, job, e, k);
-        w = with_observable(w, g.observable);
-        e = g.end;
-        k = g.number;
-        if e == 0 {
+        let gates = gates_back(w.observable, job, e, k);
+        w = w.with_observable(gates.observable);
+        if gates.end == 0 {
             return w;
         }
-        let at = g.start;
-        w = text_back(w, &job[at..e - 1], &mut values, &mut *set, shot, k);
-        k -= 1;
-        e = at;
+        let line = &job[gates.start..gates.end - 1];
+        w = text_back(w, line, &mut values, &mut *set, shot, gates.number);
+        k = gates.number - 1;
+        e = gates.start;
     }
     w
 }
 
 // ---- The call
 
-fn refused(number: u64, line: u64) -> CountReply
-    ensures { result ≡ record { answered = record { number = number; line = line }; count = 0 } }
+fn refused(answered: Answer) -> CountReply
+    ensures { result ≡ record { answered = answered; count = 0 } }
 {
-    CountReply {
-        answered: Answer { number, line },
-        count: 0,
-    }
+    CountReply { answered, count: 0 }
 }
 
 // The walk of a set of outcomes in a shot: the tests of the job, then 17, then 16.
@@ -174,28 +158,25 @@ pub fn walk(job: &[u8], shot: Shot, set: &[u64]) -> CountReply
     let found = examine(job);
     let answer = found.answer;
     if answer.number != 0 {
-        return CountReply {
-            answered: answer,
-            count: 0,
-        };
+        return refused(answer);
     }
     let header = found.header;
-    if header.shots <= shot.0 as u64 {
-        return refused(refusals::WALK, 0);
+    if header.shots <= shot.0 as u64 || !is_rising(set) || !all_below(set, found.recorded) {
+        return refused(Answer {
+            number: refusals::WALK,
+            line: 0,
+        });
     }
-    if !is_rising(set) {
-        return refused(refusals::WALK, 0);
-    }
-    if !all_below(set, found.recorded) {
-        return refused(refusals::WALK, 0);
-    }
-    let mut outcomes = pauli::outcomes(set);
+    let mut outcomes: [u64; 16] = pauli::set_of(set);
     let w = walk_lines(job, found.lines, shot, &mut outcomes);
-    if w.noise != 0 {
-        return refused(refusals::NOISE, w.noise);
-    }
-    CountReply {
-        answered: Answer { number: 0, line: 0 },
-        count: w.count,
+    match w.noise {
+        Some(line) => refused(Answer {
+            number: refusals::NOISE,
+            line,
+        }),
+        None => CountReply {
+            answered: Answer { number: 0, line: 0 },
+            count: w.count,
+        },
     }
 }

@@ -9,6 +9,7 @@ pub fn digits(n: u64) -> usize
 {
     let mut count = 1;
     let mut rest = n;
+    // A while: how many digits a number has is what is asked.
     while 9 < rest {
         rest /= 10;
         count += 1;
@@ -25,10 +26,8 @@ pub fn list_length(l: &[u64]) -> usize
         return 1;
     }
     let mut count = 0;
-    let mut i = 0;
-    while i < l.len() {
-        count += digits(l[i]) + 1;
-        i += 1;
+    for &n in l {
+        count += digits(n) + 1;
     }
     count - 1
 }

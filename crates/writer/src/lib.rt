@@ -15,6 +15,7 @@ use job::limits::MAX_BYTES;
 pub mod lengths;
 
 // What a call that writes text says: its answer, and its byte figure.
+// Calls hand it to C as it is.
 #[repr(C)]
 #[derive(Clone, Copy)]
 pub struct TextAnswer {
@@ -33,10 +34,7 @@ pub fn refused(answer: Answer) -> TextAnswer
 pub fn text_fits(need: usize, lent: usize) -> bool
     ensures { result ≡ (leb need lent && leb need max_bytes) }
 {
-    if lent < need {
-        return false;
-    }
-    need <= MAX_BYTES
+    need <= lent && need <= MAX_BYTES
 }
 
 pub fn put_byte(out: &mut [u8], at: usize, b: u8) -> usize
@@ -54,14 +52,7 @@ pub fn put_byte(out: &mut [u8], at: usize, b: u8) -> usize
 fn room(length: usize, at: usize, n: usize) -> usize
     ensures { result ≡ min n («length» - at) }
 {
-    if length <= at {
-        return 0;
-    }
-    let left = length - at;
-    if left < n {
-        return left;
-    }
-    n
+    n.min(length.saturating_sub(at))
 }
 
 pub fn put_bytes(out: &mut [u8], at: usize, s: &[u8]) -> usize
@@ -69,10 +60,8 @@ pub fn put_bytes(out: &mut [u8], at: usize, s: &[u8]) -> usize
     ensures { Puts at s.now out.old out.new result }
 {
     let n = room(out.len(), at, s.len());
-    let mut i = 0;
-    while i < n {
+    for i in 0..n {
         out[at + i] = s[i];
-        i += 1;
     }
     at + s.len()
 }
@@ -91,6 +80,7 @@ pub fn put_number(out: &mut [u8], at: usize, n: u64) -> usize
     let mut text = [0u8; MAX_DIGITS];
     let mut i = MAX_DIGITS;
     let mut rest = n;
+    // A while: it is not known how many digits there are.
     while 9 < rest {
         i -= 1;
         text[i] = b'0' + (rest % 10) as u8;
@@ -118,10 +108,8 @@ pub fn put_hex(out: &mut [u8], at: usize, n: u64) -> usize
     ensures { Puts at (hexadecimal n) out.old out.new result }
 {
     let mut digits = [0u8; 16];
-    let mut i = 16;
     let mut rest = n;
-    while 0 < i {
-        i -= 1;
+    for i in (0..16).rev() {
         digits[i] = hex_byte(rest % 16);
         rest /= 16;
     }
@@ -134,11 +122,9 @@ fn put_commas(out: &mut [u8], at: usize, l: &[u64]) -> usize
     ensures { Puts at (commas l.now) out.old out.new result }
 {
     let mut next = at;
-    let mut i = 0;
-    while i < l.len() {
+    for &n in l {
         next = put_byte(&mut *out, next, b',');
-        next = put_number(&mut *out, next, l[i]);
-        i += 1;
+        next = put_number(&mut *out, next, n);
     }
     next
 }

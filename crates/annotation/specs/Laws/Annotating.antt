@@ -1,5 +1,5 @@
 -- The loops over a job's lines. Laws. Assumes nothing.
-use Rattle.std.specs.Prelude.{ℕ, suc, ◌+◌, ◌-◌, ◌*◌, ◌^◌, ◌≤◌, ◌<◌, ◌≡◌, refl, Bool, true, false, List, [], ◌∷◌, ◌++◌, leb, length, take, drop}
+use Rattle.std.specs.Prelude.{ℕ, suc, ◌+◌, ◌-◌, ◌*◌, ◌^◌, ◌≤◌, ◌<◌, ◌≡◌, refl, Bool, true, false, List, [], ◌∷◌, ◌++◌, leb, length, take, drop, Ok, Err}
 use Rattle.std.proofs.Common.{arith, sym, ap, subst, ◌∙◌, append-nil, length-append, drop_of_length-le, leb-true}
 use Rattle.std.proofs.Math.Option.{some}
 use Rattle.text.specs.Bytes.{LF, pieces, lines, unlines}
@@ -10,8 +10,8 @@ use Rattle.job.specs.Job.{check_job}
 use Rattle.reader.specs.Parsed.{form_of}
 use Rattle.instructions.specs.declared.LineRead.{LineRead}
 use Rattle.instructions.specs.Reading.{line_at, NextLine}
-use Rattle.instructions.specs.Lines.{Left, numbered}
-use Rattle.instructions.specs.Laws.Lines.{Passed, left_all, here, line_read, left_more, numbered_some}
+use Rattle.instructions.specs.Lines.{Left}
+use Rattle.instructions.specs.Laws.Lines.{Passed, left_all, here, line_read, left_more}
 use Rattle.instructions.specs.Laws.Places.{whole_line}
 use Rattle.writer.specs.Placed.{Puts}
 use Rattle.line_writer.specs.Line.{depolarizing_start, depolarizing_text, StartOf}
@@ -19,7 +19,7 @@ use Rattle.writer.specs.Laws.Placing.{placed_over, puts_length, Rest, rest_all, 
 use Rattle.line_writer.specs.Laws.Lines.{start_length, depolarizing_next}
 use Rattle.circuit.specs.Annotate.{noise_text_of, noise_lines_of, annotated, annotated_text, noise_on, first_unfit}
 use Rattle.annotation.specs.Qubits.{NoiseQubits}
-use Rattle.annotation.specs.Lines.{before_it, around_text, Annotates}
+use Rattle.annotation.specs.Lines.{before_it, around_text, unfit_line, Annotates}
 use Rattle.annotation.specs.Laws.Merging.{part_few}
 use Rattle.annotation.specs.Laws.Around.{annotated_line, unfit_here, unfit_later}
 
@@ -88,14 +88,14 @@ module _ {job : List ℕ} {p : ℕ} {out : List ℕ} {k at next : ℕ} {after : 
   abbrev Fits : Bool → Type 0
   Fits b = b ≡ leb (length (take n words)) max_members
 
-  pub put_stops : {last : List ℕ} → Fits false → Annotates job p (record { unfit = k; bytes = 0 }) out last
+  pub put_stops : {last : List ℕ} → Fits false → Annotates job p (Err (record { line = k })) out last
+  unfolding unfit_line
   put_stops h =
       record {
         unfit =
             a.unfit ∙ ap (first_unfit k) l.place.cut
-            ∙ unfit_here (line_at job at line.end) (lines (drop (line.end + 1) job)) read.written read.reads k (rw over at (sym h))
-            ∙ sym (numbered_some k (λ (e : k ≡ 0). omega (arith, a.left.first)));
-        puts = λ e. absurd (omega (arith, a.left.first));
+            ∙ unfit_here (line_at job at line.end) (lines (drop (line.end + 1) job)) read.written read.reads k (rw over at (sym h));
+        puts = λ bytes e. cc;
       }
 
   pub fits_few : Fits true → length (take n words) ≤ 31
@@ -129,11 +129,11 @@ module _ {job : List ℕ} {p : ℕ} {out : List ℕ} {k at next : ℕ} {after : 
       }
 
 pub put_all : {job : List ℕ} {p : ℕ} {out : List ℕ} {k at next : ℕ} {after : List ℕ} → Annotating job p out k at next after → length job ≤ at
-    → Annotates job p (record { unfit = 0; bytes = next }) out after
-unfolding pieces first_unfit annotated unlines numbered
+    → Annotates job p (Ok next) out after
+unfolding pieces first_unfit annotated unlines unfit_line
 put_all {job} {p} {out} {k} {at} {next} {after} a h =
     let end = drop_of_length-le job h in
     record {
       unfit = a.unfit ∙ ap (λ (l : List ℕ). first_unfit k (lines l)) end;
-      puts = λ e. rest_none (subst (λ (l : List ℕ). Rest 0 (annotated_text p job) out next (unlines (annotated p (lines l))) after) end a.rest);
+      puts = λ bytes e. let same : next ≡ bytes = cc in subst (Puts 0 (annotated_text p job) out after) same (rest_none (subst (λ (l : List ℕ). Rest 0 (annotated_text p job) out next (unlines (annotated p (lines l))) after) end a.rest));
     }

@@ -1,5 +1,5 @@
 -- The locations of a job, line by line. Laws. Assumes nothing.
-use Rattle.std.specs.Prelude.{ℕ, ◌+◌, ◌*◌, ◌≤◌, ◌≡◌, refl, List, ◌∷◌, length, drop}
+use Rattle.std.specs.Prelude.{ℕ, ◌+◌, ◌*◌, ◌≤◌, ◌≡◌, List, ◌∷◌, length, drop}
 use Rattle.std.proofs.Common.{sym, ap, ◌∙◌, drop_of_length-le, arith, length-take-le}
 use Rattle.std.proofs.Math.Option.{some}
 use Rattle.text.specs.Bytes.{pieces, lines}

@@ -1,12 +1,6 @@
--- `blocks::gather` meets its contract: after i turns the first i words are in the block.
-use mathlib.Core.Path.{◌≡◌}
-use Prim.Native.Nat.{◌+◌, ◌*◌, ◌-◌, ◌≤◌}
-use lib.ListN.{length, get_or}
-use Rattle.rows.specs.Overwrite.{overwrite}
+-- `blocks::gather` meets its contract: the words so far are in the block.
+use Rattle.std.proofs.Common.{ℕ, ◌+◌, ◌*◌, ◌<◌, ◌≡◌, length, get_or}
 use Rattle.blocks.proofs.gather.Given as goal
 
 abbrev pub invariant-loop-i : goal.invariant-loop-i
-invariant-loop-i l = (l.block ≡ overwrite 0 l.i (λ k. get_or l.src (l.from + k * l.step) 0) l.initial.block) × (length l.block ≡ length l.initial.block) × (l.i ≤ l.n)
-
-abbrev pub decreases-loop-i : goal.decreases-loop-i
-decreases-loop-i l = l.n - l.i
+invariant-loop-i l = (length l.word-items ≡ l.n) × ((k : ℕ) → k < l.i → get_or l.word-items k 0 ≡ get_or l.src (l.from + k * l.step) 0)

@@ -1,18 +1,11 @@
 use mathlib.Core.Path.{◌≡◌, sym, ◌∙◌}
 use Prim.Native.Nat.{◌/◌}
 use native.Mathlib.Omega.{arith}
-use native.Mathlib.Nat.{div-le_self}
 use Rattle.blocks.specs.Laws.Round.{group_fits, round_none, round_more, round_end}
 use Rattle.blocks.proofs.round.Goals as goal
 
-pub nonzero_div-n : goal.nonzero_div-n
-nonzero_div-n c = omega arith
-
 pub loop-a-init : goal.loop-a-init
 loop-a-init c = (round_none _ _ _ c.requires.0, omega arith)
-
-pub overflow_mul-h : goal.overflow_mul-h
-overflow_mul-h c = omega arith
 
 pub overflow_mul-a : goal.overflow_mul-a
 overflow_mul-a c = let fits = group_fits (32 / c.args.h) c.args.h c.loop-a.a c.requires.3 (omega arith) in omega arith
@@ -21,12 +14,6 @@ pub cross-requires : goal.cross-requires
 cross-requires c =
     let fits = group_fits (32 / c.args.h) c.args.h c.loop-a.a c.requires.3 (omega arith) in
     (omega (arith, c.loop-a.invariant.0.long), omega arith)
-
-pub overflow_add-a : goal.overflow_add-a
-overflow_add-a c = omega (arith, div-le_self 32 c.args.h)
-
-pub loop-a-smaller : goal.loop-a-smaller
-loop-a-smaller c = omega arith
 
 pub loop-a-preserved : goal.loop-a-preserved
 loop-a-preserved c =

@@ -5,24 +5,15 @@ use Rattle.by_shot.specs.Laws.Block.{room_kept}
 use Rattle.by_shot.specs.Laws.Done.{done_none, done_all}
 use Rattle.by_shot.proofs.transpose.Goals as goal
 
-pub overflow_add-w : goal.overflow_add-w
-overflow_add-w c = omega (arith, c.requires.0.few_columns)
-
 pub loop-b-init : goal.loop-b-init
-loop-b-init c = (done_none _ _ _ _, refl, λ i. (c.slice_known-1.given i).fits, omega arith)
+loop-b-init c = (done_none _ _ _ _, refl, λ i. (c.type_inv.target i).fits, omega arith)
 
 pub transpose_group-requires : goal.transpose_group-requires
 transpose_group-requires c = (room_kept _ c.loop-b.invariant.1 c.requires.0, omega arith, c.loop-b.invariant.0)
 
-pub overflow_add-b : goal.overflow_add-b
-overflow_add-b c = omega arith
-
-pub loop-b-smaller : goal.loop-b-smaller
-loop-b-smaller c = omega arith
-
 pub loop-b-preserved : goal.loop-b-preserved
 loop-b-preserved c =
-    (c.transpose_group.ensures, c.transpose_group.auto.target ∙ c.loop-b.invariant.1, λ i. (c.slice_known-in-loop-b-1.given i).fits, omega arith)
+    (c.transpose_group.ensures, c.transpose_group.auto.target ∙ c.loop-b.invariant.1, λ i. (c.type_inv.target i).fits, omega arith)
 
 pub shape_of-target : goal.shape_of-target
 shape_of-target c = c.loop-b.invariant.1

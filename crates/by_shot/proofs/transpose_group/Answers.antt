@@ -5,21 +5,12 @@ use Rattle.by_shot.specs.Laws.Block.{room_kept}
 use Rattle.by_shot.specs.Laws.Done.{done_group}
 use Rattle.by_shot.proofs.transpose_group.Goals as goal
 
-pub overflow_add-v : goal.overflow_add-v
-overflow_add-v c = omega (arith, c.requires.0.few_rows)
-
 pub loop-a-init : goal.loop-a-init
 loop-a-init c = (c.requires.2, refl, omega arith)
 
 pub transpose_block-requires : goal.transpose_block-requires
 transpose_block-requires c =
     (room_kept _ c.loop-a.invariant.1 c.requires.0, omega arith, c.requires.1, c.loop-a.invariant.0)
-
-pub overflow_add-a : goal.overflow_add-a
-overflow_add-a c = omega arith
-
-pub loop-a-smaller : goal.loop-a-smaller
-loop-a-smaller c = omega arith
 
 pub loop-a-preserved : goal.loop-a-preserved
 loop-a-preserved c = (c.transpose_block.ensures, c.transpose_block.auto.target ∙ c.loop-a.invariant.1, omega arith)

@@ -1,5 +1,5 @@
 -- One block: where its words lie in the source and the target, and the bits that come there. Assumes nothing.
-use Rattle.std.specs.Prelude.{◌≡◌, refl, Bool, true, false, cond, ◌&&◌, List, ℕ, ◌+◌, ◌*◌, ◌-◌, ◌/◌, ◌%◌, ◌<◌, ◌≤◌, ltb, length, get_or, replicate}
+use Rattle.std.specs.Prelude.{◌≡◌, refl, Bool, true, false, cond, ◌&&◌, List, ℕ, ◌+◌, ◌*◌, ◌-◌, ◌/◌, ◌%◌, ◌<◌, ◌≤◌, min, ltb, length, get_or, replicate}
 use Rattle.std.proofs.Common.{sym, ap, ◌∙◌, add-mul, zero-add, lt-ltb, le-ltb}
 use native.Mathlib.Omega.{arith}
 use Rattle.std.proofs.Math.Decide.{dec_lt, ℕ_discrete}
@@ -24,6 +24,13 @@ module _ (n a : ℕ) where
   pub rows_full : 64 ≤ n - 64 * a → 64 ≡ rows_of n a
   unfolding rows_of
   rows_full h = rw (le-ltb (n - 64 * a) 64 h)
+
+  pub rows_least : min (n - 64 * a) 64 ≡ rows_of n a
+  rows_least = go (dec_lt (n - 64 * a) 64)
+    where
+      go : Dec (n - 64 * a < 64) → min (n - 64 * a) 64 ≡ rows_of n a
+      go (yes p) = rw (← rows_left p) (omega arith)
+      go (no p) = rw (← rows_full (omega arith)) (omega arith)
 
   pub rows_few : rows_of n a ≤ 64
   rows_few = go (dec_lt (n - 64 * a) 64)

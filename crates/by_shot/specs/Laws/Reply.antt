@@ -2,7 +2,8 @@
 use Rattle.std.specs.Prelude.{◌≡◌, true, false, List, ◌++◌, ℕ, ◌*◌, ◌^◌, ◌<◌, ◌≤◌, leb, length, drop}
 use Rattle.std.proofs.Math.Path.{refl}
 use Rattle.std.proofs.Common.{arith, mul-le-mul_right}
-use borrow.Author.Tests.{le-leb, lt-leb}
+use borrow.Author.Tests.{le-leb}
+use Rattle.std.proofs.lemmas.Bool.{and_parts, leb-true}
 use Rattle.job.specs.Job.{answer}
 use Rattle.job.specs.Grammar.{header_with}
 use Rattle.job.proofs.Laws.Lines.{header_sound}
@@ -41,27 +42,27 @@ module _ (outcomes shots : ℕ) where
 -- ---- 13
 
 module _ (rows columns : ℕ) (source target : List ℕ) where
-  pub short_source : length source < rows * words_per_row columns → rearranged rows columns source target ≡ untouched (answer 13 0) target
+  pub too_few : enough_words rows columns source target ≡ false → rearranged rows columns source target ≡ untouched (answer 13 0) target
+  unfolding rearranged
+  too_few e = rw e
+
+  pub both_enough : enough_words rows columns source target ≡ true → (rows * words_per_row columns ≤ length source) × (columns * words_per_row rows ≤ length target)
+  unfolding enough_words
+  both_enough e = let both = and_parts _ _ e in (leb-true _ _ both.0, leb-true _ _ both.1)
+
+  pub both_long : rows * words_per_row columns ≤ length source → columns * words_per_row rows ≤ length target
+      → rearranged rows columns source target ≡ written (transposed rows columns source) target
   unfolding rearranged enough_words
-  short_source h = rw (lt-leb (rows * words_per_row columns) (length source) h)
-
-  module _ (h : rows * words_per_row columns ≤ length source) where
-    pub short_target : length target < columns * words_per_row rows → rearranged rows columns source target ≡ untouched (answer 13 0) target
-    unfolding rearranged enough_words
-    short_target k = rw (le-leb (rows * words_per_row columns) (length source) h, lt-leb (columns * words_per_row rows) (length target) k)
-
-    pub both_long : columns * words_per_row rows ≤ length target → rearranged rows columns source target ≡ written (transposed rows columns source) target
-    unfolding rearranged enough_words
-    both_long k = rw (le-leb (rows * words_per_row columns) (length source) h, le-leb (columns * words_per_row rows) (length target) k)
+  both_long h k = rw (le-leb (rows * words_per_row columns) (length source) h, le-leb (columns * words_per_row rows) (length target) k)
 
   pub length_transposed : length (transposed rows columns source) ≡ columns * words_per_row rows
   unfolding transposed
   length_transposed = length_pack columns rows _
 
   -- the needed words were written, and the others stay
-  pub long_reply : (front : List ℕ) → rows * words_per_row columns ≤ length source → columns * words_per_row rows ≤ length target → front ≡ transposed rows columns source
+  pub long_reply : (front : List ℕ) → enough_words rows columns source target ≡ true → front ≡ transposed rows columns source
       → rearranged rows columns source target ≡ record { answered = answer 0 0; words = front ++ drop (columns * words_per_row rows) target }
-  long_reply front h k e = rw (both_long h k, e, length_transposed)
+  long_reply front enough e = let h = both_enough enough in rw (both_long h.0 h.1, e, length_transposed)
 
 pub words_few : (n m : ℕ) → n ≤ 4096 → m ≤ 4096 → n * words_per_row m < 2 ^ 64
 words_few n m h k = omega (arith, mul-le-mul_right (words_per_row m) h)

@@ -21,16 +21,16 @@ returns-then-not-short c =
     ∙ t.own
 
 pub list-requires : goal.list-requires
-list-requires c = (omega arith, omega arith, c.short.ensures.all_kept (c.if-not-short.false) 0 (omega arith) (omega arith))
+list-requires c = (omega arith, c.short.ensures.all_kept (c.if-not-short.false) 0 (omega arith) (omega arith))
 
 pub list-requires-2 : goal.list-requires-2
-list-requires-2 c = (omega arith, omega arith, c.short.ensures.all_kept (c.if-not-short.false) 3 (omega arith) (omega arith))
+list-requires-2 c = (omega arith, c.short.ensures.all_kept (c.if-not-short.false) 3 (omega arith) (omega arith))
 
 pub list-requires-3 : goal.list-requires-3
-list-requires-3 c = (omega arith, omega arith, c.short.ensures.all_kept (c.if-not-short.false) 1 (omega arith) (omega arith))
+list-requires-3 c = (omega arith, c.short.ensures.all_kept (c.if-not-short.false) 1 (omega arith) (omega arith))
 
 pub list-requires-4 : goal.list-requires-4
-list-requires-4 c = (omega arith, omega arith, c.short.ensures.all_kept (c.if-not-short.false) 2 (omega arith) (omega arith))
+list-requires-4 c = (omega arith, c.short.ensures.all_kept (c.if-not-short.false) 2 (omega arith) (omega arith))
 
 pub returns-then-x_on_z-z_on_x : goal.returns-then-x_on_z-z_on_x
 returns-then-x_on_z-z_on_x c =

@@ -2,14 +2,16 @@
 use native.Mathlib.Omega.{arith}
 use mathlib.Core.Path.{◌∙◌}
 use Rattle.check_lines.specs.Laws.Lines.{tests_measure}
+use Rattle.std.proofs.lemmas.Result.{err_from_is_err_and}
 use Rattle.check_values.specs.Laws.Lowest.{two_fail, two_pass}
 use Rattle.check_lines.proofs.measure_number.Goals as goal
 
-pub returns-then-refusal-ne0 : goal.returns-then-refusal-ne0
-returns-then-refusal-ne0 c =
+pub returns-in_err-pauli_number : goal.returns-in_err-pauli_number
+returns-in_err-pauli_number c =
     λ vs w h.
     let t = tests_measure c.args.c h in
-    two_fail _ _ _ (c.pauli_number-refusal.ensures _ _ vs t.held (omega arith)) c.if-refusal-ne0.true ∙ t.own
+    let p = err_from_is_err_and c.from_residual.result c.from_residual.ensures.1 in
+    rw (p.1, p.2) (two_fail _ _ _ (c.pauli_number.ensures _ _ vs t.held (omega arith)) c.in_err-pauli_number.was ∙ t.own)
 
 pub returns : goal.returns
 returns c =
@@ -17,5 +19,5 @@ returns c =
     let t = tests_measure c.args.c h in
     let id = c.number.ensures ∙ t.held.number 0 (omega arith) in
     (rw id at c.id_number.ensures)
-    ∙ two_pass _ _ _ (c.pauli_number-refusal.ensures _ _ vs t.held (omega arith)) (omega arith) (omega arith) c.if-refusal-ne0.false
+    ∙ two_pass _ _ _ (c.pauli_number.ensures _ _ vs t.held (omega arith)) (omega arith) (omega arith) c.in_ok-pauli_number.was
     ∙ t.own

@@ -16,7 +16,7 @@ returns-then-not-short c =
     ∙ passes 4 _ _ (sym (c.below.ensures numbers lists vs h g) ∙ c.if-not-below.false)
 
 pub slot_distinct-requires : goal.slot_distinct-requires
-slot_distinct-requires c = (omega arith, omega arith, c.short.ensures.all_kept (c.if-not-short.false) 0 (omega arith) (omega arith))
+slot_distinct-requires c = (omega arith, c.short.ensures.all_kept (c.if-not-short.false) 0 (omega arith) (omega arith))
 
 pub returns-then-not-slot_distinct : goal.returns-then-not-slot_distinct
 returns-then-not-slot_distinct c =

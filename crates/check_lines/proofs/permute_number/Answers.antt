@@ -20,7 +20,7 @@ returns-then-not-short c =
     fails 5 _ _ (right_false (distinct (list_at_of 1 vs)) _ (sym (c.short.ensures.by_index _ _ vs t.held (omega arith)) ∙ c.if-not-short.true)) ∙ passes 4 _ _ (sym (c.below.ensures _ _ vs t.held (omega arith)) ∙ c.if-not-below.false) ∙ t.own
 
 pub slot_distinct-requires : goal.slot_distinct-requires
-slot_distinct-requires c = (omega arith, omega arith, c.short.ensures.all_kept (c.if-not-short.false) 1 (omega arith) (omega arith))
+slot_distinct-requires c = (omega arith, c.short.ensures.all_kept (c.if-not-short.false) 1 (omega arith) (omega arith))
 
 pub returns-then-not-slot_distinct : goal.returns-then-not-slot_distinct
 returns-then-not-slot_distinct c =
@@ -56,7 +56,7 @@ returns-then-not-below-2 c =
     ∙ t.own
 
 pub slot_distinct-requires-2 : goal.slot_distinct-requires-2
-slot_distinct-requires-2 c = (omega arith, omega arith, c.short.ensures.all_kept (c.if-not-short.false) 0 (omega arith) (omega arith))
+slot_distinct-requires-2 c = (omega arith, c.short.ensures.all_kept (c.if-not-short.false) 0 (omega arith) (omega arith))
 
 pub returns-then-not-slot_distinct-2 : goal.returns-then-not-slot_distinct-2
 returns-then-not-slot_distinct-2 c =

@@ -1,20 +1,17 @@
 -- `check_lines::recorded_after` meets its contract. Assumes nothing.
+use Rattle.std.proofs.Common.{inl, inr}
 use Rattle.check_values.specs.Contexts.{context_of}
 use Rattle.check_lines.specs.Laws.Header.{none_recorded, recorded_header, recorded_edition, recorded_measure, recorded_allocate}
 use Rattle.instructions.specs.Laws.Meaning.{meaning}
 use Rattle.check_lines.proofs.recorded_after.Goals as goal
 
 pub returns-in-Header : goal.returns-in-Header
-returns-in-Header c = λ vs w h. recorded_header c.args.c vs w (rw c.in-Header.is at h)
-
-pub returns-in-EditionHeader : goal.returns-in-EditionHeader
-returns-in-EditionHeader c = λ vs w h. recorded_edition c.args.c vs w (rw c.in-EditionHeader.is at h)
+returns-in-Header c = λ vs w h.
+    elim c.in-Header.is [ inl e ↦ recorded_header c.args.c vs w (rw e at h) | inr e ↦ recorded_edition c.args.c vs w (rw e at h) ]
 
 pub returns-in-Measure : goal.returns-in-Measure
-returns-in-Measure c = λ vs w h. recorded_measure c.args.c vs w (rw c.in-Measure.is at h)
-
-pub returns-in-Allocate : goal.returns-in-Allocate
-returns-in-Allocate c = λ vs w h. recorded_allocate c.args.c vs w (rw c.in-Allocate.is at h)
+returns-in-Measure c = λ vs w h.
+    elim c.in-Measure.is [ inl e ↦ recorded_measure c.args.c vs w (rw e at h) | inr e ↦ recorded_allocate c.args.c vs w (rw e at h) ]
 
 pub returns-in_default : goal.returns-in_default
 unfolding context_of

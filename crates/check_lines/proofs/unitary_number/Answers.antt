@@ -30,7 +30,7 @@ returns-then-count-operand_count c =
     ∙ t.own
 
 pub slot_distinct-requires : goal.slot_distinct-requires
-slot_distinct-requires c = (omega arith, omega arith, omega (arith, few_counted _ c.operand_count.ensures))
+slot_distinct-requires c = (omega arith, omega (arith, few_counted _ c.operand_count.ensures))
 
 pub returns-then-not-slot_distinct : goal.returns-then-not-slot_distinct
 returns-then-not-slot_distinct c =

@@ -1,11 +1,14 @@
 -- The lowest number, test by test. Laws. Assumes nothing.
-use Rattle.std.specs.Prelude.{ℕ, ◌≤◌, ◌<◌, ◌≡◌, Bool, ◌&&◌, List, [], ◌∷◌, length}
-use Rattle.std.proofs.Common.{arith, le-leb}
+use Rattle.std.specs.Prelude.{Result, Ok, Err, ℕ, ◌≤◌, ◌<◌, ◌≡◌, Bool, ◌&&◌, List, [], ◌∷◌, length}
+use Rattle.std.proofs.Common.{arith, le-leb, sym, ap, ◌∙◌}
 use Rattle.std.proofs.Math.Path.{refl}
 use Rattle.std.proofs.Math.Bool.{true, false, cond, and-true}
 use Rattle.text.specs.Template.{Value, list_at_of}
 use Rattle.template.specs.Fields.{Held}
 use Rattle.job.specs.Grammar.{Written}
+use Rattle.job.specs.declared.refusals.Refusal.{Refusal}
+use Rattle.job.specs.Refusals.{number_of, refusal_in}
+use Rattle.job.proofs.Laws.Refusals.{number_above}
 use Rattle.job.specs.Checks.{Test, test, all_below, each_below_of, each_short, own_tests, lowest}
 use Rattle.check_values.specs.declared.context.Context.{Context as Known}
 use Rattle.check_values.specs.Slots.{lists_from}
@@ -27,21 +30,21 @@ unfolding lowest
 none_bad = refl
 
 -- two tests, and others after them
-module _ (t u : Test) (ts : List Test) {r : ℕ} (e : r ≡ lowest (t ∷ u ∷ [])) where
-  pub two_fail : (r ≡ 0 → ⊥) → r ≡ lowest (t ∷ u ∷ ts)
+module _ (t u : Test) (ts : List Test) {r : Result (Unit {0}) Refusal} (e : refusal_in r ≡ lowest (t ∷ u ∷ [])) where
+  pub two_fail : {x : Refusal} → r ≡ Err x → number_of x ≡ lowest (t ∷ u ∷ ts)
   unfolding lowest
-  two_fail h = go t.bad u.bad e
+  two_fail {x} h = go t.bad u.bad (sym (ap refusal_in h) ∙ e)
     where
-      go : (p q : Bool) → r ≡ cond p t.number (cond q u.number 0) → r ≡ cond p t.number (cond q u.number (lowest ts))
+      go : (p q : Bool) → number_of x ≡ cond p t.number (cond q u.number 0) → number_of x ≡ cond p t.number (cond q u.number (lowest ts))
       go true q k = k
       go false true k = k
-      go false false k = absurd (h k)
+      go false false k = absurd (omega (arith, number_above x))
 
-  pub two_pass : 0 < t.number → 0 < u.number → r ≡ 0 → lowest ts ≡ lowest (t ∷ u ∷ ts)
+  pub two_pass : 0 < t.number → 0 < u.number → {v : Unit {0}} → r ≡ Ok v → lowest ts ≡ lowest (t ∷ u ∷ ts)
   unfolding lowest
-  two_pass ht hu h = go t.bad u.bad e
+  two_pass ht hu h = go t.bad u.bad (sym (ap refusal_in h) ∙ e)
     where
-      go : (p q : Bool) → r ≡ cond p t.number (cond q u.number 0) → lowest ts ≡ cond p t.number (cond q u.number (lowest ts))
+      go : (p q : Bool) → 0 ≡ cond p t.number (cond q u.number 0) → lowest ts ≡ cond p t.number (cond q u.number (lowest ts))
       go true q k = absurd (omega arith)
       go false true k = absurd (omega arith)
       go false false k = refl

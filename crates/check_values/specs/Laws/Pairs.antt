@@ -4,6 +4,7 @@ use Rattle.std.proofs.Common.{mod-lt, lt_of_le_of_lt, add-one, arith, sym, ◌�
 use Rattle.std.proofs.Math.Path.{refl, ap, ap₂}
 use Rattle.std.proofs.Math.Bool.{false, ◌&&◌}
 use Rattle.std.proofs.lemmas.Bool.{eqb-false}
+use Rattle.std.specs.Bool.{beq}
 use Rattle.std.specs.Int.Bits.{bit_xor, bit_and, xor_lt, and_mask}
 use Rattle.std.proofs.lemmas.Nat.{and_le_l}
 use Rattle.std.specs.Int.Count.{ones}
@@ -56,19 +57,14 @@ module _ (k t r s : ℕ) {a : Bool} {x y : ℕ} (e : a ≡ anticommutes k (in_wo
   clash : a ≡ anticommutes k (row_over k t r) (row_over k t s)
   clash = e ∙ rw (p, q) (rows_clash k t r s)
 
-  pub pair_fits : generators_anticommute k r s ≡ true → a ≡ pair_fits_of k t r s
-  pair_fits h = rw (h, ← clash) (go a)
+  pub pair_fits : {b : Bool} → b ≡ generators_anticommute k r s → beq a b ≡ pair_fits_of k t r s
+  pair_fits {b} h = rw (← h, ← clash) (go a b)
     where
-      go : (b : Bool) → b ≡ not (b ⊕ true)
-      go true = unfold ◌⊕◌ in refl
-      go false = unfold ◌⊕◌ in refl
-
-  pub others_fit : generators_anticommute k r s ≡ false → not a ≡ pair_fits_of k t r s
-  others_fit h = rw (h, ← clash) (go a)
-    where
-      go : (b : Bool) → not b ≡ not (b ⊕ false)
-      go true = unfold ◌⊕◌ in refl
-      go false = unfold ◌⊕◌ in refl
+      go : (x y : Bool) → beq x y ≡ not (x ⊕ y)
+      go true true = unfold ◌⊕◌ in refl
+      go true false = unfold ◌⊕◌ in refl
+      go false true = unfold ◌⊕◌ in refl
+      go false false = unfold ◌⊕◌ in refl
 
 -- ---- each number below another
 

@@ -1,41 +1,40 @@
 use Rattle.std.proofs.Common.{ℕ, List, ◌≡◌, ◌-◌, ◌<◌, length, refl, sym, ap, subst, ◌∙◌, arith, Bor}
 use Rattle.line_reader.specs.Reading.{line_from_of, behind}
-use Rattle.checker.specs.Passing.{Steps}
-use Rattle.checker.specs.Laws.Passing.{Going, begun, found, goes_on, one_more_fits, nearer}
+use Rattle.job.proofs.Laws.Refusals.{number_above}
+use Rattle.checker.specs.Laws.Job.{all_left, all_passed, bad_job}
+use Rattle.checker.specs.Laws.Passing.{nearer, line_bad, line_good}
 use Rattle.checker.proofs.all_lines.Goals as goal
 
-pub loop-p-init : goal.loop-p-init
-loop-p-init c = record { job = refl; come = begun c.requires.0 c.start-p.ensures }
+pub loop-r-init : goal.loop-r-init
+loop-r-init c = record { job = refl; left = all_left c.requires c.no_context-context.ensures }
 
-pub step-p-requires : goal.step-p-requires
-step-p-requires c =
-    let fits = one_more_fits c.loop-p.invariant.come c.loop-p-test.true (omega arith) in
-    (omega arith, fits.0, fits.1)
-
-pub loop-p-preserved : goal.loop-p-preserved
-loop-p-preserved c =
-    let s = c.args.job.now in
-    let loop = c.loop-p in
-    let l = c.next_line-line.result.now in
-    let z = c.next_line-line.new.r in
+pub returns-in-Err : goal.returns-in-Err
+returns-in-Err c =
     let said = c.next_line-line.ensures in
-    let t = c.step-p.result in
-    let line : l ≡ line_from_of s loop.r.at = said.0 ∙ ap (λ (y : List ℕ). line_from_of y loop.r.at) loop.invariant.job in
-    let place : z.at ≡ behind s loop.r.at = said.2 ∙ ap (λ (y : List ℕ). behind y loop.r.at) loop.invariant.job in
+    let same = c.loop-r.invariant.job in
+    let line = said.0 ∙ ap (λ (y : List ℕ). line_from_of y c.loop-r.r.at) same in
+    let place = said.2 ∙ ap (λ (y : List ℕ). behind y c.loop-r.r.at) same in
+    let above = number_above c.in-Err.refusal in
+    bad_job c.refused.ensures
+    (line_bad c.loop-r.invariant.left c.loop-r-test.true line place c.read_line-form.ensures c.in-Err.ensures.0 c.in-Err.ensures.1 (λ z. omega (arith, above, z)))
+    (λ z. omega (arith, above, z))
+
+pub loop-r-preserved : goal.loop-r-preserved
+loop-r-preserved c =
+    let said = c.next_line-line.ensures in
+    let same = c.loop-r.invariant.job in
+    let line = said.0 ∙ ap (λ (y : List ℕ). line_from_of y c.loop-r.r.at) same in
+    let place = said.2 ∙ ap (λ (y : List ℕ). behind y c.loop-r.r.at) same in
     record {
-      job = ap (λ (b : Bor (List ℕ)). b.now) said.1 ∙ loop.invariant.job;
-      come =
-          subst (λ (k : ℕ). Going s k t) (sym place)
-          (goes_on loop.invariant.come c.loop-p-test.true l line (subst (λ (k : ℕ). Steps l k (length s) loop.p t) place c.step-p.ensures));
+      job = ap (λ (b : Bor (List ℕ)). b.now) said.1 ∙ same;
+      left = line_good c.loop-r.invariant.left c.loop-r-test.true line place c.read_line-form.ensures c.in_default.ensures.0 c.in_default.ensures.1 refl (c.next-context.ensures _);
     }
 
-pub loop-p-smaller : goal.loop-p-smaller
-loop-p-smaller c =
+pub loop-r-smaller : goal.loop-r-smaller
+loop-r-smaller c =
     let s = c.args.job.now in
-    let loop = c.loop-p in
-    let z = c.next_line-line.new.r in
-    let place : z.at ≡ behind s loop.r.at = c.next_line-line.ensures.2 ∙ ap (λ (y : List ℕ). behind y loop.r.at) loop.invariant.job in
-    subst (λ (k : ℕ). length s - k < length s - loop.r.at) (sym place) (nearer loop.invariant.come c.loop-p-test.true)
+    let place = c.next_line-line.ensures.2 ∙ ap (λ (y : List ℕ). behind y c.loop-r.r.at) c.loop-r.invariant.job in
+    subst (λ (k : ℕ). length s - k < length s - c.loop-r.r.at) (sym place) (nearer c.loop-r.invariant.left c.loop-r-test.true)
 
 pub returns : goal.returns
-returns c = found c.loop-p.invariant.come c.loop-p-test.false
+returns c = rw c.accepted.ensures (all_passed c.loop-r.invariant.left c.loop-r-test.false)

@@ -1,13 +1,13 @@
--- `checker::all_lines` meets its contract: the pass has come as far as the reader. Assumes nothing.
+-- `checker::all_lines` meets its contract: so many lines were read, and the rest is left. Assumes nothing.
 use Rattle.std.proofs.Common.{◌≡◌, ◌-◌, length}
-use Rattle.checker.specs.Laws.Passing.{Going}
+use Rattle.checker.specs.Laws.Job.{Left}
 use Rattle.checker.proofs.all_lines.Given as goal
 
-abbrev pub invariant-loop-p : goal.invariant-loop-p
-invariant-loop-p l = record {
+abbrev pub invariant-loop-r : goal.invariant-loop-r
+invariant-loop-r l = record {
   job : l.r.job.now ≡ l.job;
-  come : Going l.job l.r.at l.p;
+  left : Left l.job l.context l.r.at l.lines;
 }
 
-abbrev pub decreases-loop-p : goal.decreases-loop-p
-decreases-loop-p l = length l.job - l.r.at
+abbrev pub decreases-loop-r : goal.decreases-loop-r
+decreases-loop-r l = length l.job - l.r.at

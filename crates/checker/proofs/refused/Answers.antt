@@ -1,6 +1,5 @@
 -- `checker::refused` meets its contract. Assumes nothing.
-use mathlib.Core.Path.{refl}
 use Rattle.checker.proofs.refused.Goals as goal
 
 pub returns : goal.returns
-returns c = refl
+returns c = c.refused.ensures

@@ -5,6 +5,6 @@ use Rattle.choice.proofs.any_positive.Goals as goal
 pub returns-then-positive_behind : goal.returns-then-positive_behind
 returns-then-positive_behind c = rw c.if-positive_behind.true
 
-pub returns : goal.returns
+pub returns-else-positive_behind : goal.returns-else-positive_behind
 unfolding is_positive
-returns c = rw c.if-positive_behind.false
+returns-else-positive_behind c = rw c.if-positive_behind.false

@@ -12,23 +12,23 @@ loop-word-init c = refl
 pub overflow_add-i : goal.overflow_add-i
 overflow_add-i c =
     let a = c.args in
-    omega (arith, (word_read c.next_word.ensures c.in-Word.is).0, length-append a.words.now a.more.now, c.well_formed)
+    omega (arith, (word_read c.next_word.ensures c.in_ok-word.was).0, length-append a.words.now a.more.now, c.well_formed)
 
 pub nonzero_rem-result : goal.nonzero_rem-result
 nonzero_rem-result c = below_limit _ _ _ c.requires c.if-word-limit.true
 
 pub returns-then-word-limit : goal.returns-then-word-limit
 returns-then-word-limit c =
-    let read = word_read c.next_word.ensures c.in-Word.is in
+    let read = word_read c.next_word.ensures c.in_ok-word.was in
     chose _ _ (sym c.loop-word.invariant ∙ choose_takes _ _ _ _ _ c.requires read.1 read.0 (lt-ltb _ _ c.if-word-limit.true)) (omega (arith, read.0))
 
 pub loop-word-smaller : goal.loop-word-smaller
-loop-word-smaller c = omega (arith, (word_read c.next_word.ensures c.in-Word.is).0)
+loop-word-smaller c = omega (arith, (word_read c.next_word.ensures c.in_ok-word.was).0)
 
 pub loop-word-preserved : goal.loop-word-preserved
 loop-word-preserved c =
-    let read = word_read c.next_word.ensures c.in-Word.is in
+    let read = word_read c.next_word.ensures c.in_ok-word.was in
     sym (choose_rejects _ _ _ _ _ c.requires read.1 read.0 (le-ltb _ _ c.if-word-limit.false)) ∙ c.loop-word.invariant
 
-pub returns-in-Spent : goal.returns-in-Spent
-returns-in-Spent c = chose_none (sym c.loop-word.invariant ∙ choose_ends _ _ _ (none_read c.next_word.ensures c.in-Spent.is))
+pub returns-in_err-word : goal.returns-in_err-word
+returns-in_err-word c = rw c.from_residual.ensures (chose_none (sym c.loop-word.invariant ∙ choose_ends _ _ _ (none_read c.next_word.ensures c.in_err-word.was)))

@@ -13,30 +13,6 @@ loop-i-init c =
     let none = marked_none a.weights.now a.sums.now _ refl c.requires in
     (omega arith, c.requires, none.0, none.1)
 
-pub overflow_sub-i : goal.overflow_sub-i
-overflow_sub-i c = omega arith
-
-pub offset_bounds-weights-i : goal.offset_bounds-weights-i
-offset_bounds-weights-i c = omega arith
-
-pub bounds-weights-i : goal.bounds-weights-i
-bounds-weights-i c = omega arith
-
-pub offset_bounds-sums-i : goal.offset_bounds-sums-i
-offset_bounds-sums-i c = omega arith
-
-pub bounds-sums-i : goal.bounds-sums-i
-bounds-sums-i c = omega arith
-
-pub offset_bounds-sums-i-in-loop-i : goal.offset_bounds-sums-i-in-loop-i
-offset_bounds-sums-i-in-loop-i c = omega arith
-
-pub bounds-sums-i-in-loop-i : goal.bounds-sums-i-in-loop-i
-bounds-sums-i-in-loop-i c = omega arith
-
-pub loop-i-smaller : goal.loop-i-smaller
-loop-i-smaller c = omega arith
-
 pub loop-i-preserved : goal.loop-i-preserved
 loop-i-preserved c =
     let a = c.args in

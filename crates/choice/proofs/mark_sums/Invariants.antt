@@ -10,6 +10,3 @@ use Rattle.choice.proofs.mark_sums.Given as goal
 abbrev pub invariant-loop-i : goal.invariant-loop-i
 invariant-loop-i l =
     (l.i ≤ length l.weights) × (length l.sums ≡ length l.weights) × (l.sums ≡ take l.i l.initial.sums ++ marked_by (drop l.i l.weights) (drop l.i l.initial.sums)) × (l.positive_behind ≡ any_positive_of (drop l.i l.weights))
-
-abbrev pub decreases-loop-i : goal.decreases-loop-i
-decreases-loop-i l = l.i

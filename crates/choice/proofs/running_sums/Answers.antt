@@ -8,33 +8,12 @@ use Rattle.choice.proofs.running_sums.Goals as goal
 pub loop-i-init : goal.loop-i-init
 loop-i-init c = (c.requires.1, search rules, refl)
 
-pub offset_bounds-sums-i : goal.offset_bounds-sums-i
-offset_bounds-sums-i c = omega arith
-
-pub bounds-sums-i : goal.bounds-sums-i
-bounds-sums-i c = omega arith
-
-pub overflow_add-i : goal.overflow_add-i
-overflow_add-i c = omega arith
-
-pub loop-i-smaller : goal.loop-i-smaller
-loop-i-smaller c = omega arith
-
 pub loop-i-preserved : goal.loop-i-preserved
 loop-i-preserved c = (
   simp length-set c.loop-i.invariant.0,
   omega arith,
   running_step _ _ _ _ _ c.loop-i-test.true (omega arith) ∙ c.loop-i.invariant.2,
 )
-
-pub overflow_sub-sums : goal.overflow_sub-sums
-overflow_sub-sums c = omega arith
-
-pub offset_bounds-sums-weights : goal.offset_bounds-sums-weights
-offset_bounds-sums-weights c = omega arith
-
-pub bounds-sums-weights : goal.bounds-sums-weights
-bounds-sums-weights c = omega arith
 
 pub shape_of-sums : goal.shape_of-sums
 shape_of-sums c = simp length-set (omega arith)

@@ -1,5 +1,5 @@
 -- The choice of an element, by the place of its words. Laws. Assumes nothing.
-use Rattle.std.specs.Prelude.{ℕ, zero, suc, ◌+◌, ◌-◌, ◌%◌, ◌^◌, ◌<◌, ◌≤◌, ◌≡◌, refl, true, false, List, [], ltb, length, get_or, drop, Float}
+use Rattle.std.specs.Prelude.{ℕ, zero, suc, ◌+◌, ◌-◌, ◌%◌, ◌^◌, ◌<◌, ◌≤◌, ◌≡◌, refl, true, false, Option, Some, None, List, [], ltb, length, get_or, drop, Float}
 use Rattle.std.proofs.Math.Nat.{mod-zero}
 use Rattle.std.proofs.Math.Numerals.{add-one}
 use Rattle.std.proofs.Common.{arith, ap, ◌∙◌, drop_of_length-le}
@@ -11,19 +11,18 @@ use Rattle.draws.specs.Draws.{unit_of, Choice, limit_of, bounded, place_of, by_w
 use Rattle.draws.specs.Known.{rust_place}
 use Rattle.noise.specs.declared.PauliDistribution.{PauliDistribution}
 use Rattle.noise.specs.declared.PauliDistribution.TheVariants.{Single, Depolarizing, Uniform, Weighted}
-use Rattle.choice.specs.declared.Choice.{Choice as Answer}
-use Rattle.choice.specs.declared.Choice.TheVariants.{Chosen, Spent}
+use Rattle.choice.specs.declared.Chosen.{Chosen}
 use Rattle.noise.specs.Kinds.{kind_of, bound_of, Small, PlacesBy, Chooses}
 use Rattle.choice.specs.Choice.{choice_of, next_of, Chose, Weighed, ElementChosen}
 
 -- ---- what is chosen
 
 module _ {words : List ℕ} {o : Choice} where
-  pub chose : (e next : ℕ) → o ≡ Choice.chosen e (drop next words) → next ≤ length words → Chose words o (Chosen e next)
+  pub chose : (e next : ℕ) → o ≡ Choice.chosen e (drop next words) → next ≤ length words → Chose words o (Some record { element = e; position = next })
   unfolding choice_of next_of
   chose e next q h = record { within = h; is = sym q }
 
-  pub chose_none : o ≡ Choice.spent → Chose words o Spent
+  pub chose_none : o ≡ Choice.spent → Chose words o None
   unfolding choice_of next_of
   chose_none q = record { within = omega arith; is = sym q }
 
@@ -54,7 +53,7 @@ choose_ends c ws i h = rw (drop_of_length-le ws h)
 -- ---- by weight
 
 module _ {ws : List ℕ} {sums : List Float} (i : ℕ) where
-  pub weighed : i < length ws → (w : ℕ) → w ≡ get_or ws i 0 → w < 2 ^ 64 → (e : ℕ) → e ≡ rust_place (unit_of w) sums → Weighed ws i sums (Chosen e (i + 1))
+  pub weighed : i < length ws → (w : ℕ) → w ≡ get_or ws i 0 → w < 2 ^ 64 → (e : ℕ) → e ≡ rust_place (unit_of w) sums → Weighed ws i sums (Some record { element = e; position = i + 1 })
   unfolding by_weight choice_of next_of
   weighed h w read small e is =
       record {
@@ -62,7 +61,7 @@ module _ {ws : List ℕ} {sums : List Float} (i : ℕ) where
         is = λ weights p. rw (is, p.is w small, add-one, drop-cons ws i 0, ← read);
       }
 
-  pub weighed_none : length ws ≤ i → Weighed ws i sums Spent
+  pub weighed_none : length ws ≤ i → Weighed ws i sums None
   unfolding by_weight choice_of next_of
   weighed_none h = record { within = omega arith; is = λ weights p. rw (drop_of_length-le ws h) }
 
@@ -113,20 +112,20 @@ chosen_bounded (Uniform n) c one other e weights ws = rw e
 chosen_bounded (Weighted t) c one other e weights ws = absurd (other t refl)
 
 module _ {d : PauliDistribution} {sums : List Float} {words : List ℕ} (at : ℕ) where
-  pub chosen_one : d ≡ Single → at ≤ length words → ElementChosen words at d sums (Chosen 0 at)
+  pub chosen_one : d ≡ Single → at ≤ length words → ElementChosen words at d sums (Some record { element = 0; position = at })
   unfolding chosen_by_of choice_of next_of
   chosen_one e h = record { within = h; is = λ D r. sym (chosen_by D r.kind (drop at words) ∙ rw e) }
 
   -- a choice by what the kind comes to
-  chosen_as : {o : Choice} {a : Answer} → ((weights : List Float) → chosen_by_of d weights (drop at words) ≡ o) → Chose words o a
+  chosen_as : {o : Choice} {a : Option Chosen} → ((weights : List Float) → chosen_by_of d weights (drop at words) ≡ o) → Chose words o a
       → ElementChosen words at d sums a
   chosen_as e q = record { within = q.within; is = λ D r. q.is ∙ sym (chosen_by D r.kind (drop at words) ∙ e (weights_in D)) }
 
-  pub chosen_uniform : {a : Answer} (c : ℕ) → (d ≡ Single → ⊥) → ((t : Float) → d ≡ Weighted t → ⊥) → c ≡ bound_of d
+  pub chosen_uniform : {a : Option Chosen} (c : ℕ) → (d ≡ Single → ⊥) → ((t : Float) → d ≡ Weighted t → ⊥) → c ≡ bound_of d
       → Chose words (bounded c (drop at words)) a → ElementChosen words at d sums a
   chosen_uniform c one other b q = chosen_as (λ weights. chosen_bounded d c one other b weights (drop at words)) q
 
-  pub chosen_weighted : {a : Answer} (t : Float) → d ≡ Weighted t → Weighed words at sums a → ElementChosen words at d sums a
+  pub chosen_weighted : {a : Option Chosen} (t : Float) → d ≡ Weighted t → Weighed words at sums a → ElementChosen words at d sums a
   unfolding chosen_by_of
   chosen_weighted t e q =
       record {

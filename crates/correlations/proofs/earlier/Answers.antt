@@ -1,16 +1,12 @@
 -- `correlations::earlier` meets its contract. Assumes nothing.
 use Rattle.correlations.specs.Laws.Rounds.{earlier_first, earlier_second, earlier_least}
-use native.Mathlib.Omega.{arith}
 use Rattle.correlations.proofs.earlier.Goals as goal
 
-pub returns-then-a-eq0 : goal.returns-then-a-eq0
-returns-then-a-eq0 c = earlier_second _ _ c.if-a-eq0.true
+pub returns-in_default : goal.returns-in_default
+returns-in_default c = rw c.in_default.is (earlier_second _)
 
-pub returns-then-b-eq0 : goal.returns-then-b-eq0
-returns-then-b-eq0 c = earlier_first _ _ c.if-b-eq0.true
-
-pub returns-then-a-b : goal.returns-then-a-b
-returns-then-a-b c = earlier_least _ _ c.if-a-eq0.false c.if-b-eq0.false _ (omega arith)
+pub returns-in_default-b : goal.returns-in_default-b
+returns-in_default-b c = rw (c.in-Some.is, c.in_default-b.is) (earlier_first _)
 
 pub returns : goal.returns
-returns c = earlier_least _ _ c.if-a-eq0.false c.if-b-eq0.false _ (omega arith)
+returns c = rw (c.in-Some.is, c.in-Some-b.is) (earlier_least _ _ _ c.min.ensures)

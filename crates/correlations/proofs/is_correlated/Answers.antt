@@ -1,6 +1,5 @@
 -- `correlations::is_correlated` meets its contract. Assumes nothing.
 use mathlib.Core.Path.{sym, ap, ◌∙◌}
-use borrow.Author.Tests.{not-true, not-false}
 use Rattle.correlations.specs.Sizes.{present}
 use Rattle.correlations.specs.Laws.Sizes.{quiet_none, present_noise}
 use Rattle.correlations.proofs.is_correlated.Goals as goal

@@ -1,10 +1,12 @@
 -- `correlations::is_full` meets its contract. Assumes nothing.
-use mathlib.Core.Path.{sym}
-use borrow.Author.Tests.{not-true, not-false}
+use mathlib.Core.Path.{refl}
+use Rattle.correlations.specs.Rounds.{full_of}
 use Rattle.correlations.proofs.is_full.Goals as goal
 
-pub returns-then-not-l : goal.returns-then-not-l
-returns-then-not-l c = sym (rw (not-true c.args.l.fresh c.if-not-l.true))
+pub returns-in-Some : goal.returns-in-Some
+unfolding full_of
+returns-in-Some c = rw c.in-Some.is refl
 
-pub returns : goal.returns
-returns c = sym (rw (not-false c.args.l.fresh c.if-not-l.false))
+pub returns-in-None : goal.returns-in-None
+unfolding full_of
+returns-in-None c = rw c.in-None.is refl

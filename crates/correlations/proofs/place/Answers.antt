@@ -1,5 +1,6 @@
+use mathlib.Core.Path.{sym}
 use Prim.Native.Nat.{◌-◌}
-use Rattle.correlations.specs.Laws.Links.{remainder_below, sought_first, sought_here, sought_next, sought_end}
+use Rattle.correlations.specs.Laws.Links.{remainder_below, sought_first, sought_here, sought_next, sought_end, place_here, place_none}
 use native.Mathlib.Omega.{arith}
 use Rattle.correlations.proofs.place.Goals as goal
 
@@ -28,7 +29,9 @@ pub bounds-seen-i : goal.bounds-seen-i
 bounds-seen-i c = omega (arith, c.loop-link.invariant.within, c.loop-link-test.true)
 
 pub returns-then-seen-i : goal.returns-then-seen-i
-returns-then-seen-i c = sought_here c.requires _ (c.loop-link.link - 1) c.loop-link.invariant (omega (arith, c.loop-link-test.true)) c.if-seen-i.true
+returns-then-seen-i c =
+    let here = sought_here c.requires _ (c.loop-link.link - 1) c.loop-link.invariant (omega (arith, c.loop-link-test.true)) c.if-seen-i.true in
+    place_here here (omega (arith, c.loop-link.invariant.within, c.loop-link-test.true))
 
 pub overflow_add-link : goal.overflow_add-link
 overflow_add-link c = omega (arith, c.loop-link.invariant.within, c.requires.room)
@@ -46,4 +49,4 @@ pub loop-link-preserved : goal.loop-link-preserved
 loop-link-preserved c = sought_next c.requires _ (c.loop-link.link - 1) c.loop-link.invariant (omega (arith, c.loop-link-test.true)) c.if-seen-i.false
 
 pub returns : goal.returns
-returns c = sought_end c.requires _ c.loop-link.invariant c.loop-link-test.false
+returns c = place_none (sym (sought_end c.requires _ c.loop-link.invariant c.loop-link-test.false))

@@ -1,11 +1,11 @@
 -- Correlations that are found by their remainder. Laws. Assumes nothing.
-use Rattle.std.specs.Prelude.{ℕ, zero, suc, ◌+◌, ◌≤◌, ◌<◌, ◌^◌, ◌≡◌, refl, Bool, true, false, cond, List, [], ◌∷◌, ◌++◌, eqb, length, get_or, set, take, replicate}
+use Rattle.std.specs.Prelude.{ℕ, zero, suc, ◌+◌, ◌≤◌, ◌<◌, ◌^◌, ◌≡◌, refl, Bool, true, false, cond, List, [], ◌∷◌, ◌++◌, eqb, length, get_or, set, take, replicate, Some, None}
 use Rattle.std.proofs.Common.{add-one, arith, sym, ap, subst, ◌∙◌, eqb-true, length-append, length-set, get_or-set_same, get_or-set_other, take-suc-set, length-take-le}
 use Rattle.std.proofs.lemmas.Bool.{eqb-false}
 use Rattle.std.proofs.lemmas.List.{length-replicate, get_or-replicate, get_or_at}
 use Rattle.std.proofs.Math.ListN.{get_or-append}
 use Rattle.text.specs.Bytes.{until}
-use Rattle.correlations.specs.Links.{Unseen, remainder_of, Link, Linked, Table}
+use Rattle.correlations.specs.Links.{Unseen, PlaceOf, remainder_of, Link, Linked, Table}
 
 pub remainder_below : (c : ℕ) → remainder_of c < 4093
 unfolding remainder_of
@@ -78,6 +78,13 @@ module _ {seen links : List ℕ} (k : Linked seen links) (c : ℕ) where
 
   pub sought_end : {link : ℕ} → Sought c seen link → link ≡ 0 → length seen ≡ until c seen
   sought_end s e = sym (until_none c seen (λ i h g. omega (arith, s.last i h g)))
+
+-- where a search along the links ends
+pub place_here : {c : ℕ} {seen : List ℕ} {i : ℕ} → i ≡ until c seen → i < length seen → PlaceOf c seen (Some i)
+place_here {i = i} e h = record { found = λ j q. let same : i ≡ j = cc in (sym same ∙ e, omega arith); unseen = λ q. cc }
+
+pub place_none : {c : ℕ} {seen : List ℕ} → Unseen c seen → PlaceOf c seen None
+place_none u = record { found = λ j q. cc; unseen = λ q. u }
 
 -- ---- one more
 

@@ -1,5 +1,5 @@
 -- The check goes on from line to line, and from round to round. Laws. Assumes nothing.
-use Rattle.std.specs.Prelude.{ℕ, suc, ◌≤◌, min, Bool}
+use Rattle.std.specs.Prelude.{ℕ, suc, ◌≤◌, min, Bool, Option as Maybe, Some, None, Ok, Err}
 use Rattle.std.proofs.Common.{arith, ◌∙◌}
 use Rattle.std.proofs.Math.Path.{◌≡◌, refl, sym, ap}
 use Rattle.std.proofs.Math.Bool.{true, false, cond}
@@ -11,9 +11,7 @@ use Rattle.job.specs.Line.{Placed}
 use Rattle.job.specs.Grammar.{Written, read_line_of}
 use Rattle.job.specs.Job.{Gathered, gather, gathered}
 use Rattle.circuit.specs.Correlation.{Seen, seen_after, size_fits, correlation_of, said_size, first_differing_by, first_differing_of}
-use Rattle.instructions.specs.Lines.{numbered}
-use Rattle.instructions.specs.Laws.Lines.{numbered_some}
-use Rattle.correlations.specs.Sizes.{size_for, look_for, look_of, grown}
+use Rattle.correlations.specs.Sizes.{size_for, look_for, look_of, fitting, new_in, grown, line_in}
 use Rattle.correlations.specs.Rounds.{unlike, earliest}
 use Rattle.correlations.specs.Laws.Tables.{same_size, agrees_by, or_else, size_append, size_one}
 
@@ -56,25 +54,34 @@ seen_again seen c s t e d = size_append seen _ d ∙ go (eqb c d) refl (size_for
 -- ---- one line
 
 -- the check at a line, by what the table says of its correlation and size
-module _ (seen : List Seen) (s : ℕ) where
-  fits_for : (c : ℕ) (u : Option ℕ) → same_size u s ≡ (look_for c s u).fits
-  unfolding look_for same_size
+module _ (line : ℕ) (seen : List Seen) (s : ℕ) where
+  fits_for : (c : ℕ) (u : Option ℕ) → same_size u s ≡ fitting (look_for line c s u)
+  unfolding look_for same_size fitting
   fits_for c none = refl
-  fits_for c (some t) = refl
+  fits_for c (some t) = go (eqb t s)
+    where
+      go : (b : Bool) → b ≡ fitting (cond b (Ok None) (Err (record { line = line })))
+      go true = refl
+      go false = refl
 
-  pub look_fits : (o : Option ℕ) → size_fits seen o s ≡ (look_of seen o s).fits
-  unfolding look_of size_fits
+  none_new : (b : Bool) → new_in (cond b (Ok None) (Err (record { line = line }))) ≡ None
+  unfolding new_in
+  none_new true = refl
+  none_new false = refl
+
+  pub look_fits : (o : Option ℕ) → size_fits seen o s ≡ fitting (look_of line seen o s)
+  unfolding look_of size_fits fitting
   look_fits none = refl
   look_fits (some c) = fits_by seen c s ∙ fits_for c (size_for seen c)
 
   grown_for : (is : List Placed) (c : ℕ) (u : Option ℕ) → size_for seen c ≡ u
-      → first_differing_of (seen ++ record { correlation = c; size = s } ∷ []) is ≡ first_differing_of (grown seen (look_for c s u)) is
-  unfolding look_for
+      → first_differing_of (seen ++ record { correlation = c; size = s } ∷ []) is ≡ first_differing_of (grown seen (new_in (look_for line c s u))) is
+  unfolding look_for new_in grown
   grown_for is c none e = refl
-  grown_for is c (some t) e = differing_same (seen ++ record { correlation = c; size = s } ∷ []) seen is (seen_again seen c s t e)
+  grown_for is c (some t) e = rw (none_new (eqb t s)) (differing_same (seen ++ record { correlation = c; size = s } ∷ []) seen is (seen_again seen c s t e))
 
-  pub look_grown : (is : List Placed) (o : Option ℕ) → first_differing_of (seen_after seen o s) is ≡ first_differing_of (grown seen (look_of seen o s)) is
-  unfolding look_of seen_after
+  pub look_grown : (is : List Placed) (o : Option ℕ) → first_differing_of (seen_after seen o s) is ≡ first_differing_of (grown seen (new_in (look_of line seen o s))) is
+  unfolding look_of seen_after new_in grown
   look_grown is none = refl
   look_grown is (some c) = grown_for is c (size_for seen c) refl
 
@@ -221,17 +228,14 @@ earliest_assoc (some a) none c = refl
 earliest_assoc (some a) (some b) none = refl
 earliest_assoc (some a) (some b) (some c) = let e : min (min a b) c ≡ min a (min b c) = omega arith in ap some e
 
-module _ (a b : ℕ) where
-  pub earlier_second : a ≡ 0 → numbered b ≡ earliest (numbered a) (numbered b)
-  unfolding numbered earliest
-  earlier_second e = rw e
+pub earlier_second : (b : Maybe ℕ) → line_in b ≡ earliest (line_in None) (line_in b)
+unfolding line_in earliest
+earlier_second b = refl
 
-  pub earlier_first : b ≡ 0 → numbered a ≡ earliest (numbered a) (numbered b)
-  unfolding numbered
-  earlier_first e = rw e (sym (earliest_none (numbered a)))
+pub earlier_first : (a : ℕ) → line_in (Some a) ≡ earliest (line_in (Some a)) (line_in None)
+unfolding line_in earliest
+earlier_first a = refl
 
-  pub earlier_least : (a ≡ 0 → ⊥) → (b ≡ 0 → ⊥) → (m : ℕ) → m ≡ min a b → numbered m ≡ earliest (numbered a) (numbered b)
-  unfolding earliest
-  earlier_least h g m e =
-      let some-there : (m ≡ 0 → ⊥) = λ z. omega (arith, h, g) in
-      numbered_some m some-there ∙ rw (numbered_some a h, numbered_some b g, e)
+pub earlier_least : (a b m : ℕ) → m ≡ min a b → line_in (Some m) ≡ earliest (line_in (Some a)) (line_in (Some b))
+unfolding line_in earliest
+earlier_least a b m e = ap some e

@@ -37,8 +37,8 @@ inject_faults-drawn-requires c =
 
 pub position_after-requires : goal.position_after-requires
 position_after-requires c =
-    let small : length (c.args.main.now ++ c.args.more.now) < 2 ^ 64 = omega (arith, length-append c.args.main.now c.args.more.now, c.well_formed) in
-    all_fits c.args.place _ c.args.shape _ _ _ c.prepare-ready.ensures c.requires.2 _ (part_both _ _ c.args.main.now c.args.more.now _ _ _ (c.part-words.ensures _ refl refl) c.more_part-more_words.ensures) c.if-fault.false _ _ _ _ c.inject_faults-drawn.ensures small _ c.count.ensures
+    let small : length (c.args.draws.main.now ++ c.args.draws.more.now) < 2 ^ 64 = omega (arith, length-append c.args.draws.main.now c.args.draws.more.now, c.well_formed) in
+    all_fits c.args.place _ c.args.shape _ _ _ c.prepare-ready.ensures c.requires.2 _ (part_both _ _ c.args.draws.main.now c.args.draws.more.now _ _ _ (c.part-words.ensures _ refl refl) c.more_part-more_words.ensures) c.if-fault.false _ _ _ _ c.inject_faults-drawn.ensures small _ c.count.ensures
 
 pub shape_of-elements-in_default : goal.shape_of-elements-in_default
 shape_of-elements-in_default c = omega (arith, c.prepare-ready.auto, c.inject_faults-drawn.auto)
@@ -60,12 +60,12 @@ shape_of-z-in_default c = omega (arith, c.prepare-ready.auto, c.inject_faults-dr
 
 pub returns-in_default : goal.returns-in_default
 returns-in_default c =
-    noise_none _ _ _ _ _ _ c.prepare-ready.ensures c.requires.2 _ (part_both _ _ c.args.main.now c.args.more.now _ _ _ (c.part-words.ensures _ refl refl) c.more_part-more_words.ensures) c.if-fault.false _ _ _ _ c.inject_faults-drawn.ensures _ _ c.in_default.is c.count.ensures c.position_after.ensures
+    noise_none _ _ _ _ _ _ c.prepare-ready.ensures c.requires.2 _ (part_both _ _ c.args.draws.main.now c.args.draws.more.now _ _ _ (c.part-words.ensures _ refl refl) c.more_part-more_words.ensures) c.if-fault.false _ _ _ _ c.inject_faults-drawn.ensures _ _ c.in_default.is c.count.ensures c.position_after.ensures
 
 pub position_after-requires-2 : goal.position_after-requires-2
 position_after-requires-2 c =
-    let small : length (c.args.main.now ++ c.args.more.now) < 2 ^ 64 = omega (arith, length-append c.args.main.now c.args.more.now, c.well_formed) in
-    read_fits _ _ _ _ _ _ c.prepare-ready.ensures c.requires.2 _ (part_both _ _ c.args.main.now c.args.more.now _ _ _ (c.part-words.ensures _ refl refl) c.more_part-more_words.ensures) c.if-fault.false _ _ _ _ c.inject_faults-drawn.ensures c.requires.0 small _ c.in-Done.is
+    let small : length (c.args.draws.main.now ++ c.args.draws.more.now) < 2 ^ 64 = omega (arith, length-append c.args.draws.main.now c.args.draws.more.now, c.well_formed) in
+    read_fits _ _ _ _ _ _ c.prepare-ready.ensures c.requires.2 _ (part_both _ _ c.args.draws.main.now c.args.draws.more.now _ _ _ (c.part-words.ensures _ refl refl) c.more_part-more_words.ensures) c.if-fault.false _ _ _ _ c.inject_faults-drawn.ensures c.requires.0 small _ c.in-Some.is
 
 pub shape_of-elements : goal.shape_of-elements
 shape_of-elements c = omega (arith, c.prepare-ready.auto, c.inject_faults-drawn.auto)
@@ -87,4 +87,4 @@ shape_of-z c = omega (arith, c.prepare-ready.auto, c.inject_faults-drawn.auto)
 
 pub returns : goal.returns
 returns c =
-    noise_drawn _ _ _ _ _ _ c.prepare-ready.ensures c.requires.2 _ (part_both _ _ c.args.main.now c.args.more.now _ _ _ (c.part-words.ensures _ refl refl) c.more_part-more_words.ensures) c.if-fault.false _ _ _ _ c.inject_faults-drawn.ensures _ _ c.in-Done.is c.position_after-2.ensures
+    noise_drawn _ _ _ _ _ _ c.prepare-ready.ensures c.requires.2 _ (part_both _ _ c.args.draws.main.now c.args.draws.more.now _ _ _ (c.part-words.ensures _ refl refl) c.more_part-more_words.ensures) c.if-fault.false _ _ _ _ c.inject_faults-drawn.ensures _ _ c.in-Some.is c.position_after-2.ensures

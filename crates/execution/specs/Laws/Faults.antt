@@ -1,5 +1,5 @@
 -- The faults of a line, injected one after the other. Laws. Assumes nothing.
-use Rattle.std.specs.Prelude.{◌≡◌, List, ℕ, ◌+◌, ◌-◌, ◌*◌, ◌≤◌, drop, Float}
+use Rattle.std.specs.Prelude.{◌≡◌, Some, None, List, ℕ, ◌+◌, ◌-◌, ◌*◌, ◌≤◌, drop, Float}
 use Rattle.std.proofs.Math.Path.{sym}
 use Rattle.std.proofs.Common.{◌∙◌, arith}
 use Rattle.std.proofs.Math.Nat.{sub-zero}
@@ -14,7 +14,6 @@ use Rattle.shots.specs.declared.NextFault.TheVariants as next
 use Rattle.shots.specs.Shots.{FaultFound}
 use Rattle.faults.specs.Laws.Drawn.{size_some}
 use Rattle.shots.specs.Laws.Next.{done_within, injects_spent, injects_done, injects_at, at_below}
-use Rattle.execution.specs.declared.injection.Drawn.TheVariants.{Done, Spent}
 use Rattle.execution.specs.Holds.{Holds}
 use Rattle.execution.specs.Injected.{ElementReady, ElementInjected, LineReady, FaultsReady, executed_as, place_of, FaultsInjected}
 use Rattle.execution.specs.Laws.Holds.{holds_line}
@@ -33,7 +32,7 @@ module _ (qubits shots w : ℕ) (p : Float) (d : PauliDistribution) (sums : List
   module _ (x z : List ℕ) (at shot : ℕ) (before : shot ≤ shots) (fits : shots ≤ 64 * w) (r : NextFault)
       (found : FaultFound words at mask shot shots p d sums r) (going : Injecting x z at shot)
     where
-      pub injecting_spent : r ≡ next.Spent → FaultsInjected qubits shots w p d sums elements mask words x₀ z₀ x z Spent
+      pub injecting_spent : r ≡ next.Spent → FaultsInjected qubits shots w p d sums elements mask words x₀ z₀ x z None
       unfolding executed_as place_of
       injecting_spent e =
           record {
@@ -47,7 +46,7 @@ module _ (qubits shots w : ℕ) (p : Float) (d : PauliDistribution) (sums : List
                 };
           }
 
-      pub injecting_done : (i : ℕ) → r ≡ next.Done i → FaultsInjected qubits shots w p d sums elements mask words x₀ z₀ x z (Done i)
+      pub injecting_done : (i : ℕ) → r ≡ next.Done i → FaultsInjected qubits shots w p d sums elements mask words x₀ z₀ x z (Some i)
       unfolding executed_as place_of
       injecting_done i e =
           record {

@@ -1,5 +1,5 @@
 -- A noise instruction, made ready and injected. Laws. Assumes nothing.
-use Rattle.std.specs.Prelude.{◌≡◌, true, false, ℕ, suc, ◌+◌, ◌^◌, ◌<◌, ◌≤◌, Float, take, drop}
+use Rattle.std.specs.Prelude.{◌≡◌, Option, Some, None, Result, Ok, Err, true, false, ℕ, suc, ◌+◌, ◌^◌, ◌<◌, ◌≤◌, Float, take, drop}
 use Rattle.std.proofs.Math.Path.{ap}
 use Rattle.std.proofs.Common.{◌∙◌, arith}
 use mathlib.Core.List.{List, [], ◌∷◌}
@@ -12,32 +12,29 @@ use Rattle.job.specs.Float.{float, zero_float}
 use Rattle.job.specs.Job.{noise_of, placed_at}
 use Rattle.instructions.specs.declared.LineRead.{LineRead}
 use Rattle.instructions.specs.Ahead.{instructions_at}
-use Rattle.draws.specs.Draws.{Lent, part_of, main_after}
+use Rattle.draws.specs.Draws.{Lent, part_of}
 use Rattle.draws.specs.Left.{spent_on, left_spent}
 use Rattle.draws.proofs.Laws.Left.{left_went, left_stopped}
 use Rattle.draws.specs.Execute.{States, Executed, inject_shots, inject_noise, on_main, execute_one, Ended, execute_then, execute}
 use Rattle.rows.specs.declared.Shape.{Shape}
 use Rattle.propagator.specs.Acts.{state_of}
 use Rattle.noise.specs.declared.Place.{Place}
-use Rattle.noise.specs.declared.Correlation.{Correlation}
+use Rattle.std.specs.Prelude.{Option as Given}
 use Rattle.noise.specs.Kinds.{correlation_of}
 use Rattle.noise.specs.Words.{position_after_of}
 use Rattle.noise.specs.Laws.Position.{main_after_lem, main_stays, main_spent, position_within, position_fits}
 use Rattle.faults.specs.Elements.{AllInside}
 use Rattle.faults.specs.declared.Prepared.{Prepared}
 use Rattle.faults.specs.Prepared.{NoiseLines, noise_in, PreparedAs}
-use Rattle.execution.specs.declared.injection.Drawn.{Drawn}
-use Rattle.execution.specs.declared.injection.Drawn.TheVariants as drawn
 use Rattle.execution.specs.Holds.{Holds}
 use Rattle.execution.specs.Injected.{LineReady, FaultsReady, executed_as, place_of, Injected, FaultsInjected}
 use Rattle.execution.specs.Laws.Holds.{holds_some}
-use Rattle.execution.specs.declared.Moved.{Moved}
-use Rattle.execution.specs.declared.Moved.TheVariants.{To, Spent}
+use Rattle.execution.specs.declared.Spent.{Spent}
 use Rattle.execution.specs.Steps.{header_of, lent_by, Ending, ending_of, EndsBy, EndsAs, NoiseReady, NoiseRoom, NoiseDone}
 
 -- ---- what the noise comes to
 
-module _ (h : Header) (lent : Lent) (main : List ℕ) (n : Noise) (corr : Correlation) (same : correlation_of corr ≡ n.correlation) (position : ℕ) (states : States)
+module _ (h : Header) (lent : Lent) (main : List ℕ) (n : Noise) (corr : Given ℕ) (same : correlation_of corr ≡ n.correlation) (position : ℕ) (states : States)
   where
     abbrev one : Executed
     one = execute_one h lent (drop position main) (Instruction.noise n) states
@@ -90,7 +87,7 @@ module _ {job : List ℕ} (place : Place) (next : LineRead) {values noiseless : 
         → (x z : List ℕ) (position : ℕ) (t : States) → position ≤ length main → Holds shape.width x z deltas t
         → execute_one (header_of job shape) lent (drop place.position main) (Instruction.noise (noise_in q)) states ≡ Executed.done t (drop position main)
         → EndsAs job shape lent main comes (suc (length q.rest)) place.line x z deltas
-        (To (record { byte = r.behind; line = place.line + 1 + r.element_lines; position = position }))
+        (Ok (record { byte = r.behind; line = place.line + 1 + r.element_lines; position = position }))
     unfolding EndsBy
     noise_went {r = r} ready x z position t within holds e =
         let rest : instructions_at job (place.line + 1 + r.element_lines) r.behind ≡ q.rest = rw line at ready.instructions in
@@ -108,7 +105,7 @@ module _ {job : List ℕ} (place : Place) (next : LineRead) {values noiseless : 
 
     noise_spent : (x z : List ℕ) (position : ℕ) → position ≤ length main → drop position main ≡ spent_on (noise_in q).correlation (drop place.position main)
         → execute_one (header_of job shape) lent (drop place.position main) (Instruction.noise (noise_in q)) states ≡ Executed.spent
-        → EndsAs job shape lent main comes (suc (length q.rest)) place.line x z deltas (Spent position)
+        → EndsAs job shape lent main comes (suc (length q.rest)) place.line x z deltas (Err (record { position = position }))
     unfolding EndsBy
     noise_spent x z position within left e =
         let s = head_spent (header_of job shape) lent main (noise_in q) text q.rest place.line place.position states e in
@@ -169,14 +166,14 @@ module _ {job : List ℕ} (place : Place) (next : LineRead) {values noiseless : 
     lent = lent_by shape noiseless second base
 
     -- what is left after the noise line
-    abbrev Done : List ℕ → List ℕ → List ℕ → List ℕ → Moved → Type 0
+    abbrev Done : List ℕ → List ℕ → List ℕ → List ℕ → Result Place Spent → Type 0
     Done x z x' z' moved = NoiseDone job place next values shape noiseless main second base x z x' z' moved
 
     -- the place behind it, with this position
     abbrev behind : ℕ → Place
     behind position = record { byte = r.behind; line = place.line + 1 + r.element_lines; position = position }
 
-    pub noise_quiet : (x z : List ℕ) → le r.fault.probability zero_float ≡ true → Done x z x z (To (behind place.position))
+    pub noise_quiet : (x z : List ℕ) → le r.fault.probability zero_float ≡ true → Done x z x z (Ok (behind place.position))
     noise_quiet x z quiet =
         record {
           by = λ q same line text deltas states holds.
@@ -186,7 +183,7 @@ module _ {job : List ℕ} (place : Place) (next : LineRead) {values noiseless : 
         }
 
     module _ (words : List ℕ) (part : words ≡ part_of lent (correlation_of r.fault.correlation) (drop place.position main))
-        (some_words : le r.fault.probability zero_float ≡ false) (x z x' z' : List ℕ) {d : Drawn}
+        (some_words : le r.fault.probability zero_float ≡ false) (x z x' z' : List ℕ) {d : Option ℕ}
         (injected : FaultsInjected shape.qubits shape.shots shape.width r.fault.probability r.fault.distribution (take r.element_lines sums) elements mask words x z x' z' d)
       where
         left : (q : NoiseLines job (next.end + 1) next.form values noiseless shape.width) → q.header ≡ header_of job shape → (deltas : List ℕ) (states : States)
@@ -194,16 +191,16 @@ module _ {job : List ℕ} (place : Place) (next : LineRead) {values noiseless : 
             → Injected (inject_shots (header_of job shape) lent (noise_in q) shape.shots 0 words states) words shape.width x' z' deltas d
         left q same deltas states holds = injected.by _ shape.outcomes (noise_in q) lent (line_ready next shape prepared second base q same) deltas states holds
 
-        read_within : NoiseReady job place next values noiseless shape → (read : ℕ) → d ≡ drawn.Done read → read ≤ length words
+        read_within : NoiseReady job place next values noiseless shape → (read : ℕ) → d ≡ Some read → read ≤ length words
         unfolding place_of
         read_within ready read e = rw e at (left ready.lines ready.header [] (state_of shape.width x z []) (holds_some shape.width x z [])).within
 
-        pub read_fits : NoiseReady job place next values noiseless shape → length main < 2 ^ 64 → (read : ℕ) → d ≡ drawn.Done read
+        pub read_fits : NoiseReady job place next values noiseless shape → length main < 2 ^ 64 → (read : ℕ) → d ≡ Some read
             → correlation_of r.fault.correlation ≡ none → place.position + read < 2 ^ 64
         read_fits ready small read e = position_fits r.fault.correlation lent main place.position read within small (rw part at (read_within ready read e))
 
-        pub noise_drawn : (read position : ℕ) → d ≡ drawn.Done read → position ≡ position_after_of r.fault.correlation place.position read
-            → Done x z x' z' (To (behind position))
+        pub noise_drawn : (read position : ℕ) → d ≡ Some read → position ≡ position_after_of r.fault.correlation place.position read
+            → Done x z x' z' (Ok (behind position))
         unfolding place_of executed_as
         noise_drawn read position e after =
             record {
@@ -222,8 +219,8 @@ module _ {job : List ℕ} (place : Place) (next : LineRead) {values noiseless : 
         pub all_fits : length main < 2 ^ 64 → (read : ℕ) → read ≡ length words → correlation_of r.fault.correlation ≡ none → place.position + read < 2 ^ 64
         all_fits small read e = position_fits r.fault.correlation lent main place.position read within small (rw (← part) (omega (arith, e)))
 
-        pub noise_none : (read position : ℕ) → d ≡ drawn.Spent → read ≡ length words → position ≡ position_after_of r.fault.correlation place.position read
-            → Done x z x' z' (Spent position)
+        pub noise_none : (read position : ℕ) → d ≡ None → read ≡ length words → position ≡ position_after_of r.fault.correlation place.position read
+            → Done x z x' z' (Err (record { position = position }))
         unfolding executed_as
         noise_none read position e all after =
             record {

@@ -1,6 +1,6 @@
 -- One instruction, a line or noise. Laws. Assumes nothing.
 use Rattle.std.proofs.Math.Path.{refl}
-use Rattle.std.specs.Prelude.{List, ℕ, ◌+◌, ◌*◌, ◌≤◌, length, drop}
+use Rattle.std.specs.Prelude.{Result, Ok, List, ℕ, ◌+◌, ◌*◌, ◌≤◌, length, drop}
 use Rattle.std.proofs.Common.{arith}
 use Rattle.job.specs.Job.{job_of}
 use Rattle.instructions.specs.declared.LineRead.{LineRead}
@@ -17,8 +17,7 @@ use Rattle.instructions.specs.Plain.{Plain}
 use Rattle.lines.specs.Plain.{Ready, Obeyed}
 use Rattle.execution.specs.Holds.{Holds}
 use Rattle.execution.specs.Laws.Holds.{holds_line}
-use Rattle.execution.specs.declared.Moved.{Moved}
-use Rattle.execution.specs.declared.Moved.TheVariants.{To}
+use Rattle.execution.specs.declared.Spent.{Spent}
 use Rattle.execution.specs.Steps.{header_of, lent_by, RowsFor, ending_of, EndsBy, EndsAs, NoiseReady, NoiseDone}
 
 -- ---- a line
@@ -56,7 +55,7 @@ module _ {job : List ℕ} (shape : Shape) {recorded : ℕ} (place : Place) {next
         → Obeyed next.form values shape.width shape.qubits shape.outcomes x z d x' z' d' → (states : States) → Holds shape.width x z d states
         → EndsAs job shape lent main (ending_of (header_of job shape) lent (instructions_at job place.line place.byte) (drop place.position main) states)
         (length (instructions_at job place.line place.byte)) place.line x' z' d'
-        (To (record { byte = next.end + 1; line = place.line + 1; position = place.position }))
+        (Ok (record { byte = next.end + 1; line = place.line + 1; position = place.position }))
     unfolding EndsBy execute execute_then execute_one left_after left_then step_of
     plain_went lent main within x' z' d' obeyed states holds =
         record {
@@ -88,7 +87,7 @@ module _ {job : List ℕ} (shape : Shape) {recorded : ℕ} (place : Place) {next
     unfolding noise_lines
     noise_ready = record { lines = noise_lines read noiseless shape.width rows; header = refl; number = refl }
 
-    pub noise_done : {main second : List ℕ} {base : ℕ} {x z x' z' : List ℕ} {r : Moved}
+    pub noise_done : {main second : List ℕ} {base : ℕ} {x z x' z' : List ℕ} {r : Result Place Spent}
         → NoiseDone job place next values shape noiseless main second base x z x' z' r → (d : List ℕ) (states : States) → Holds shape.width x z d states
         → EndsAs job shape (lent_by shape noiseless second base) main
         (ending_of (header_of job shape) (lent_by shape noiseless second base) (instructions_at job place.line place.byte) (drop place.position main) states)

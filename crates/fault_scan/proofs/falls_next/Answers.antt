@@ -4,10 +4,10 @@ use Rattle.draws.specs.Draws.{falls}
 use Rattle.noise.specs.Laws.Words.{word_read}
 use Rattle.fault_scan.proofs.falls_next.Goals as goal
 
-pub returns-in-Word : goal.returns-in-Word
-returns-in-Word c =
+pub returns-in-Some : goal.returns-in-Some
+returns-in-Some c =
     let a = c.args in
-    λ yes. subst (λ (x : ℕ). falls x a.p ≡ true) (word_read c.next_word.ensures c.in-Word.is).1 (sym c.is_fault.ensures ∙ yes)
+    λ yes. subst (λ (x : ℕ). falls x a.p ≡ true) (word_read c.next_word.ensures c.in-Some.is).1 (sym c.is_fault.ensures ∙ yes)
 
-pub returns-in-Spent : goal.returns-in-Spent
-returns-in-Spent c = λ no. absurd (true≢false (sym no))
+pub returns-in-None : goal.returns-in-None
+returns-in-None c = λ no. absurd (true≢false (sym no))

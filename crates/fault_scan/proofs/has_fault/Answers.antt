@@ -1,30 +1,22 @@
-use Rattle.std.proofs.Common.{◌≡◌, ◌^◌, subst, arith, leb-false}
+use Rattle.std.proofs.Common.{◌≡◌, ℕ, ◌+◌, ◌-◌, ◌^◌, get_or, take, drop, ap, ◌∙◌, subst, arith, leb-false}
+use Rattle.std.proofs.lemmas.List.{get_or-take, get_or-drop}
+use Rattle.draws.specs.Draws.{falls}
 use Rattle.fault_scan.specs.Scan.{Quiet}
 use Rattle.fault_scan.specs.Laws.Scan.{seen_none, seen_next}
 use Rattle.fault_scan.proofs.has_fault.Goals as goal
 
-pub loop-i-init : goal.loop-i-init
-loop-i-init c = (omega arith, seen_none)
+pub loop-word-init : goal.loop-word-init
+loop-word-init c = (omega arith, seen_none)
 
-pub overflow_add-at : goal.overflow_add-at
-overflow_add-at c = omega arith
-
-pub offset_bounds-words-at : goal.offset_bounds-words-at
-offset_bounds-words-at c = omega arith
-
-pub bounds-words-at : goal.bounds-words-at
-bounds-words-at c = omega arith
-
-pub overflow_add-i : goal.overflow_add-i
-overflow_add-i c = omega arith
-
-pub loop-i-smaller : goal.loop-i-smaller
-loop-i-smaller c = omega arith
-
-pub loop-i-preserved : goal.loop-i-preserved
-loop-i-preserved c = (omega arith, seen_next c.difference-seen.result c.loop-i.invariant.1 c.difference-seen.ensures)
+pub loop-word-preserved : goal.loop-word-preserved
+loop-word-preserved c =
+    let a = c.args in
+    let i = c.loop-word.word-index in
+    let word : get_or (take (a.at + 8 - a.at) (drop a.at a.words.now)) i 0 ≡ get_or a.words.now (a.at + i) 0 =
+    get_or-take _ _ i 0 (omega arith) ∙ get_or-drop a.at a.words.now i 0 in
+    (omega arith, seen_next c.difference-seen.result c.loop-word.invariant.1 (λ p e. c.difference-seen.ensures p e ∙ ap (λ (x : ℕ). falls x p) word))
 
 pub returns : goal.returns
 returns c = λ no p e.
-    let all : c.loop-i.i ≡ 8 = omega arith in
-    subst (Quiet p _ _) all (c.loop-i.invariant.1.quiet (leb-false (2 ^ 63) c.loop-i.seen no) p e)
+    let all : c.loop-word.word-index ≡ 8 = omega arith in
+    subst (Quiet p _ _) all (c.loop-word.invariant.1.quiet (leb-false (2 ^ 63) c.loop-word.seen no) p e)

@@ -1,5 +1,6 @@
 use Rattle.std.proofs.Common.{◌≡◌, ℕ, true, false, sym, ◌∙◌, subst, arith, length-append}
 use Rattle.draws.specs.Draws.{falls}
+use Rattle.fault_scan.specs.Scan.{Quiet}
 use Rattle.fault_scan.specs.Laws.Scan.{quiet_none, quiet_more}
 use Rattle.fault_scan.proofs.pass_near.Goals as goal
 
@@ -10,9 +11,6 @@ pub overflow_add-at : goal.overflow_add-at
 overflow_add-at c =
     record { fits = omega (arith, length-append c.args.words.now c.args.more.now, c.well_formed) }
 
-pub word_at-requires : goal.word_at-requires
-word_at-requires c = omega arith
-
 pub returns-then-is_fault : goal.returns-then-is_fault
 returns-then-is_fault c =
     let a = c.args in
@@ -21,12 +19,6 @@ returns-then-is_fault c =
       quiet = c.loop-i.invariant.1;
       falling = λ l. subst (λ (x : ℕ). falls x a.p ≡ true) c.word_at.ensures (sym c.is_fault.ensures ∙ c.if-is_fault.true);
     }
-
-pub overflow_add-i : goal.overflow_add-i
-overflow_add-i c = omega arith
-
-pub loop-i-smaller : goal.loop-i-smaller
-loop-i-smaller c = omega arith
 
 pub loop-i-preserved : goal.loop-i-preserved
 loop-i-preserved c =
@@ -37,4 +29,6 @@ loop-i-preserved c =
     )
 
 pub returns : goal.returns
-returns c = record { within = c.loop-i.invariant.0; quiet = c.loop-i.invariant.1; falling = λ l. absurd (omega arith) }
+returns c =
+    let all : c.loop-i.i ≡ c.args.n = omega arith in
+    record { within = omega arith; quiet = subst (Quiet c.args.p _ c.args.at) all c.loop-i.invariant.1; falling = λ l. absurd (omega arith) }

@@ -4,6 +4,3 @@ use Rattle.fault_scan.proofs.quiet_start.Given as goal
 
 abbrev pub invariant-loop-i : goal.invariant-loop-i
 invariant-loop-i l = Before l.threshold l.words l.at l.i l.first
-
-abbrev pub decreases-loop-i : goal.decreases-loop-i
-decreases-loop-i l = l.i

@@ -4,28 +4,18 @@ use Prim.Native.Nat.{ℕ, ◌*◌}
 use mathlib.Core.Path.{sym, ◌∙◌}
 use lib.ListN.{take, drop, replicate, length-append}
 use lib.Seq.{length-take-le}
-use borrow.Author.Tests.{not-true, not-false}
 use Rattle.writer.specs.Laws.Fits.{room_for}
 use Rattle.fault_table.specs.Laws.Replies.{wide_reply, long_reply, zeros_taken, startable, started_length, started_ready, done_reply}
 use Rattle.fault_table.proofs.table_accepted.Goals as goal
 
-pub measure-m-requires : goal.measure-m-requires
-measure-m-requires c = (c.requires.passes, c.requires.few)
-
-pub refusal-requires : goal.refusal-requires
-refusal-requires c = tt
-
-pub returns-then-m-ne0 : goal.returns-then-m-ne0
-returns-then-m-ne0 c = λ q. rw c.refusal.ensures (wide_reply q c.measure-m.ensures _ c.if-m-ne0.true)
+pub returns-in-Err : goal.returns-in-Err
+returns-in-Err c = λ q. rw c.refusal.ensures (wide_reply q c.in-Err.ensures _)
 
 pub text_fits-requires : goal.text_fits-requires
 text_fits-requires c = tt
 
-pub refusal-requires-then-not-text_fits : goal.refusal-requires-then-not-text_fits
-refusal-requires-then-not-text_fits c = tt
-
 pub returns-then-not-text_fits : goal.returns-then-not-text_fits
-returns-then-not-text_fits c = λ q. rw c.refusal-then-not-text_fits.ensures (long_reply q c.measure-m.ensures _ c.if-m-ne0.false (sym c.text_fits.ensures ∙ c.if-not-text_fits.true))
+returns-then-not-text_fits c = λ q. rw c.refusal-then-not-text_fits.ensures (long_reply q c.in-Ok.ensures _ (sym c.text_fits.ensures ∙ c.if-not-text_fits.true))
 
 pub overflow_mul-end : goal.overflow_mul-end
 overflow_mul-end c = omega (arith, c.requires.few)
@@ -53,10 +43,10 @@ slice_bounds-words-end-2 c =
     omega (arith, long, length-append c.start.new.state (drop n zeros))
 
 pub slice_bounds-put_table-end-3 : goal.slice_bounds-put_table-end-3
-slice_bounds-put_table-end-3 c = sym (started_length c.requires c.measure-m.ensures c.if-m-ne0.false c.args.out.now (take (c.args.groups * 24) (replicate 384 0)) c.start.new.state (drop (c.args.groups * 24) (replicate 384 0)) (zeros_taken c.requires (c.args.groups * 24) (omega (arith, c.requires.few))) c.start.ensures c.start.auto.state (sym c.text_fits.ensures ∙ c.if-not-text_fits.false))
+slice_bounds-put_table-end-3 c = sym (started_length c.requires c.in-Ok.ensures c.args.out.now (take (c.args.groups * 24) (replicate 384 0)) c.start.new.state (drop (c.args.groups * 24) (replicate 384 0)) (zeros_taken c.requires (c.args.groups * 24) (omega (arith, c.requires.few))) c.start.ensures c.start.auto.state (sym c.text_fits.ensures ∙ c.if-not-text_fits.false))
 
 pub put_table-requires : goal.put_table-requires
-put_table-requires c = started_ready c.requires c.measure-m.ensures c.if-m-ne0.false c.args.out.now (take (c.args.groups * 24) (replicate 384 0)) c.start.new.state (drop (c.args.groups * 24) (replicate 384 0)) (zeros_taken c.requires (c.args.groups * 24) (omega (arith, c.requires.few))) c.start.ensures c.start.auto.state (sym c.text_fits.ensures ∙ c.if-not-text_fits.false)
+put_table-requires c = started_ready c.requires c.in-Ok.ensures c.args.out.now (take (c.args.groups * 24) (replicate 384 0)) c.start.new.state (drop (c.args.groups * 24) (replicate 384 0)) (zeros_taken c.requires (c.args.groups * 24) (omega (arith, c.requires.few))) c.start.ensures c.start.auto.state (sym c.text_fits.ensures ∙ c.if-not-text_fits.false)
 
 pub returns : goal.returns
-returns c = λ q. done_reply q c.measure-m.ensures c.if-m-ne0.false c.args.out.now (take (c.args.groups * 24) (replicate 384 0)) c.start.new.state (drop (c.args.groups * 24) (replicate 384 0)) (zeros_taken q (c.args.groups * 24) (omega (arith, c.requires.few))) c.start.ensures c.start.auto.state (sym c.text_fits.ensures ∙ c.if-not-text_fits.false) c.put_table.new.out c.put_table.ensures
+returns c = λ q. done_reply q c.in-Ok.ensures c.args.out.now (take (c.args.groups * 24) (replicate 384 0)) c.start.new.state (drop (c.args.groups * 24) (replicate 384 0)) (zeros_taken q (c.args.groups * 24) (omega (arith, c.requires.few))) c.start.ensures c.start.auto.state (sym c.text_fits.ensures ∙ c.if-not-text_fits.false) c.put_table.new.out c.put_table.ensures

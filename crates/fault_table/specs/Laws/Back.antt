@@ -1,9 +1,9 @@
 -- Lines back for groups. Laws. Assumes nothing.
 use Prim.Native.Nat.{ℕ, zero, suc, ◌+◌, ◌-◌, ◌*◌, ◌≤◌, ◌<◌}
 use native.Mathlib.Omega.{arith}
-use Rattle.std.specs.Prelude.{◌≡◌, Bool, true, false, length, get_or, set, take}
+use Rattle.std.specs.Prelude.{◌≡◌, Bool, true, false, length, get_or, set, take, None}
 use Rattle.std.proofs.Math.Path.{refl, sym, ap, ap₂}
-use Rattle.std.proofs.Common.{subst, ◌∙◌, true≢false, length-drop, drop_at, take-add, take_all, length-take-le}
+use Rattle.std.proofs.Common.{subst, ◌∙◌, true≢false, length-drop, take_at, drop_at, take-add, take_all, length-take-le}
 use Rattle.std.proofs.Math.Bool.{cond}
 use mathlib.Core.List.{List, [], ◌∷◌, ◌++◌, map, append-nil}
 use Rattle.std.proofs.Math.Option.{some}
@@ -71,14 +71,6 @@ groups_still {form} {words} {n} {state} s =
 
 -- ---- the words of one group
 
-four : (l : List ℕ) → length l ≡ 4 → get_or l 0 0 ∷ get_or l 1 0 ∷ get_or l 2 0 ∷ get_or l 3 0 ∷ [] ≡ l
-four (a ∷ b ∷ c ∷ d ∷ []) e = refl
-four [] e = absurd (omega arith)
-four (a ∷ []) e = absurd (omega arith)
-four (a ∷ b ∷ []) e = absurd (omega arith)
-four (a ∷ b ∷ c ∷ []) e = absurd (omega arith)
-four (a ∷ b ∷ c ∷ d ∷ f ∷ l) e = absurd (omega arith)
-
 eight : (l : List ℕ) → 8 ≤ length l
     → (take 4 l ≡ get_or l 0 0 ∷ get_or l 1 0 ∷ get_or l 2 0 ∷ get_or l 3 0 ∷ []) × (take 4 (drop 4 l) ≡ get_or l 4 0 ∷ get_or l 5 0 ∷ get_or l 6 0 ∷ get_or l 7 0 ∷ [])
 eight (a ∷ b ∷ c ∷ d ∷ e ∷ f ∷ g ∷ h ∷ l) long = (refl, refl)
@@ -101,30 +93,23 @@ unfolding carried_in
 observable_in l long =
     let (x, z) = eight l (omega arith) in ap₂ (λ (a b : List ℕ). record { x = in_set a; z = in_set b }) (sym x) (sym z)
 
--- eight words written one after the other
-abbrev pub words_set : List ℕ → List ℕ → List ℕ → List ℕ
-words_set l x z =
-    set (set (set (set (set (set (set (set l 0 (get_or x 0 0)) 1 (get_or x 1 0)) 2 (get_or x 2 0)) 3 (get_or x 3 0)) 4 (get_or z 0 0)) 5 (get_or z 1 0)) 6 (get_or z 2 0)) 7 (get_or z 3 0)
-
-words_set_lem : (l x z : List ℕ) → 8 ≤ length l
-    → words_set l x z
-    ≡ get_or x 0 0 ∷ get_or x 1 0 ∷ get_or x 2 0 ∷ get_or x 3 0 ∷ get_or z 0 0 ∷ get_or z 1 0 ∷ get_or z 2 0 ∷ get_or z 3 0 ∷ drop 8 l
-words_set_lem (a ∷ b ∷ c ∷ d ∷ e ∷ f ∷ g ∷ h ∷ l) x z long = refl
-words_set_lem [] x z long = absurd (omega arith)
-words_set_lem (a ∷ []) x z long = absurd (omega arith)
-words_set_lem (a ∷ b ∷ []) x z long = absurd (omega arith)
-words_set_lem (a ∷ b ∷ c ∷ []) x z long = absurd (omega arith)
-words_set_lem (a ∷ b ∷ c ∷ d ∷ []) x z long = absurd (omega arith)
-words_set_lem (a ∷ b ∷ c ∷ d ∷ e ∷ []) x z long = absurd (omega arith)
-words_set_lem (a ∷ b ∷ c ∷ d ∷ e ∷ f ∷ []) x z long = absurd (omega arith)
-words_set_lem (a ∷ b ∷ c ∷ d ∷ e ∷ f ∷ g ∷ []) x z long = absurd (omega arith)
-
-pub kept_in : (l x z : List ℕ) → length l ≡ 24 → length x ≡ 4 → length z ≡ 4
-    → carried_in (words_set l x z) ≡ record { observable = record { x = in_set x; z = in_set z }; set = (carried_in l).set }
+-- four words put in front, and four behind them
+pub kept_in : (l x z : List ℕ) → length x ≡ 4 → length z ≡ 4
+    → carried_in (take 4 (x ++ drop 4 l) ++ (z ++ drop 4 (drop 4 (x ++ drop 4 l)))) ≡ record { observable = record { x = in_set x; z = in_set z }; set = (carried_in l).set }
 unfolding carried_in
-kept_in l x z long wide deep =
-    ap carried_in (words_set_lem l x z (omega arith))
-    ∙ ap₂ (λ (a b : List ℕ). record { observable = record { x = in_set a; z = in_set b }; set = in_set (drop 8 l) }) (four x wide) (four z deep)
+kept_in l x z wide deep =
+    let rest : List ℕ = drop 8 l in
+    let words : List ℕ = x ++ (z ++ rest) in
+    let front : take 4 (x ++ drop 4 l) ≡ x = take_at x (drop 4 l) 4 wide in
+    let back : drop 4 (x ++ drop 4 l) ≡ drop 4 l = drop_at x (drop 4 l) 4 wide in
+    let all : take 4 (x ++ drop 4 l) ++ (z ++ drop 4 (drop 4 (x ++ drop 4 l))) ≡ words
+    = ap₂ (λ (a b : List ℕ). a ++ (z ++ drop 4 b)) front back ∙ ap (λ (r : List ℕ). x ++ (z ++ r)) (drop-drop 4 4 l) in
+    let behind : drop 4 words ≡ z ++ rest = drop_at x (z ++ rest) 4 wide in
+    let second : take 4 (drop 4 words) ≡ z = ap (take 4) behind ∙ take_at z rest 4 deep in
+    let last : drop 8 words ≡ rest = sym (drop-drop 4 4 words) ∙ ap (drop 4) behind ∙ drop_at z rest 4 deep in
+    ap carried_in all
+    ∙ ap₂ (λ (a b : List ℕ). record { observable = record { x = in_set a; z = in_set b }; set = in_set (drop 8 words) }) (take_at x (z ++ rest) 4 wide) second
+    ∙ ap (λ (r : List ℕ). record { observable = record { x = in_set x; z = in_set z }; set = in_set r }) last
 
 -- ---- one line for one group
 
@@ -153,7 +138,7 @@ pub gate_goes : {words before after : List ℕ} (b r : PauliWords) → length be
     → carried_in after ≡ record { observable = as_pauli r; set = (carried_in before).set } → GroupBack form.Unitary words before after
 unfolding carried_in acts
 gate_goes {words} {before} {after} b r long is back last =
-    line_goes {number = 0} (record { observable = b; count = 0; noise = 0 }) (record { observable = r; count = 0; noise = 0 }) (drop 8 before) (drop 8 before)
+    line_goes {number = 0} (record { observable = b; count = 0; noise = None }) (record { observable = r; count = 0; noise = None }) (drop 8 before) (drop 8 before)
     (ap (λ (B : Pauli). record { observable = B; set = in_set (drop 8 before) }) is)
     (acted_as refl refl (back 0 (in_set (drop 8 before))) (omega (arith, length-drop 8 before)) refl)
     last
@@ -163,7 +148,7 @@ group_as {words = words} {before = before} {after = after} e b = subst (λ (g : 
 
 -- any line, on the words of the observable and on those of the set
 pub any_goes : {form : Form} {words before after set' : List ℕ} (b : PauliWords) (w' : WalkWords) → length before ≡ 24 → as_pauli b ≡ (carried_in before).observable
-    → LineBack form words 0 0 (record { observable = b; count = 0; noise = 0 }) w' (take (length before - 8) (drop 8 before)) set'
+    → LineBack form words 0 0 (record { observable = b; count = 0; noise = None }) w' (take (length before - 8) (drop 8 before)) set'
     → carried_in after
     ≡ record { observable = as_pauli w'.observable; set = (carried_in (take 8 before ++ (set' ++ drop (length before - 8) (drop 8 before)))).set }
     → GroupBack form words before after
@@ -175,7 +160,7 @@ any_goes {before = before} {set' = set'} b w' long is back last =
     drop_at (take 8 before) (set' ++ drop (length before - 8) (drop 8 before)) 8 (length-take-le 8 before (omega arith))
     ∙ ap (λ (l : List ℕ). set' ++ l) none
     ∙ append-nil set' in
-    line_goes (record { observable = b; count = 0; noise = 0 }) w' (take (length before - 8) (drop 8 before)) set'
+    line_goes (record { observable = b; count = 0; noise = None }) w' (take (length before - 8) (drop 8 before)) set'
     (ap₂ (λ (B : Pauli) (l : List ℕ). record { observable = B; set = in_set l }) is whole)
     back
     (last ∙ ap (λ (l : List ℕ). record { observable = as_pauli w'.observable; set = in_set l }) left)

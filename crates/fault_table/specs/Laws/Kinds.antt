@@ -1,6 +1,6 @@
 -- Noise lines by their forms. Laws. Assumes nothing.
 use Rattle.std.specs.Prelude.{ℕ, zero, suc, ◌+◌, ◌-◌, ◌^◌, ◌≤◌, ◌<◌, ◌≡◌, Bool, true, leb, ltb, length, get_or}
-use Rattle.std.proofs.Common.{arith, ap₂, subst, ◌∙◌}
+use Rattle.std.proofs.Common.{◌⊎◌, inl, inr, arith, ap₂, subst, ◌∙◌}
 use Rattle.std.proofs.Math.Path.{refl, sym, ap}
 use Rattle.std.proofs.Math.Bool.{false}
 use mathlib.Core.List.{List, [], ◌∷◌, map}
@@ -262,14 +262,18 @@ module _ {f : Form} {words state : List ℕ} {groups : ℕ} {kept : List ℕ} {l
         }
 
   module _ {r : ℕ} (size : (vs : List Value) (n : NoiseLine) → Said f words vs (Written.noise n) → r ≡ n.size) where
-    pub listed_uniform : f ≡ form.Uniform → Listed r
+    listed_uniform : f ≡ form.Uniform → Listed r
     unfolding distribution_of size_of element_at DistributionSound
     listed_uniform e =
         listed (of_uniform e) (as_many q.elements) (element_in q.elements) (omega (arith, as_many q.elements, (of_sound (of_uniform e)).few)) size
 
-    pub listed_weighted : f ≡ form.Weighted → Listed r
+    listed_weighted : f ≡ form.Weighted → Listed r
     unfolding distribution_of size_of element_at DistributionSound
     listed_weighted e = listed (of_weighted e) refl (element_in q.elements) (of_sound (of_weighted e)).few size
+
+    pub listed_either : ◌⊎◌ (f ≡ form.Uniform) (f ≡ form.Weighted) → Listed r
+    listed_either (inl e) = listed_uniform e
+    listed_either (inr e) = listed_weighted e
 
   -- ---- other lines
 

@@ -1,5 +1,5 @@
 -- The lent list, group after group. Laws. Assumes nothing.
-use Rattle.std.specs.Prelude.{ℕ, zero, suc, ◌+◌, ◌≤◌, ◌<◌, ◌≡◌, Bool, true, false, ◌&&◌, List, [], ◌∷◌, leb, length, get_or, take, drop}
+use Rattle.std.specs.Prelude.{ℕ, zero, suc, ◌+◌, ◌≤◌, ◌<◌, ◌≡◌, Bool, true, false, ◌&&◌, List, [], ◌∷◌, leb, length, get_or, take, drop, Some, None}
 use Rattle.std.proofs.Common.{arith, sym, ◌∙◌, leb-true, leb-false, drop_of_length-le, length-drop, drop-drop}
 use Rattle.std.proofs.Math.Path.{refl, ap}
 use Rattle.std.proofs.Math.Bool.{cond}
@@ -8,7 +8,6 @@ use Rattle.text.proofs.Laws.Pieces.{step}
 use Rattle.pauli.proofs.Laws.F2.{&&_false}
 use Rattle.job.specs.Checks.{all_below}
 use Rattle.single_faults.specs.Groups.{Groups, with_id, id_before, empty_before, group_of, groups_of, all_recorded}
-use Rattle.fault_table.specs.declared.groups.Tested.TheVariants as tested
 use Rattle.fault_table.specs.Lent.{grouping_of}
 
 -- a group in front of others
@@ -87,7 +86,7 @@ next_group list at rest inside e = go (leb (behind_at list at) (length list)) re
     go false t = absurd (no_whole (sym (groups_cut list at inside (leb-false (behind_at list at) (length list) t)) ∙ e))
 
 module _ (r n : ℕ) (g : List ℕ) where
-  pub refused_by : (gs : Groups) → (is_rising_of g && all_below r g) ≡ false → grouping_of r n (group_before g gs) ≡ tested.Refused
+  pub refused_by : (gs : Groups) → (is_rising_of g && all_below r g) ≡ false → grouping_of r n (group_before g gs) ≡ None
   unfolding group_before grouping_of all_recorded
   refused_by Groups.cut_short e = refl
   refused_by (Groups.whole gs) e = rw e refl
@@ -95,7 +94,7 @@ module _ (r n : ℕ) (g : List ℕ) where
   pub one_more : (gs : Groups) → is_rising_of g ≡ true → all_below r g ≡ true → grouping_of r n (group_before g gs) ≡ grouping_of r (n + 1) gs
   unfolding group_before grouping_of all_recorded
   one_more Groups.cut_short e f = refl
-  one_more (Groups.whole gs) e f = rw (e, f) (ap (λ (m : ℕ). cond (all_recorded r gs) (tested.Count m) tested.Refused) (omega arith))
+  one_more (Groups.whole gs) e f = rw (e, f) (ap (λ (m : ℕ). cond (all_recorded r gs) (Some m) None) (omega arith))
 
 pub unrisen : (r : ℕ) (g : List ℕ) → is_rising_of g ≡ false → (is_rising_of g && all_below r g) ≡ false
 unrisen r g e = rw e refl
@@ -103,10 +102,10 @@ unrisen r g e = rw e refl
 pub unrecorded : (r : ℕ) (g : List ℕ) → all_below r g ≡ false → (is_rising_of g && all_below r g) ≡ false
 unrecorded r g e = rw e (&&_false (is_rising_of g))
 
-pub no_groups : (r n : ℕ) (list : List ℕ) (at : ℕ) → length list ≤ at → grouping_of r n (groups_of (drop at list)) ≡ tested.Count n
+pub no_groups : (r n : ℕ) (list : List ℕ) (at : ℕ) → length list ≤ at → grouping_of r n (groups_of (drop at list)) ≡ Some n
 unfolding groups_of grouping_of all_recorded
-no_groups r n list at h = rw (drop_of_length-le list h) (ap tested.Count (omega arith))
+no_groups r n list at h = rw (drop_of_length-le list h) (ap Some (omega arith))
 
-pub cut_refused : (r n : ℕ) → grouping_of r n Groups.cut_short ≡ tested.Refused
+pub cut_refused : (r n : ℕ) → grouping_of r n Groups.cut_short ≡ None
 unfolding grouping_of
 cut_refused r n = refl

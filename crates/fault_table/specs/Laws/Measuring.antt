@@ -1,10 +1,10 @@
 -- The bytes of the table, line after line. Laws. Assumes nothing.
-use Rattle.std.specs.Prelude.{ℕ, suc, ◌+◌, ◌*◌, ◌≤◌, ◌≡◌, refl, Bool, true, false, length, drop}
+use Rattle.std.specs.Prelude.{ℕ, suc, ◌+◌, ◌*◌, ◌≤◌, ◌≡◌, refl, Bool, true, false, length, drop, Ok, Err}
 use Rattle.std.proofs.Common.{add-one, sym, ◌∙◌, true≢false, drop_of_length-le}
 use native.Mathlib.Omega.{arith}
 use Rattle.std.proofs.Math.Path.{ap, subst}
 use mathlib.Core.List.{List, [], ◌++◌}
-use Rattle.std.proofs.Math.Option.{Option, none, some}
+use Rattle.std.proofs.Math.Option.{Option, some}
 use Rattle.text.specs.Bytes.{pieces, lines}
 use Rattle.text.specs.Template.{Value}
 use Rattle.job.specs.Line.{Placed}
@@ -16,15 +16,15 @@ use Rattle.reader.specs.Parsed.{Said}
 use Rattle.instructions.specs.declared.LineRead.{LineRead}
 use Rattle.instructions.specs.Reading.{line_at, NextLine, noise_form}
 use Rattle.instructions.specs.Ahead.{instructions_at}
-use Rattle.instructions.specs.Lines.{Left, numbered}
+use Rattle.instructions.specs.Lines.{Left}
 use Rattle.instructions.specs.Laws.Meaning.{Meaning, meaning}
-use Rattle.instructions.specs.Laws.Lines.{numbered_some, here, line_read, left_all, left_more}
+use Rattle.instructions.specs.Laws.Lines.{here, line_read, left_all, left_more}
 use Rattle.lines_back.specs.Laws.Forms.{noise_written}
 use Rattle.single_faults.specs.Table.{first_wide}
 use Rattle.fault_table.specs.Rows.{rows_bytes}
 use Rattle.fault_table.specs.Laws.Putting.{rows_small}
 use Rattle.fault_table.specs.Said.{wide_said, size_said}
-use Rattle.fault_table.specs.Table.{table_bytes, Measures}
+use Rattle.fault_table.specs.Table.{table_bytes, wide_line, Measures}
 use Rattle.fault_table.specs.Laws.Lines.{said_bytes, said_wide, said_split, noise_small}
 
 -- ---- one line's bytes
@@ -93,13 +93,13 @@ module _ (job : List ℕ) (passes : (check_job job).number ≡ 0) (groups : ℕ)
         small = omega arith;
       }
 
-  pub measure_ends : {k at bytes : ℕ} → Measuring job groups k at bytes → length job ≤ at → Measures job groups (record { wide = 0; bytes = bytes })
-  unfolding instructions_at pieces gathered table_bytes first_wide numbered
+  pub measure_ends : {k at bytes : ℕ} → Measuring job groups k at bytes → length job ≤ at → Measures job groups (Ok bytes)
+  unfolding instructions_at pieces gathered table_bytes first_wide wide_line
   measure_ends {k} {at} {bytes} g h =
       let none : lines (drop at job) ≡ [] = ap lines (drop_of_length-le job h) in
       record {
         wide = g.wide ∙ ap (λ (ls : List (List ℕ)). first_wide (gathered k ls).instructions) none;
-        bytes = λ z. let c = subst (λ (ls : List (List ℕ)). bytes + table_bytes groups (gathered k ls).instructions ≡ table_bytes groups (job_of job).instructions) none g.count in omega (arith, c);
+        bytes = λ n z. let same : bytes ≡ n = cc in let c = subst (λ (ls : List (List ℕ)). bytes + table_bytes groups (gathered k ls).instructions ≡ table_bytes groups (job_of job).instructions) none g.count in omega (arith, c, same);
       }
 
   module _ {k at bytes : ℕ} (g : Measuring job groups k at bytes) {next : LineRead} {fields : List ℕ} (n : NextLine job at next fields) where
@@ -119,13 +119,13 @@ module _ (job : List ℕ) (passes : (check_job job).number ≡ 0) (groups : ℕ)
         ∙ ap (λ (o : Option Written). (gather k text o behind).instructions) (here g.left n).reads
 
     module _ {b : Bool} (is : (vs : List Value) (w : Written) → Said next.form fields vs w → b ≡ wide_said w) where
-      pub measure_wide : b ≡ true → Measures job groups (record { wide = k; bytes = 0 })
+      pub measure_wide : b ≡ true → Measures job groups (Err (record { line = k }))
+      unfolding wide_line
       measure_wide e =
           let wide : wide_said said ≡ true = sym (is _ said (line_read g.left n).said) ∙ e in
-          let positive : k ≡ 0 → ⊥ = λ z. omega (arith, g.left.first) in
           record {
-            wide = g.wide ∙ ap first_wide from_here ∙ said_wide k text behind said ∙ rw wide (sym (numbered_some k positive));
-            bytes = λ z. absurd (positive z);
+            wide = g.wide ∙ ap first_wide from_here ∙ said_wide k text behind said ∙ rw wide refl;
+            bytes = λ n z. cc;
           }
 
       module _ (e : b ≡ false) where

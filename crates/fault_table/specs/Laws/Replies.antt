@@ -1,5 +1,5 @@
 -- The replies of the call. Laws. Assumes nothing.
-use Rattle.std.specs.Prelude.{ℕ, suc, ◌+◌, ◌-◌, ◌*◌, ◌≤◌, ◌<◌, ◌≡◌, Bool, ◌&&◌, leb, take, drop, replicate}
+use Rattle.std.specs.Prelude.{ℕ, suc, ◌+◌, ◌-◌, ◌*◌, ◌≤◌, ◌<◌, ◌≡◌, Bool, ◌&&◌, leb, take, drop, replicate, Option, Some, None, Ok, Err}
 use Rattle.std.proofs.Common.{zero-add, ◌∙◌, take_at, length-take-le}
 use native.Mathlib.Omega.{arith}
 use Rattle.std.proofs.Math.Path.{refl, sym, ap}
@@ -20,8 +20,6 @@ use Rattle.job.specs.Sound.{Every, SizeSaid}
 use Rattle.job.proofs.Theorems.{checked_sound}
 use Rattle.job.proofs.Laws.Gather.{sizes_said}
 use Rattle.writer.specs.Laws.Fits.{room_for}
-use Rattle.instructions.specs.Lines.{numbered}
-use Rattle.instructions.specs.Laws.Lines.{numbered_some}
 use Rattle.checker.specs.declared.Examined.{Examined}
 use Rattle.checker.specs.Examines.{Finds, Examines}
 use Rattle.draws.specs.Draws.{element_at}
@@ -29,12 +27,11 @@ use Rattle.single_faults.specs.Groups.{Groups, groups_of, all_recorded}
 use Rattle.single_faults.specs.Table.{first_wide, table_text, table_answer, groups_answer, table_reply}
 use Rattle.single_faults.proofs.Laws.Rows.{table_rows}
 use Rattle.single_faults.specs.Carried.{mark_by, carried_to, carried_marks, carried_rows_of, carried_rows}
-use Rattle.fault_table.specs.declared.groups.Tested.TheVariants as tested
 use Rattle.fault_table.specs.Lent.{grouping_of, all_carried, start_of, Startable}
 use Rattle.fault_table.specs.Rows.{rows_bytes}
 use Rattle.fault_table.specs.Laws.Putting.{rows_length}
-use Rattle.fault_table.specs.declared.Measured.{Measured}
-use Rattle.fault_table.specs.Table.{instruction_bytes, table_bytes, Measures, Grouped, TableReady}
+use Rattle.fault_table.specs.declared.WideLine.{WideLine}
+use Rattle.fault_table.specs.Table.{instruction_bytes, table_bytes, wide_line, Measures, Grouped, TableReady}
 
 -- ---- the table's bytes
 
@@ -87,30 +84,29 @@ module _ {job : List ℕ} {count : ℕ} {list : List ℕ} {groups : ℕ} (q : Gr
       ∙ rows_bytes_lem (job_of job).header q.are instructions (sizes_said _ 0 instructions (checked_sound job q.passes).instructions)
       ∙ ap (λ (n : ℕ). table_bytes n instructions) (sym q.many)
 
-  module _ {m : Measured} (x : Measures job groups m) (out : List ℕ) where
-    pub wide_reply : (m.wide ≡ 0 → ⊥) → refused_text (answer 24 m.wide) out ≡ table_answer text (first_wide instructions) out
+  pub wide_reply : {w : WideLine} → Measures job groups (Err w) → (out : List ℕ) → refused_text (answer 24 w.line) out ≡ table_answer text (first_wide instructions) out
+  unfolding table_answer wide_line
+  wide_reply x out = rw x.wide
+
+  module _ {bytes : ℕ} (x : Measures job groups (Ok bytes)) (out : List ℕ) where
+    pub none_wide : first_wide instructions ≡ none
+    unfolding wide_line
+    none_wide = x.wide
+
+    pub size : bytes ≡ table_bytes groups instructions
+    size = x.bytes bytes refl
+
+    fits_same : leb bytes (length out) && leb bytes max_bytes ≡ text_fits_of text out
+    fits_same = rw (size ∙ sym text_length)
+
+    pub long_reply : leb bytes (length out) && leb bytes max_bytes ≡ false → refused_text (answer 15 0) out ≡ table_answer text (first_wide instructions) out
     unfolding table_answer
-    wide_reply h = rw (x.wide, numbered_some m.wide h)
+    long_reply long = rw (none_wide, sym fits_same ∙ long)
 
-    module _ (narrow : m.wide ≡ 0) where
-      pub none_wide : first_wide instructions ≡ none
-      unfolding numbered
-      none_wide = x.wide ∙ ap numbered narrow
-
-      pub size : m.bytes ≡ table_bytes groups instructions
-      size = x.bytes narrow
-
-      fits_same : leb m.bytes (length out) && leb m.bytes max_bytes ≡ text_fits_of text out
-      fits_same = rw (size ∙ sym text_length)
-
-      pub long_reply : leb m.bytes (length out) && leb m.bytes max_bytes ≡ false → refused_text (answer 15 0) out ≡ table_answer text (first_wide instructions) out
-      unfolding table_answer
-      long_reply long = rw (none_wide, sym fits_same ∙ long)
-
-      pub whole_reply : (part : List ℕ) → part ≡ unlines (carried_rows (job_of job).header q.are instructions) → leb m.bytes (length out) && leb m.bytes max_bytes ≡ true
-          → record { answered = accepted; figure = m.bytes; out = part ++ drop m.bytes out } ≡ table_answer text (first_wide instructions) out
-      unfolding table_answer
-      whole_reply part is fits = rw (none_wide, sym fits_same ∙ fits, size ∙ sym text_length, is ∙ sym text_is)
+    pub whole_reply : (part : List ℕ) → part ≡ unlines (carried_rows (job_of job).header q.are instructions) → leb bytes (length out) && leb bytes max_bytes ≡ true
+        → record { answered = accepted; figure = bytes; out = part ++ drop bytes out } ≡ table_answer text (first_wide instructions) out
+    unfolding table_answer
+    whole_reply part is fits = rw (none_wide, sym fits_same ∙ fits, size ∙ sym text_length, is ∙ sym text_is)
 
   -- the words of the groups
   pub zeros_taken : (n : ℕ) → n ≤ 384 → take n (replicate {A = ℕ} 384 0) ≡ replicate n 0
@@ -132,9 +128,9 @@ module _ {job : List ℕ} {count : ℕ} {list : List ℕ} {groups : ℕ} (q : Gr
         zeros = zeros ∙ ap (λ (n : ℕ). replicate (n * 24) 0) q.many;
       }
 
-  pub ready : {m : Measured} (x : Measures job groups m) → m.wide ≡ 0 → (state out : List ℕ) → length state ≡ groups * 24 → length out ≡ m.bytes
+  pub ready : {bytes : ℕ} (x : Measures job groups (Ok bytes)) → (state out : List ℕ) → length state ≡ groups * 24 → length out ≡ bytes
       → all_carried (length q.are) state ≡ map start_of q.are → TableReady job count state groups out
-  ready x narrow state out wide long started =
+  ready x state out wide long started =
       record {
         passes = q.passes;
         lines_in = q.lines_in;
@@ -143,39 +139,39 @@ module _ {job : List ℕ} {count : ℕ} {list : List ℕ} {groups : ℕ} (q : Gr
         few = q.few;
         words = wide;
         started = rw q.many started;
-        narrow = none_wide x out narrow;
-        long = long ∙ size x out narrow;
+        narrow = none_wide x out;
+        long = long ∙ size x out;
       }
 
   -- ---- by what the functions say
 
-  module _ {m : Measured} (x : Measures job groups m) (narrow : m.wide ≡ 0) (out zeros L rest : List ℕ) (none_yet : zeros ≡ replicate (groups * 24) 0)
+  module _ {bytes : ℕ} (x : Measures job groups (Ok bytes)) (out zeros L rest : List ℕ) (none_yet : zeros ≡ replicate (groups * 24) 0)
       (starts : (y : Startable list zeros) → all_carried (length y.groups) L ≡ map start_of y.groups) (long : length L ≡ length zeros)
-      (fits : leb m.bytes (length out) && leb m.bytes max_bytes ≡ true) where
+      (fits : leb bytes (length out) && leb bytes max_bytes ≡ true) where
     wide : length L ≡ groups * 24
     wide = long ∙ ap length none_yet ∙ length-replicate (groups * 24) 0
 
     pub started_length : length (take (groups * 24) (L ++ rest)) ≡ groups * 24
     started_length = ap length (take_at L rest (groups * 24) wide) ∙ wide
 
-    pub started_ready : TableReady job count (take (groups * 24) (L ++ rest)) groups (take m.bytes out)
+    pub started_ready : TableReady job count (take (groups * 24) (L ++ rest)) groups (take bytes out)
     unfolding startable
     started_ready =
-        ready x narrow (take (groups * 24) (L ++ rest)) (take m.bytes out) started_length (length-take-le m.bytes out (room_for m.bytes (length out) fits))
+        ready x (take (groups * 24) (L ++ rest)) (take bytes out) started_length (length-take-le bytes out (room_for bytes (length out) fits))
         (rw (take_at L rest (groups * 24) wide) (starts (startable zeros none_yet)))
 
     pub done_reply : (part : List ℕ)
-        → ((y : TableReady job count (take (groups * 24) (L ++ rest)) groups (take m.bytes out)) → part ≡ unlines (carried_rows (job_of job).header y.are instructions))
-        → record { answered = accepted; figure = m.bytes; out = part ++ drop m.bytes out } ≡ table_answer text (first_wide instructions) out
+        → ((y : TableReady job count (take (groups * 24) (L ++ rest)) groups (take bytes out)) → part ≡ unlines (carried_rows (job_of job).header y.are instructions))
+        → record { answered = accepted; figure = bytes; out = part ++ drop bytes out } ≡ table_answer text (first_wide instructions) out
     unfolding started_ready ready
-    done_reply part is = whole_reply x out narrow part (is started_ready) fits
+    done_reply part is = whole_reply x out part (is started_ready) fits
 
 -- ---- the call
 
-no_refusal : {n : ℕ} → tested.Refused ≡ tested.Count n → ⊥
+no_refusal : {n : ℕ} → ◌≡◌ {A = Option ℕ} None (Some n) → ⊥
 no_refusal e = let z : ◌≡◌ {A = ℕ} 0 1 = cc in omega arith
 
-count_same : {n m : ℕ} → tested.Count n ≡ tested.Count m → n ≡ m
+count_same : {n m : ℕ} → ◌≡◌ {A = Option ℕ} (Some n) (Some m) → n ≡ m
 count_same e = cc
 
 module _ (job list out : List ℕ) {r : Examined} (x : Examines job r) where
@@ -197,14 +193,14 @@ module _ (job list out : List ℕ) {r : Examined} (x : Examines job r) where
     answered = rw (eq-eqb (check_job job).number 0 passes)
 
     -- 17
-    pub groups_reply : tested.Refused ≡ grouping_of r.recorded 0 (groups_of list) → refused_text (answer 17 0) out ≡ table_reply job list out
+    pub groups_reply : None ≡ grouping_of r.recorded 0 (groups_of list) → refused_text (answer 17 0) out ≡ table_reply job list out
     groups_reply e = go (groups_of list) (rw found.recorded at e) ∙ answered
       where
-        by : (b : Bool) (n : ℕ) (t : TextReply) → tested.Refused ≡ cond b (tested.Count n) tested.Refused → refused_text (answer 17 0) out ≡ cond b t (refused_text (answer 17 0) out)
+        by : (b : Bool) (n : ℕ) (t : TextReply) → None ≡ cond b (Some n) None → refused_text (answer 17 0) out ≡ cond b t (refused_text (answer 17 0) out)
         by true n t e = absurd (no_refusal e)
         by false n t e = refl
 
-        go : (G : Groups) → tested.Refused ≡ grouping_of (recorded_in (job_of job).instructions) 0 G → refused_text (answer 17 0) out ≡ groups_answer (job_of job) G out
+        go : (G : Groups) → None ≡ grouping_of (recorded_in (job_of job).instructions) 0 G → refused_text (answer 17 0) out ≡ groups_answer (job_of job) G out
         go Groups.cut_short e = unfold groups_answer in refl
         go (Groups.whole gs) e = unfold groups_answer grouping_of in by (all_recorded (recorded_in (job_of job).instructions) gs) (0 + length gs) _ e
 
@@ -215,21 +211,21 @@ module _ (job list out : List ℕ) {r : Examined} (x : Examines job r) where
       known : all_recorded (recorded_in (job_of job).instructions) are ≡ true
       many : n ≡ length are
 
-    whole : (n : ℕ) → tested.Count n ≡ grouping_of r.recorded 0 (groups_of list) → Whole n
+    whole : (n : ℕ) → Some n ≡ grouping_of r.recorded 0 (groups_of list) → Whole n
     unfolding grouping_of
     whole n e = go (groups_of list) refl (rw found.recorded at e)
       where
-        by : (b : Bool) (k : ℕ) → tested.Count n ≡ cond b (tested.Count k) tested.Refused → (b ≡ true) × (n ≡ k)
+        by : (b : Bool) (k : ℕ) → Some n ≡ cond b (Some k) None → (b ≡ true) × (n ≡ k)
         by true k e = (refl, count_same e)
         by false k e = absurd (no_refusal (sym e))
 
-        go : (G : Groups) → groups_of list ≡ G → tested.Count n ≡ grouping_of (recorded_in (job_of job).instructions) 0 G → Whole n
+        go : (G : Groups) → groups_of list ≡ G → Some n ≡ grouping_of (recorded_in (job_of job).instructions) 0 G → Whole n
         go Groups.cut_short p e = absurd (no_refusal (sym e))
         go (Groups.whole gs) p e =
             let (known, many) = by (all_recorded (recorded_in (job_of job).instructions) gs) (0 + length gs) e in
             record { are = gs; listed = p; known = known; many = many ∙ zero-add (length gs) }
 
-    module _ (n : ℕ) (counts : tested.Count n ≡ grouping_of r.recorded 0 (groups_of list)) where
+    module _ (n : ℕ) (counts : Some n ≡ grouping_of r.recorded 0 (groups_of list)) where
       w : Whole n
       w = whole n counts
 

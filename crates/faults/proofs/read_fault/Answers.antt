@@ -3,12 +3,6 @@ use Rattle.faults.specs.Laws.Prepared.{few_lines, element_lines_lem, totals, pro
 use native.Mathlib.Omega.{arith}
 use Rattle.faults.proofs.read_fault.Goals as goal
 
-pub overflow_add-from : goal.overflow_add-from
-overflow_add-from c = omega (arith, c.requires.0.lines.among.within)
-
-pub keep_element-requires : goal.keep_element-requires
-keep_element-requires c = omega (arith, c.requires.1.of_elements, c.requires.1.of_values)
-
 pub gather-behind-requires : goal.gather-behind-requires
 gather-behind-requires c =
     let q = c.requires.0.lines in
@@ -19,7 +13,7 @@ gather-behind-requires c =
     )
 
 pub fault_of-fault-requires : goal.fault_of-fault-requires
-fault_of-fault-requires c = (c.requires.1.of_values, probability_sound c.requires.0.lines)
+fault_of-fault-requires c = probability_sound c.requires.0.lines
 
 pub fill_sums-requires : goal.fill_sums-requires
 fill_sums-requires c =

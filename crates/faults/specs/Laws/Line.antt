@@ -1,5 +1,5 @@
 -- A noise line by value. Laws. Assumes nothing.
-use Rattle.std.specs.Prelude.{ℕ, ◌≤◌, ◌<◌, ◌≡◌, Bool, true, false, cond, not, ◌&&◌, List, [], ◌∷◌, length, get_or, Float}
+use Rattle.std.specs.Prelude.{ℕ, ◌≤◌, ◌<◌, ◌≡◌, Bool, true, false, cond, not, ◌&&◌, Some, None, List, [], ◌∷◌, length, get_or, Float}
 use native.Mathlib.Omega.{arith}
 use Rattle.std.proofs.Math.Path.{refl, ap}
 use Rattle.std.proofs.Common.{sym, subst, ◌∙◌, true≢false}
@@ -19,7 +19,6 @@ use Rattle.reader.specs.Parsed.{place_of, no_form, form_of, Said}
 use Rattle.instructions.specs.Laws.Meaning.{noise_by, noise_said, unitary_said, clifford_said}
 use Rattle.rows.specs.Overwrite.{copied}
 use Rattle.noise.specs.declared.PauliDistribution.TheVariants.{Single, Depolarizing, Uniform, Weighted}
-use Rattle.noise.specs.declared.Correlation.TheVariants.{Uncorrelated, Shared}
 use Rattle.noise.specs.declared.OutcomeCondition.{OutcomeCondition}
 use Rattle.noise.specs.declared.PauliFault.{PauliFault}
 use Rattle.noise.specs.Kinds.{correlation_of}
@@ -134,11 +133,11 @@ unfolding optional
 first_listed [] ne = absurd (ne refl)
 first_listed (c ∷ l) ne = refl
 
-pub correlation_none : (f : List ℕ) → held_count f 0 ≡ 0 → CorrelationHeld f Uncorrelated
+pub correlation_none : (f : List ℕ) → held_count f 0 ≡ 0 → CorrelationHeld f None
 unfolding correlation_of
 correlation_none f e = record { is = λ a b vs h k. none_listed (list_at_of 0 vs) (sym (h.count 0 k) ∙ e) }
 
-pub correlation_some : (f : List ℕ) {k : ℕ} → (held_count f 0 ≡ 0 → ⊥) → k ≡ held_member f 0 0 → CorrelationHeld f (Shared k)
+pub correlation_some : (f : List ℕ) {k : ℕ} → (held_count f 0 ≡ 0 → ⊥) → k ≡ held_member f 0 0 → CorrelationHeld f (Some k)
 unfolding correlation_of
 correlation_some f ne e =
     record {

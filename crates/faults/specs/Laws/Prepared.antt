@@ -29,7 +29,7 @@ use Rattle.draws.proofs.Laws.Faults.{sound_positive}
 use Rattle.rows.specs.Words.{bit_in}
 use Rattle.rows.specs.Listed.{RowsIn}
 use Rattle.rows.proofs.Laws.Overwrite.{before_row}
-use Rattle.noise.specs.declared.PauliDistribution.TheVariants.{Single, Depolarizing, Uniform, Weighted}
+use Rattle.noise.specs.declared.PauliDistribution.TheVariants.{Uniform, Weighted}
 use Rattle.noise.specs.declared.PauliFault.{PauliFault}
 use Rattle.noise.specs.Kinds.{kind_of, correlation_of, Small, PlacesBy, Represents}
 use Rattle.noise.specs.Condition.{condition_of, Masks}

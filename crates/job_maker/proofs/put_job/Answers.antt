@@ -19,12 +19,6 @@ returns-then-m-gt-MAX_BYTES c = putting_stops c.put_header.ensures c.loop-i.inva
 pub put_instruction-m-requires : goal.put_instruction-m-requires
 put_instruction-m-requires c = putting_ready c.requires c.loop-i.invariant
 
-pub overflow_add-i : goal.overflow_add-i
-overflow_add-i c = omega (arith, c.loop-i-test.true)
-
-pub loop-i-smaller : goal.loop-i-smaller
-loop-i-smaller c = omega (arith, c.loop-i-test.true)
-
 pub loop-i-preserved : goal.loop-i-preserved
 loop-i-preserved c = putting_more c.requires c.loop-i.invariant c.loop-i-test.true c.if-m-gt-MAX_BYTES.false c.put_instruction-m.ensures
 

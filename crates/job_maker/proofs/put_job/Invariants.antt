@@ -5,6 +5,3 @@ use Rattle.job_maker.proofs.put_job.Given as goal
 
 abbrev pub invariant-loop-i : goal.invariant-loop-i
 invariant-loop-i l = Putting l.h l.lines l.state l.initial.m.at l.initial.out l.i l.m l.out
-
-abbrev pub decreases-loop-i : goal.decreases-loop-i
-decreases-loop-i l = l.lines - l.i

@@ -7,11 +7,11 @@ pub read_lists-behind-requires : goal.read_lists-behind-requires
 read_lists-behind-requires c =
     let pre = c.requires in
     let there = c.is_controlled.ensures (c.if-not-is_controlled.false) in
-    (omega arith, control_there pre.0 there, omega (arith, pre.1))
+    (omega arith, control_there pre there)
 
 pub overflow_add-behind : goal.overflow_add-behind
 overflow_add-behind c =
-    let known = c.requires.0 in
+    let known = c.requires in
     let there = c.is_controlled.ensures (c.if-not-is_controlled.false) in
     let target = target_there known there c.read_lists-behind.ensures.behind in
     omega (arith, target.x.within)
@@ -20,10 +20,10 @@ pub read_lists-requires : goal.read_lists-requires
 read_lists-requires c =
     let pre = c.requires in
     let there = c.is_controlled.ensures (c.if-not-is_controlled.false) in
-    (omega arith, target_there pre.0 there c.read_lists-behind.ensures.behind, omega (arith, pre.1))
+    (omega arith, target_there pre there c.read_lists-behind.ensures.behind)
 
 pub returns : goal.returns
 returns c =
-    let known = c.requires.0 in
+    let known = c.requires in
     let there = c.is_controlled.ensures (c.if-not-is_controlled.false) in
     controlled_parsed known there _ c.read_lists-behind.ensures c.read_lists.ensures

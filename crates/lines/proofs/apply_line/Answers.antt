@@ -2,38 +2,6 @@
 use Rattle.lines.specs.Laws.Obey.{frame_ready, frame_obeyed, obeyed_as, idle_obeyed}
 use Rattle.lines.proofs.apply_line.Goals as goal
 
-pub unitary-requires : goal.unitary-requires
-unitary-requires c = frame_ready c.in-Unitary.is c.requires.0
-
-pub clifford-requires : goal.clifford-requires
-clifford-requires c = (frame_ready c.in-Clifford.is c.requires.0, c.requires.1)
-
-pub exponential-requires : goal.exponential-requires
-exponential-requires c = (frame_ready c.in-Exponential.is c.requires.0, c.requires.1)
-
-pub controlled-requires : goal.controlled-requires
-controlled-requires c = (frame_ready c.in-Controlled.is c.requires.0, c.requires.1)
-
-pub permute-requires : goal.permute-requires
-permute-requires c = (frame_ready c.in-Permute.is c.requires.0, c.requires.1)
-
-pub measure-requires : goal.measure-requires
-measure-requires c = (rw c.in-Measure.is at c.requires.0, c.requires.2)
-
-pub conditional-requires : goal.conditional-requires
-conditional-requires c = (rw c.in-Conditional.is at c.requires.0, c.requires.1)
-
-pub reset-requires : goal.reset-requires
-reset-requires c = frame_ready c.in-Reset.is c.requires.0
-
-pub inject-requires : goal.inject-requires
-inject-requires c = frame_ready c.in-Inject.is c.requires.0
-
-pub flip-requires : goal.flip-requires
-flip-requires c =
-    let r = rw c.in-Flip.is at c.requires.0 in
-    ((_, r.line, r.plain), r.of_deltas, c.requires.2)
-
 pub returns-in-Unitary : goal.returns-in-Unitary
 returns-in-Unitary c = (frame_obeyed c.in-Unitary.is c.unitary.ensures, c.requires.2)
 

@@ -6,10 +6,10 @@ use native.Mathlib.Omega.{arith}
 use Rattle.lines.proofs.clifford.Goals as goal
 
 pub list-requires : goal.list-requires
-list-requires c = (omega arith, c.requires.0.plain.wide, (clifford_read c.requires.0.plain).few 0 (omega arith))
+list-requires c = (omega arith, (clifford_read c.requires.0.plain).few 0 (omega arith))
 
 pub list-requires-2 : goal.list-requires-2
-list-requires-2 c = (omega arith, c.requires.0.plain.wide, (clifford_read c.requires.0.plain).few 1 (omega arith))
+list-requires-2 c = (omega arith, (clifford_read c.requires.0.plain).few 1 (omega arith))
 
 pub apply_clifford-requires : goal.apply_clifford-requires
 unfolding LineSound

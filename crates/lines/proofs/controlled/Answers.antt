@@ -6,16 +6,16 @@ use native.Mathlib.Omega.{arith}
 use Rattle.lines.proofs.controlled.Goals as goal
 
 pub list-requires : goal.list-requires
-list-requires c = (omega arith, c.requires.0.plain.wide, (controlled_read c.requires.0.plain).few 0 (omega arith))
+list-requires c = (omega arith, (controlled_read c.requires.0.plain).few 0 (omega arith))
 
 pub list-requires-2 : goal.list-requires-2
-list-requires-2 c = (omega arith, c.requires.0.plain.wide, (controlled_read c.requires.0.plain).few 1 (omega arith))
+list-requires-2 c = (omega arith, (controlled_read c.requires.0.plain).few 1 (omega arith))
 
 pub list-requires-3 : goal.list-requires-3
-list-requires-3 c = (omega arith, c.requires.0.plain.wide, (controlled_read c.requires.0.plain).few 2 (omega arith))
+list-requires-3 c = (omega arith, (controlled_read c.requires.0.plain).few 2 (omega arith))
 
 pub list-requires-4 : goal.list-requires-4
-list-requires-4 c = (omega arith, c.requires.0.plain.wide, (controlled_read c.requires.0.plain).few 3 (omega arith))
+list-requires-4 c = (omega arith, (controlled_read c.requires.0.plain).few 3 (omega arith))
 
 pub apply_controlled_pauli-requires : goal.apply_controlled_pauli-requires
 unfolding LineSound

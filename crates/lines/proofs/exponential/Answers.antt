@@ -6,10 +6,10 @@ use native.Mathlib.Omega.{arith}
 use Rattle.lines.proofs.exponential.Goals as goal
 
 pub list-requires : goal.list-requires
-list-requires c = (omega arith, c.requires.0.plain.wide, (exponential_read c.requires.0.plain).few 0 (omega arith))
+list-requires c = (omega arith, (exponential_read c.requires.0.plain).few 0 (omega arith))
 
 pub list-requires-2 : goal.list-requires-2
-list-requires-2 c = (omega arith, c.requires.0.plain.wide, (exponential_read c.requires.0.plain).few 1 (omega arith))
+list-requires-2 c = (omega arith, (exponential_read c.requires.0.plain).few 1 (omega arith))
 
 pub apply_pauli_exp-requires : goal.apply_pauli_exp-requires
 unfolding LineSound

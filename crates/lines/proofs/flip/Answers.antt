@@ -5,10 +5,10 @@ use native.Mathlib.Omega.{arith}
 use Rattle.lines.proofs.flip.Goals as goal
 
 pub number-requires : goal.number-requires
-number-requires c = (omega arith, c.requires.0.2.wide)
+number-requires c = omega arith
 
 pub number-requires-2 : goal.number-requires-2
-number-requires-2 c = (omega arith, c.requires.0.2.wide)
+number-requires-2 c = omega arith
 
 pub inject_outcome_flip-requires : goal.inject_outcome_flip-requires
 unfolding LineSound

@@ -6,13 +6,13 @@ use native.Mathlib.Omega.{arith}
 use Rattle.lines.proofs.inject.Goals as goal
 
 pub number-requires : goal.number-requires
-number-requires c = (omega arith, c.requires.plain.wide)
+number-requires c = omega arith
 
 pub list-requires : goal.list-requires
-list-requires c = (omega arith, c.requires.plain.wide, (inject_read c.requires.plain).few 0 (omega arith))
+list-requires c = (omega arith, (inject_read c.requires.plain).few 0 (omega arith))
 
 pub list-requires-2 : goal.list-requires-2
-list-requires-2 c = (omega arith, c.requires.plain.wide, (inject_read c.requires.plain).few 1 (omega arith))
+list-requires-2 c = (omega arith, (inject_read c.requires.plain).few 1 (omega arith))
 
 pub inject_pauli-requires : goal.inject_pauli-requires
 unfolding LineSound

@@ -6,13 +6,13 @@ use native.Mathlib.Omega.{arith}
 use Rattle.lines.proofs.measure.Goals as goal
 
 pub number-requires : goal.number-requires
-number-requires c = (omega arith, c.requires.0.plain.wide)
+number-requires c = omega arith
 
 pub list-requires : goal.list-requires
-list-requires c = let plain = c.requires.0.plain in (omega arith, plain.wide, (measure_read plain).few 0 (omega arith))
+list-requires c = let plain = c.requires.0.plain in (omega arith, (measure_read plain).few 0 (omega arith))
 
 pub list-requires-2 : goal.list-requires-2
-list-requires-2 c = let plain = c.requires.0.plain in (omega arith, plain.wide, (measure_read plain).few 1 (omega arith))
+list-requires-2 c = let plain = c.requires.0.plain in (omega arith, (measure_read plain).few 1 (omega arith))
 
 pub measure-requires : goal.measure-requires
 unfolding LineSound

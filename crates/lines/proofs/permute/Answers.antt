@@ -10,14 +10,14 @@ list-requires c =
     let r = permute_read c.requires.0.plain in
     let places = r.few 0 (omega arith) in
     let qubits = r.few 1 (omega arith) in
-    (omega arith, c.requires.0.plain.wide, omega arith)
+    (omega arith, omega arith)
 
 pub list-requires-2 : goal.list-requires-2
 list-requires-2 c =
     let r = permute_read c.requires.0.plain in
     let places = r.few 0 (omega arith) in
     let qubits = r.few 1 (omega arith) in
-    (omega arith, c.requires.0.plain.wide, omega arith)
+    (omega arith, omega arith)
 
 pub apply_permutation-requires : goal.apply_permutation-requires
 unfolding LineSound

@@ -5,7 +5,7 @@ use native.Mathlib.Omega.{arith}
 use Rattle.lines.proofs.reset.Goals as goal
 
 pub list-requires : goal.list-requires
-list-requires c = (omega arith, c.requires.plain.wide, (reset_read c.requires.plain).few 0 (omega arith))
+list-requires c = (omega arith, (reset_read c.requires.plain).few 0 (omega arith))
 
 pub reset_qubits-requires : goal.reset_qubits-requires
 unfolding LineSound

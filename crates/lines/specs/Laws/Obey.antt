@@ -1,9 +1,13 @@
 -- Lines by their forms: those that change something, and those that don't. Laws. Assumes nothing.
-use Rattle.std.specs.Prelude.{ℕ, ◌*◌, ◌≤◌, List}
+use Rattle.std.specs.Prelude.{ℕ, ◌*◌, ◌≤◌, List, Option as CodeOption, None, Some}
 use Rattle.std.proofs.Common.{mul-le-mul_right, arith}
 use Rattle.std.proofs.Math.Path.{◌≡◌, refl, subst}
 use Rattle.std.proofs.Math.Option.{some}
+use Rattle.pauli.specs.Gate.{Gate}
+use Rattle.pauli.specs.Code.{gate_named, named_or_none}
+use Rattle.pauli.specs.declared.Gate.{Gate as GateName}
 use Rattle.text.specs.Bytes.{bytes}
+use Rattle.text.proofs.Laws.Values.{none_some}
 use Rattle.text.specs.Template.{Value}
 use Rattle.job.specs.Line.{Line}
 use Rattle.job.specs.Grammar.{Kind, Written, noise_line, forms}
@@ -11,7 +15,7 @@ use Rattle.frames.specs.Forward.{forward}
 use Rattle.reader.specs.declared.Form.{Form}
 use Rattle.reader.specs.declared.Form.TheVariants as form
 use Rattle.reader.specs.Parsed.{place_of, no_form}
-use Rattle.instructions.specs.Laws.Meaning.{noise_said}
+use Rattle.instructions.specs.Laws.Meaning.{noise_said, some_same}
 use Rattle.propagator.specs.Acts.{Acts, line_rule}
 use Rattle.instructions.specs.Plain.{Plain}
 use Rattle.lines.specs.Plain.{Ready, Obeyed, FrameReady, FrameObeyed}
@@ -22,6 +26,17 @@ use Rattle.instructions.specs.Laws.Read.{written_line, Idle}
 -- 31 rows have room for so many
 pub scratch_fits : (w k : ℕ) {l : ℕ} → k ≤ 31 → 31 * w ≤ l → k * w ≤ l
 scratch_fits w k few room = omega (arith, mul-le-mul_right {m = k} {n = 31} w few)
+
+-- ---- a gate by its code
+
+module _ {o : CodeOption GateName} {g : Gate} (known : named_or_none o ≡ some g) where
+  pub named_gate : {n : GateName} → o ≡ Some n → gate_named n ≡ g
+  unfolding named_or_none
+  named_gate is = some_same (rw is at known)
+
+  pub not_nameless : o ≡ None → ⊥
+  unfolding named_or_none
+  not_nameless is = none_some (rw is at known)
 
 -- ---- a form by its name
 

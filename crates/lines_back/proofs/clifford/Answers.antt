@@ -7,10 +7,10 @@ use Rattle.lines_back.specs.Laws.Kinds.{clifford_goes}
 use Rattle.lines_back.proofs.clifford.Goals as goal
 
 pub list-requires : goal.list-requires
-list-requires c = (omega arith, c.requires.plain.wide, (clifford_read c.requires.plain).few 0 (omega arith))
+list-requires c = (omega arith, (clifford_read c.requires.plain).few 0 (omega arith))
 
 pub list-requires-2 : goal.list-requires-2
-list-requires-2 c = (omega arith, c.requires.plain.wide, (clifford_read c.requires.plain).few 1 (omega arith))
+list-requires-2 c = (omega arith, (clifford_read c.requires.plain).few 1 (omega arith))
 
 pub clifford_back-requires : goal.clifford_back-requires
 unfolding LineSound

@@ -8,13 +8,13 @@ use Rattle.lines_back.specs.Laws.Kinds.{pauli_below, conditional_goes}
 use Rattle.lines_back.proofs.conditional.Goals as goal
 
 pub list-requires : goal.list-requires
-list-requires c = (omega arith, c.requires.0.plain.wide, (conditional_read c.requires.0.plain).few 0 (omega arith))
+list-requires c = (omega arith, (conditional_read c.requires.0.plain).few 0 (omega arith))
 
 pub list-requires-2 : goal.list-requires-2
-list-requires-2 c = (omega arith, c.requires.0.plain.wide, (conditional_read c.requires.0.plain).few 1 (omega arith))
+list-requires-2 c = (omega arith, (conditional_read c.requires.0.plain).few 1 (omega arith))
 
 pub list-requires-3 : goal.list-requires-3
-list-requires-3 c = (omega arith, c.requires.0.plain.wide, (conditional_read c.requires.0.plain).few 2 (omega arith))
+list-requires-3 c = (omega arith, (conditional_read c.requires.0.plain).few 2 (omega arith))
 
 pub conditional_back-requires : goal.conditional_back-requires
 unfolding LineSound

@@ -6,10 +6,10 @@ use Rattle.lines_back.specs.Laws.Kinds.{pauli_below, exponential_goes}
 use Rattle.lines_back.proofs.exponential.Goals as goal
 
 pub list-requires : goal.list-requires
-list-requires c = (omega arith, c.requires.plain.wide, (exponential_read c.requires.plain).few 0 (omega arith))
+list-requires c = (omega arith, (exponential_read c.requires.plain).few 0 (omega arith))
 
 pub list-requires-2 : goal.list-requires-2
-list-requires-2 c = (omega arith, c.requires.plain.wide, (exponential_read c.requires.plain).few 1 (omega arith))
+list-requires-2 c = (omega arith, (exponential_read c.requires.plain).few 1 (omega arith))
 
 pub exponential_back-requires : goal.exponential_back-requires
 unfolding LineSound

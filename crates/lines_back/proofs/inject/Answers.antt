@@ -8,16 +8,16 @@ use Rattle.lines_back.specs.Laws.Kinds.{pauli_below, inject_goes}
 use Rattle.lines_back.proofs.inject.Goals as goal
 
 pub number-requires : goal.number-requires
-number-requires c = (omega arith, c.requires.plain.wide)
+number-requires c = omega arith
 
 pub returns-then-number-shot : goal.returns-then-number-shot
 returns-then-number-shot c = λ set. inject_goes (sym (rw (← c.number.ensures, ne_eqb _ _ c.if-number-shot.true)))
 
 pub list-requires : goal.list-requires
-list-requires c = (omega arith, c.requires.plain.wide, (inject_read c.requires.plain).few 0 (omega arith))
+list-requires c = (omega arith, (inject_read c.requires.plain).few 0 (omega arith))
 
 pub list-requires-2 : goal.list-requires-2
-list-requires-2 c = (omega arith, c.requires.plain.wide, (inject_read c.requires.plain).few 1 (omega arith))
+list-requires-2 c = (omega arith, (inject_read c.requires.plain).few 1 (omega arith))
 
 pub injection_counts-requires : goal.injection_counts-requires
 unfolding LineSound

@@ -1,8 +1,7 @@
 -- `lines_back::line_back` meets its contract. Assumes nothing.
 use mathlib.Core.Path.{refl}
-use Rattle.instructions.specs.Reading.{noise_form}
 use Rattle.instructions.specs.Laws.Meaning.{other_no_noise}
-use Rattle.lines_back.specs.Laws.Forms.{readable_as, acts, ready, acted_as, remembered_as, nothing_done}
+use Rattle.lines_back.specs.Laws.Forms.{readable_as, acts, ready, acted_as, is_noise, remembered, nothing_done}
 use Rattle.lines_back.proofs.line_back.Goals as goal
 
 pub unitary-requires : goal.unitary-requires
@@ -79,27 +78,14 @@ returns-in-Reset c = acted_as c.in-Reset.is refl (c.reset.ensures _ _) c.require
 
 pub returns-in-Inject : goal.returns-in-Inject
 unfolding acts
-returns-in-Inject c = acted_as c.in-Inject.is refl (c.inject.ensures _) c.requires.1 c.with_count.ensures
+returns-in-Inject c = acted_as c.in-Inject.is refl (c.inject.ensures _) c.requires.1 c.counted.ensures
 
 pub returns-in-Flip : goal.returns-in-Flip
 unfolding acts
-returns-in-Flip c = acted_as c.in-Flip.is refl (c.flip.ensures _) c.requires.1 c.with_count-in-Flip.ensures
+returns-in-Flip c = acted_as c.in-Flip.is refl (c.flip.ensures _) c.requires.1 c.counted-in-Flip.ensures
 
 pub returns-in-Single : goal.returns-in-Single
-unfolding noise_form
-returns-in-Single c = remembered_as c.in-Single.is refl c.requires.1 c.with_noise.ensures
-
-pub returns-in-Depolarizing : goal.returns-in-Depolarizing
-unfolding noise_form
-returns-in-Depolarizing c = remembered_as c.in-Depolarizing.is refl c.requires.1 c.with_noise-in-Depolarizing.ensures
-
-pub returns-in-Uniform : goal.returns-in-Uniform
-unfolding noise_form
-returns-in-Uniform c = remembered_as c.in-Uniform.is refl c.requires.1 c.with_noise-in-Uniform.ensures
-
-pub returns-in-Weighted : goal.returns-in-Weighted
-unfolding noise_form
-returns-in-Weighted c = remembered_as c.in-Weighted.is refl c.requires.1 c.with_noise-in-Weighted.ensures
+returns-in-Single c = remembered (is_noise c.in-Single.is) c.requires.1 refl
 
 pub returns-in_default : goal.returns-in_default
 returns-in_default c =

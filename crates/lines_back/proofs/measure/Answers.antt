@@ -6,13 +6,13 @@ use Rattle.lines_back.specs.Laws.Kinds.{pauli_below, measure_goes}
 use Rattle.lines_back.proofs.measure.Goals as goal
 
 pub number-requires : goal.number-requires
-number-requires c = (omega arith, c.requires.plain.wide)
+number-requires c = omega arith
 
 pub list-requires : goal.list-requires
-list-requires c = (omega arith, c.requires.plain.wide, (measure_read c.requires.plain).few 0 (omega arith))
+list-requires c = (omega arith, (measure_read c.requires.plain).few 0 (omega arith))
 
 pub list-requires-2 : goal.list-requires-2
-list-requires-2 c = (omega arith, c.requires.plain.wide, (measure_read c.requires.plain).few 1 (omega arith))
+list-requires-2 c = (omega arith, (measure_read c.requires.plain).few 1 (omega arith))
 
 pub measure_back-requires : goal.measure_back-requires
 unfolding LineSound

@@ -7,10 +7,10 @@ use Rattle.lines_back.specs.Laws.Kinds.{permute_goes}
 use Rattle.lines_back.proofs.permute.Goals as goal
 
 pub list-requires : goal.list-requires
-list-requires c = (omega arith, c.requires.plain.wide, (permute_read c.requires.plain).few 0 (omega arith))
+list-requires c = (omega arith, (permute_read c.requires.plain).few 0 (omega arith))
 
 pub list-requires-2 : goal.list-requires-2
-list-requires-2 c = (omega arith, c.requires.plain.wide, (permute_read c.requires.plain).few 1 (omega arith))
+list-requires-2 c = (omega arith, (permute_read c.requires.plain).few 1 (omega arith))
 
 pub permute_back-requires : goal.permute_back-requires
 unfolding LineSound

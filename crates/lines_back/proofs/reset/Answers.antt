@@ -7,7 +7,7 @@ use Rattle.lines_back.specs.Laws.Kinds.{reset_goes}
 use Rattle.lines_back.proofs.reset.Goals as goal
 
 pub list-requires : goal.list-requires
-list-requires c = (omega arith, c.requires.plain.wide, (reset_read c.requires.plain).few 0 (omega arith))
+list-requires c = (omega arith, (reset_read c.requires.plain).few 0 (omega arith))
 
 pub reset_back-requires : goal.reset_back-requires
 unfolding LineSound

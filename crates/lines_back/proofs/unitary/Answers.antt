@@ -8,10 +8,10 @@ use Rattle.lines_back.specs.Laws.Kinds.{unitary_goes}
 use Rattle.lines_back.proofs.unitary.Goals as goal
 
 pub number-requires : goal.number-requires
-number-requires c = (omega arith, c.requires.plain.wide)
+number-requires c = omega arith
 
 pub list-requires : goal.list-requires
-list-requires c = (omega arith, c.requires.plain.wide, (unitary_read c.requires.plain).2.few 0 (omega arith))
+list-requires c = (omega arith, (unitary_read c.requires.plain).2.few 0 (omega arith))
 
 pub unitary_back-requires : goal.unitary_back-requires
 unfolding LineSound operand_count_of

@@ -1,6 +1,6 @@
 -- Lines going back, by their forms. Laws. Assumes nothing.
-use Rattle.std.specs.Prelude.{ℕ, ◌≡◌, refl, Bool, true, false, List, length}
-use Rattle.std.proofs.Common.{arith, ◌∙◌, subst, true≢false}
+use Rattle.std.specs.Prelude.{ℕ, ◌≡◌, ◌⊎◌, refl, Bool, true, false, List, length, Option, Some}
+use Rattle.std.proofs.Common.{arith, ◌∙◌, subst, true≢false, inl, inr}
 use Rattle.std.proofs.Math.Path.{sym, ap}
 use Rattle.std.proofs.Math.Option.{some}
 use Rattle.pauli.specs.declared.Pauli.{Pauli as PauliWords}
@@ -154,7 +154,7 @@ noise_written (Meaning.weighted_element v P e) n = absurd (true≢false (sym n �
 
 -- a noise line is remembered, and changes nothing else
 module _ {f : Form} {words : List ℕ} {shot number : ℕ} {w w' : WalkWords} {set : List ℕ} (n : noise_form f ≡ true) where
-  pub remembered : length set ≡ 16 → w' ≡ record { observable = w.observable; count = w.count; noise = number } → LineBack f words shot number w w' set set
+  pub remembered : length set ≡ 16 → w' ≡ record { observable = w.observable; count = w.count; noise = Some number } → LineBack f words shot number w w' set set
   unfolding written_back noise_back
   remembered long e =
       record {
@@ -163,14 +163,18 @@ module _ {f : Form} {words : List ℕ} {shot number : ℕ} {w w' : WalkWords} {s
         noise = λ q. ap (λ (v : WalkWords). v.noise) e ∙ sym (ap (λ (v : Written). noise_back number v w.noise) (noise_written (meaning f _ _ q.said.says) n).1);
       }
 
-pub remembered_as : {f k : Form} {words : List ℕ} {shot number : ℕ} {w w' : WalkWords} {set : List ℕ} → f ≡ k → noise_form k ≡ true → length set ≡ 16
-    → w' ≡ record { observable = w.observable; count = w.count; noise = number } → LineBack f words shot number w w' set set
-remembered_as e n long is = back_as e (remembered n long is)
+-- the four forms of noise
+pub is_noise : {f : Form} → (f ≡ form.Single) ⊎ ((f ≡ form.Depolarizing) ⊎ ((f ≡ form.Uniform) ⊎ (f ≡ form.Weighted))) → noise_form f ≡ true
+unfolding noise_form
+is_noise (inl e) = rw e
+is_noise (inr (inl e)) = rw e
+is_noise (inr (inr (inl e))) = rw e
+is_noise (inr (inr (inr e))) = rw e
 
 -- ---- other lines
 
 -- lines of the other forms change nothing
-idle_written : (f : Form) (vs : List Value) (v : Written) → Idle f → noise_form f ≡ false → (form_of f).says vs ≡ some v → (c : Setting) (k : ℕ) (w : Walk) (before : ℕ)
+idle_written : (f : Form) (vs : List Value) (v : Written) → Idle f → noise_form f ≡ false → (form_of f).says vs ≡ some v → (c : Setting) (k : ℕ) (w : Walk) (before : Option ℕ)
     → (w ≡ written_back c v w) × (before ≡ noise_back k v before)
 unfolding forms place_of bytes no_form noise_form written_back noise_back backward carry counts
 idle_written form.Unread vs v h n e c k w before = let z : ◌≡◌ {A = ℕ} 0 1 = cc in absurd (omega arith)

@@ -18,16 +18,6 @@ bounds-job-from c = omega arith
 
 -- src/lib.rt:19:9
 
-pub overflow_add-k : goal.overflow_add-k
-overflow_add-k c = omega arith
-
--- src/lib.rt:17:5
-
-pub loop-k-smaller : goal.loop-k-smaller
-loop-k-smaller c = omega arith
-
--- src/lib.rt:17:5
-
 pub loop-k-preserved : goal.loop-k-preserved
 loop-k-preserved c = (omega arith, found_more _ _ _ _ c.loop-k.invariant.1)
 

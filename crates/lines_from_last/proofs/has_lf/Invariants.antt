@@ -7,8 +7,3 @@ use Rattle.lines_from_last.proofs.has_lf.Given as goal
 
 abbrev pub invariant-loop-k : goal.invariant-loop-k
 invariant-loop-k l = (l.k ≤ 8) × (l.found ≡ false → NoLf l.job l.from (l.from + l.k))
-
-abbrev pub decreases-loop-k : goal.decreases-loop-k
-decreases-loop-k l = 8 - l.k
-
--- src/lib.rt:17:5

@@ -1,25 +1,8 @@
 -- Laws: lists that are chosen number by number. Assumes nothing.
-use Rattle.std.specs.Prelude.{◌≡◌, refl, Bool, true, false, cond, not, ◌&&◌, List, [], ◌∷◌, ◌++◌, ℕ, zero, suc, ◌+◌, ◌-◌, ◌/◌, ◌%◌, ◌≤◌, ◌<◌, eqb, ltb, length, take, set}
-use Rattle.std.proofs.Common.{sym, ap, ◌∙◌, true≢false, append_assoc, append-nil, arith, lt-ltb, le-ltb, length-set, take-suc-set}
+use Rattle.std.specs.Prelude.{◌≡◌, refl, Bool, true, false, cond, ◌&&◌, List, [], ◌∷◌, ◌++◌, ℕ, suc, ◌+◌, ◌-◌, ◌/◌, ◌%◌, ◌≤◌, ◌<◌, eqb, ltb, length, take, set}
+use Rattle.std.proofs.Common.{sym, ap, ◌∙◌, append_assoc, append-nil, arith, length-set, take-suc-set}
 use Rattle.made.specs.Choice.{marked, cyclic}
 use Rattle.made_fields.specs.Chosen.{Kept}
-
--- a number that is not marked, or not below top, is not kept
-pub kept_off : (list : List ℕ) (count q top : ℕ) (on : Bool) → not on ≡ true → Kept list count (on && ltb q top) q list count
-kept_off list count q top true e = absurd (true≢false (sym e))
-kept_off list count q top false e = record { first = refl; more = omega arith }
-
-pub kept_beyond : (list : List ℕ) (count q top : ℕ) (on : Bool) → top ≤ q → Kept list count (on && ltb q top) q list count
-kept_beyond list count q top true h = rw (le-ltb q top h) (record { first = refl; more = omega arith })
-kept_beyond list count q top false h = record { first = refl; more = omega arith }
-
-pub kept_put : (list : List ℕ) (count q top : ℕ) (on : Bool) → not on ≡ false → q < top → count < length list
-    → Kept list count (on && ltb q top) q (set list count q) (count + 1)
-kept_put list count q top true e h room =
-    let n : count + 1 ≡ suc count = omega arith in
-    rw (lt-ltb q top h)
-    (record { first = ap (λ (n : ℕ). take n (set list count q)) n ∙ take-suc-set list count q room; more = omega arith })
-kept_put list count q top false e h room = absurd (true≢false e)
 
 -- ---- marked numbers
 

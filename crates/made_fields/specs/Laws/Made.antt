@@ -1,10 +1,9 @@
 -- Laws: what is chosen number by number is what the rule chooses. Assumes nothing.
-use Rattle.std.specs.Prelude.{◌≡◌, refl, List, [], ℕ, zero, suc, ◌+◌, ◌≤◌, ◌<◌, min, take}
-use Rattle.std.proofs.Common.{sym, ap, subst, ◌∙◌, arith}
-use Rattle.made.specs.Choice.{Chosen, given, ◌>>=◌, pick, marked, few, cyclic, stretch}
+use Rattle.std.specs.Prelude.{◌≡◌, refl, List, ℕ, zero, suc, ◌+◌, ◌≤◌, ◌<◌, min, take}
+use Rattle.std.proofs.Common.{ap, ◌∙◌, arith}
+use Rattle.made.specs.Choice.{given, ◌>>=◌, pick, marked, few, cyclic, stretch}
 use Rattle.made.proofs.Laws.Choice.{always_pick}
 use Rattle.made_fields.specs.declared.choices.Number.{Number}
-use Rattle.made_fields.specs.declared.choices.Numbers.{Numbers}
 use Rattle.made_fields.specs.Chosen.{NumberIs, ListIs}
 
 pub pick_below : (n state : ℕ) (r : Number) → 0 < n → NumberIs (pick n state) r → r.value < n

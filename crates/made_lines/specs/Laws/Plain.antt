@@ -1,17 +1,18 @@
 -- Laws: a line that was put field by field, with the values as they were chosen, is the line that the rule makes. Assumes nothing.
 use Rattle.std.specs.Prelude.{◌≡◌, List, [], ◌∷◌, ℕ, ◌+◌, ◌<◌, set}
 use Rattle.std.proofs.Math.Path.{ap}
-use Rattle.std.proofs.Common.{◌∙◌, arith, eq-eqb, ne_eqb, length-take}
+use Rattle.std.proofs.Common.{◌∙◌, append_assoc, append-nil, arith, eq-eqb, ne_eqb, length-take}
 use Rattle.std.proofs.Math.Numerals.{add-one}
 use Rattle.std.proofs.Math.ListN.{length, take}
-use Rattle.text.specs.Bytes.{LF, bytes}
+use Rattle.text.specs.Bytes.{LF, bytes, unlines}
 use Rattle.text.specs.Number.{decimal}
 use Rattle.text.specs.List.{list_text_by, list_text}
 use Rattle.text.specs.Template.{value_text, first_text, line_text}
 use Rattle.job.specs.declared.Header.{Header}
+use Rattle.job.specs.Line.{SparsePauli}
 use Rattle.writer.specs.Placed.{Puts}
 use Rattle.writer.specs.Laws.Placing.{puts_nothing, puts_more}
-use Rattle.made.specs.Choice.{given, ◌>>=◌, pick, few, pauli, cyclic, stretch}
+use Rattle.made.specs.Choice.{Chosen, given, ◌>>=◌, pick, few, pauli, cyclic, stretch}
 use Rattle.made.specs.Making.{one_sided, pauli_line, controlled, permute, conditional, reset_qubits_of, reset, inject, flip, measure, allocate, barrier}
 use Rattle.made.proofs.Laws.Choice.{always_stretch}
 use Rattle.made_fields.specs.declared.choices.Number.{Number}
@@ -19,20 +20,26 @@ use Rattle.made_fields.specs.declared.choices.Numbers.{Numbers}
 use Rattle.made_fields.specs.Chosen.{NumberIs, ListIs}
 use Rattle.made_fields.specs.declared.Making.{Making}
 use Rattle.made_fields.specs.Lines.{FieldIs, PartIs, PauliIs, MadeIs}
+use Rattle.made_lines.specs.Plain.{PauliLineIs}
 use Rattle.made_fields.specs.Laws.Fields.{list_put, number_put, pauli_more, line_ended, line_moved}
+
+-- a line that is a Pauli
+module _ {m r : Making} {out after : List ℕ} where
+  pub pauli_ended : {name mid : List ℕ} {c : Chosen SparsePauli} {p : Making} → PauliIs name c m p out mid → PartIs 1 (LF ∷ []) p.state p r mid after
+      → PauliLineIs name c m r out after
+  pauli_ended p e = record { puts = pauli_more p e.puts; recorded = e.recorded ∙ p.recorded; state = e.state ∙ p.state }
+
+  module _ (h : Header) where
+    pub p_made : PauliLineIs (bytes "op=p x=") (pauli h.qubits m.state) m r out after → MadeIs (pauli_line h m.recorded "op=p x=L z=L" m.state) m r out after
+    unfolding bytes line_text first_text value_text unlines pauli_line ◌>>=◌ given
+    p_made p = record { puts = simp (append_assoc, append-nil) p.puts; recorded = p.recorded; state = p.state }
+
+    pub e_made : PauliLineIs (bytes "op=e x=") (pauli h.qubits m.state) m r out after → MadeIs (pauli_line h m.recorded "op=e x=L z=L" m.state) m r out after
+    unfolding bytes line_text first_text value_text unlines pauli_line ◌>>=◌ given
+    e_made p = record { puts = simp (append_assoc, append-nil) p.puts; recorded = p.recorded; state = p.state }
 
 module _ (h : Header) {m mid r : Making} {out before after : List ℕ} where
   -- ---- lines with Paulis
-
-  pub p_made : PauliIs (bytes "op=p x=") (pauli h.qubits m.state) m mid out before → PartIs 1 (LF ∷ []) mid.state mid r before after
-      → MadeIs (pauli_line h m.recorded "op=p x=L z=L" m.state) m r out after
-  unfolding bytes line_text first_text value_text pauli_line ◌>>=◌ given
-  p_made p e = line_ended _ _ (pauli_more p puts_nothing) p.recorded p.state e
-
-  pub e_made : PauliIs (bytes "op=e x=") (pauli h.qubits m.state) m mid out before → PartIs 1 (LF ∷ []) mid.state mid r before after
-      → MadeIs (pauli_line h m.recorded "op=e x=L z=L" m.state) m r out after
-  unfolding bytes line_text first_text value_text pauli_line ◌>>=◌ given
-  e_made p e = line_ended _ _ (pauli_more p puts_nothing) p.recorded p.state e
 
   pub inject_made : {shot : Number} {next : ℕ} {from : Making} {behind : List ℕ} → NumberIs (pick h.shots m.state) shot
       → FieldIs 40 m.at (bytes "op=i shot=") (decimal shot.value) out behind next

@@ -7,26 +7,19 @@ use mathlib.Core.List.{List, [], ◌∷◌}
 use Prim.Native.Nat.{ℕ, zero, suc, ◌≤◌, ◌<◌}
 use native.Mathlib.Omega.{arith}
 use Rattle.std.proofs.Math.Decide.{dec_lt}
-use borrow.Author.Tests.{ltb-true, lt-ltb, le-ltb, eqb-true, eqb-false, eq-eqb, ne_eqb}
+use borrow.Author.Tests.{lt-ltb, le-ltb, eqb-true, eqb-false, eq-eqb, ne_eqb}
 use Rattle.std.proofs.Math.Dec.{ltb}
 use Rattle.std.proofs.Math.ListN.{length}
 use Rattle.job.specs.declared.Header.{Header}
 use Rattle.made.specs.Choice.{◌>>=◌, pick}
-use Rattle.made.specs.Making.{Entry, always_stands, unitary, barrier, ring, first_standing, instruction}
+use Rattle.made.specs.Making.{Entry, always_stands, unitary, ring, first_standing, instruction}
 use Rattle.made_fields.specs.declared.choices.Number.{Number}
 use Rattle.made_fields.specs.Chosen.{NumberIs}
 use Rattle.made_fields.specs.declared.Making.{Making}
 use Rattle.made_fields.specs.Lines.{MadeIs, Ready}
-use Rattle.made_lines.specs.Ring.{entry_at, Stands, StandsFor}
-
--- what a match says whose arms are 1 to k: none of these
-abbrev pub Others : ℕ → ℕ → Type 0
-Others zero i = Unit {0}
-Others (suc k) i = Others k i × (i ≡ suc k → ⊥)
-
-pub none_but_zero : (k i : ℕ) → Others k i → i ≤ k → i ≡ 0
-none_but_zero zero i o l = omega (arith, l)
-none_but_zero (suc k) i o l = none_but_zero k i o.0 (omega (arith, l, o.1))
+use Rattle.made_lines.specs.declared.Kind.{Kind}
+use Rattle.made_lines.specs.declared.Kind.TheVariants as kind
+use Rattle.made_lines.specs.Ring.{index_of, entry_at, Stands, StandsFor}
 
 -- ---- how long the ring is
 
@@ -100,12 +93,30 @@ module _ (h : Header) (recorded : ℕ) where
   unfolding ring leading
   early k l = stands_here k (omega (arith, l, ring_some)) (leading_at 13 (ring h recorded) (always_stands (unitary h recorded)) k refl l)
 
-  pub barrier_last : (k : ℕ) → k ≡ 16 → k < length (ring h recorded) → StandsFor h recorded k 16
+  pub barrier_last : 16 < length (ring h recorded) → StandsFor h recorded 16 16
   unfolding ring
-  barrier_last k e l =
-      let long : 16 < length (ring h recorded) = subst (λ (j : ℕ). j < length (ring h recorded)) e l in
-      let second = last_there (eqb h.edition 2) refl long in
-      subst (λ (j : ℕ). StandsFor h recorded j 16) (sym e) (stands_here 16 long (rw second refl))
+  barrier_last long = let second = last_there (eqb h.edition 2) refl long in stands_here 16 long (rw second refl)
+
+  -- a kind before t, and the last, stand where they are in the ring
+  pub stays : (k : Kind) → (k ≡ kind.Flip → ⊥) → (k ≡ kind.Measure → ⊥) → (k ≡ kind.Allocate → ⊥) → index_of k < length (ring h recorded)
+      → StandsFor h recorded (index_of k) (index_of k)
+  stays kind.Unitary nf nm na l = early 0 (omega arith)
+  stays kind.Clifford nf nm na l = early 1 (omega arith)
+  stays kind.Pauli nf nm na l = early 2 (omega arith)
+  stays kind.Exponential nf nm na l = early 3 (omega arith)
+  stays kind.Controlled nf nm na l = early 4 (omega arith)
+  stays kind.Permute nf nm na l = early 5 (omega arith)
+  stays kind.Conditional nf nm na l = early 6 (omega arith)
+  stays kind.Reset nf nm na l = early 7 (omega arith)
+  stays kind.Injection nf nm na l = early 8 (omega arith)
+  stays kind.Single nf nm na l = early 9 (omega arith)
+  stays kind.Depolarizing nf nm na l = early 10 (omega arith)
+  stays kind.Uniform nf nm na l = early 11 (omega arith)
+  stays kind.Weighted nf nm na l = early 12 (omega arith)
+  stays kind.Flip nf nm na l = absurd (nf refl)
+  stays kind.Measure nf nm na l = absurd (nm refl)
+  stays kind.Allocate nf nm na l = absurd (na refl)
+  stays kind.Barrier nf nm na l = barrier_last l
 
   pub barrier_stands : h.edition ≡ 2 → StandsFor h recorded 16 16
   unfolding ring
@@ -142,38 +153,13 @@ module _ (h : Header) (recorded : ℕ) where
           subst (λ (j : ℕ). StandsFor h recorded j r) e (stands_next 14 (omega (arith, ring_some)) (no_more 14 (omega arith) (omega arith)) last)
       go (no s) = let e : 15 ≡ k = omega (arith, b, s) in subst (λ (j : ℕ). StandsFor h recorded j r) e last
 
-  pub flip_stands : (k : ℕ) → k ≡ 13 → 0 < recorded → StandsFor h recorded k 13
+  pub flip_stands : 0 < recorded → StandsFor h recorded 13 13
   unfolding ring
-  flip_stands k e l =
-      subst (λ (j : ℕ). StandsFor h recorded j 13) (sym e) (stands_here 13 (omega (arith, ring_some)) (lt-ltb 0 recorded l))
+  flip_stands l = stands_here 13 (omega (arith, ring_some)) (lt-ltb 0 recorded l)
 
-  pub flip_not : {r : ℕ} (k : ℕ) → k ≡ 13 → recorded ≤ 0 → StandsFor h recorded 14 r → StandsFor h recorded k r
+  pub flip_not : {r : ℕ} → recorded ≤ 0 → StandsFor h recorded 14 r → StandsFor h recorded 13 r
   unfolding ring
-  flip_not {r} k e l f =
-      subst (λ (j : ℕ). StandsFor h recorded j r) (sym e) (stands_next 13 (omega (arith, ring_some)) (le-ltb 0 recorded l) f)
-
-  -- ---- a kind that stands, by its place
-
-  module _ {place : ℕ} (s : Stands h recorded place) where
-    pub some_recorded : place ≡ 13 → 0 < recorded
-    unfolding ring
-    some_recorded e = ltb-true 0 recorded (rw e at s.stands)
-
-    pub more_recorded : (k : ℕ) → place ≡ k → 13 < k → k < 16 → recorded < h.outcomes
-    more_recorded k e a b = ltb-true recorded h.outcomes (sym (recording k a b) ∙ subst (λ (j : ℕ). (entry_at h recorded j).stands ≡ true) e s.stands)
-
-    pub barrier_there : place ≡ 16 → (entry_at h recorded place).made ≡ barrier h recorded
-    unfolding ring
-    barrier_there e =
-        let long : 16 < length (ring h recorded) = subst (λ (j : ℕ). j < length (ring h recorded)) e s.within in
-        rw (e, last_there (eqb h.edition 2) refl long) refl
-
-    place_most : place ≤ 16
-    place_most = omega (arith, s.within, ring_most)
-
-    pub unitary_there : Others 16 place → (entry_at h recorded place).made ≡ unitary h recorded
-    unfolding ring
-    unitary_there o = rw (none_but_zero 16 place o place_most) refl
+  flip_not l f = stands_next 13 (omega (arith, ring_some)) (le-ltb 0 recorded l) f
 
 -- ---- the instruction
 

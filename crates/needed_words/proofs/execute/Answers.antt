@@ -4,69 +4,54 @@ use native.Mathlib.Omega.{arith}
 use Rattle.needed_words.proofs.execute.Goals as goal
 
 pub loop-place-init : goal.loop-place-init
-loop-place-init c = (refl, refl, refl, refl, refl, refl, refl, refl, going_begun _ _ _ _ _ _ c.requires.0.1 _ _ _, c.requires.2)
-
-pub slice_bounds-step-end : goal.slice_bounds-step-end
-slice_bounds-step-end c = omega (arith, c.loop-place.invariant.0)
-
-pub slice_bounds-step-end-in-loop-place : goal.slice_bounds-step-end-in-loop-place
-slice_bounds-step-end-in-loop-place c = omega (arith, c.loop-place.invariant.1)
-
-pub slice_bounds-step-end-in-loop-place-2 : goal.slice_bounds-step-end-in-loop-place-2
-slice_bounds-step-end-in-loop-place-2 c = omega (arith, c.loop-place.invariant.2)
-
-pub slice_bounds-step-end-in-loop-place-3 : goal.slice_bounds-step-end-in-loop-place-3
-slice_bounds-step-end-in-loop-place-3 c = omega (arith, c.loop-place.invariant.3)
-
-pub slice_bounds-step-end-in-loop-place-4 : goal.slice_bounds-step-end-in-loop-place-4
-slice_bounds-step-end-in-loop-place-4 c = omega (arith, c.loop-place.invariant.4)
+loop-place-init c = (refl, refl, refl, refl, refl, refl, refl, going_begun _ _ _ _ _ _ c.requires.0.1 _ _ _, c.requires.2)
 
 pub step-moved-requires : goal.step-moved-requires
 step-moved-requires c =
     let i = c.loop-place.invariant in
-    let g = going_some _ _ _ _ i.8 in
+    let g = going_some _ _ _ _ i.7 in
     let rows = c.requires.1 in (
       record {
         recorded = g.recorded;
         ahead = g.ahead;
         inside = c.loop-place-test.true;
-        of_values = omega (arith, i.0);
-        of_elements = omega (arith, i.1);
-        of_sums = omega (arith, i.2);
-        of_weights = omega (arith, i.3);
+        of_values = c.loop-place.values.whole;
+        of_elements = omega (arith, i.0);
+        of_sums = omega (arith, i.1);
+        of_weights = omega (arith, i.2);
         within = g.within;
       },
       record {
         narrow = rows.narrow;
         in_words = rows.in_words;
-        of_x = i.5 ∙ rows.of_x;
-        of_z = i.6 ∙ rows.of_z;
-        of_deltas = i.7 ∙ rows.of_deltas;
+        of_x = i.4 ∙ rows.of_x;
+        of_z = i.5 ∙ rows.of_z;
+        of_deltas = i.6 ∙ rows.of_deltas;
         of_noiseless = rows.of_noiseless;
       },
-      omega (arith, i.4, rows.narrow),
-      i.9,
+      omega (arith, i.3, rows.narrow),
+      i.8,
     )
 
-pub shape_of-x-in-Spent : goal.shape_of-x-in-Spent
-shape_of-x-in-Spent c = c.step-moved.auto.x ∙ c.loop-place.invariant.5
+pub shape_of-x-in-Err : goal.shape_of-x-in-Err
+shape_of-x-in-Err c = c.step-moved.auto.x ∙ c.loop-place.invariant.4
 
-pub shape_of-z-in-Spent : goal.shape_of-z-in-Spent
-shape_of-z-in-Spent c = c.step-moved.auto.z ∙ c.loop-place.invariant.6
+pub shape_of-z-in-Err : goal.shape_of-z-in-Err
+shape_of-z-in-Err c = c.step-moved.auto.z ∙ c.loop-place.invariant.5
 
-pub shape_of-deltas-in-Spent : goal.shape_of-deltas-in-Spent
-shape_of-deltas-in-Spent c = c.step-moved.auto.deltas ∙ c.loop-place.invariant.7
+pub shape_of-deltas-in-Err : goal.shape_of-deltas-in-Err
+shape_of-deltas-in-Err c = c.step-moved.auto.deltas ∙ c.loop-place.invariant.6
 
-pub shape_of-totals-in-Spent : goal.shape_of-totals-in-Spent
-shape_of-totals-in-Spent c = c.step-moved.ensures.1.long ∙ sym c.requires.2.long
+pub shape_of-totals-in-Err : goal.shape_of-totals-in-Err
+shape_of-totals-in-Err c = c.step-moved.ensures.1.long ∙ sym c.requires.2.long
 
-pub returns-in-Spent : goal.returns-in-Spent
-returns-in-Spent c =
-    let g = c.loop-place.invariant.8 in
-    let left = stopped_left _ _ _ _ g _ _ _ _ (λ recorded ahead states holds. rw c.in-Spent.is at (c.step-moved.ensures.0.by recorded ahead states holds)) in (
+pub returns-in-Err : goal.returns-in-Err
+returns-in-Err c =
+    let g = c.loop-place.invariant.7 in
+    let left = stopped_left _ _ _ _ g _ _ _ _ (λ recorded ahead states holds. rw c.in-Err.is at (c.step-moved.ensures.0.by recorded ahead states holds)) in (
       record {
         by = going_stopped _ _ _ _ g _ _ _ _
-            (λ recorded ahead states holds. rw c.in-Spent.is at (c.step-moved.ensures.0.by recorded ahead states holds));
+            (λ recorded ahead states holds. rw c.in-Err.is at (c.step-moved.ensures.0.by recorded ahead states holds));
         within = left.0;
         leaves = left.1;
       },
@@ -75,41 +60,40 @@ returns-in-Spent c =
 
 pub loop-place-smaller : goal.loop-place-smaller
 loop-place-smaller c =
-    going_fewer _ _ _ _ c.loop-place.invariant.8 _ _ _ _
-    (λ recorded ahead states holds. rw c.in-To.is at (c.step-moved.ensures.0.by recorded ahead states holds))
+    going_fewer _ _ _ _ c.loop-place.invariant.7 _ _ _ _
+    (λ recorded ahead states holds. rw c.in-Ok.is at (c.step-moved.ensures.0.by recorded ahead states holds))
 
 pub loop-place-preserved : goal.loop-place-preserved
 loop-place-preserved c =
     let i = c.loop-place.invariant in (
-      c.step-moved.auto.values ∙ i.0,
-      c.step-moved.auto.elements ∙ i.1,
-      c.step-moved.auto.sums ∙ i.2,
-      c.step-moved.auto.weights ∙ i.3,
-      c.step-moved.auto.scratch ∙ i.4,
-      c.step-moved.auto.x ∙ i.5,
-      c.step-moved.auto.z ∙ i.6,
-      c.step-moved.auto.deltas ∙ i.7,
-      going_on _ _ _ _ i.8 _ _ _ _
-          (λ recorded ahead states holds. rw c.in-To.is at (c.step-moved.ensures.0.by recorded ahead states holds)),
+      c.step-moved.auto.elements ∙ i.0,
+      c.step-moved.auto.sums ∙ i.1,
+      c.step-moved.auto.weights ∙ i.2,
+      c.step-moved.auto.scratch ∙ i.3,
+      c.step-moved.auto.x ∙ i.4,
+      c.step-moved.auto.z ∙ i.5,
+      c.step-moved.auto.deltas ∙ i.6,
+      going_on _ _ _ _ i.7 _ _ _ _
+          (λ recorded ahead states holds. rw c.in-Ok.is at (c.step-moved.ensures.0.by recorded ahead states holds)),
       c.step-moved.ensures.1,
     )
 
 pub shape_of-x : goal.shape_of-x
-shape_of-x c = c.loop-place.invariant.5
+shape_of-x c = c.loop-place.invariant.4
 
 pub shape_of-z : goal.shape_of-z
-shape_of-z c = c.loop-place.invariant.6
+shape_of-z c = c.loop-place.invariant.5
 
 pub shape_of-deltas : goal.shape_of-deltas
-shape_of-deltas c = c.loop-place.invariant.7
+shape_of-deltas c = c.loop-place.invariant.6
 
 pub shape_of-totals : goal.shape_of-totals
-shape_of-totals c = c.loop-place.invariant.9.long ∙ sym c.requires.2.long
+shape_of-totals c = c.loop-place.invariant.8.long ∙ sym c.requires.2.long
 
 pub returns : goal.returns
 returns c =
-    let g = c.loop-place.invariant.8 in
+    let g = c.loop-place.invariant.7 in
     let left = end_left _ _ _ _ g c.loop-place-test.false in (
       record { by = going_end _ _ _ _ g c.loop-place-test.false; within = left.0; leaves = left.1 },
-      c.loop-place.invariant.9,
+      c.loop-place.invariant.8,
     )

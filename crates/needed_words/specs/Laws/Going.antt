@@ -1,5 +1,5 @@
 -- From instruction to instruction, to the end of a job. Laws. Assumes nothing.
-use Rattle.std.specs.Prelude.{◌≡◌, List, ℕ, ◌<◌, ◌≤◌, length, drop}
+use Rattle.std.specs.Prelude.{◌≡◌, Result, Ok, Err, List, ℕ, ◌<◌, ◌≤◌, length, drop}
 use Rattle.std.proofs.Math.Path.{refl, ap}
 use Rattle.std.proofs.Common.{sym, ◌∙◌, arith}
 use Rattle.job.specs.Job.{answer, accepted}
@@ -13,8 +13,7 @@ use Rattle.propagator.specs.Acts.{state_of}
 use Rattle.noise.specs.declared.Place.{Place}
 use Rattle.execution.specs.Holds.{Holds}
 use Rattle.execution.specs.Laws.Holds.{holds_some}
-use Rattle.execution.specs.declared.Moved.{Moved}
-use Rattle.execution.specs.declared.Moved.TheVariants.{To, Spent}
+use Rattle.execution.specs.declared.Spent.{Spent}
 use Rattle.execution.specs.Steps.{header_of, Ending, ending_of, EndsBy, EndsAs}
 use Rattle.needed_words.specs.Executed.{Finished}
 
@@ -45,13 +44,13 @@ module _ (job : List ℕ) (shape : Shape) (lent : Lent) (main : List ℕ) where
     going_some = g.by (state_of shape.width x₀ z₀ d₀) (holds_some shape.width x₀ z₀ d₀)
 
     -- an instruction was obeyed
-    abbrev pub Obeying : List ℕ → List ℕ → List ℕ → Moved → Type 0
+    abbrev pub Obeying : List ℕ → List ℕ → List ℕ → Result Place Spent → Type 0
     Obeying x' z' d' moved =
         (recorded : ℕ) → Ahead job (header_of job shape) recorded place.line place.byte → (states : States) → Holds shape.width x z d states
         → EndsAs job shape lent main (ending_of (header_of job shape) lent (instructions_at job place.line place.byte) (drop place.position main) states)
         (length (instructions_at job place.line place.byte)) place.line x' z' d' moved
 
-    pub going_on : (x' z' d' : List ℕ) (next : Place) → Obeying x' z' d' (To next) → GoingFrom from x₀ z₀ d₀ x' z' d' next
+    pub going_on : (x' z' d' : List ℕ) (next : Place) → Obeying x' z' d' (Ok next) → GoingFrom from x₀ z₀ d₀ x' z' d' next
     unfolding EndsBy
     going_on x' z' d' next went =
         record {
@@ -68,27 +67,27 @@ module _ (job : List ℕ) (shape : Shape) (lent : Lent) (main : List ℕ) where
               };
         }
 
-    pub going_fewer : (x' z' d' : List ℕ) (next : Place) → Obeying x' z' d' (To next)
+    pub going_fewer : (x' z' d' : List ℕ) (next : Place) → Obeying x' z' d' (Ok next)
         → length (instructions_at job next.line next.byte) < length (instructions_at job place.line place.byte)
     unfolding EndsBy
     going_fewer x' z' d' next went =
         let b = going_some in
         (went b.recorded b.ahead b.states b.holds).by.fewer
 
-    pub going_stopped : (x' z' d' : List ℕ) (position : ℕ) → Obeying x' z' d' (Spent position) → (states₀ : States) → Holds shape.width x₀ z₀ d₀ states₀
+    pub going_stopped : (x' z' d' : List ℕ) (s : Spent) → Obeying x' z' d' (Err s) → (states₀ : States) → Holds shape.width x₀ z₀ d₀ states₀
         → Finished (execute (header_of job shape) lent (instructions_at job 2 from) main states₀) shape.width x' z' d' (answer 14 place.line)
     unfolding EndsBy
-    going_stopped x' z' d' position went states₀ holds₀ =
+    going_stopped x' z' d' s went states₀ holds₀ =
         let b = g.by states₀ holds₀ in
         Finished.stopped place.line (sym (ap (λ (e : Ending). e.ends) b.is) ∙ (went b.recorded b.ahead b.states b.holds).by.ends) refl
 
-    pub stopped_left : (x' z' d' : List ℕ) (position : ℕ) → Obeying x' z' d' (Spent position)
-        → (position ≤ length main) × (drop position main ≡ left_after lent (instructions_at job 2 from) main)
+    pub stopped_left : (x' z' d' : List ℕ) (s : Spent) → Obeying x' z' d' (Err s)
+        → (s.position ≤ length main) × (drop s.position main ≡ left_after lent (instructions_at job 2 from) main)
     unfolding EndsBy
-    stopped_left x' z' d' position went =
+    stopped_left x' z' d' s went =
         let b = going_some in
-        let s = (went b.recorded b.ahead b.states b.holds).by in
-        (s.within, s.leaves ∙ ap (λ (e : Ending). e.left) b.is)
+        let t = (went b.recorded b.ahead b.states b.holds).by in
+        (t.within, t.leaves ∙ ap (λ (e : Ending). e.left) b.is)
 
     pub going_end : length job ≤ place.byte → (states₀ : States) → Holds shape.width x₀ z₀ d₀ states₀
         → Finished (execute (header_of job shape) lent (instructions_at job 2 from) main states₀) shape.width x z d accepted

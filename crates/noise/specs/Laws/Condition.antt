@@ -1,22 +1,18 @@
 -- A condition's mask, in every shot. Laws. Assumes nothing.
-use Rattle.std.specs.Prelude.{◌≡◌, ℕ, suc, ◌+◌, ◌-◌, ◌*◌, ◌/◌, ◌%◌, ◌^◌, ◌<◌, ◌≤◌, Bool, true, false, not, ◌||◌, List, [], ◌∷◌, length, ◌==◌, nat_eq, slice_set, refl}
+use Rattle.std.specs.Prelude.{◌≡◌, ℕ, suc, ◌+◌, ◌-◌, ◌*◌, ◌/◌, ◌%◌, ◌^◌, ◌<◌, ◌≤◌, Bool, true, false, not, ◌||◌, List, [], ◌∷◌, ◌++◌, length, get_or, drop, replicate, ◌==◌, nat_eq, refl}
 use Rattle.std.proofs.Math.Nat.{zero-mul, zero-add}
-use Rattle.std.proofs.Common.{mod-lt, add-one, arith, sym, ap, ◌∙◌, lit<, pow_pos, eq-eqb, ne_eqb}
+use Rattle.std.proofs.Common.{mod-lt, add-one, arith, ap, ◌∙◌, lit<, pow_pos, eq-eqb, ne_eqb}
 use Rattle.std.proofs.Math.Pow.{high, ones_lt, ones_split}
 use Rattle.pauli.specs.Bits.{Bits, added, ◌⊕◌, sum_over, bit}
 use Rattle.job.specs.Grammar.{is_one}
 use Rattle.draws.specs.Draws.{is_satisfied}
 use Rattle.rows.specs.Words.{bit_in}
-use Rattle.rows.specs.Overwrite.{overwrite, xored}
+use Rattle.rows.specs.Overwrite.{xored}
 use Rattle.rows.specs.Listed.{over_list}
 use Rattle.rows.specs.Column.{column}
-use Rattle.rows.proofs.Laws.Overwrite.{overwrite_in, overwrite_more, length_overwrite}
+use Rattle.std.proofs.lemmas.List.{length-append, length-replicate, get_or-replicate, get_or_append_left}
 use Rattle.rows.proofs.Laws.Column.{column_add_listed}
 use Rattle.noise.specs.Condition.{condition_of, Masks}
-
--- a turn of the loop that writes one word many times
-pub filled_more : (v i : ℕ) (l m : List ℕ) → m ≡ overwrite 0 i (λ j. v) l → slice_set m i v ≡ overwrite 0 (i + 1) (λ j. v) l
-filled_more v i l m e = ap (λ (k : ℕ). slice_set m k v) (sym (zero-add i)) ∙ overwrite_more 0 (λ j. v) l i v m e refl
 
 -- all bits of a word
 pub bit_ones : (k : ℕ) → k < 64 → bit (2 ^ 64 - 1) k ≡ true
@@ -49,15 +45,19 @@ module _ (w v : ℕ) (outcomes noiseless : List ℕ) (parity : ℕ)
     (first : (k : ℕ) → k < 64 → bit v k ≡ (length outcomes == 0 || not (is_one parity)))
     (mask mask₁ mask' : List ℕ) (fits : w ≤ length mask)
   where
-    filled : mask₁ ≡ overwrite 0 w (λ j. v) mask → (s : ℕ) → s / 64 < w → bit_in w mask₁ 0 s ≡ (length outcomes == 0 || not (is_one parity))
+    filled : mask₁ ≡ replicate w v ++ drop w mask → (s : ℕ) → s / 64 < w → bit_in w mask₁ 0 s ≡ (length outcomes == 0 || not (is_one parity))
     unfolding bit_in
-    filled e s h = rw (e, zero-mul w, overwrite_in 0 (λ j. v) mask w (s / 64) h (rw zero-add fits)) (first (s % 64) (mod-lt s (lit< tt)))
+    filled e s h =
+        let inside : s / 64 < length (replicate w v) = rw (length-replicate w v) h in
+        let here : get_or (replicate w v ++ drop w mask) (s / 64) 0 ≡ v =
+        get_or_append_left (replicate w v) (drop w mask) 0 (s / 64) inside ∙ get_or-replicate w (s / 64) v 0 h in
+        rw (e, zero-mul w, zero-add, here) (first (s % 64) (mod-lt s (lit< tt)))
 
-    pub masks : mask₁ ≡ overwrite 0 w (λ j. v) mask → mask' ≡ over_list (λ q. xored (0 * w) (q * w) w noiseless) outcomes mask₁
+    pub masks : mask₁ ≡ replicate w v ++ drop w mask → mask' ≡ over_list (λ q. xored (0 * w) (q * w) w noiseless) outcomes mask₁
         → Masks w mask' (condition_of outcomes parity) (bit_in w noiseless)
     unfolding column added
     masks e₁ e₂ =
-        let long : 0 * w + w ≤ length mask₁ = rw (e₁, length_overwrite, zero-mul, zero-add) fits in
+        let long : 0 * w + w ≤ length mask₁ = rw (e₁, zero-mul, zero-add, length-append, length-replicate) (omega arith) in
         record {
           shots = λ s h.
               rw e₂ (ap (λ (c : Bits). c 0) (column_add_listed w s h 0 noiseless outcomes mask₁ long) ∙ rw (filled e₁ s h) (satisfied outcomes parity (column w noiseless s)));

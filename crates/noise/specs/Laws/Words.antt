@@ -1,5 +1,5 @@
 -- The part of a list that a noise line reads from, in two pieces, and words that bring no fault. Laws. Assumes nothing.
-use Rattle.std.specs.Prelude.{◌≡◌, ℕ, zero, suc, ◌+◌, ◌-◌, ◌%◌, ◌^◌, ◌<◌, ◌≤◌, Bool, true, false, cond, List, [], ◌∷◌, ◌++◌, length, take, drop, slice_index, refl, Float}
+use Rattle.std.specs.Prelude.{◌≡◌, ℕ, zero, suc, ◌+◌, ◌-◌, ◌%◌, ◌^◌, ◌<◌, ◌≤◌, Bool, true, false, cond, List, [], ◌∷◌, ◌++◌, length, take, drop, slice_index, refl, Float, Some, None, Option as Given}
 use native.Mathlib.Omega.{arith}
 use Rattle.std.proofs.Math.Path.{sym}
 use Rattle.std.proofs.Common.{ap, ◌∙◌, length-drop, take_all, get_or-append-add}
@@ -9,10 +9,6 @@ use Rattle.std.proofs.Math.ListN.{get_or-append}
 use Rattle.std.proofs.Math.Seq.{drop-cons}
 use Rattle.draws.specs.Draws.{falls, Lent, part_of}
 use Rattle.draws.proofs.Laws.Spent.{drop_append}
-use Rattle.noise.specs.declared.Correlation.{Correlation}
-use Rattle.noise.specs.declared.Correlation.TheVariants.{Uncorrelated, Shared}
-use Rattle.noise.specs.declared.NextWord.{NextWord}
-use Rattle.noise.specs.declared.NextWord.TheVariants as next
 use Rattle.noise.specs.Kinds.{correlation_of}
 use Rattle.noise.specs.Words.{skip_of, more_of, WordIs, WordRead}
 
@@ -20,18 +16,18 @@ use Rattle.noise.specs.Words.{skip_of, more_of, WordIs, WordRead}
 pub tail_whole : (ws : List ℕ) (i : ℕ) → take (length ws - i) (drop i ws) ≡ drop i ws
 tail_whole ws i = let h : length (drop i ws) ≤ length ws - i = simp length-drop (omega arith) in take_all (length ws - i) (drop i ws) h
 
-module _ (lent : Lent) (k : Correlation) (main r : List ℕ) where
-  pub part_main : k ≡ Uncorrelated → r ≡ main → r ≡ part_of lent (correlation_of k) main
+module _ (lent : Lent) (k : Given ℕ) (main r : List ℕ) where
+  pub part_main : k ≡ None → r ≡ main → r ≡ part_of lent (correlation_of k) main
   unfolding part_of correlation_of
   part_main e q = rw e q
 
-  pub part_second : (c base : ℕ) (second : List ℕ) → k ≡ Shared c → lent.second ≡ second → lent.base ≡ base
+  pub part_second : (c base : ℕ) (second : List ℕ) → k ≡ Some c → lent.second ≡ second → lent.base ≡ base
       → r ≡ drop ((base + c) % 2 ^ 64) second → r ≡ part_of lent (correlation_of k) main
   unfolding part_of correlation_of
   part_second c base second e s b q = rw (e, s, b) q
 
 -- the part of a main list that lies in two pieces
-pub part_both : (lent : Lent) (k : Correlation) (main more first second : List ℕ) (position : ℕ) → first ≡ part_of lent (correlation_of k) (drop position main)
+pub part_both : (lent : Lent) (k : Given ℕ) (main more first second : List ℕ) (position : ℕ) → first ≡ part_of lent (correlation_of k) (drop position main)
     → second ≡ more_of (correlation_of k) (drop (position - length main) more) → first ++ second ≡ part_of lent (correlation_of k) (drop position (main ++ more))
 part_both lent k main more first second position a b = rw (a, b) (go (correlation_of k))
   where
@@ -52,20 +48,20 @@ both_second ws more i h =
 -- ---- the word at a place
 
 module _ {words : List ℕ} {at : ℕ} where
-  pub word_there : {w : ℕ} → at < length words → w ≡ slice_index words at → WordRead words at (next.Word w)
+  pub word_there : {w : ℕ} → at < length words → w ≡ slice_index words at → WordRead words at (Some w)
   unfolding WordIs
   word_there h e = record { is = (h, e) }
 
-  pub words_ended : length words ≤ at → WordRead words at next.Spent
+  pub words_ended : length words ≤ at → WordRead words at None
   unfolding WordIs
   words_ended h = record { is = h }
 
-  module _ {r : NextWord} (q : WordRead words at r) where
-    pub word_read : {w : ℕ} → r ≡ next.Word w → (at < length words) × (w ≡ slice_index words at)
+  module _ {r : Given ℕ} (q : WordRead words at r) where
+    pub word_read : {w : ℕ} → r ≡ Some w → (at < length words) × (w ≡ slice_index words at)
     unfolding WordIs
     word_read e = rw e at q.is
 
-    pub none_read : r ≡ next.Spent → length words ≤ at
+    pub none_read : r ≡ None → length words ≤ at
     unfolding WordIs
     none_read e = rw e at q.is
 

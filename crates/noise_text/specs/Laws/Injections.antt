@@ -1,6 +1,6 @@
 -- Injections that are put one after the other. Laws. Assumes nothing.
 use Rattle.std.proofs.Math.Path.{◌≡◌, sym, ap}
-use Rattle.std.specs.Prelude.{refl, true, ℕ, ◌+◌, ◌-◌, ◌*◌, ◌^◌, ◌≤◌, ◌<◌, Float}
+use Rattle.std.specs.Prelude.{refl, Result, Ok, Err, true, ℕ, ◌+◌, ◌-◌, ◌*◌, ◌^◌, ◌≤◌, ◌<◌, Float}
 use Rattle.std.proofs.Common.{◌∙◌, length-drop, drop_of_length-le}
 use Rattle.std.proofs.Math.Bool.{false}
 use mathlib.Core.List.{List, [], ◌∷◌, ◌++◌, map, append_assoc, append-nil}
@@ -20,7 +20,7 @@ use Rattle.draws.specs.Settle.{SettledLine, inject_text, injection, Step, noise_
 use Rattle.draws.specs.Left.{spent_on, left_spent}
 use Rattle.draws.proofs.Laws.SettledText.{element_sound}
 use Rattle.noise.specs.declared.PauliDistribution.{PauliDistribution}
-use Rattle.noise.specs.declared.Correlation.{Correlation}
+use Rattle.std.specs.Prelude.{Option as Given}
 use Rattle.shots.specs.declared.NextFault.{NextFault}
 use Rattle.shots.specs.declared.NextFault.TheVariants as next
 use Rattle.noise.specs.Kinds.{correlation_of}
@@ -30,7 +30,7 @@ use Rattle.shots.specs.Shots.{FaultFound}
 use Rattle.shots.specs.Laws.Next.{draws_spent, draws_done, draws_at, done_within, at_below}
 use Rattle.faults.specs.Laws.Drawn.{size_some}
 use Rattle.noise_text.specs.declared.Drawn.{Drawn}
-use Rattle.noise_text.specs.declared.Drawn.TheVariants.{Spent, Done}
+use Rattle.noise_text.specs.declared.Spent.{Spent}
 use Rattle.noise_text.specs.Elements.{element_in, ElementIn}
 use Rattle.noise_text.specs.Injections.{text_of, SpentTo, PutAs, StepPut, injected, Ready, ReadyOf}
 
@@ -125,15 +125,15 @@ module _ {p : Float} {d : PauliDistribution} {sums : List Float} {mask elements 
           }
 
       pub put_spent : r ≡ next.Spent → (all : ℕ) → all ≡ length words
-          → StepPut words from shots out [] (injected D (draw_shots q.lent q.noise shots 0 words)) mid (Spent all)
+          → StepPut words from shots out [] (injected D (draw_shots q.lent q.noise shots 0 words)) mid (Err (record { position = all }))
       unfolding also_faults injected PutAs
       put_spent k all e =
           let past : length words ≤ all = omega arith in
-          let stopped : SpentTo words [] (Spent all) = record { next = all; is = refl; within = omega arith; rest = sym (drop_of_length-le words past) } in
+          let stopped : SpentTo words [] (Err (record { position = all })) = record { next = all; is = refl; within = omega arith; rest = sym (drop_of_length-le words past) } in
           rw (s.draws, draws_spent found here q.stands q.lent q.fits q.satisfied k) record { put = stopped }
 
       pub put_done : (i : ℕ) → r ≡ next.Done i → place ≤ from + 1342 * shots
-          → StepPut words from shots out [] (injected D (draw_shots q.lent q.noise shots 0 words)) mid (Done i place)
+          → StepPut words from shots out [] (injected D (draw_shots q.lent q.noise shots 0 words)) mid (Ok (record { position = i; text = place }))
       put_done i k few =
           rw (s.draws, draws_done found here q.stands q.lent q.fits q.satisfied i k)
           (unfold also_faults injected PutAs in
@@ -153,30 +153,30 @@ module _ {p : Float} {d : PauliDistribution} {sums : List Float} {mask elements 
 -- ---- the position in the main list
 
 -- draws from some words, where the main list goes on at a place of its own
-module _ {words : List ℕ} {from shots : ℕ} {out after : List ℕ} {r : Drawn} (main : List ℕ) (n : Noise) (before : List ℕ) (o : Draws)
+module _ {words : List ℕ} {from shots : ℕ} {out after : List ℕ} {r : Result Drawn Spent} (main : List ℕ) (n : Noise) (before : List ℕ) (o : Draws)
     (t : StepPut words from shots out [] (injected n.distribution o) after r) (spent : List ℕ)
   where
-    as_spent : (i k : ℕ) → r ≡ Spent i → k ≤ length main → spent ≡ drop k main → StepPut main from shots out spent (noise_step n before o) after (Spent k)
+    as_spent : (s : Spent) (k : ℕ) → r ≡ Err s → k ≤ length main → spent ≡ drop k main → StepPut main from shots out spent (noise_step n before o) after (Err (record { position = k }))
     unfolding injected noise_step PutAs
-    as_spent i k e within rest = record { put = go o t.put }
+    as_spent s k e within rest = record { put = go o t.put }
       where
-        go : (o : Draws) → PutAs words from shots out [] (injected n.distribution o) after r → PutAs main from shots out spent (noise_step n before o) after (Spent k)
+        go : (o : Draws) → PutAs words from shots out [] (injected n.distribution o) after r → PutAs main from shots out spent (noise_step n before o) after (Err (record { position = k }))
         go Draws.spent u = record { next = k; is = refl; within = within; rest = rest }
         go (Draws.drawn fs left) u = let z : ◌≡◌ {A = ℕ} 0 1 = cc (u.is, e) in absurd (omega arith)
 
-    as_done : (i j k : ℕ) → r ≡ Done i j → k ≤ length main → main_after n.correlation before (drop i words) ≡ drop k main
-        → StepPut main from shots out spent (noise_step n before o) after (Done k j)
+    as_done : (d : Drawn) (k : ℕ) → r ≡ Ok d → k ≤ length main → main_after n.correlation before (drop d.position words) ≡ drop k main
+        → StepPut main from shots out spent (noise_step n before o) after (Ok (record { position = k; text = d.text }))
     unfolding injected noise_step PutAs
-    as_done i j k e within rest = record { put = go o t.put }
+    as_done d k e within rest = record { put = go o t.put }
       where
-        go : (o : Draws) → PutAs words from shots out [] (injected n.distribution o) after r → PutAs main from shots out spent (noise_step n before o) after (Done k j)
+        go : (o : Draws) → PutAs words from shots out [] (injected n.distribution o) after r → PutAs main from shots out spent (noise_step n before o) after (Ok (record { position = k; text = d.text }))
         go Draws.spent u = let z : ◌≡◌ {A = ℕ} 0 1 = cc (u.is, e) in absurd (omega arith)
         go (Draws.drawn fs left) u =
-            let next : u.next ≡ i = cc (u.is, e) in
-            let place : u.place ≡ j = cc (u.is, e) in
+            let next : u.next ≡ d.position = cc (u.is, e) in
+            let place : u.place ≡ d.text = cc (u.is, e) in
             record {
               next = k;
-              place = j;
+              place = d.text;
               is = refl;
               within = within;
               rest = ap (main_after n.correlation before) (u.rest ∙ ap (λ (m : ℕ). drop m words) next) ∙ rest;
@@ -194,29 +194,29 @@ unfolding main_after part_of
 part_main lent none main = refl
 part_main lent (some c) main = refl
 
-step_within : {words : List ℕ} {from shots : ℕ} {out : List ℕ} {step : Step} {after : List ℕ} {r : Drawn} {i j : ℕ}
-    → StepPut words from shots out [] step after r → r ≡ Done i j → i ≤ length words
+step_within : {words : List ℕ} {from shots : ℕ} {out : List ℕ} {step : Step} {after : List ℕ} {r : Result Drawn Spent} {d : Drawn}
+    → StepPut words from shots out [] step after r → r ≡ Ok d → d.position ≤ length words
 unfolding PutAs
-step_within {words} {from} {shots} {out} {step} {after} {r} {i} t e = go step t.put
+step_within {words} {from} {shots} {out} {step} {after} {r} {d} t e = go step t.put
   where
-    go : (st : Step) → PutAs words from shots out [] st after r → i ≤ length words
+    go : (st : Step) → PutAs words from shots out [] st after r → d.position ≤ length words
     go Step.spent u = let z : ◌≡◌ {A = ℕ} 0 1 = cc (u.is, e) in absurd (omega arith)
-    go (Step.lines ls left) u = let same : u.next ≡ i = cc (u.is, e) in rw same at u.within
+    go (Step.lines ls left) u = let same : u.next ≡ d.position = cc (u.is, e) in rw same at u.within
 
 -- nothing is left where a word was needed past the end
-step_spent : {words : List ℕ} {from shots : ℕ} {out : List ℕ} {step : Step} {after : List ℕ} {r : Drawn} {i : ℕ}
-    → StepPut words from shots out [] step after r → r ≡ Spent i → i ≡ length words
+step_spent : {words : List ℕ} {from shots : ℕ} {out : List ℕ} {step : Step} {after : List ℕ} {r : Result Drawn Spent} {s : Spent}
+    → StepPut words from shots out [] step after r → r ≡ Err s → s.position ≡ length words
 unfolding PutAs
-step_spent {words} {from} {shots} {out} {step} {after} {r} {i} t e = go step t.put
+step_spent {words} {from} {shots} {out} {step} {after} {r} {s} t e = go step t.put
   where
-    go : (st : Step) → PutAs words from shots out [] st after r → i ≡ length words
+    go : (st : Step) → PutAs words from shots out [] st after r → s.position ≡ length words
     go Step.spent u =
-        let same : u.next ≡ i = cc (u.is, e) in
+        let same : u.next ≡ s.position = cc (u.is, e) in
         let none : 0 ≡ length words - u.next = ap length u.rest ∙ length-drop u.next words in
         omega (arith, u.within, same, none)
     go (Step.lines ls left) u = let z : ◌≡◌ {A = ℕ} 0 1 = cc (u.is, e) in absurd (omega arith)
 
-module _ {p : Float} {d : PauliDistribution} {sums : List Float} {mask elements : List ℕ} {shots : ℕ} {correlation : Correlation} {second : List ℕ} {base : ℕ}
+module _ {p : Float} {d : PauliDistribution} {sums : List Float} {mask elements : List ℕ} {shots : ℕ} {correlation : Given ℕ} {second : List ℕ} {base : ℕ}
     (q : ReadyOf p d sums mask elements shots correlation second base) (text main : List ℕ) (position : ℕ) (inside : position ≤ length main)
   where
     abbrev noise : Noise
@@ -230,7 +230,7 @@ module _ {p : Float} {d : PauliDistribution} {sums : List Float} {mask elements 
     step = step_of q.ready.lent (drop position main) text (Instruction.noise noise)
 
     -- with p at or below zero nothing is read and nothing is put
-    pub no_draws : {place : ℕ} {out : List ℕ} → le p zero_float ≡ true → StepPut main place shots out unread step out (Done position place)
+    pub no_draws : {place : ℕ} {out : List ℕ} → le p zero_float ≡ true → StepPut main place shots out unread step out (Ok (record { position = position; text = place }))
     unfolding step_of draw_line noise_step PutAs unlines
     no_draws {place} low =
         rw (← q.ready.stands.probability, low)
@@ -262,36 +262,36 @@ module _ {p : Float} {d : PauliDistribution} {sums : List Float} {mask elements 
           ∙ line_draws q.ready.lent noise words above
           ∙ ap (λ (k : ℕ). draw_shots q.ready.lent noise k 0 words) q.shots_are)
 
-      module _ {place : ℕ} {out after : List ℕ} {r : Drawn} (put : StepPut words place shots out [] (injected noise.distribution draws) after r) where
-        module _ {i : ℕ} (e : r ≡ Spent i) where
-          all_read : i ≡ length (part_of q.ready.lent (correlation_of correlation) (drop position main))
+      module _ {place : ℕ} {out after : List ℕ} {r : Result Drawn Spent} (put : StepPut words place shots out [] (injected noise.distribution draws) after r) where
+        module _ {s : Spent} (e : r ≡ Err s) where
+          all_read : s.position ≡ length (part_of q.ready.lent (correlation_of correlation) (drop position main))
           all_read = step_spent put e ∙ ap length part
 
-          pub all_fits : length main < 2 ^ 64 → correlation_of correlation ≡ none → position + i < 2 ^ 64
-          all_fits small = position_fits correlation q.ready.lent main position i inside small (omega (arith, all_read))
+          pub all_fits : length main < 2 ^ 64 → correlation_of correlation ≡ none → position + s.position < 2 ^ 64
+          all_fits small = position_fits correlation q.ready.lent main position s.position inside small (omega (arith, all_read))
 
-          pub spent_draws : StepPut main place shots out unread step after (Spent (position_after_of correlation position i))
+          pub spent_draws : StepPut main place shots out unread step after (Err (record { position = position_after_of correlation position s.position }))
           unfolding left_spent
           spent_draws =
-              let left : spent_on noise.correlation (drop position main) ≡ drop (position_after_of correlation position i) main =
-              rw (← q.correlated) (sym (main_spent correlation q.ready.lent main position i all_read)) in
+              let left : spent_on noise.correlation (drop position main) ≡ drop (position_after_of correlation position s.position) main =
+              rw (← q.correlated) (sym (main_spent correlation q.ready.lent main position s.position all_read)) in
               rw step_is
-              (as_spent main noise (drop position main) draws put (spent_on noise.correlation (drop position main)) i (position_after_of correlation position i) e
-              (position_within correlation q.ready.lent main position i inside (omega (arith, all_read)))
+              (as_spent main noise (drop position main) draws put (spent_on noise.correlation (drop position main)) s (position_after_of correlation position s.position) e
+              (position_within correlation q.ready.lent main position s.position inside (omega (arith, all_read)))
               left)
 
-        module _ {i j : ℕ} (e : r ≡ Done i j) where
-          read_within : i ≤ length (part_of q.ready.lent (correlation_of correlation) (drop position main))
+        module _ {drawn : Drawn} (e : r ≡ Ok drawn) where
+          read_within : drawn.position ≤ length (part_of q.ready.lent (correlation_of correlation) (drop position main))
           read_within = rw part at (step_within put e)
 
-          pub read_fits : length main < 2 ^ 64 → correlation_of correlation ≡ none → position + i < 2 ^ 64
-          read_fits small = position_fits correlation q.ready.lent main position i inside small read_within
+          pub read_fits : length main < 2 ^ 64 → correlation_of correlation ≡ none → position + drawn.position < 2 ^ 64
+          read_fits small = position_fits correlation q.ready.lent main position drawn.position inside small read_within
 
-          pub done_draws : StepPut main place shots out unread step after (Done (position_after_of correlation position i) j)
+          pub done_draws : StepPut main place shots out unread step after (Ok (record { position = position_after_of correlation position drawn.position; text = drawn.text }))
           done_draws =
-              let left : main_after noise.correlation (drop position main) (drop i words) ≡ drop (position_after_of correlation position i) main =
-              rw (← q.correlated, part) (main_after_lem correlation q.ready.lent main position i) in
+              let left : main_after noise.correlation (drop position main) (drop drawn.position words) ≡ drop (position_after_of correlation position drawn.position) main =
+              rw (← q.correlated, part) (main_after_lem correlation q.ready.lent main position drawn.position) in
               rw step_is
-              (as_done main noise (drop position main) draws put unread i j (position_after_of correlation position i) e
-              (position_within correlation q.ready.lent main position i inside read_within)
+              (as_done main noise (drop position main) draws put unread drawn (position_after_of correlation position drawn.position) e
+              (position_within correlation q.ready.lent main position drawn.position inside read_within)
               left)

@@ -1,9 +1,7 @@
 use Prim.Native.Nat.{◌+◌, ◌*◌, ◌≤◌, ◌<◌}
 use native.Mathlib.Omega.{arith}
 use mathlib.Core.Path.{◌≡◌, refl, sym, ap, ◌∙◌}
-use mathlib.Core.Bool.{true}
 use mathlib.Core.Option.{some}
-use borrow.Author.Tests.{not-true, not-false}
 use lib.ListN.{length, get_or}
 use Rattle.text.specs.Number.{hex_digit}
 use Rattle.text.proofs.Laws.Numbers.{hex_value, hex_end_value, hex_length, hex_undigit, hex_good, hex_grows, hex_fits}

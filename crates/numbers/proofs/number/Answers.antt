@@ -1,10 +1,9 @@
 use Prim.Native.Nat.{◌+◌, ◌-◌, ◌*◌, ◌^◌, ◌<◌}
 use native.Mathlib.Omega.{arith}
 use mathlib.Core.Path.{refl, sym, ap, ◌∙◌}
-use borrow.Author.Tests.{ltb-true, ltb-false, not-true, not-false}
+use borrow.Author.Tests.{ltb-true, ltb-false}
 use lib.ListN.{length, drop, get_or}
 use mathlib.Core.Option.{some}
-use Rattle.text.specs.Number.{proper}
 use Rattle.numbers.specs.Read.{read}
 use Rattle.text.proofs.Laws.Numbers.{step_digit, step_low, step_high, step_value, end_digit, end_value, decimal_grows, number_improper, number_undigit, number_large, number_good}
 use Rattle.numbers.proofs.number.Goals as goal
@@ -59,12 +58,6 @@ overflow_add-v c =
     let loop = c.loop-i in
     let small = ltb-true (loop.v * 10 + (get_or s loop.i 0 - 48)) (2 ^ 64) (sym c.fits.ensures ∙ c.if-not-fits.false) in
     omega arith
-
-pub overflow_add-i : goal.overflow_add-i
-overflow_add-i c = omega arith
-
-pub loop-i-smaller : goal.loop-i-smaller
-loop-i-smaller c = omega arith
 
 pub loop-i-preserved : goal.loop-i-preserved
 loop-i-preserved c =

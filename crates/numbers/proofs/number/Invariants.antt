@@ -1,5 +1,5 @@
 -- `numbers::number` meets its contract. Assumes nothing.
-use Prim.Native.Nat.{◌-◌, ◌^◌, ◌≤◌, ◌<◌}
+use Prim.Native.Nat.{◌^◌, ◌≤◌, ◌<◌}
 use mathlib.Core.Path.{◌≡◌}
 use lib.ListN.{length, drop}
 use Rattle.text.specs.Number.{all_decimal, decimal_from}
@@ -11,6 +11,3 @@ invariant-loop-i l =
     × (l.v < 2 ^ 64)
     × (all_decimal l.s ≡ all_decimal (drop l.i l.s))
     × (decimal_from 0 l.s ≡ decimal_from l.v (drop l.i l.s))
-
-abbrev pub decreases-loop-i : goal.decreases-loop-i
-decreases-loop-i l = length l.s - l.i

@@ -1,5 +1,5 @@
 -- Numbers and lists that are known to stand at a place, byte by byte and member by member. Laws. Assumes nothing.
-use Rattle.std.specs.Prelude.{ℕ, zero, suc, ◌+◌, ◌-◌, ◌*◌, ◌^◌, ◌≤◌, ◌<◌, ◌≡◌, Bool, true, false, cond, ◌&&◌, List, [], ◌∷◌, ◌++◌, eqb, ltb, leb, get_or, take, drop, set}
+use Rattle.std.specs.Prelude.{ℕ, zero, suc, ◌+◌, ◌-◌, ◌*◌, ◌^◌, ◌≤◌, ◌<◌, ◌≡◌, Bool, true, false, cond, ◌&&◌, List, [], ◌∷◌, ◌++◌, eqb, ltb, leb, get_or, take, drop, set, Some}
 use Rattle.std.proofs.Common.{arith, ◌∙◌, lt-ltb, le-ltb, ltb-true, ltb-false, eqb-true, leb-true, drop_of_length-le, length-take, length-drop, length-take-le, get_or-take, get_or-drop, ext_get_or}
 use Rattle.std.proofs.Math.Path.{refl, sym, ap, subst}
 use Rattle.std.proofs.Math.Option.{Option, none, some}
@@ -14,7 +14,7 @@ use Rattle.text.proofs.Laws.Pieces.{step, until_le}
 use Rattle.numbers.specs.declared.lists.Listed.{Listed}
 use Rattle.numbers.specs.declared.known.Digits.{Digits}
 use Rattle.numbers.specs.declared.known.KnownList.{KnownList}
-use Rattle.numbers.specs.Read.{listed_as, ListRead}
+use Rattle.numbers.specs.Read.{listed_of, ListRead}
 use Rattle.numbers.specs.Known.{digits_of, digits_at, DigitsThere, DigitsRead, field, ListThere, KnownRead}
 use Rattle.numbers.specs.Laws.Pieces.{until_at}
 use Rattle.numbers.specs.Laws.Lists.{stored_length, SoFar, so_count, pieces_start, pieces_bad, pieces_more, pieces_last, empty_read, l_dash, l_list}
@@ -298,7 +298,7 @@ module _ {s : List ℕ} {from : ℕ} (t : ListThere s from) where
           absurd (omega arith)
 
   -- the empty list
-  pub dash_read : get_or s from 0 ≡ 45 → (r : KnownList) → r.list ≡ listed_as (some []) → r.behind ≡ from + 1
+  pub dash_read : get_or s from 0 ≡ 45 → (r : KnownList) → r.list ≡ listed_of [] → r.behind ≡ from + 1
       → {out : List ℕ} → KnownRead s from r out out
   dash_read is r e p =
       let dash = a_dash is in
@@ -313,7 +313,7 @@ pub record KnownSoFar (s : List ℕ) (from : ℕ) (before : List ℕ) (l : Liste
   pub listed : list_Q (field s from) ≡ some there.members
   pub so_far : SoFar number_of (field s from) before l (at - from) out
 
-pub known_start : {s out : List ℕ} {from : ℕ} {l : Listed} → ListThere s from → (get_or s from 0 ≡ 45 → ⊥) → l ≡ listed_as (some [])
+pub known_start : {s out : List ℕ} {from : ℕ} {l : Listed} → ListThere s from → (get_or s from 0 ≡ 45 → ⊥) → l ≡ listed_of []
     → KnownSoFar s from out l from out
 known_start {s} {out} {from} {l} t other e =
     let none_read : from - from ≡ 0 = omega arith in
@@ -380,7 +380,7 @@ module _ {s before out : List ℕ} {from at : ℕ} {l : Listed} (k : KnownSoFar 
       pub known_within : d.behind < length s
       known_within = omega (arith, behind_is, not_last, field_within s from inside)
 
-      pub known_more : {q : Listed} → ((done : List ℕ) → l ≡ listed_as (some done) → q ≡ listed_as (some (done ++ d.value ∷ [])))
+      pub known_more : {q : Listed} → ((done : List ℕ) → l ≡ listed_of done → q ≡ listed_of (done ++ d.value ∷ []))
           → {after : List ℕ} → after ≡ set out l.count d.value → KnownSoFar s from before q (d.behind + 1) after
       known_more {q} pushed {after} put =
           let on = pieces_more k.so_far end k.here refl end_within value_is (pushed _ k.so_far.result) put not_last in
@@ -395,17 +395,17 @@ module _ {s before out : List ℕ} {from at : ℕ} {l : Listed} (k : KnownSoFar 
 
     -- it was the last
     pub known_last : (get_or s d.behind 0 ≡ comma → ⊥) → {q : Listed}
-        → ((done : List ℕ) → l ≡ listed_as (some done) → q ≡ listed_as (some (done ++ d.value ∷ [])))
+        → ((done : List ℕ) → l ≡ listed_of done → q ≡ listed_of (done ++ d.value ∷ []))
         → {after : List ℕ} → after ≡ set out l.count d.value → (r : KnownList) → r.list ≡ q → r.behind ≡ d.behind
         → KnownRead s from r before after
     unfolding list_Q
     known_last other {q} pushed {after} put r e p =
         let last : end ≡ length (field s from) = none_behind s from inside j k.here (λ is. other (byte_is ∙ is)) in
-        let read-q : ListRead (list_Q (field s from)) q before after =
+        let read-q : ListRead (list_Q (field s from)) (Some q) before after =
         pieces_last k.so_far end k.here refl end_within value_is (pushed _ k.so_far.result) put last in
         let same : list_Q (field s from) ≡ list_L (field s from) = k.listed ∙ sym k.there.is in
-        let read-l : ListRead (list_L (field s from)) q before after = subst (λ (o : Option (List ℕ)). ListRead o q before after) same read-q in
+        let read-l : ListRead (list_L (field s from)) (Some q) before after = subst (λ (o : Option (List ℕ)). ListRead o (Some q) before after) same read-q in
         record {
-          list = subst (λ (x : Listed). ListRead (list_L (field s from)) x before after) (sym e) read-l;
+          list = subst (λ (x : Listed). ListRead (list_L (field s from)) (Some x) before after) (sym e) read-l;
           behind = p ∙ omega (arith, behind_is, field_length s from inside);
         }

@@ -1,6 +1,6 @@
 -- Lists read member by member: what the struct and the lent words hold after one member more. Laws. Assumes nothing.
-use Rattle.std.specs.Prelude.{ℕ, zero, suc, ◌+◌, ◌-◌, ◌≤◌, ◌<◌, max, Bool, ◌&&◌, ◌||◌, ◌≡◌, eqb, length, get_or, take, drop, set}
-use Rattle.std.proofs.Common.{arith, true≢false, ◌∙◌, length-append}
+use Rattle.std.specs.Prelude.{ℕ, zero, suc, ◌+◌, ◌-◌, ◌≤◌, ◌<◌, max, Bool, ◌&&◌, ◌||◌, ◌≡◌, eqb, length, get_or, take, drop, set, Some, None}
+use Rattle.std.proofs.Common.{arith, ◌∙◌, length-append}
 use Rattle.std.proofs.Math.Bool.{true, false, and-true}
 use Rattle.std.proofs.Math.Path.{refl, sym, ap}
 use mathlib.Core.List.{List, [], ◌∷◌, ◌++◌, append_assoc}
@@ -11,7 +11,7 @@ use Rattle.numbers.specs.declared.lists.Listed.{Listed}
 use Rattle.text.specs.Bytes.{comma, until, split}
 use Rattle.text.specs.Number.{number_of}
 use Rattle.text.specs.List.{with_first, pieces_of, list_Q, rises_from, is_rising_of, only_rising, is_dash_of, list_L, one_member, list_C}
-use Rattle.numbers.specs.Read.{largest_of, listed_as, stored, ListRead, in_front}
+use Rattle.numbers.specs.Read.{largest_of, listed_of, listed_as, stored, ListRead, in_front}
 use Rattle.text.proofs.Laws.Pieces.{piece_more, piece_last}
 
 -- ---- one member more
@@ -43,32 +43,27 @@ rises_on b t count e h = simp (e, ne_eqb count 0 h)
 
 module _ (l : List ℕ) (n : ℕ) where
   -- the struct of a list with one member more
-  pub listed_snoc : (r : Listed) → r.ok ≡ true → r.count ≡ length l + 1 → r.largest ≡ max (largest_of l) n
-      → r.rising ≡ (is_rising_of l && (eqb (length l) 0 || ltb (largest_of l) n)) → r ≡ listed_as (some (l ++ n ∷ []))
-  unfolding listed_as
-  listed_snoc r e₁ e₂ e₃ e₄ i =
+  pub listed_snoc : (r : Listed) → r.count ≡ length l + 1 → r.largest ≡ max (largest_of l) n
+      → r.rising ≡ (is_rising_of l && (eqb (length l) 0 || ltb (largest_of l) n)) → r ≡ listed_of (l ++ n ∷ [])
+  unfolding listed_of
+  listed_snoc r e₂ e₃ e₄ i =
       record {
-        ok = e₁ i;
         count = (e₂ ∙ sym (length-append l (n ∷ []))) i;
         largest = (e₃ ∙ sym (largest_snoc l n)) i;
         rising = (e₄ ∙ sym (rising_snoc l n)) i;
       }
 
 -- what the struct says of its list
-pub listed_ok : (l : List ℕ) {r : Listed} → r ≡ listed_as (some l) → r.ok ≡ true
-unfolding listed_as
-listed_ok l e = ap (λ (x : Listed). x.ok) e
-
-pub listed_count : (l : List ℕ) {r : Listed} → r ≡ listed_as (some l) → r.count ≡ length l
-unfolding listed_as
+pub listed_count : (l : List ℕ) {r : Listed} → r ≡ listed_of l → r.count ≡ length l
+unfolding listed_of
 listed_count l e = ap (λ (x : Listed). x.count) e
 
-pub listed_largest : (l : List ℕ) {r : Listed} → r ≡ listed_as (some l) → r.largest ≡ largest_of l
-unfolding listed_as
+pub listed_largest : (l : List ℕ) {r : Listed} → r ≡ listed_of l → r.largest ≡ largest_of l
+unfolding listed_of
 listed_largest l e = ap (λ (x : Listed). x.largest) e
 
-pub listed_rising : (l : List ℕ) {r : Listed} → r ≡ listed_as (some l) → r.rising ≡ is_rising_of l
-unfolding listed_as
+pub listed_rising : (l : List ℕ) {r : Listed} → r ≡ listed_of l → r.rising ≡ is_rising_of l
+unfolding listed_of
 listed_rising l e = ap (λ (x : Listed). x.rising) e
 
 pub stored_snoc : (out l : List ℕ) (n : ℕ) → set (stored out l) (length l) n ≡ stored out (l ++ n ∷ [])
@@ -109,10 +104,10 @@ pub record SoFar (one : List ℕ → Option ℕ) (s before : List ℕ) (r : List
   pub done : List ℕ
   pub few : length done ≤ at
   pub reads : pieces_of one (split comma s) ≡ in_front done (pieces_of one (split comma (drop at s)))
-  pub result : r ≡ listed_as (some done)
+  pub result : r ≡ listed_of done
   pub members : out ≡ stored before done
 
-pub pieces_start : {one : List ℕ → Option ℕ} {s out : List ℕ} {r : Listed} → r ≡ listed_as (some []) → SoFar one s out r 0 out
+pub pieces_start : {one : List ℕ → Option ℕ} {s out : List ℕ} {r : Listed} → r ≡ listed_of [] → SoFar one s out r 0 out
 pieces_start {one} {s} e =
     record {
       done = [];
@@ -141,7 +136,7 @@ module _ {one : List ℕ → Option ℕ} {s before : List ℕ} {r : Listed} {at 
       go true h = rw (piece_more comma s at e here found ([] ∷ []) (ltb-true _ _ h), v) (front_none _ _)
       go false h = rw (piece_last comma s at e here found (omega (arith, ltb-false e (length s) h)), v) (front_none _ _)
 
-  module _ {n : ℕ} (v : one (take (e - at) (drop at s)) ≡ some n) {q : Listed} (pushed : q ≡ listed_as (some (f.done ++ n ∷ [])))
+  module _ {n : ℕ} (v : one (take (e - at) (drop at s)) ≡ some n) {q : Listed} (pushed : q ≡ listed_of (f.done ++ n ∷ []))
       {out' : List ℕ} (put : out' ≡ set out r.count n) where
     members_more : out' ≡ stored before (f.done ++ n ∷ [])
     members_more = put ∙ rw (so_count f, f.members) (stored_snoc before f.done n)
@@ -156,26 +151,26 @@ module _ {one : List ℕ → Option ℕ} {s before : List ℕ} {r : Listed} {at 
           members = members_more;
         }
 
-    pub pieces_last : e ≡ length s → ListRead (pieces_of one (split comma s)) q before out'
+    pub pieces_last : e ≡ length s → ListRead (pieces_of one (split comma s)) (Some q) before out'
     pieces_last h =
         let all : pieces_of one (split comma s) ≡ some (f.done ++ n ∷ []) = f.reads ∙ unfold pieces_of in_front with_first in rw (piece_last comma s at e here found h, v) in
         record {
-          result = pushed ∙ rw all;
+          result = rw (pushed, all) (unfold listed_as in refl);
           members = λ l e. let same : f.done ++ n ∷ [] ≡ l = cc in members_more ∙ rw same;
         }
 
-pub none_read : {o : Option (List ℕ)} {r : Listed} {before after : List ℕ} → o ≡ none → r ≡ listed_as none → ListRead o r before after
-none_read e h =
+pub none_read : {o : Option (List ℕ)} {before after : List ℕ} → o ≡ none → ListRead o None before after
+none_read e =
     record {
-      result = h ∙ rw e;
+      result = rw e (unfold listed_as in refl);
       members = λ l k. let z : ◌≡◌ {A = ℕ} 0 1 = cc in absurd (omega arith);
     }
 
 -- no member leaves the lent words as they were
-pub empty_read : {o : Option (List ℕ)} {r : Listed} {out : List ℕ} → o ≡ some [] → r ≡ listed_as (some []) → ListRead o r out out
+pub empty_read : {o : Option (List ℕ)} {r : Listed} {out : List ℕ} → o ≡ some [] → r ≡ listed_of [] → ListRead o (Some r) out out
 empty_read e h =
     record {
-      result = h ∙ rw e;
+      result = rw (h, e) (unfold listed_as in refl);
       members = λ l k. let same : ◌≡◌ {A = List ℕ} [] l = cc in rw (← same) (unfold stored in refl);
     }
 
@@ -190,29 +185,36 @@ unfolding list_L
 l_list v e = simp e
 
 -- whether there is a list, by the struct
-pub listed_bad : (o : Option (List ℕ)) {r : Listed} → r ≡ listed_as o → r.ok ≡ false → o ≡ none
-listed_bad none e h = refl
-listed_bad (some l) e h = absurd (true≢false (sym (listed_ok l e) ∙ h))
+pub listed_bad : (o : Option (List ℕ)) → None ≡ listed_as o → o ≡ none
+unfolding listed_as
+listed_bad none e = refl
+listed_bad (some l) e = cc
 
-pub listed_good : (o : Option (List ℕ)) {r : Listed} → r ≡ listed_as o → r.ok ≡ true → (l : List ℕ) × (o ≡ some l)
-listed_good none e h = absurd (true≢false (sym h ∙ unfold listed_as in ap (λ (x : Listed). x.ok) e))
-listed_good (some l) e h = (l, refl)
+pub listed_good : (o : Option (List ℕ)) {r : Listed} → Some r ≡ listed_as o → (l : List ℕ) × (o ≡ some l) × (r ≡ listed_of l)
+unfolding listed_as
+listed_good none e = cc
+listed_good (some l) e = (l, refl, (cc))
 
-module _ {r : Listed} {before after : List ℕ} where
-  pub only_bad : (o : Option (List ℕ)) → ListRead o r before after → r.ok ≡ false → ListRead (only_rising o) r before after
+-- of a list that is known
+pub listed_is : {l : List ℕ} {o : Option (List ℕ)} {r : Listed} → o ≡ some l → Some r ≡ listed_as o → r ≡ listed_of l
+unfolding listed_as
+listed_is h e = cc
+
+module _ {before after : List ℕ} where
+  pub only_bad : (o : Option (List ℕ)) → ListRead o None before after → only_rising o ≡ none
   unfolding only_rising
-  only_bad none f e = f
-  only_bad (some l) f e = absurd (true≢false (sym (listed_ok l f.result) ∙ e))
+  only_bad o f = rw (listed_bad o f.result)
 
-  pub only_rising_lem : (o : Option (List ℕ)) → ListRead o r before after → r.rising ≡ true → ListRead (only_rising o) r before after
-  unfolding only_rising
-  only_rising_lem none f e = f
-  only_rising_lem (some l) f e = rw (sym (listed_rising l f.result) ∙ e) f
+  module _ {r : Listed} where
+    pub only_rising_lem : (o : Option (List ℕ)) → ListRead o (Some r) before after → r.rising ≡ true → ListRead (only_rising o) (Some r) before after
+    unfolding only_rising
+    only_rising_lem none f e = f
+    only_rising_lem (some l) f e = rw (sym (listed_rising l (listed_is refl f.result)) ∙ e) f
 
-  pub only_falling : (o : Option (List ℕ)) → ListRead o r before after → r.rising ≡ false → only_rising o ≡ none
-  unfolding only_rising
-  only_falling none f e = refl
-  only_falling (some l) f e = rw (sym (listed_rising l f.result) ∙ e)
+    pub only_falling : (o : Option (List ℕ)) → ListRead o (Some r) before after → r.rising ≡ false → only_rising o ≡ none
+    unfolding only_rising
+    only_falling none f e = refl
+    only_falling (some l) f e = rw (sym (listed_rising l (listed_is refl f.result)) ∙ e)
 
 -- ---- C
 
@@ -225,11 +227,11 @@ unfolding list_C
 c_number v o e h = simp (e, h)
 
 pub one_read : (v : List ℕ) {n : ℕ} {r : Listed} {before after : List ℕ} → is_dash_of v ≡ false → number_of v ≡ some n
-    → r ≡ listed_as (some (n ∷ [])) → after ≡ set before 0 n → ListRead (list_C v) r before after
+    → r ≡ listed_of (n ∷ []) → after ≡ set before 0 n → ListRead (list_C v) (Some r) before after
 unfolding one_member
 one_read v {n} {r} {before} e h k p =
     let one : list_C v ≡ some (n ∷ []) = c_number v (some n) e h in
     record {
-      result = k ∙ rw one;
+      result = rw (k, one) (unfold listed_as in refl);
       members = λ l q. let same : n ∷ [] ≡ l = cc in p ∙ rw (← same) (unfold stored in stored_snoc before [] n);
     }

@@ -9,7 +9,7 @@ use Rattle.text.specs.Number.{is_decimal, all_decimal, decimal_from, proper, num
 use Rattle.text.proofs.Laws.Values.{both}
 use Rattle.text.proofs.Laws.Numbers.{number_good}
 use Rattle.text.proofs.Laws.Pieces.{step}
-use Rattle.numbers.specs.declared.Value.TheVariants.{Of}
+use Rattle.std.specs.Prelude.{Some}
 use Rattle.numbers.specs.Read.{ShortIn, MemberAt}
 use Rattle.numbers.specs.Laws.Read.{read_of}
 
@@ -89,7 +89,7 @@ module _ (a b c d : ℕ) (l : List ℕ) (p : Digit a) (q : Digit b) (r : Digit c
 module _ (hex : Bool) (s : List ℕ) (at digits value : ℕ) (room : at + 4 ≤ length s) where
   pub member_short : hex ≡ false
       → ((rest : List ℕ) → ShortIn digits value (get_or s at 0 ∷ get_or s (at + 1) 0 ∷ get_or s (at + 1 + 1) 0 ∷ get_or s (at + 1 + 1 + 1) 0 ∷ rest))
-      → MemberAt hex s at (record { value = Of value; end = at + digits })
+      → MemberAt hex s at (record { value = Some value; end = at + digits })
   member_short plain short =
       let rest = drop (at + 1 + 1 + 1 + 1) s in
       let q = short rest in

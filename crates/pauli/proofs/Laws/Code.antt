@@ -1,14 +1,16 @@
--- Gates by ranges of their codes. Assumes nothing.
-use Rattle.std.specs.Prelude.{◌≡◌, true, List, [], ◌∷◌, ℕ, zero, suc, ◌+◌, ◌-◌, ◌≤◌, ◌<◌, get_or}
+-- Gates by ranges of their codes, and by their names. Assumes nothing.
+use Rattle.std.specs.Prelude.{◌≡◌, ◌⊎◌, true, List, [], ◌∷◌, ℕ, zero, suc, ◌+◌, ◌-◌, ◌≤◌, ◌<◌, get_or}
 use Rattle.std.proofs.Math.Path.{refl}
-use Rattle.std.proofs.Common.{subst, not-suc-le-zero, le_of_suc-le-suc, arith, ltb-true}
+use Rattle.std.proofs.Common.{inl, inr, subst, not-suc-le-zero, le_of_suc-le-suc, arith, ltb-true}
 use Rattle.std.proofs.Math.Option.{Option, none, some}
 use Rattle.std.proofs.Math.Decide.{ℕ_discrete}
 use Rattle.std.proofs.Math.Dec.{ltb}
 use Rattle.std.proofs.Math.ListN.{length}
 use Rattle.pauli.specs.Pauli.{Pauli}
 use Rattle.pauli.specs.Gate.{Gate, gates, gate_from, gate_of, operands_of, gate_with, swap_XZ, add_xto_Z, add_zto_X}
-use Rattle.pauli.specs.Code.{by_gate, operand_count_of}
+use Rattle.pauli.specs.Code.{by_gate, operand_count_of, gate_named}
+use Rattle.pauli.specs.declared.Gate.{Gate as GateName}
+use Rattle.pauli.specs.declared.Gate.TheVariants as name
 
 -- ---- two functions with the same values over a range
 
@@ -38,35 +40,57 @@ pub gate_none : (code : ℕ) → 16 ≤ code → gate_of code ≡ none
 unfolding gate_of gates
 gate_none code h = from_none gates code h
 
-module _ (bell : ℕ → ℕ → Pauli → Pauli) (a b : ℕ) (P : Pauli) (code : ℕ) where
-  -- what the gate of a code makes of P
-  abbrev made : ℕ → Pauli
-  made k = by_gate (gate_with bell) (gate_of k) a b P
+-- ---- gates by their names
 
-  pub idle_made : code ≤ 3 → P ≡ made code
-  unfolding by_gate gate_with gate_of gate_from gates
-  idle_made h = same_at (λ _. P) made 0 4 refl code (omega arith) (omega arith)
+module _ (bell : ℕ → ℕ → Pauli → Pauli) (a b : ℕ) (P : Pauli) where
+  -- what the gate of a name makes of P
+  abbrev made : GateName → Pauli
+  made h = gate_with bell (gate_named h) a b P
 
-  pub sqrt_Z_made : 5 ≤ code → code ≤ 6 → add_xto_Z a P ≡ made code
-  unfolding by_gate gate_with gate_of gate_from gates
-  sqrt_Z_made h l = same_at (λ _. add_xto_Z a P) made 5 2 refl code (omega arith) (omega arith)
+  module _ {g : GateName} where
+    pub idle_made : (g ≡ name.I) ⊎ ((g ≡ name.X) ⊎ ((g ≡ name.Y) ⊎ (g ≡ name.Z))) → P ≡ made g
+    unfolding gate_with gate_named
+    idle_made (inl e) = rw e
+    idle_made (inr (inl e)) = rw e
+    idle_made (inr (inr (inl e))) = rw e
+    idle_made (inr (inr (inr e))) = rw e
 
-  pub sqrt_X_made : 7 ≤ code → code ≤ 8 → add_zto_X a P ≡ made code
-  unfolding by_gate gate_with gate_of gate_from gates
-  sqrt_X_made h l = same_at (λ _. add_zto_X a P) made 7 2 refl code (omega arith) (omega arith)
+    pub swap_made : (g ≡ name.Hadamard) ⊎ ((g ≡ name.SqrtY) ⊎ (g ≡ name.SqrtYInv)) → swap_XZ a P ≡ made g
+    unfolding gate_with gate_named
+    swap_made (inl e) = rw e
+    swap_made (inr (inl e)) = rw e
+    swap_made (inr (inr e)) = rw e
 
-  pub sqrt_Y_made : 9 ≤ code → code ≤ 10 → swap_XZ a P ≡ made code
-  unfolding by_gate gate_with gate_of gate_from gates
-  sqrt_Y_made h l = same_at (λ _. swap_XZ a P) made 9 2 refl code (omega arith) (omega arith)
+    pub sqrt_Z_made : (g ≡ name.SqrtZ) ⊎ (g ≡ name.SqrtZInv) → add_xto_Z a P ≡ made g
+    unfolding gate_with gate_named
+    sqrt_Z_made (inl e) = rw e
+    sqrt_Z_made (inr e) = rw e
 
-  pub none_made : 16 ≤ code → P ≡ made code
-  unfolding by_gate
-  none_made h = rw (gate_none code h)
+    pub sqrt_X_made : (g ≡ name.SqrtX) ⊎ (g ≡ name.SqrtXInv) → add_zto_X a P ≡ made g
+    unfolding gate_with gate_named
+    sqrt_X_made (inl e) = rw e
+    sqrt_X_made (inr e) = rw e
 
-  -- codes below PrepareBell's don't mind what PrepareBell does
-  pub alike : (bell' : ℕ → ℕ → Pauli → Pauli) → code ≤ 13 → made code ≡ by_gate (gate_with bell') (gate_of code) a b P
-  unfolding by_gate gate_with gate_of gate_from gates
-  alike bell' h = same_at made (λ k. by_gate (gate_with bell') (gate_of k) a b P) 0 14 refl code (omega arith) (omega arith)
+-- gates other than PrepareBell don't mind what PrepareBell does
+pub alike : (bell bell' : ℕ → ℕ → Pauli → Pauli) (a b : ℕ) (P : Pauli) (g : GateName) → (g ≡ name.PrepareBell → ⊥)
+    → gate_with bell (gate_named g) a b P ≡ gate_with bell' (gate_named g) a b P
+unfolding gate_with gate_named
+alike bell bell' a b P name.I other = refl
+alike bell bell' a b P name.X other = refl
+alike bell bell' a b P name.Y other = refl
+alike bell bell' a b P name.Z other = refl
+alike bell bell' a b P name.Hadamard other = refl
+alike bell bell' a b P name.SqrtZ other = refl
+alike bell bell' a b P name.SqrtZInv other = refl
+alike bell bell' a b P name.SqrtX other = refl
+alike bell bell' a b P name.SqrtXInv other = refl
+alike bell bell' a b P name.SqrtY other = refl
+alike bell bell' a b P name.SqrtYInv other = refl
+alike bell bell' a b P name.ControlledX other = refl
+alike bell bell' a b P name.ControlledZ other = refl
+alike bell bell' a b P name.Swap other = refl
+alike bell bell' a b P name.PrepareBell other = absurd (other refl)
+alike bell bell' a b P name.ControlledY other = refl
 
 -- ---- the operands of a code's gate, in a list
 
@@ -90,6 +114,26 @@ last_operand bell Gate.ControlledZ qs P e = rw e
 last_operand bell Gate.Swap qs P e = rw e
 last_operand bell Gate.PrepareBell qs P e = rw e
 last_operand bell Gate.ControlledY qs P e = rw e
+
+-- each gate has an operand
+pub some_operand : (g : Gate) → 0 < operands_of g
+unfolding operands_of
+some_operand Gate.I = omega arith
+some_operand Gate.X = omega arith
+some_operand Gate.Y = omega arith
+some_operand Gate.Z = omega arith
+some_operand Gate.Hadamard = omega arith
+some_operand Gate.SqrtZ = omega arith
+some_operand Gate.SqrtZInv = omega arith
+some_operand Gate.SqrtX = omega arith
+some_operand Gate.SqrtXInv = omega arith
+some_operand Gate.SqrtY = omega arith
+some_operand Gate.SqrtYInv = omega arith
+some_operand Gate.ControlledX = omega arith
+some_operand Gate.ControlledZ = omega arith
+some_operand Gate.Swap = omega arith
+some_operand Gate.PrepareBell = omega arith
+some_operand Gate.ControlledY = omega arith
 
 module _ (code : ℕ) (qs : List ℕ) (count : length qs ≡ operand_count_of (gate_of code)) where
   -- a code has a gate, and so an operand

@@ -1,21 +1,30 @@
 -- `reader::conditional` meets its contract. Assumes nothing.
 use mathlib.Core.Path.{refl}
-use native.Mathlib.Omega.{arith}
 use Rattle.text.specs.Bytes.{bytes}
-use Rattle.template.specs.Laws.Reading.{then_next}
+use Rattle.template.specs.Laws.Reading.{from_start, then_next}
 use Rattle.job.specs.Grammar.{forms}
 use Rattle.reader.specs.declared.Form.TheVariants as form
 use Rattle.reader.specs.Parsed.{place_of}
 use Rattle.reader.specs.Tried.{pauli_part}
-use Rattle.reader.specs.Laws.Tried.{plain_tried, parts_form}
+use Rattle.reader.specs.Laws.Tried.{stopped, plain_tried, parts_form}
 use Rattle.reader.proofs.conditional.Goals as goal
 
-pub literal-requires : goal.literal-requires
-literal-requires c = rw c.start.ensures (omega arith, refl)
+pub returns-in_err-head : goal.returns-in_err-head
+unfolding place_of forms bytes pauli_part
+returns-in_err-head c = rw c.from_residual.ensures (stopped form.Conditional _ (from_start c.start.ensures (c.in_err-head.ensures.by_index c.args.fields.now.words)) refl)
 
-pub value-parity-requires : goal.value-parity-requires
-value-parity-requires c = (c.literal-3.ensures.at_in_bounds, refl, omega (arith, c.pauli_lists-pauli.auto, c.value-id.auto, c.requires))
+pub returns-in_err-pauli : goal.returns-in_err-pauli
+unfolding place_of forms bytes pauli_part
+returns-in_err-pauli c = rw c.from_residual-in_err-pauli.ensures (stopped form.Conditional _ (then_next (from_start c.start.ensures (c.in_ok-head.ensures.by_index _)) c.in_err-pauli.ensures.read) refl)
+
+pub returns-in_err-id : goal.returns-in_err-id
+unfolding place_of forms bytes pauli_part
+returns-in_err-id c = rw c.from_residual-in_err-id.ensures (stopped form.Conditional _ (then_next (then_next (from_start c.start.ensures (c.in_ok-head.ensures.by_index _)) c.in_ok-pauli.ensures.read) c.in_err-id.ensures.read) refl)
+
+pub returns-in_err-parity : goal.returns-in_err-parity
+unfolding place_of forms bytes pauli_part
+returns-in_err-parity c = rw c.from_residual-in_err-parity.ensures (stopped form.Conditional _ (then_next (then_next (then_next (from_start c.start.ensures (c.in_ok-head.ensures.by_index _)) c.in_ok-pauli.ensures.read) c.in_ok-id.ensures.read) c.in_err-parity.ensures.read) refl)
 
 pub returns : goal.returns
 unfolding place_of forms bytes pauli_part
-returns c = plain_tried form.Conditional refl (λ vs. (_, refl)) (parts_form c.start.ensures (then_next (then_next (then_next (then_next (then_next (c.literal.ensures.by_index _) c.pauli_lists-pauli.ensures.read_next) (c.literal-2.ensures.by_index _)) c.value-id.ensures.read_next) (c.literal-3.ensures.by_index _)) c.value-parity.ensures.read_next) c.ended.ensures)
+returns c = plain_tried form.Conditional refl (λ vs. (_, refl)) (parts_form (then_next (then_next (then_next (from_start c.start.ensures (c.in_ok-head.ensures.by_index _)) c.in_ok-pauli.ensures.read) c.in_ok-id.ensures.read) c.in_ok-parity.ensures.read) c.ended.ensures)

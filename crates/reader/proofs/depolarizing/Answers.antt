@@ -6,9 +6,17 @@ use Rattle.job.specs.Grammar.{forms}
 use Rattle.reader.specs.declared.Form.TheVariants as form
 use Rattle.reader.specs.Parsed.{place_of}
 use Rattle.reader.specs.Tried.{noise_begin_of}
-use Rattle.reader.specs.Laws.Noise.{table_form_of, depolarizing, kind_tried, kind_parts}
+use Rattle.reader.specs.Laws.Noise.{table_form_of, depolarizing, kind_tried, kind_parts, kind_stopped}
 use Rattle.reader.proofs.depolarizing.Goals as goal
+
+pub returns-in_err-q : goal.returns-in_err-q
+unfolding place_of forms bytes noise_begin_of table_form_of
+returns-in_err-q c = rw c.from_residual.ensures (kind_stopped form.Depolarizing depolarizing refl refl c.requires _ c.in_err-q.ensures.read refl)
+
+pub returns-in_err-size : goal.returns-in_err-size
+unfolding place_of forms bytes noise_begin_of table_form_of
+returns-in_err-size c = rw c.from_residual-in_err-size.ensures (kind_stopped form.Depolarizing depolarizing refl refl c.requires _ (then_next c.in_ok-q.ensures.read c.in_err-size.ensures.read) refl)
 
 pub returns : goal.returns
 unfolding place_of forms bytes noise_begin_of table_form_of
-returns c = kind_tried form.Depolarizing depolarizing refl refl c.requires.0 (kind_parts c.requires.0.ok (then_next (then_next (then_next (c.literal.ensures.by_index _) c.value-q.ensures.read_next) (c.literal-2.ensures.by_index _)) c.value-size.ensures.read_next) c.ended.ensures)
+returns c = kind_tried form.Depolarizing depolarizing refl refl c.requires (kind_parts (then_next c.in_ok-q.ensures.read c.in_ok-size.ensures.read) c.ended.ensures)

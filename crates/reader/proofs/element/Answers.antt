@@ -1,17 +1,18 @@
 -- `reader::element` meets its contract. Assumes nothing.
 use mathlib.Core.Path.{refl}
-use native.Mathlib.Omega.{arith}
 use Rattle.text.specs.Bytes.{bytes}
+use Rattle.template.specs.Laws.Reading.{from_start}
 use Rattle.job.specs.Grammar.{forms}
 use Rattle.reader.specs.declared.Form.TheVariants as form
 use Rattle.reader.specs.Parsed.{place_of}
 use Rattle.reader.specs.Tried.{pauli_part}
-use Rattle.reader.specs.Laws.Tried.{plain_tried, parts_form}
+use Rattle.reader.specs.Laws.Tried.{stopped, plain_tried, parts_form}
 use Rattle.reader.proofs.element.Goals as goal
 
-pub pauli_lists-pauli-requires : goal.pauli_lists-pauli-requires
-pauli_lists-pauli-requires c = rw c.start.ensures (omega arith, c.requires)
+pub returns-in_err-pauli : goal.returns-in_err-pauli
+unfolding place_of forms bytes pauli_part
+returns-in_err-pauli c = rw c.from_residual.ensures (stopped form.Element _ (from_start c.start.ensures c.in_err-pauli.ensures.read) refl)
 
 pub returns : goal.returns
 unfolding place_of forms bytes pauli_part
-returns c = plain_tried form.Element refl (λ vs. (_, refl)) (parts_form c.start.ensures c.pauli_lists-pauli.ensures.read_next c.ended.ensures)
+returns c = plain_tried form.Element refl (λ vs. (_, refl)) (parts_form (from_start c.start.ensures c.in_ok-pauli.ensures.read) c.ended.ensures)

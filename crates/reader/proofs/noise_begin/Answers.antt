@@ -1,24 +1,25 @@
 -- `reader::noise_begin` meets its contract. Assumes nothing.
-use mathlib.Core.Path.{refl}
-use native.Mathlib.Omega.{arith}
 use Rattle.text.specs.Bytes.{bytes}
-use Rattle.template.specs.Laws.Reading.{then_next}
+use Rattle.template.specs.Laws.Reading.{from_start, stops, then_next}
 use Rattle.reader.specs.Tried.{noise_begin_of}
-use Rattle.reader.specs.Laws.Tried.{from_start}
 use Rattle.reader.proofs.noise_begin.Goals as goal
 
-pub literal-requires : goal.literal-requires
-literal-requires c = rw c.start.ensures (omega arith, refl)
+pub returns-in_err-p : goal.returns-in_err-p
+unfolding noise_begin_of bytes
+returns-in_err-p c = rw c.from_residual.ensures (stops _ (from_start c.start.ensures c.in_err-p.ensures.read))
 
-pub value-cond-requires : goal.value-cond-requires
-value-cond-requires c = (c.literal-3.ensures.at_in_bounds, refl, omega (arith, c.value-p.auto, c.value-corr.auto, c.requires))
+pub returns-in_err-corr : goal.returns-in_err-corr
+unfolding noise_begin_of bytes
+returns-in_err-corr c = rw c.from_residual-in_err-corr.ensures (stops _ (then_next (from_start c.start.ensures c.in_ok-p.ensures.read) c.in_err-corr.ensures.read))
 
-pub value-parity-requires : goal.value-parity-requires
-value-parity-requires c = (c.literal-4.ensures.at_in_bounds, refl, omega (arith, c.value-p.auto, c.value-corr.auto, c.value-cond.auto, c.requires))
+pub returns-in_err-cond : goal.returns-in_err-cond
+unfolding noise_begin_of bytes
+returns-in_err-cond c = rw c.from_residual-in_err-cond.ensures (stops _ (then_next (then_next (from_start c.start.ensures c.in_ok-p.ensures.read) c.in_ok-corr.ensures.read) c.in_err-cond.ensures.read))
 
-pub shape_of-fields : goal.shape_of-fields
-shape_of-fields c = omega (arith, c.value-p.auto, c.value-corr.auto, c.value-cond.auto, c.value-parity.auto)
+pub returns-in_err-parity : goal.returns-in_err-parity
+unfolding noise_begin_of bytes
+returns-in_err-parity c = rw c.from_residual-in_err-parity.ensures (stops _ (then_next (then_next (then_next (from_start c.start.ensures c.in_ok-p.ensures.read) c.in_ok-corr.ensures.read) c.in_ok-cond.ensures.read) c.in_err-parity.ensures.read))
 
 pub returns : goal.returns
 unfolding noise_begin_of bytes
-returns c = from_start c.start.ensures (then_next (then_next (then_next (then_next (then_next (then_next (then_next (then_next (c.literal.ensures.by_index _) c.value-p.ensures.read_next) (c.literal-2.ensures.by_index _)) c.value-corr.ensures.read_next) (c.literal-3.ensures.by_index _)) c.value-cond.ensures.read_next) (c.literal-4.ensures.by_index _)) c.value-parity.ensures.read_next) (c.literal-5.ensures.by_index _))
+returns c = then_next (then_next (then_next (then_next (from_start c.start.ensures c.in_ok-p.ensures.read) c.in_ok-corr.ensures.read) c.in_ok-cond.ensures.read) c.in_ok-parity.ensures.read) (c.literal.ensures.by_index _)

@@ -11,51 +11,6 @@ use Rattle.reader.specs.Laws.Sift.{sift, opens, opening, is_among, all_among, no
 use Rattle.reader.specs.Laws.Tried.{none_left, by_bytes}
 use Rattle.reader.proofs.operation.Goals as goal
 
-pub unitary-requires : goal.unitary-requires
-unitary-requires c = c.requires.2
-
-pub noise-requires : goal.noise-requires
-noise-requires c = c.requires.2
-
-pub inject-requires : goal.inject-requires
-inject-requires c = c.requires.2
-
-pub measure-requires : goal.measure-requires
-measure-requires c = c.requires.2
-
-pub controlled-requires : goal.controlled-requires
-controlled-requires c = c.requires.2
-
-pub exponential-requires : goal.exponential-requires
-exponential-requires c = c.requires.2
-
-pub pauli-requires : goal.pauli-requires
-pauli-requires c = c.requires.2
-
-pub conditional-requires : goal.conditional-requires
-conditional-requires c = c.requires.2
-
-pub clifford-requires : goal.clifford-requires
-clifford-requires c = c.requires.2
-
-pub permute-requires : goal.permute-requires
-permute-requires c = c.requires.2
-
-pub allocate-requires : goal.allocate-requires
-allocate-requires c = c.requires.2
-
-pub flip-requires : goal.flip-requires
-flip-requires c = c.requires.2
-
-pub reset-requires : goal.reset-requires
-reset-requires c = c.requires.2
-
-pub barrier-requires : goal.barrier-requires
-barrier-requires c = c.requires.2
-
-pub header-requires : goal.header-requires
-header-requires c = c.requires.2
-
 pub returns-in-117 : goal.returns-in-117
 unfolding sift opens literals place_of forms bytes
 returns-in-117 c =

@@ -1,17 +1,21 @@
 -- `reader::permute` meets its contract. Assumes nothing.
 use mathlib.Core.Path.{refl}
-use native.Mathlib.Omega.{arith}
 use Rattle.text.specs.Bytes.{bytes}
-use Rattle.template.specs.Laws.Reading.{then_next}
+use Rattle.template.specs.Laws.Reading.{from_start, then_next}
 use Rattle.job.specs.Grammar.{forms}
 use Rattle.reader.specs.declared.Form.TheVariants as form
 use Rattle.reader.specs.Parsed.{place_of}
-use Rattle.reader.specs.Laws.Tried.{plain_tried, parts_form}
+use Rattle.reader.specs.Laws.Tried.{stopped, plain_tried, parts_form}
 use Rattle.reader.proofs.permute.Goals as goal
 
-pub literal-requires : goal.literal-requires
-literal-requires c = rw c.start.ensures (omega arith, refl)
+pub returns-in_err-s : goal.returns-in_err-s
+unfolding place_of forms bytes
+returns-in_err-s c = rw c.from_residual.ensures (stopped form.Permute _ (from_start c.start.ensures c.in_err-s.ensures.read) refl)
+
+pub returns-in_err-q : goal.returns-in_err-q
+unfolding place_of forms bytes
+returns-in_err-q c = rw c.from_residual-in_err-q.ensures (stopped form.Permute _ (then_next (from_start c.start.ensures c.in_ok-s.ensures.read) c.in_err-q.ensures.read) refl)
 
 pub returns : goal.returns
 unfolding place_of forms bytes
-returns c = plain_tried form.Permute refl (λ vs. (_, refl)) (parts_form c.start.ensures (then_next (then_next (then_next (c.literal.ensures.by_index _) c.value-s.ensures.read_next) (c.literal-2.ensures.by_index _)) c.value-q.ensures.read_next) c.ended.ensures)
+returns c = plain_tried form.Permute refl (λ vs. (_, refl)) (parts_form (then_next (from_start c.start.ensures c.in_ok-s.ensures.read) c.in_ok-q.ensures.read) c.ended.ensures)

@@ -1,6 +1,6 @@
 -- Noise lines, which begin alike and then differ in their digit of d: laws. Assumes nothing.
-use Rattle.std.specs.Prelude.{ℕ, ◌≤◌, ◌<◌, ◌≡◌, Bool, cond, ◌&&◌, List, [], ◌∷◌, ◌++◌, eqb, length, get_or, drop}
-use Rattle.std.proofs.Common.{arith, sym, ap, ◌∙◌, ltb-true, ltb-false}
+use Rattle.std.specs.Prelude.{ℕ, ◌≤◌, ◌<◌, ◌≡◌, Bool, cond, ◌&&◌, List, [], ◌∷◌, ◌++◌, eqb, length, get_or, drop, Option as Answer, Some, None}
+use Rattle.std.proofs.Common.{arith, sym, ap, subst, ◌∙◌, ltb-true, ltb-false}
 use Rattle.std.proofs.Math.Path.{refl}
 use Rattle.std.proofs.Math.Bool.{true, false}
 use Rattle.std.proofs.Math.Option.{Option, none, some}
@@ -11,17 +11,17 @@ use Rattle.text.specs.Bytes.{bytes}
 use Rattle.text.specs.Template.{Value, is_letter_of, values_of, numbers_in, lists_in, number_at, list_at_of}
 use Rattle.numbers.specs.Read.{in_front}
 use Rattle.template.specs.Values.{held_number, held_count}
-use Rattle.template.specs.Fields.{Held, Begins, ReadNext}
+use Rattle.template.specs.Fields.{Held, Begins, ReadOn, ends_at}
 use Rattle.text.proofs.Laws.Values.{none_some}
 use Rattle.template.specs.Laws.Fields.{nothing_held, numbers_append, lists_append}
-use Rattle.template.specs.Laws.Reading.{byte_over, byte_other, parts_read}
+use Rattle.template.specs.Laws.Reading.{byte_over, byte_other, stops, parts_read}
 use Rattle.template.specs.declared.Progress.{Progress}
 use Rattle.job.specs.Grammar.{Kind, Written, noise_line, pauli_at_of, Form as TableForm, is_one, forms, said, read_by}
 use Rattle.job.specs.Marks.{read_as}
 use Rattle.reader.specs.declared.Form.{Form}
 use Rattle.reader.specs.declared.Form.TheVariants as form
 use Rattle.reader.specs.Parsed.{place_of, form_of, is_unread}
-use Rattle.reader.specs.Tried.{Tried, form_if, KindBy, noise_begin_of, parity_alone_of, NoiseBegun, only, noise_forms}
+use Rattle.reader.specs.Tried.{Tried, found, form_if, KindBy, noise_begin_of, parity_alone_of, NoiseBegun, only, noise_forms}
 use Rattle.reader.specs.Laws.Sift.{sift, forms_of, sifted, no_values}
 use Rattle.reader.specs.Laws.Tried.{not_parsed, read_tried, none_left}
 
@@ -164,15 +164,23 @@ unfolding sift forms_of
 no_digit {line} {p} b h = of_digit b 0 (sym (get_or-eq_default line 0 h)) [] refl none_left
 
 -- the form of a kind was tried
-pub kind_tried : {line : List ℕ} {p : Progress} {r : Form} {fields after : List ℕ} (f : Form) (k : KindForm) → form_of f ≡ table_form_of k → is_unread f ≡ false
-    → NoiseBegun line p fields → KindBy line (k.digit ∷ k.rest) p f r fields after → Tried (only f) line r after
+pub kind_tried : {line : List ℕ} {p : Progress} {r : Answer Form} {fields after : List ℕ} (f : Form) (k : KindForm) → form_of f ≡ table_form_of k → is_unread f ≡ false
+    → NoiseBegun line p fields → KindBy line (k.digit ∷ k.rest) p f r fields after → Tried (only f) line (found r) after
 unfolding table_form_of
 kind_tried {line} {p} {r} {fields} {after} f k same known n b =
     let template : (form_of f).template ≡ noise_begin_of ++ (k.digit ∷ k.rest) = ap (λ (t : TableForm). t.template) same in
-    read_tried f known (b.on.ok && eqb b.on.at (length line)) b.result (rw template (parts_read n.begins b.reads))
+    read_tried f known (ends_at (length line) b.on) b.result (rw template (parts_read n.begins b.on b.reads))
     (λ vs h. rw same (noise_some (k.kind vs) (number_at k.size vs) vs (same_parity n.begins k vs (rw same at h) ∙ n.parity)))
 
 -- the rest of its template, read by parts to the end of the line
-pub kind_parts : {line rest : List ℕ} {p q : Progress} {before fields : List ℕ} {f r : Form} → p.ok ≡ true → ReadNext line rest p q before fields
-    → r ≡ form_if (q.ok && eqb q.at (length line)) f → KindBy line rest p f r before fields
-kind_parts ok n e = record { on = _; result = e; reads = n.goes ok }
+pub kind_parts : {line rest : List ℕ} {p q : Progress} {before fields : List ℕ} {f : Form} {r : Answer Form} → ReadOn line rest p.at p.numbers p.lists (Some q) before fields
+    → r ≡ form_if (eqb q.at (length line)) f → KindBy line rest p f r before fields
+kind_parts {q = q} n e = record { on = Some q; result = e; reads = n }
+
+-- a line that was refused by the first part of that rest
+pub kind_stopped : {line first : List ℕ} {p : Progress} {fields between after : List ℕ} (f : Form) (k : KindForm) → form_of f ≡ table_form_of k → is_unread f ≡ false
+    → NoiseBegun line p fields → (rest : List ℕ) → ReadOn line first p.at p.numbers p.lists None fields between → first ++ rest ≡ k.digit ∷ k.rest
+    → Tried (only f) line form.Unread after
+kind_stopped {line} {first} {p} {fields} {between} {after} f k same known n rest on all =
+    kind_tried {r = None} f k same known n
+    record { on = None; result = refl; reads = subst (λ (t : List ℕ). ReadOn line t p.at p.numbers p.lists None fields after) all (stops rest on) }

@@ -1,5 +1,5 @@
 -- A line that one form was tried on: laws. Assumes nothing.
-use Rattle.std.specs.Prelude.{ℕ, zero, suc, ◌≤◌, ◌<◌, ◌≡◌, Bool, not, ◌&&◌, List, [], ◌∷◌, eqb, leb, length, get_or}
+use Rattle.std.specs.Prelude.{ℕ, zero, suc, ◌≤◌, ◌<◌, ◌≡◌, Bool, not, ◌&&◌, List, [], ◌∷◌, ◌++◌, eqb, leb, length, get_or, Option as Answer, Some, None}
 use Rattle.std.proofs.Common.{arith, ap, ◌∙◌, subst, true≢false}
 use Rattle.std.proofs.Math.Path.{refl, sym}
 use Rattle.std.proofs.Math.Bool.{true, false}
@@ -10,8 +10,8 @@ use Rattle.pauli.proofs.Laws.Code.{gate_none}
 use Rattle.text.specs.Bytes.{bytes}
 use Rattle.text.specs.Template.{Value, values_of, number_at, list_at_of}
 use Rattle.template.specs.Values.{held_number, held_count}
-use Rattle.template.specs.Fields.{number_letters, list_letters, Room, started, ReadOn, ReadNext, HasForm, ReadAs}
-use Rattle.template.specs.Laws.Reading.{whole_read}
+use Rattle.template.specs.Fields.{number_letters, list_letters, Room, ReadOn, HasForm, ReadAs}
+use Rattle.template.specs.Laws.Reading.{stops, whole_read}
 use Rattle.template.specs.declared.Progress.{Progress}
 use Rattle.text.proofs.Laws.Values.{both, none_some}
 use Rattle.job.specs.Clifford.{table_words_of, table_of}
@@ -21,7 +21,7 @@ use Rattle.job.specs.Marks.{read_as}
 use Rattle.reader.specs.declared.Form.{Form}
 use Rattle.reader.specs.declared.Form.TheVariants as form
 use Rattle.reader.specs.Parsed.{place_of, no_form, form_of, is_unread, Parsed}
-use Rattle.reader.specs.Tried.{Tried, form_if, FormBy, only}
+use Rattle.reader.specs.Tried.{Tried, found, form_if, FormBy, only}
 use Rattle.reader.specs.Laws.Sift.{read_alone, no_values, opening, read_by_bytes}
 
 -- ---- room
@@ -58,18 +58,18 @@ form_room f = room_at forms forms_room (place_of f)
 
 -- ---- read by parts
 
-pub from_start : {line template : List ℕ} {s p : Progress} {before fields : List ℕ} → s ≡ started → ReadNext line template s p before fields
-    → ReadOn line template 0 0 0 p before fields
-from_start {line} {template} {s} {p} {before} {fields} start n = (subst (λ (q : Progress). ReadNext line template q p before fields) start n).goes refl
+pub parts_form : {line template : List ℕ} {p : Progress} {before fields : List ℕ} {f : Form} {r : Answer Form} → ReadOn line template 0 0 0 (Some p) before fields
+    → r ≡ form_if (eqb p.at (length line)) f → FormBy line template f r fields
+parts_form on e = record { ok = _; result = e; reads = whole_read on }
 
--- a line read by the parts of a template to its end
-pub parts_read_as : {line template : List ℕ} {s p : Progress} {before fields : List ℕ} → s ≡ started → ReadNext line template s p before fields
-    → ReadAs line template (p.ok && eqb p.at (length line)) fields
-parts_read_as start n = whole_read (from_start start n)
+-- whether the end of the line was reached, by the form that was answered
+pub not_ended : (b : Bool) (f : Form) → None ≡ form_if b f → b ≡ false
+not_ended false f e = refl
+not_ended true f e = cc
 
-pub parts_form : {line template : List ℕ} {s p : Progress} {before fields : List ℕ} {f r : Form} → s ≡ started
-    → ReadNext line template s p before fields → r ≡ form_if (p.ok && eqb p.at (length line)) f → FormBy line template f r fields
-parts_form start n e = record { ok = _; result = e; reads = parts_read_as start n }
+pub is_ended : (b : Bool) (f g : Form) → Some g ≡ form_if b f → (b ≡ true) × (g ≡ f)
+is_ended false f g e = cc
+is_ended true f g e = (refl, (cc))
 
 -- ---- what was tried
 
@@ -105,15 +105,22 @@ module _ {line fields : List ℕ} where
     later e t = record { parsed = λ h. t.parsed (h ∙ unfold read_by or_later in rw e) }
 
     -- a line by whose values the form says something, read by the form's template
-    pub read_tried : {r : Form} → is_unread f ≡ false → (ok : Bool) → r ≡ form_if ok f → ReadAs line (form_of f).template ok fields
+    pub read_tried : {r : Answer Form} → is_unread f ≡ false → (ok : Bool) → r ≡ form_if ok f → ReadAs line (form_of f).template ok fields
         → ((vs : List Value) → values_of (form_of f).template line ≡ some vs → (w : Written) × ((form_of f).says vs ≡ some w))
-        → Tried (only f) line r fields
+        → Tried (only f) line (found r) fields
     read_tried known true e h total = let v = h.read refl in let t = total v.values v.reads in rw e (says known v t.0 t.1)
     read_tried known false e h total = rw e (says_nothing (no_values (form_of f) line (h.refused refl (form_room f))))
 
+    -- a line that was refused by the first part of the form's template
+    pub stopped : {first before between : List ℕ} (rest : List ℕ) → ReadOn line first 0 0 0 None before between → first ++ rest ≡ (form_of f).template
+        → Tried (only f) line form.Unread fields
+    stopped {first} {before} rest on same =
+        let all : ReadOn line (form_of f).template 0 0 0 None before fields = subst (λ (t : List ℕ). ReadOn line t 0 0 0 None before fields) same (stops rest on) in
+        says_nothing (no_values (form_of f) line ((whole_read all).refused refl (form_room f)))
+
     -- a form that says something by any values
-    pub plain_tried : {r : Form} → is_unread f ≡ false → ((vs : List Value) → (w : Written) × ((form_of f).says vs ≡ some w))
-        → FormBy line (form_of f).template f r fields → Tried (only f) line r fields
+    pub plain_tried : {r : Answer Form} → is_unread f ≡ false → ((vs : List Value) → (w : Written) × ((form_of f).says vs ≡ some w))
+        → FormBy line (form_of f).template f r fields → Tried (only f) line (found r) fields
     plain_tried known total b = read_tried known b.ok b.result b.reads (λ vs _. total vs)
 
 -- ---- the forms that are left

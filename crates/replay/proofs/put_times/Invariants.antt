@@ -1,11 +1,7 @@
 -- `replay::put_times` meets its contract. Assumes nothing.
-use Prim.Native.Nat.{◌-◌, ◌≤◌}
-use mathlib.Core.Path.{◌≡◌}
+use Prim.Native.Nat.{◌≤◌}
 use lib.ListN.{length}
 use Rattle.replay.proofs.put_times.Given as goal
 
-abbrev pub invariant-loop-k : goal.invariant-loop-k
-invariant-loop-k l = (l.to ≤ length l.initial.dst) × (length l.dst ≡ length l.initial.dst) × (l.n ≡ length l.src) × (l.k ≤ l.times)
-
-abbrev pub decreases-loop-k : goal.decreases-loop-k
-decreases-loop-k l = l.times - l.k
+abbrev pub invariant-loop : goal.invariant-loop
+invariant-loop l = l.to ≤ length l.initial.dst

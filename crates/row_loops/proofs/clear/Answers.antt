@@ -1,32 +1,10 @@
-use mathlib.Core.Path.{◌≡◌, refl}
-use native.Mathlib.Omega.{arith}
-use lib.ListN.{length-set}
-use Rattle.rows.proofs.Laws.Overwrite.{cleared_none, cleared_more}
+use Rattle.std.proofs.Common.{arith, ◌+◌, ◌-◌, length-take, length-drop, drop}
+use Rattle.rows.proofs.Laws.Part.{put_cleared}
 use Rattle.row_loops.proofs.clear.Goals as goal
 
-pub loop-j-init : goal.loop-j-init
-loop-j-init c = (cleared_none _ _, refl, omega arith)
-
-pub overflow_add-words : goal.overflow_add-words
-overflow_add-words c = omega arith
-
-pub offset_bounds-words-at : goal.offset_bounds-words-at
-offset_bounds-words-at c = omega arith
-
-pub bounds-words-at : goal.bounds-words-at
-bounds-words-at c = omega arith
-
-pub overflow_add-j : goal.overflow_add-j
-overflow_add-j c = omega arith
-
-pub loop-j-smaller : goal.loop-j-smaller
-loop-j-smaller c = omega arith
-
-pub loop-j-preserved : goal.loop-j-preserved
-loop-j-preserved c = let inv = c.loop-j.invariant in (cleared_more _ _ _ _ inv.0, simp length-set inv.1, omega arith)
-
-pub shape_of-words : goal.shape_of-words
-shape_of-words c = c.loop-j.invariant.1
-
 pub returns : goal.returns
-returns c = let done : c.loop-j.j ≡ c.args.n = omega arith in cc
+returns c =
+    let at = c.args.at in
+    let inv = c.loop-word.invariant in
+    put_cleared at c.args.n (at + c.args.n - at) c.args.words.now c.loop-word.word-items (omega arith) (omega arith) inv.0
+    (λ k h. inv.1 k (omega (arith, length-take (at + c.args.n - at) (drop at c.args.words.now), length-drop at c.args.words.now)))

@@ -7,15 +7,6 @@ use Rattle.row_loops.proofs.save_listed.Goals as goal
 pub loop-i-init : goal.loop-i-init
 loop-i-init c = (collected_starts _ _ _ _ _, refl)
 
-pub offset_bounds-list-i : goal.offset_bounds-list-i
-offset_bounds-list-i c = omega arith
-
-pub bounds-list-i : goal.bounds-list-i
-bounds-list-i c = omega arith
-
-pub overflow_add-first : goal.overflow_add-first
-overflow_add-first c = omega arith
-
 pub overflow_mul-first : goal.overflow_mul-first
 overflow_mul-first c = omega (arith, row_before c.args.w c.args.first c.loop-i.i (length c.args.list.now) c.loop-i-test.true)
 
@@ -25,17 +16,8 @@ overflow_mul-row c = omega (arith, c.requires.2.fits c.loop-i.i c.loop-i-test.tr
 pub copy-requires : goal.copy-requires
 copy-requires c = omega (arith, row_before c.args.w c.args.first c.loop-i.i (length c.args.list.now) c.loop-i-test.true, c.requires.2.fits c.loop-i.i c.loop-i-test.true)
 
-pub overflow_add-i : goal.overflow_add-i
-overflow_add-i c = omega arith
-
-pub loop-i-smaller : goal.loop-i-smaller
-loop-i-smaller c = omega arith
-
 pub loop-i-preserved : goal.loop-i-preserved
 loop-i-preserved c = (collected_turn _ _ _ _ _ _ _ _ c.loop-i-test.true c.copy.ensures c.loop-i.invariant.0, c.copy.auto.dst ∙ c.loop-i.invariant.1)
-
-pub shape_of-saved : goal.shape_of-saved
-shape_of-saved c = c.loop-i.invariant.1
 
 pub returns : goal.returns
 returns c = collected_end _ _ _ _ _ _ _ c.loop-i-test.false c.loop-i.invariant.0

@@ -1,7 +1,7 @@
 -- What each operation on words does in a single shot. Assumes nothing.
 use Rattle.std.specs.Prelude.{◌≡◌, Bool, true, false, not, cond, ◌&&◌, eqb, length, get_or}
 use Rattle.std.proofs.Math.Path.{refl, sym, ap, fun_ext}
-use Rattle.std.proofs.Common.{◌∙◌, arith, not-suc-le-zero, zero-mul, add-suc, suc-add, mul-le-mul_right, div-add-mod', mod-lt, ext_get_or}
+use Rattle.std.proofs.Common.{◌∙◌, arith, not-suc-le-zero, add-suc, suc-add, mul-le-mul_right, div-add-mod', mod-lt, ext_get_or}
 use mathlib.Core.List.{List, [], ◌∷◌}
 use Prim.Native.Nat.{ℕ, zero, suc, ◌+◌, ◌*◌, ◌/◌, ◌%◌, ◌^◌, ◌<◌, ◌≤◌}
 use Rattle.std.proofs.Math.Nat.{add-zero}

@@ -7,7 +7,7 @@ use Rattle.std.proofs.Math.Nat.{div-add-mod, mul-add-div_right, div-eq_of_lt}
 use Rattle.std.proofs.Math.Decide.{dec_lt}
 use Rattle.std.proofs.Math.ListN.{get_or, get_or-eq_default}
 use Rattle.std.proofs.lemmas.List.{length-replicate, get_or-replicate}
-use Rattle.pauli.specs.Bits.{Bits, none, bit}
+use Rattle.pauli.specs.Bits.{none, bit}
 use Rattle.pauli.proofs.Laws.Word.{bit_is, bit_zero, bit_shr}
 use Rattle.rows.specs.Words.{words_per_row, bit_in, word_of, tabulated, pack}
 use Rattle.rows.specs.Overwrite.{cleared}

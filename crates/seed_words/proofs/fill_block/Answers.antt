@@ -48,12 +48,6 @@ offset_bounds-words-i-in-loop-i-3 c = omega arith
 pub bounds-words-i-in-loop-i-3 : goal.bounds-words-i-in-loop-i-3
 bounds-words-i-in-loop-i-3 c = simp length-set (omega (arith, c.loop-i.invariant.written.same))
 
-pub overflow_add-i : goal.overflow_add-i
-overflow_add-i c = omega arith
-
-pub loop-i-smaller : goal.loop-i-smaller
-loop-i-smaller c = omega arith
-
 pub loop-i-preserved : goal.loop-i-preserved
 loop-i-preserved c =
     let x = c.loop-i.invariant in

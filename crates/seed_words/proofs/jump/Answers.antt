@@ -24,12 +24,6 @@ overflow_shr-fourth c = omega arith
 pub overflow_mul-fourth : goal.overflow_mul-fourth
 overflow_mul-fourth c = record { fits = jumping_fits c.loop-k.invariant.2 }
 
-pub overflow_add-k : goal.overflow_add-k
-overflow_add-k c = omega arith
-
-pub loop-k-smaller : goal.loop-k-smaller
-loop-k-smaller c = omega arith
-
 pub loop-k-preserved : goal.loop-k-preserved
 loop-k-preserved c =
     let i = c.loop-k.invariant in

@@ -3,26 +3,17 @@ use Rattle.writer.specs.Laws.Placing.{rest_length}
 use Rattle.session_text.specs.Laws.Lines.{bits_none, bits_more, bits_all}
 use Rattle.session_text.proofs.put_bits.Goals as goal
 
-pub overflow_add-w : goal.overflow_add-w
-overflow_add-w c = omega arith
-
 pub loop-s-init : goal.loop-s-init
 loop-s-init c = bits_none
 
 pub delta_byte-b-requires : goal.delta_byte-b-requires
-delta_byte-b-requires c = (omega (arith, c.requires.2), omega (arith, c.loop-s-test.true, c.requires.0))
+delta_byte-b-requires c = rw c.words_per_row-w.ensures (omega (arith, c.requires.2), omega (arith, c.loop-s-test.true, c.requires.0))
 
 pub put_byte-next-requires : goal.put_byte-next-requires
 put_byte-next-requires c = omega (arith, c.loop-s.invariant.place, c.loop-s-test.true, c.requires.1)
 
-pub overflow_add-s : goal.overflow_add-s
-overflow_add-s c = omega arith
-
-pub loop-s-smaller : goal.loop-s-smaller
-loop-s-smaller c = omega arith
-
 pub loop-s-preserved : goal.loop-s-preserved
-loop-s-preserved c = bits_more c.loop-s.invariant c.loop-s-test.true (rw c.delta_byte-b.ensures at c.put_byte-next.ensures)
+loop-s-preserved c = bits_more c.loop-s.invariant c.loop-s-test.true (rw (c.delta_byte-b.ensures, c.words_per_row-w.ensures) at c.put_byte-next.ensures)
 
 pub shape_of-out : goal.shape_of-out
 shape_of-out c = rest_length c.loop-s.invariant.rest

@@ -9,12 +9,6 @@ loop-id-init c = deltas_none
 pub put_delta-next-requires : goal.put_delta-next-requires
 put_delta-next-requires c = (c.requires.0, omega (arith, c.requires.1, c.loop-id.invariant.place, c.loop-id-test.true), row_below _ _ _ _ c.loop-id-test.true c.requires.2)
 
-pub overflow_add-id : goal.overflow_add-id
-overflow_add-id c = omega arith
-
-pub loop-id-smaller : goal.loop-id-smaller
-loop-id-smaller c = omega arith
-
 pub loop-id-preserved : goal.loop-id-preserved
 loop-id-preserved c = deltas_more c.loop-id.invariant c.loop-id-test.true c.requires.0 c.put_delta-next.ensures
 

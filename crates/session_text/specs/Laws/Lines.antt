@@ -1,11 +1,10 @@
 -- The lines of a printed session, as the code puts them together. Laws. Assumes nothing.
-use Rattle.std.specs.Prelude.{◌≡◌, Bool, true, false, cond, List, [], ◌∷◌, ◌++◌, ℕ, zero, suc, ◌+◌, ◌-◌, ◌*◌, ◌≤◌, ◌<◌, length}
+use Rattle.std.specs.Prelude.{◌≡◌, Bool, cond, List, [], ◌∷◌, ◌++◌, ℕ, zero, suc, ◌+◌, ◌-◌, ◌*◌, ◌≤◌, ◌<◌, length}
 use Rattle.std.proofs.Math.Path.{refl}
-use Rattle.std.proofs.Common.{sym, ap, ◌∙◌, append_assoc, append-nil, add-one, arith, length-append}
+use Rattle.std.proofs.Common.{sym, ap, append_assoc, add-one, arith, length-append}
 use Rattle.std.proofs.Math.Nat.{sub-zero}
 use Rattle.text.specs.Bytes.{LF, bytes, unlines}
-use Rattle.text.specs.Number.{decimal}
-use Rattle.text.specs.Template.{Value, value_text, first_text, line_text}
+use Rattle.text.specs.Template.{Value, line_text}
 use Rattle.job.specs.declared.Header.{Header}
 use Rattle.job.specs.declared.Answer.{Answer}
 use Rattle.rows.proofs.Laws.Overwrite.{before_row}

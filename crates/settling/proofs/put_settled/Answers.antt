@@ -13,47 +13,24 @@ pub put_bytes-text-requires : goal.put_bytes-text-requires
 put_bytes-text-requires c = rw length-take (omega (arith, fits_sizes c.requires))
 
 pub loop-here-init : goal.loop-here-init
-loop-here-init c = (pass_begins c.requires c.behind_header-from.ensures c.put_bytes-text.ensures, refl, refl, refl, refl, refl, refl)
-
-pub slice_bounds-put_instruction-end : goal.slice_bounds-put_instruction-end
-slice_bounds-put_instruction-end c = sym c.loop-here.invariant.2
-
-pub slice_bounds-put_instruction-end-in-loop-here : goal.slice_bounds-put_instruction-end-in-loop-here
-slice_bounds-put_instruction-end-in-loop-here c = sym c.loop-here.invariant.3
-
-pub slice_bounds-put_instruction-end-in-loop-here-2 : goal.slice_bounds-put_instruction-end-in-loop-here-2
-slice_bounds-put_instruction-end-in-loop-here-2 c = sym c.loop-here.invariant.4
-
-pub slice_bounds-put_instruction-end-in-loop-here-3 : goal.slice_bounds-put_instruction-end-in-loop-here-3
-slice_bounds-put_instruction-end-in-loop-here-3 c = sym c.loop-here.invariant.5
-
-pub slice_bounds-put_instruction-end-in-loop-here-4 : goal.slice_bounds-put_instruction-end-in-loop-here-4
-slice_bounds-put_instruction-end-in-loop-here-4 c = sym c.loop-here.invariant.6
+loop-here-init c = (pass_begins c.requires c.behind_header-from.ensures c.put_bytes-text.ensures, refl, refl, refl, refl, refl)
 
 pub put_instruction-requires : goal.put_instruction-requires
-put_instruction-requires c = (c.loop-here.invariant.0.between, c.loop-here-test.true, c.loop-here.invariant.0.few, omega (arith, c.loop-here.invariant.2), omega (arith, c.loop-here.invariant.3), omega (arith, c.loop-here.invariant.4), omega (arith, c.loop-here.invariant.5), omega (arith, c.loop-here.invariant.6))
+put_instruction-requires c = (c.loop-here.invariant.0.between, c.loop-here-test.true, c.loop-here.invariant.0.few, omega (arith, c.loop-here.invariant.2), omega (arith, c.loop-here.invariant.3), omega (arith, c.loop-here.invariant.4), omega (arith, c.loop-here.invariant.5))
 
-pub shape_of-out-in-Spent : goal.shape_of-out-in-Spent
-shape_of-out-in-Spent c = c.put_instruction.auto.out ∙ c.loop-here.invariant.1 ∙ c.put_bytes-text.auto.out
+pub shape_of-out-in-Err : goal.shape_of-out-in-Err
+shape_of-out-in-Err c = c.put_instruction.auto.out ∙ c.loop-here.invariant.1 ∙ c.put_bytes-text.auto.out
 
-pub returns-in-Spent : goal.returns-in-Spent
-returns-in-Spent c = pass_spent c.loop-here.invariant.0 (moved_spent c.put_instruction.ensures c.in-Spent.is)
+pub returns-in-Err : goal.returns-in-Err
+returns-in-Err c = pass_spent c.loop-here.invariant.0 (moved_spent c.put_instruction.ensures c.in-Err.is)
 
 pub loop-here-smaller : goal.loop-here-smaller
 loop-here-smaller c =
-    let o = moved_to c.put_instruction.ensures c.in-To.is in
+    let o = moved_to c.put_instruction.ensures c.in-Ok.is in
     omega (arith, o.onward, c.loop-here.invariant.0.between.ahead.number, c.loop-here.invariant.0.between.ahead.within)
 
 pub loop-here-preserved : goal.loop-here-preserved
-loop-here-preserved c = (
-  pass_on c.loop-here.invariant.0 (moved_to c.put_instruction.ensures c.in-To.is),
-  c.put_instruction.auto.out ∙ c.loop-here.invariant.1,
-  c.put_instruction.auto.values ∙ c.loop-here.invariant.2,
-  c.put_instruction.auto.elements ∙ c.loop-here.invariant.3,
-  c.put_instruction.auto.sums ∙ c.loop-here.invariant.4,
-  c.put_instruction.auto.weights ∙ c.loop-here.invariant.5,
-  c.put_instruction.auto.mask ∙ c.loop-here.invariant.6,
-)
+loop-here-preserved c = (pass_on c.loop-here.invariant.0 (moved_to c.put_instruction.ensures c.in-Ok.is), c.put_instruction.auto.out ∙ c.loop-here.invariant.1, c.put_instruction.auto.elements ∙ c.loop-here.invariant.2, c.put_instruction.auto.sums ∙ c.loop-here.invariant.3, c.put_instruction.auto.weights ∙ c.loop-here.invariant.4, c.put_instruction.auto.mask ∙ c.loop-here.invariant.5)
 
 pub shape_of-out : goal.shape_of-out
 shape_of-out c = c.loop-here.invariant.1 ∙ c.put_bytes-text.auto.out

@@ -1,6 +1,6 @@
 -- The text of one instruction, and the place behind it. Laws. Assumes nothing.
 use Rattle.std.proofs.Math.Path.{◌≡◌, sym, ap, subst}
-use Rattle.std.specs.Prelude.{refl, true, false, ℕ, ◌+◌, ◌-◌, ◌*◌, ◌≤◌, Float, take}
+use Rattle.std.specs.Prelude.{refl, Result, Ok, Err, true, false, ℕ, ◌+◌, ◌-◌, ◌*◌, ◌≤◌, Float, take}
 use Rattle.std.proofs.Common.{◌∙◌, arith}
 use mathlib.Core.List.{List, [], ◌∷◌}
 use Rattle.std.proofs.Math.ListN.{length, drop, length-take}
@@ -18,10 +18,8 @@ use Rattle.faults.specs.Elements.{AllInside}
 use Rattle.faults.specs.declared.Prepared.{Prepared}
 use Rattle.faults.specs.Prepared.{NoiseLines, noise_in, PreparedAs}
 use Rattle.noise_text.specs.declared.Drawn.{Drawn}
-use Rattle.noise_text.specs.declared.Drawn.TheVariants as drawn
+use Rattle.noise_text.specs.declared.Spent.{Spent}
 use Rattle.settling.specs.declared.instruction_text.Reached.{Reached}
-use Rattle.settling.specs.declared.instruction_text.Moved.{Moved}
-use Rattle.settling.specs.declared.instruction_text.Moved.TheVariants as moved
 use Rattle.noise_text.specs.Injections.{text_of, PutAs, StepPut, ReadyOf}
 use Rattle.settling.specs.Pass.{Pass, lent_by, settled_from, left_from, Between, Onward, SpentHere, MovedTo, InstructionPut}
 use Rattle.noise_text.specs.Laws.Elements.{element_of}
@@ -37,31 +35,31 @@ record LinesPut (words : List ℕ) (from shots : ℕ) (out after : List ℕ) (al
   few : j ≤ from + 1342 * shots
   within : i ≤ length words
 
-module _ {words : List ℕ} {from shots : ℕ} {out after : List ℕ} {step : Step} {r : Drawn} (k : ℕ) (later : List ℕ → Settled) (i : Instruction) (main : List ℕ)
+module _ {words : List ℕ} {from shots : ℕ} {out after : List ℕ} {step : Step} {r : Result Drawn Spent} (k : ℕ) (later : List ℕ → Settled) (i : Instruction) (main : List ℕ)
     (onward : List ℕ → List ℕ) (t : StepPut words from shots out (left_spent i main) step after r)
   where
-    spent_step : (at : ℕ) → r ≡ drawn.Spent at
-        → (settle_then k step later ≡ Settled.spent_at k) × (at ≤ length words) × (drop at words ≡ left_then i main step onward)
+    spent_step : (s : Spent) → r ≡ Err s
+        → (settle_then k step later ≡ Settled.spent_at k) × (s.position ≤ length words) × (drop s.position words ≡ left_then i main step onward)
     unfolding PutAs settle_then left_then
-    spent_step at e = go step t.put
+    spent_step s e = go step t.put
       where
         go : (st : Step) → PutAs words from shots out (left_spent i main) st after r
-            → (settle_then k st later ≡ Settled.spent_at k) × (at ≤ length words) × (drop at words ≡ left_then i main st onward)
+            → (settle_then k st later ≡ Settled.spent_at k) × (s.position ≤ length words) × (drop s.position words ≡ left_then i main st onward)
         go Step.spent u =
-            let same : u.next ≡ at = cc (u.is, e) in
+            let same : u.next ≡ s.position = cc (u.is, e) in
             (refl, rw same at u.within, ap (λ (m : ℕ). drop m words) (sym same) ∙ sym u.rest)
         go (Step.lines ls left) u = let z : ◌≡◌ {A = ℕ} 0 1 = cc (u.is, e) in absurd (omega arith)
 
-    done_step : (at j : ℕ) → r ≡ drawn.Done at j → LinesPut words from shots out after (settle_then k step later) later (left_then i main step onward) onward at j
+    done_step : (d : Drawn) → r ≡ Ok d → LinesPut words from shots out after (settle_then k step later) later (left_then i main step onward) onward d.position d.text
     unfolding PutAs settle_then left_then
-    done_step at j e = go step t.put
+    done_step d e = go step t.put
       where
         go : (st : Step) → PutAs words from shots out (left_spent i main) st after r
-            → LinesPut words from shots out after (settle_then k st later) later (left_then i main st onward) onward at j
+            → LinesPut words from shots out after (settle_then k st later) later (left_then i main st onward) onward d.position d.text
         go Step.spent u = let z : ◌≡◌ {A = ℕ} 0 1 = cc (u.is, e) in absurd (omega arith)
         go (Step.lines ls left) u =
-            let next : u.next ≡ at = cc (u.is, e) in
-            let place : u.place ≡ j = cc (u.is, e) in
+            let next : u.next ≡ d.position = cc (u.is, e) in
+            let place : u.place ≡ d.text = cc (u.is, e) in
             record {
               lines = ls;
               leaves = ap onward (u.rest ∙ ap (λ (m : ℕ). drop m words) next);
@@ -81,7 +79,7 @@ module _ {p : Pass} {here : Reached} (b : Between p here) where
   -- a line that is no noise is copied
   module _ {line : LineRead} {values : List ℕ} (n : NextLine p.job here.place.byte line values) (quiet : noise_form line.form ≡ false) where
     pub plain_put : {out after : List ℕ} {byte : ℕ} → Puts here.text (take (line.end + 1 - here.place.byte) (drop here.place.byte p.job)) out after byte
-        → InstructionPut p out here after (moved.To (record { place = record { byte = line.end + 1; line = here.place.line + 1; position = here.place.position }; text = byte }))
+        → InstructionPut p out here after (Ok (record { place = record { byte = line.end + 1; line = here.place.line + 1; position = here.place.position }; text = byte }))
     unfolding MovedTo settle settle_then step_of left_after left_then
     plain_put {out} {after} {byte} puts =
         let r = plain_read b.ahead n quiet in
@@ -162,7 +160,7 @@ module _ {p : Pass} {here : Reached} (b : Between p here) where
             }
 
         -- what its draws come to
-        module _ {out after : List ℕ} {o : Drawn}
+        module _ {out after : List ℕ} {o : Result Drawn Spent}
             (put : StepPut p.main here.text p.shape.shots out (left_spent (Instruction.noise (noise_in noise_here)) (drop here.place.position p.main))
             (step_of (lent_by p) (drop here.place.position p.main) (line_at p.job here.place.byte line.end) (Instruction.noise (noise_in noise_here))) after o)
           where
@@ -183,25 +181,25 @@ module _ {p : Pass} {here : Reached} (b : Between p here) where
             unfolding settle
             then_settled = ap (λ (is : List Placed). settle (lent_by p) is (drop here.place.position p.main)) noise_is.instructions
 
-            pub noise_spent : (at : ℕ) → o ≡ drawn.Spent at → InstructionPut p out here after (moved.Spent at)
+            pub noise_spent : (s : Spent) → o ≡ Err s → InstructionPut p out here after (Err s)
             unfolding MovedTo
-            noise_spent at e =
-                let s = spent_step here.place.line later (Instruction.noise (noise_in noise_here)) (drop here.place.position p.main) onward put at e in
-                record { put = record { settles = then_settled ∙ s.0; within = s.1; leaves = s.2 ∙ sym then_left } }
+            noise_spent s e =
+                let t = spent_step here.place.line later (Instruction.noise (noise_in noise_here)) (drop here.place.position p.main) onward put s e in
+                record { put = record { settles = then_settled ∙ t.0; within = t.1; leaves = t.2 ∙ sym then_left } }
 
-            pub noise_done : (i j : ℕ) → o ≡ drawn.Done i j
-                → InstructionPut p out here after (moved.To (record { place = record { byte = r.behind; line = here.place.line + 1 + r.element_lines; position = i }; text = j }))
+            pub noise_done : (d : Drawn) → o ≡ Ok d
+                → InstructionPut p out here after (Ok (record { place = record { byte = r.behind; line = here.place.line + 1 + r.element_lines; position = d.position }; text = d.text }))
             unfolding MovedTo
-            noise_done i j e =
-                let t = done_step here.place.line later (Instruction.noise (noise_in noise_here)) (drop here.place.position p.main) onward put i j e in
+            noise_done d e =
+                let t = done_step here.place.line later (Instruction.noise (noise_in noise_here)) (drop here.place.position p.main) onward put d e in
                 record {
                   put =
                       record {
                         lines = t.lines;
                         settles =
                             then_settled ∙ t.settles
-                            ∙ ap (λ (is : List Placed). prefixed t.lines (settle (lent_by p) is (drop i p.main))) (sym ready.instructions);
-                        leaves = then_left ∙ t.leaves ∙ ap (λ (is : List Placed). left_after (lent_by p) is (drop i p.main)) (sym ready.instructions);
+                            ∙ ap (λ (is : List Placed). prefixed t.lines (settle (lent_by p) is (drop d.position p.main))) (sym ready.instructions);
+                        leaves = then_left ∙ t.leaves ∙ ap (λ (is : List Placed). left_after (lent_by p) is (drop d.position p.main)) (sym ready.instructions);
                         puts = t.puts;
                         onward = omega arith;
                         few = omega (arith, t.few, few_shots);
@@ -218,11 +216,11 @@ module _ {p : Pass} {here : Reached} (b : Between p here) where
                       };
                 }
 
-module _ {p : Pass} {out : List ℕ} {here : Reached} {after : List ℕ} {r : Moved} (t : InstructionPut p out here after r) where
-  pub moved_spent : {position : ℕ} → r ≡ moved.Spent position → SpentHere p here position
+module _ {p : Pass} {out : List ℕ} {here : Reached} {after : List ℕ} {r : Result Reached Spent} (t : InstructionPut p out here after r) where
+  pub moved_spent : {s : Spent} → r ≡ Err s → SpentHere p here s.position
   unfolding MovedTo
   moved_spent e = rw e at t.put
 
-  pub moved_to : {next : Reached} → r ≡ moved.To next → Onward p out here after next
+  pub moved_to : {next : Reached} → r ≡ Ok next → Onward p out here after next
   unfolding MovedTo
   moved_to e = rw e at t.put

@@ -1,5 +1,5 @@
 -- A pass over a job, from instruction to instruction. Laws. Assumes nothing.
-use Rattle.std.specs.Prelude.{◌≡◌, refl, ℕ, ◌+◌, ◌-◌, ◌*◌, ◌≤◌, ◌<◌, length, drop}
+use Rattle.std.specs.Prelude.{◌≡◌, Ok, Err, refl, ℕ, ◌+◌, ◌-◌, ◌*◌, ◌≤◌, ◌<◌, length, drop}
 use Rattle.std.proofs.Math.Path.{sym, ap}
 use Rattle.std.proofs.Common.{subst, ◌∙◌, arith}
 use mathlib.Core.List.{List, [], ◌∷◌, ◌++◌, append_assoc, append-nil}
@@ -18,7 +18,6 @@ use Rattle.writer.specs.Laws.Placing.{puts_nothing, puts_more}
 use Rattle.draws.specs.Left.{left_after}
 use Rattle.draws.specs.Settle.{SettledLine, Settled, prefixed, settle, settled_text}
 use Rattle.settling.specs.declared.instruction_text.Reached.{Reached}
-use Rattle.settling.specs.declared.TextLength.TheVariants as text_length
 use Rattle.noise_text.specs.Injections.{text_of}
 use Rattle.settling.specs.Pass.{Pass, lent_by, settled_from, left_from, Between, Onward, SpentHere}
 use Rattle.settling.specs.Whole.{settled_by, left_by_all, Fits, taken_for, PutAll, SettledPut}
@@ -109,12 +108,12 @@ module _ {p : Pass} {from : ℕ} {out : List ℕ} {here : Reached} {mid : List �
         between = o.between;
       }
 
-  pub pass_spent : {start after : List ℕ} {position : ℕ} → SpentHere p here position → SettledPut p start after (text_length.SpentAt here.place.line position)
+  pub pass_spent : {start after : List ℕ} {position : ℕ} → SpentHere p here position → SettledPut p start after (Err (record { line = here.place.line; taken = position }))
   unfolding prefixed PutAll taken_for
   pass_spent s = record { put = rw (g.settles, s.settles) refl; within = s.within; leaves = s.leaves ∙ sym g.leaves }
 
   pub pass_done : {start : List ℕ} → Puts 0 (settled_text (job_of p.job).text []) start out from → length p.job ≤ here.place.byte
-      → SettledPut p start mid (text_length.Length here.text here.place.position)
+      → SettledPut p start mid (Ok (record { bytes = here.text; taken = here.place.position }))
   unfolding prefixed PutAll taken_for settle left_after
   pass_done header h =
       let t = (job_of p.job).text in

@@ -1,6 +1,6 @@
 -- The whole reply of settling, and where it leaves the main list. Laws. Assumes nothing.
 use Rattle.std.proofs.Math.Path.{◌≡◌, sym, ap}
-use Rattle.std.specs.Prelude.{refl, Bool, true, false, ◌&&◌, ◌||◌, ℕ, ◌+◌, ◌*◌, ◌/◌, ◌≤◌, ◌<◌, eqb, leb, take}
+use Rattle.std.specs.Prelude.{refl, Result, Ok, Err, Bool, true, false, ◌&&◌, ◌||◌, ℕ, ◌+◌, ◌*◌, ◌/◌, ◌≤◌, ◌<◌, eqb, leb, take}
 use Rattle.std.proofs.Common.{◌∙◌, mul-le-mul, drop_of_length-le}
 use mathlib.Core.List.{List, [], ◌++◌, append-nil}
 use native.Mathlib.Omega.{arith}
@@ -25,8 +25,8 @@ use Rattle.rows.specs.Words.{words_per_row, bit_in}
 use Rattle.run.specs.Run.{Source, outcome_words_of, lent_of}
 use Rattle.backward.specs.Settling.{settled_answer, settle_reply}
 use Rattle.settling.specs.declared.Answered.{Answered}
-use Rattle.settling.specs.declared.TextLength.{TextLength}
-use Rattle.settling.specs.declared.TextLength.TheVariants as text_length
+use Rattle.settling.specs.declared.Length.{Length}
+use Rattle.settling.specs.declared.SpentAt.{SpentAt}
 use Rattle.settling.specs.Pass.{Pass, pass_of, lent_by}
 use Rattle.settling.specs.Whole.{settled_by, left_by_all, Fits, taken_for, PutAll, SettledPut, SettledTo}
 
@@ -78,24 +78,24 @@ module _ {p : Pass} (f : Fits p) where
   left_is : left_by_all p ≡ left_after (lent_of (job_of p.job).header (source_of p)) (job_of p.job).instructions p.main
   left_is = ap (λ (l : Lent). left_after l (job_of p.job).instructions p.main) lent_same
 
-  module _ {start after : List ℕ} {t : TextLength} (put : SettledPut p start after t) (out : List ℕ) where
+  module _ {start after : List ℕ} {t : Result Length SpentAt} (put : SettledPut p start after t) (out : List ℕ) where
     -- the words that were taken stay taken
     left_at : {r : TextAnswer} {taken : ℕ} {text : List ℕ} → taken_for t ≡ taken → eqb r.answer.number 0 || eqb r.answer.number 14 ≡ true
         → text_reply r text ≡ settle_reply p.job (source_of p) out → SettledTo p.job (source_of p) out text (record { answer = r; taken = taken })
     left_at same takes is =
         record { is = is; within = rw same at put.within; leaves = rw takes (rw same at put.leaves ∙ left_is) }
 
-    pub spent_reply : {r : TextAnswer} {k taken : ℕ} → t ≡ text_length.SpentAt k taken → r ≡ record { answer = record { number = 14; line = k }; figure = 0 }
-        → SettledTo p.job (source_of p) out out (record { answer = r; taken = taken })
+    pub spent_reply : {r : TextAnswer} {s : SpentAt} → t ≡ Err s → r ≡ record { answer = record { number = 14; line = s.line }; figure = 0 }
+        → SettledTo p.job (source_of p) out out (record { answer = r; taken = s.taken })
     unfolding PutAll taken_for settled_answer
-    spent_reply {r} {k} e says = left_at (ap taken_for e) (rw says) (go (settled_by p) put.put ∙ sym (reply_is out))
+    spent_reply {r} {s} e says = left_at (ap taken_for e) (rw says) (go (settled_by p) put.put ∙ sym (reply_is out))
       where
         go : (o : Settled) → PutAll p start o after t → text_reply r out ≡ settled_answer (job_of p.job) o out
-        go (Settled.spent_at j) u = let same : j ≡ k = cc (u, e) in rw (says, same)
+        go (Settled.spent_at j) u = let same : j ≡ s.line = cc (u, e) in rw (says, same)
         go (Settled.settled ls) u = let z : ◌≡◌ {A = ℕ} 0 1 = cc (u.is, e) in absurd (omega arith)
 
-    module _ {need taken : ℕ} (e : t ≡ text_length.Length need taken) where
-      pub long_reply : {r : TextAnswer} → r ≡ record { answer = record { number = 15; line = 0 }; figure = need } → leb need (length out) && leb need max_bytes ≡ false
+    module _ {l : Length} (e : t ≡ Ok l) where
+      pub long_reply : {r : TextAnswer} → r ≡ record { answer = record { number = 15; line = 0 }; figure = l.bytes } → leb l.bytes (length out) && leb l.bytes max_bytes ≡ false
           → SettledTo p.job (source_of p) out out (record { answer = r; taken = 0 })
       unfolding PutAll settled_answer
       long_reply {r} says long = record { is = go (settled_by p) put.put ∙ sym (reply_is out); within = omega arith; leaves = rw says }
@@ -103,28 +103,28 @@ module _ {p : Pass} (f : Fits p) where
           go : (o : Settled) → PutAll p start o after t → text_reply r out ≡ settled_answer (job_of p.job) o out
           go (Settled.spent_at j) u = let z : ◌≡◌ {A = ℕ} 0 1 = cc (u, e) in absurd (omega arith)
           go (Settled.settled ls) u =
-              let measured : u.long ≡ need = cc (u.is, e) in
-              let same : length (settled_text (job_of p.job).text ls) ≡ need = omega (arith, u.puts.place) in
+              let measured : u.long ≡ l.bytes = cc (u.is, e) in
+              let same : length (settled_text (job_of p.job).text ls) ≡ l.bytes = omega (arith, u.puts.place) in
               rw (says, same, long)
 
       -- the second pass writes what the first has measured
-      pub done_reply : {r : TextAnswer} {text : List ℕ} {s : TextLength} → SettledPut p (take need out) text s
-          → r ≡ record { answer = record { number = 0; line = 0 }; figure = need } → leb need (length out) && leb need max_bytes ≡ true
-          → SettledTo p.job (source_of p) out (text ++ drop need out) (record { answer = r; taken = taken })
+      pub done_reply : {r : TextAnswer} {text : List ℕ} {s : Result Length SpentAt} → SettledPut p (take l.bytes out) text s
+          → r ≡ record { answer = record { number = 0; line = 0 }; figure = l.bytes } → leb l.bytes (length out) && leb l.bytes max_bytes ≡ true
+          → SettledTo p.job (source_of p) out (text ++ drop l.bytes out) (record { answer = r; taken = l.taken })
       unfolding PutAll taken_for settled_answer
       done_reply {r} {text} {s} again says fits = left_at (ap taken_for e) (rw says) (go (settled_by p) put.put again.put ∙ sym (reply_is out))
         where
-          go : (o : Settled) → PutAll p start o after t → PutAll p (take need out) o text s → text_reply r (text ++ drop need out) ≡ settled_answer (job_of p.job) o out
+          go : (o : Settled) → PutAll p start o after t → PutAll p (take l.bytes out) o text s → text_reply r (text ++ drop l.bytes out) ≡ settled_answer (job_of p.job) o out
           go (Settled.spent_at j) u v = let z : ◌≡◌ {A = ℕ} 0 1 = cc (u, e) in absurd (omega arith)
           go (Settled.settled ls) u v =
               let whole = settled_text (job_of p.job).text ls in
-              let measured : u.long ≡ need = cc (u.is, e) in
-              let same : length whole ≡ need = omega (arith, u.puts.place) in
-              let size : length (take need out) ≡ need = length-take-le need out (room_for need (length out) fits) in
-              let part : length whole ≤ length (take need out) = omega arith in
-              let none : length (take need out) ≤ length whole = omega arith in
+              let measured : u.long ≡ l.bytes = cc (u.is, e) in
+              let same : length whole ≡ l.bytes = omega (arith, u.puts.place) in
+              let size : length (take l.bytes out) ≡ l.bytes = length-take-le l.bytes out (room_for l.bytes (length out) fits) in
+              let part : length whole ≤ length (take l.bytes out) = omega arith in
+              let none : length (take l.bytes out) ≤ length whole = omega arith in
               let written : text ≡ whole =
-              v.puts.bytes ∙ placed_over whole (take need out) part ∙ ap (λ (l : List ℕ). whole ++ l) (drop_of_length-le (take need out) none) ∙ append-nil whole in
+              v.puts.bytes ∙ placed_over whole (take l.bytes out) part ∙ ap (λ (m : List ℕ). whole ++ m) (drop_of_length-le (take l.bytes out) none) ∙ append-nil whole in
               rw (says, same, written, fits)
 
 -- a main list in two parts of which the second is empty

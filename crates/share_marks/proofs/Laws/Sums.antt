@@ -30,16 +30,13 @@ sum_part [] i = omega arith
 sum_part (n ∷ l) zero = omega arith
 sum_part (n ∷ l) (suc i) = omega (arith, sum_part l i)
 
--- the running total: one share more, where it passes the most, and at the end
+-- the running total: one share more, and where it passes the most
 pub sum_more : (l : List ℕ) (i : ℕ) {total : ℕ} → total ≡ sum (take i l) → i < length l → total + get_or l i 0 ≡ sum (take (i + 1) l)
 sum_more l i so_far h = omega (arith, so_far, sum_next l i h)
 
 module _ (l : List ℕ) (i n most : ℕ) {total : ℕ} (so_far : total ≡ sum (take i l)) where
   pub sum_passes : i < n → n ≤ length l → most < total + get_or l i 0 → most + 1 ≡ min (sum (take n l)) (most + 1)
   sum_passes h within over = omega (arith, so_far, sum_next l i (omega (arith, h, within)), sum_first l (i + 1) n (omega (arith, h)), over)
-
-  pub sum_end : i ≤ n → n ≤ i → total ≤ most → total ≡ min (sum (take n l)) (most + 1)
-  sum_end a b low = omega (arith, so_far, sum_first l i n a, sum_first l n i b, low)
 
 -- the sum of all, by the sum up to the most
 module _ (l : List ℕ) (most : ℕ) {total : ℕ} (e : total ≡ min (sum (take (length l) l)) (most + 1)) where

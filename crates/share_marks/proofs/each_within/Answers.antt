@@ -21,12 +21,6 @@ bounds-marks-caller c = omega arith
 pub returns-then-shares-caller : goal.returns-then-shares-caller
 returns-then-shares-caller c = sym (c.loop-caller.invariant ∙ within_here _ _ _ c.requires c.loop-caller-test.true c.if-shares-caller.true)
 
-pub overflow_add-caller : goal.overflow_add-caller
-overflow_add-caller c = omega arith
-
-pub loop-caller-smaller : goal.loop-caller-smaller
-loop-caller-smaller c = omega arith
-
 pub loop-caller-preserved : goal.loop-caller-preserved
 loop-caller-preserved c =
     c.loop-caller.invariant ∙ within_next _ _ _ c.requires c.loop-caller-test.true c.if-shares-caller.false

@@ -7,6 +7,3 @@ use Rattle.share_marks.proofs.each_within.Given as goal
 
 abbrev pub invariant-loop-caller : goal.invariant-loop-caller
 invariant-loop-caller l = each_within_of l.shares l.marks ≡ each_within_of (drop l.caller l.shares) (drop l.caller l.marks)
-
-abbrev pub decreases-loop-caller : goal.decreases-loop-caller
-decreases-loop-caller l = length l.shares - l.caller

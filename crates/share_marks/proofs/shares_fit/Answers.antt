@@ -15,12 +15,13 @@ pub returns-then-main-total : goal.returns-then-main-total
 returns-then-main-total c =
     λ caller. list_short _ _ _ caller c.if-callers-lt1.false c.if-callers-gt-MAX_CALLERS.false (sum_over _ _ c.sum_up_to-total.ensures c.if-main-total.true)
 
-pub returns-then-not-each_within : goal.returns-then-not-each_within
-returns-then-not-each_within c =
-    λ caller. stretch_short _ _ _ caller c.if-callers-lt1.false c.if-callers-gt-MAX_CALLERS.false (sum_all _ _ c.sum_up_to-total.ensures c.if-main-total.false) c.if-main-total.false
-    (sym c.each_within.ensures ∙ c.if-not-each_within.true)
-
-pub returns : goal.returns
-returns c =
+pub returns-then-each_within : goal.returns-then-each_within
+returns-then-each_within c =
     λ caller. by_common _ _ _ caller c.if-callers-lt1.false c.if-callers-gt-MAX_CALLERS.false (sum_all _ _ c.sum_up_to-total.ensures c.if-main-total.false) c.if-main-total.false
-    (sym c.each_within.ensures ∙ c.if-not-each_within.false)
+    (sym c.each_within.ensures ∙ c.if-each_within.true)
+
+pub returns-else-each_within : goal.returns-else-each_within
+returns-else-each_within c =
+    λ caller. c.if-each_within.false
+    ∙ stretch_short _ _ _ caller c.if-callers-lt1.false c.if-callers-gt-MAX_CALLERS.false (sum_all _ _ c.sum_up_to-total.ensures c.if-main-total.false) c.if-main-total.false
+    (sym c.each_within.ensures ∙ c.if-each_within.false)

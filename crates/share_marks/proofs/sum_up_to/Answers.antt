@@ -1,43 +1,29 @@
 use native.Mathlib.Omega.{arith}
 use mathlib.Core.Path.{refl}
+use Rattle.std.proofs.Common.{get_or-take, length-take-le}
 use Rattle.shares.specs.Shares.{sum}
-use Rattle.share_marks.proofs.Laws.Sums.{sum_more, sum_passes, sum_end}
+use Rattle.share_marks.proofs.Laws.Sums.{sum_more, sum_passes}
 use Rattle.share_marks.proofs.sum_up_to.Goals as goal
 
-pub loop-i-init : goal.loop-i-init
+pub loop-share-init : goal.loop-share-init
 unfolding sum
-loop-i-init c = (omega arith, omega arith, refl)
-
-pub offset_bounds-shares-i : goal.offset_bounds-shares-i
-offset_bounds-shares-i c = omega arith
-
-pub bounds-shares-i : goal.bounds-shares-i
-bounds-shares-i c = omega arith
-
-pub overflow_sub-most : goal.overflow_sub-most
-overflow_sub-most c = omega arith
-
-pub overflow_add-result : goal.overflow_add-result
-overflow_add-result c = omega arith
+loop-share-init c = (omega arith, omega arith, refl)
 
 pub returns-then-most-total : goal.returns-then-most-total
 returns-then-most-total c =
-    let inv = c.loop-i.invariant in
-    sum_passes _ _ _ _ inv.2 c.loop-i-test.true (omega arith) (omega arith)
+    let n = c.args.n in
+    let s = c.args.shares.now in
+    let i = c.loop-share.share-index in
+    let inside = rw (length-take-le n s c.requires.0) at c.loop-share-test.true in
+    let over = rw (get_or-take n s i 0 inside) at c.if-most-total.true in
+    sum_passes s i n _ c.loop-share.invariant.2 inside c.requires.0 (omega (arith, over))
 
-pub overflow_add-total : goal.overflow_add-total
-overflow_add-total c = omega arith
-
-pub overflow_add-i : goal.overflow_add-i
-overflow_add-i c = omega arith
-
-pub loop-i-smaller : goal.loop-i-smaller
-loop-i-smaller c = omega arith
-
-pub loop-i-preserved : goal.loop-i-preserved
-loop-i-preserved c = (omega arith, omega arith, sum_more c.args.shares.now c.loop-i.i c.loop-i.invariant.2 (omega arith))
-
-pub returns : goal.returns
-returns c =
-    let inv = c.loop-i.invariant in
-    sum_end _ _ _ _ inv.2 inv.0 c.loop-i-test.false inv.1
+pub loop-share-preserved : goal.loop-share-preserved
+loop-share-preserved c =
+    let n = c.args.n in
+    let s = c.args.shares.now in
+    let i = c.loop-share.share-index in
+    let inside = rw (length-take-le n s c.requires.0) at c.loop-share-test.true in
+    let e = get_or-take n s i 0 inside in
+    let below = rw e at c.if-most-total.false in
+    rw e (omega (arith, inside), omega (arith, below, c.loop-share.invariant.1), sum_more s i c.loop-share.invariant.2 (omega (arith, inside, c.requires.0)))

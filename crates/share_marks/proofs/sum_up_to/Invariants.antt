@@ -5,8 +5,5 @@ use lib.ListN.{take}
 use Rattle.shares.specs.Shares.{sum}
 use Rattle.share_marks.proofs.sum_up_to.Given as goal
 
-abbrev pub invariant-loop-i : goal.invariant-loop-i
-invariant-loop-i l = (l.i ≤ l.n) × (l.total ≤ l.most) × (l.total ≡ sum (take l.i l.shares))
-
-abbrev pub decreases-loop-i : goal.decreases-loop-i
-decreases-loop-i l = l.n - l.i
+abbrev pub invariant-loop-share : goal.invariant-loop-share
+invariant-loop-share l = (l.share-index ≤ l.n) × (l.total ≤ l.most) × (l.total ≡ sum (take l.share-index l.shares))

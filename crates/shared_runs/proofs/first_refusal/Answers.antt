@@ -8,6 +8,10 @@ pub returns-then-answer-ne0 : goal.returns-then-answer-ne0
 unfolding first_refusal_of
 returns-then-answer-ne0 c = rw (ne_eqb _ 0 c.if-answer-ne0.true) refl
 
-pub returns : goal.returns
+pub returns-in-Ok : goal.returns-in-Ok
 unfolding first_refusal_of
-returns c = rw (eq-eqb _ 0 c.if-answer-ne0.false, c.share_number.ensures) refl
+returns-in-Ok c = rw (eq-eqb _ 0 c.if-answer-ne0.false, c.accepted.ensures, ← c.in-Ok.ensures) refl
+
+pub returns-in-Err : goal.returns-in-Err
+unfolding first_refusal_of
+returns-in-Err c = rw (eq-eqb _ 0 c.if-answer-ne0.false, c.refused.ensures, ← c.in-Err.ensures) refl

@@ -1,6 +1,5 @@
 -- `shots::draw_shot` meets its contract: a law for each way out.
 use Rattle.shots.specs.Laws.Shots.{shot_spent, shot_unsatisfied, shot_fault, shot_spent_on}
-use borrow.Author.Tests.{not-true, not-false}
 use native.Mathlib.Omega.{arith}
 use Prim.Native.Nat.{◌<◌}
 use mathlib.Core.List.{◌++◌}
@@ -16,14 +15,14 @@ returns-then-not-satisfied c = shot_unsatisfied _ _ _ _ _ (omega (arith, c.count
 pub choose_element-requires : goal.choose_element-requires
 choose_element-requires c = (omega (arith, c.count.ensures), c.requires)
 
-pub returns-in-Chosen : goal.returns-in-Chosen
-returns-in-Chosen c =
+pub returns-in-Some : goal.returns-in-Some
+returns-in-Some c =
     let a = c.args in
     let inside : a.at < length (a.words.now ++ a.more.now) = omega (arith, c.count.ensures) in
-    shot_fault _ _ _ _ _ inside (c.if-not-satisfied.false) c.choose_element.ensures _ _ c.in-Chosen.is
+    shot_fault _ _ _ _ _ inside (c.if-not-satisfied.false) c.choose_element.ensures _ _ c.in-Some.is
 
-pub returns-in-Spent : goal.returns-in-Spent
-returns-in-Spent c =
+pub returns-in-None : goal.returns-in-None
+returns-in-None c =
     let a = c.args in
     let inside : a.at < length (a.words.now ++ a.more.now) = omega (arith, c.count.ensures) in
-    shot_spent_on _ _ _ _ _ inside (c.if-not-satisfied.false) c.choose_element.ensures c.in-Spent.is
+    shot_spent_on _ _ _ _ _ inside (c.if-not-satisfied.false) c.choose_element.ensures c.in-None.is

@@ -6,25 +6,16 @@ use Rattle.shots.proofs.fault_from.Goals as goal
 pub loop-s-init : goal.loop-s-init
 loop-s-init c = (omega arith, omega arith, omega arith, later_none)
 
-pub overflow_sub-shots : goal.overflow_sub-shots
-overflow_sub-shots c = omega arith
-
 pub next_skip-skip-requires : goal.next_skip-skip-requires
 next_skip-skip-requires c = (omega arith, c.requires.3.threshold)
 
 pub overflow_add-next : goal.overflow_add-next
 overflow_add-next c = let a = c.args in record { fits = omega (arith, length-append a.words.now a.more.now, c.well_formed, c.next_skip-skip.ensures.within) }
 
-pub overflow_add-s : goal.overflow_add-s
-overflow_add-s c = omega (arith, c.next_skip-skip.ensures.within)
-
 pub returns-then-s-shots : goal.returns-then-s-shots
 returns-then-s-shots c =
     let stays = c.next_skip-skip.ensures.within in
     found_done (later_skip c.loop-s.invariant.3 _ c.next_skip-skip.ensures.is) (omega arith) (omega (arith, stays))
-
-pub is_set-requires : goal.is_set-requires
-is_set-requires c = omega (arith, c.next_skip-skip.ensures.within, c.requires.2)
 
 pub returns-in-Spent : goal.returns-in-Spent
 returns-in-Spent c =
@@ -35,12 +26,6 @@ pub returns-in-Fault : goal.returns-in-Fault
 returns-in-Fault c =
     let stays = c.next_skip-skip.ensures.within in
     found_at (later_skip c.loop-s.invariant.3 _ c.next_skip-skip.ensures.is) (omega arith) c.is_set.ensures (falls_behind _ _ _ _ _ _ c.next_skip-skip.ensures.is (omega arith)) c.draw_shot.ensures _ _ c.in-Fault.is (omega arith)
-
-pub overflow_add-s-in-loop-s : goal.overflow_add-s-in-loop-s
-overflow_add-s-in-loop-s c = omega (arith, c.next_skip-skip.ensures.within)
-
-pub loop-s-smaller : goal.loop-s-smaller
-loop-s-smaller c = omega (arith, c.next_skip-skip.ensures.within)
 
 pub loop-s-preserved : goal.loop-s-preserved
 loop-s-preserved c =

@@ -4,7 +4,7 @@ use Rattle.std.proofs.Common.{add-zero, zero-mul, zero-add, add-suc, suc-add, �
 use Rattle.std.proofs.Math.Nat.{sub-zero, suc-sub-suc}
 use Rattle.std.proofs.Math.Numerals.{add-one}
 use native.Mathlib.Omega.{arith}
-use Rattle.std.specs.Prelude.{◌≡◌, Bool, ◌&&◌, length, get_or, drop}
+use Rattle.std.specs.Prelude.{◌≡◌, Bool, ◌&&◌, length, get_or, drop, Option, Some, None}
 use Rattle.std.proofs.Math.Path.{refl, sym, ap}
 use Rattle.std.proofs.Math.Bool.{true, false, cond}
 use mathlib.Core.List.{List, [], ◌∷◌}
@@ -16,8 +16,7 @@ use Rattle.job.specs.Float.{float}
 use Rattle.draws.specs.Draws.{falls, choose_from, is_satisfied, ShotDraw, fault_of, draw_shot_of, Lent}
 use Rattle.rows.specs.Words.{bit_in}
 use Rattle.noise.specs.declared.PauliDistribution.{PauliDistribution}
-use Rattle.choice.specs.declared.Choice.{Choice as Answer}
-use Rattle.choice.specs.declared.Choice.TheVariants as choice
+use Rattle.choice.specs.declared.Chosen.{Chosen}
 use Rattle.shots.specs.declared.ShotDraw.{ShotDraw as Draw}
 use Rattle.shots.specs.declared.ShotDraw.TheVariants as draw
 use Rattle.shots.specs.declared.NextFault.TheVariants as next
@@ -49,7 +48,7 @@ module _ (words : List ℕ) (at : ℕ) (d : PauliDistribution) (sums : List Floa
         either o true = refl
         either o false = refl
 
-    module _ (s : satisfied ≡ true) {a : Answer} (q : ElementChosen words (at + 1) d sums a) where
+    module _ (s : satisfied ≡ true) {a : Option Chosen} (q : ElementChosen words (at + 1) d sums a) where
       -- the element that is chosen
       element : {p : Float} → FallsAt p words at → (n : Noise) (bits : Bits) → Represents n p d sums → is_satisfied n.condition bits ≡ satisfied
           → fault_of (choice_of words a) ≡ draw_shot_of n bits (drop at words)
@@ -58,7 +57,7 @@ module _ (words : List ℕ) (at : ℕ) (d : PauliDistribution) (sums : List Floa
           rw (drop-cons words at 0, ← r.probability, f h, m, s)
           (ap fault_of (q.is n.distribution r.chooses ∙ ap (λ (k : ℕ). choose_from n.distribution (drop k words)) (add-one at)))
 
-      pub shot_fault : (x next : ℕ) → a ≡ choice.Chosen x next → ShotDrawn words at d sums satisfied (draw.Fault x next)
+      pub shot_fault : (x next : ℕ) → a ≡ Some record { element = x; position = next } → ShotDrawn words at d sums satisfied (draw.Fault x next)
       unfolding draw_of next_of choice_of nextOfChoice fault_of
       shot_fault x next k =
           record {
@@ -66,7 +65,7 @@ module _ (words : List ℕ) (at : ℕ) (d : PauliDistribution) (sums : List Floa
             is = λ f n bits r m. (rw k at (element f n bits r m));
           }
 
-      pub shot_spent_on : a ≡ choice.Spent → ShotDrawn words at d sums satisfied draw.Spent
+      pub shot_spent_on : a ≡ None → ShotDrawn words at d sums satisfied draw.Spent
       unfolding draw_of next_of choice_of fault_of
       shot_spent_on k =
           record {

@@ -21,16 +21,16 @@ pub bounds-words-i : goal.bounds-words-i
 bounds-words-i c = omega (arith, row_ends c.args.k c.args.r c.requires.1, c.requires.0.long)
 
 pub returns-then-from-k-le-WORD_BITS : goal.returns-then-from-k-le-WORD_BITS
-returns-then-from-k-le-WORD_BITS c = row_in_one _ (λ i. (c.shared_slice_known-1.given i).fits) _ _ c.requires.0.few c.if-from-k-le-WORD_BITS.true
+returns-then-from-k-le-WORD_BITS c = row_in_one _ (λ i. (c.type_inv.words i).fits) _ _ c.requires.0.few c.if-from-k-le-WORD_BITS.true
 
 pub overflow_add-result : goal.overflow_add-result
 overflow_add-result c = omega (arith, row_ends c.args.k c.args.r c.requires.1, mul-le-mul c.requires.0.few c.requires.0.few)
 
-pub offset_bounds-words-i-2 : goal.offset_bounds-words-i-2
-offset_bounds-words-i-2 c = omega (arith, row_ends c.args.k c.args.r c.requires.1, mul-le-mul c.requires.0.few c.requires.0.few)
+pub offset_bounds-words-i-else-from-k-le-WORD_BITS : goal.offset_bounds-words-i-else-from-k-le-WORD_BITS
+offset_bounds-words-i-else-from-k-le-WORD_BITS c = omega (arith, row_ends c.args.k c.args.r c.requires.1, mul-le-mul c.requires.0.few c.requires.0.few)
 
-pub bounds-words-i-2 : goal.bounds-words-i-2
-bounds-words-i-2 c = omega (arith, row_ends c.args.k c.args.r c.requires.1, c.requires.0.long)
+pub bounds-words-i-else-from-k-le-WORD_BITS : goal.bounds-words-i-else-from-k-le-WORD_BITS
+bounds-words-i-else-from-k-le-WORD_BITS c = omega (arith, row_ends c.args.k c.args.r c.requires.1, c.requires.0.long)
 
-pub returns : goal.returns
-returns c = row_in_two _ (λ i. (c.shared_slice_known-2-1.given i).fits) _ _ c.requires.0.few c.if-from-k-le-WORD_BITS.false
+pub returns-else-from-k-le-WORD_BITS : goal.returns-else-from-k-le-WORD_BITS
+returns-else-from-k-le-WORD_BITS c = row_in_two _ (λ i. (c.type_inv.words i).fits) _ _ c.requires.0.few c.if-from-k-le-WORD_BITS.false

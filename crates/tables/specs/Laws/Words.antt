@@ -1,12 +1,11 @@
 -- A row, and unused bits, from the words of a table, for every width by one argument: a bit of the table is a bit of its word. Laws. Assumes nothing.
 use Prim.Native.Nat.{ℕ, suc, ◌+◌, ◌-◌, ◌*◌, ◌/◌, ◌%◌, ◌^◌, ◌≤◌, ◌<◌}
-use Rattle.std.proofs.Common.{mod-lt, add-one, arith, sym, ap, ap₂, ◌∙◌, ltb-true, ltb-false, lt-ltb, le-leb, ne_eqb, pow_pos, shr-shr, drop-cons}
+use Rattle.std.proofs.Common.{mod-lt, arith, sym, ap, ap₂, ◌∙◌, ltb-true, ltb-false, lt-ltb, ne_eqb, pow_pos, shr-shr, drop-cons}
 use Rattle.std.proofs.Math.Nat.{div-eq_of_lt, div_self}
 use Rattle.std.proofs.Math.Decide.{dec_lt}
-use Rattle.std.specs.Prelude.{◌≡◌, refl, Bool, true, false, not, ◌&&◌, ◌||◌, eqb, ltb, leb, length, get_or}
-use Rattle.std.proofs.Math.Bool.{and-true, or-false}
-use mathlib.Core.List.{List, [], ◌∷◌}
-use Rattle.std.proofs.lemmas.Bool.{lt-leb}
+use Rattle.std.specs.Prelude.{◌≡◌, refl, Bool, true, false, ◌||◌, eqb, ltb, length, get_or}
+use Rattle.std.proofs.Math.Bool.{or-false}
+use mathlib.Core.List.{List, []}
 use Rattle.std.specs.Int.Bits.{bit_and, bit_or}
 use Rattle.std.proofs.lemmas.Nat.{and_mask}
 use Rattle.std.proofs.Math.ListN.{drop, drop_of_length-le}
@@ -105,15 +104,3 @@ module _ (k : ℕ) (ws : List ℕ) (small : AllSmall ws) (long : length ws ≡ t
       ∙ sym (shr-shr (table_of ws) (64 * (length ws - 1)) (4 * (k * k) % 64))
       ∙ ap (λ (t : ℕ). t / 2 ^ (4 * (k * k) % 64)) (table_drop ws small (length ws - 1) ∙ last_word some) in
       rw (← last) (no_higher (table_of ws) (4 * (k * k)))
-
--- ---- the number of words
-
-pub any_words : (k words : ℕ) → 8 < k → true ≡ not (leb k 8 && not (eqb words (table_words_of k)))
-any_words k words h = rw (lt-leb k 8 h)
-
-pub so_many_words : (k words : ℕ) → k ≤ 8 → eqb words (table_words_of k) ≡ not (leb k 8 && not (eqb words (table_words_of k)))
-so_many_words k words h = rw (le-leb k 8 h) (sym (twice (eqb words (table_words_of k))))
-  where
-    twice : (b : Bool) → not (not b) ≡ b
-    twice true = refl
-    twice false = refl

@@ -1,18 +1,14 @@
 -- `template::put_list` meets its contract. Assumes nothing.
 use native.Mathlib.Omega.{arith}
-use borrow.Author.Tests.{not-true, not-false}
 use lib.ListN.{length-set}
 use Rattle.template.specs.Laws.Reading.{not_list, full_list, one_list}
 use Rattle.template.proofs.put_list.Goals as goal
 
-pub returns-then-lists-ge-MAX_SLOTS : goal.returns-then-lists-ge-MAX_SLOTS
-returns-then-lists-ge-MAX_SLOTS c = full_list _ _ _ _ _ _ c.not_put.ensures c.if-lists-ge-MAX_SLOTS.true
+pub returns-then-p-ge-MAX_SLOTS : goal.returns-then-p-ge-MAX_SLOTS
+returns-then-p-ge-MAX_SLOTS c = full_list _ _ _ _ c.if-p-ge-MAX_SLOTS.true
 
-pub returns-then-not-listed : goal.returns-then-not-listed
-returns-then-not-listed c = not_list _ _ _ _ _ _ _ c.not_put-then-not-listed.ensures c.list-listed.ensures.result (not-true _ c.if-not-listed.true)
-
-pub bounds-fields-lists-2 : goal.bounds-fields-lists-2
-bounds-fields-lists-2 c = simp length-set (omega arith)
+pub returns-in_err-listed : goal.returns-in_err-listed
+returns-in_err-listed c = rw c.from_residual.ensures (not_list _ _ _ _ (rw c.in_err-listed.was at c.list.ensures).result)
 
 pub returns : goal.returns
-returns c = one_list _ _ _ _ _ _ c.requires c.if-lists-ge-MAX_SLOTS.false c.list-listed.ensures (not-false _ c.if-not-listed.false)
+returns c = one_list _ _ _ _ _ c.args.fields.now.whole c.if-p-ge-MAX_SLOTS.false (rw c.in_ok-listed.was at c.list.ensures)

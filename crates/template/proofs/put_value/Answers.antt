@@ -49,4 +49,4 @@ pub returns-in_default : goal.returns-in_default
 unfolding value_of
 returns-in_default c =
     let r = c.in_default.in_default-own.rest in
-    no_value _ _ _ _ _ _ _ _ c.not_put.ensures (simp (ne_eqb _ _ r.1, ne_eqb _ _ r.0.1, ne_eqb _ _ r.0.0.1, ne_eqb _ _ r.0.0.0.1, ne_eqb _ _ r.0.0.0.0.1, ne_eqb _ _ r.0.0.0.0.0.1, ne_eqb _ _ r.0.0.0.0.0.0.1))
+    no_value _ _ _ _ _ _ (simp (ne_eqb _ _ r.1, ne_eqb _ _ r.0.1, ne_eqb _ _ r.0.0.1, ne_eqb _ _ r.0.0.0.1, ne_eqb _ _ r.0.0.0.0.1, ne_eqb _ _ r.0.0.0.0.0.1, ne_eqb _ _ r.0.0.0.0.0.0.1))

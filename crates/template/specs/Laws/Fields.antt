@@ -2,17 +2,16 @@
 use Rattle.std.specs.Prelude.{ℕ, zero, suc, max, ◌+◌, ◌-◌, ◌*◌, ◌≤◌, ◌<◌, Bool, true, false, ◌≢◌, ◌≡◌, refl, eqb, length, get_or, take, drop, set}
 use Rattle.std.proofs.Common.{arith, ap, ap₂, ◌∙◌, eqb-true, length-append, length-take, length-drop, length-set, length-take-le, get_or-set_same, get_or-set_other, get_or-take, get_or-drop, get_or-append-add, ext_get_or}
 use mathlib.Core.List.{List, [], ◌∷◌, ◌++◌, append-nil}
-use Rattle.std.proofs.Math.Option.{some}
 use Rattle.std.proofs.lemmas.Bool.{eqb-false}
 use Rattle.std.proofs.Math.ListN.{get_or-append}
 use Rattle.std.proofs.lemmas.List.{get_or_at}
 use Rattle.text.specs.Template.{Value, number, list, numbers_in, lists_in, list_at_of}
 use Rattle.numbers.specs.declared.known.KnownList.{KnownList}
-use Rattle.numbers.specs.Read.{largest_of, listed_as, stored}
+use Rattle.numbers.specs.Read.{largest_of, listed_of, stored}
 use Rattle.numbers.specs.Known.{KnownRead}
 use Rattle.template.specs.Values.{Whole, AllKept, members_on, held_list}
 use Rattle.template.specs.Fields.{Held, FewAre, ListPut, KnownPut}
-use Rattle.numbers.specs.Laws.Lists.{listed_count, listed_largest, stored_length, stored_at}
+use Rattle.numbers.specs.Laws.Lists.{listed_is, listed_count, listed_largest, stored_length, stored_at}
 
 -- ---- the numbers and the lists of values one after the other
 
@@ -188,7 +187,7 @@ module _ (f : List ℕ) (l : ℕ) (room : l < 4) (inside : 136 ≤ length f) whe
   known_put {line} {part} known read =
       record {
         put = λ members is.
-            let same : known.list ≡ listed_as (some members) = read.list.result ∙ ap listed_as is in
+            let same : known.list ≡ listed_of members = listed_is is read.list.result in
             let stays = read.list.members members is in
             list_put f l wide members part room (omega arith) inside stays known.list.count known.list.largest (listed_count members same)
             (listed_largest members same);

@@ -1,20 +1,21 @@
 -- Lines read by a template, value by value. Laws. Assumes nothing.
-use Rattle.std.specs.Prelude.{ℕ, zero, suc, ◌+◌, ◌-◌, ◌*◌, ◌≤◌, ◌<◌, Bool, true, not, ◌&&◌, ◌≡◌, refl, eqb, length, get_or, take, set}
+use Rattle.std.specs.Prelude.{ℕ, zero, suc, ◌+◌, ◌-◌, ◌*◌, ◌≤◌, ◌<◌, Bool, true, not, ◌&&◌, ◌≡◌, refl, eqb, length, get_or, take, set, Option as Answer, Some, None, IfSome}
 use native.Mathlib.Omega.{arith}
 use Rattle.std.proofs.Math.Bool.{false}
-use Rattle.std.proofs.Common.{true≢false, sym, ◌∙◌, length-drop, drop-drop}
-use Rattle.std.proofs.Math.Path.{ap}
+use Rattle.std.proofs.lemmas.List.{take-append-drop}
+use Rattle.std.proofs.Math.Seq.{take-suc}
+use Rattle.std.proofs.Common.{add-one, true≢false, sym, ◌∙◌, length-drop, drop-drop}
+use Rattle.std.proofs.Math.Path.{ap, subst}
 use mathlib.Core.List.{List, [], ◌∷◌, ◌++◌, append_assoc, append-nil}
 use Rattle.std.proofs.Math.Option.{Option, none, some}
 use borrow.Author.Tests.{eqb-true, eqb-false, eq-eqb, ne_eqb, not-true}
 use Rattle.std.proofs.Math.ListN.{drop, drop_of_length-le}
 use Rattle.numbers.specs.declared.lists.Listed.{Listed}
-use Rattle.template.specs.declared.Stored.{Stored}
 use Rattle.template.specs.declared.Progress.{Progress}
 use Rattle.text.specs.Bytes.{space, until}
 use Rattle.text.specs.Template.{Value, number, list, a_number, a_list, is_letter_of, value_of, and_then, same_byte, at_end, values_of}
-use Rattle.numbers.specs.Read.{listed_as, ListRead, in_front}
-use Rattle.template.specs.Fields.{list_by_of, number_letter, list_letter, number_letters, list_letters, Held, Room, Begins, ReadOn, is_plain, ReadNext, HasForm, ReadAs, StoresOne, StoresAs}
+use Rattle.numbers.specs.Read.{listed_of, listed_as, ListRead, in_front}
+use Rattle.template.specs.Fields.{list_by_of, number_letter, list_letter, number_letters, list_letters, Held, Room, Begins, ReadOn, started, ends_at, is_plain, HasForm, ReadAs, StoresOne, StoresAs}
 use Rattle.text.proofs.Laws.Pieces.{step}
 use Rattle.text.proofs.Laws.Values.{both}
 use Rattle.template.specs.Laws.Fields.{nothing_held, held_number, held_list_lem, list_put}
@@ -23,81 +24,86 @@ use Rattle.numbers.specs.Laws.Lists.{listed_count, listed_largest, listed_bad, l
 -- ---- one value more
 
 -- nothing is put, for want of a value or of room
-not_put : (a b : ℕ) (o : Option Value) (n l : ℕ) (p : Stored) (before after : List ℕ) → p.ok ≡ false → (n + a ≤ 4 → l + b ≤ 4 → o ≡ none)
-    → StoresAs a b o n l p before after
-not_put a b o n l p before after e f =
+not_put : (a b : ℕ) (o : Option Value) (p : Progress) (before after : List ℕ) → (p.numbers + a ≤ 4 → p.lists + b ≤ 4 → o ≡ none)
+    → StoresAs a b o p None before after
+not_put a b o p before after f =
     record {
       refused = λ _. f;
-      put = λ h. absurd (true≢false (sym h ∙ e));
+      put = λ q h. cc;
     }
 
 -- there is no value
-pub no_value : (a b : ℕ) (o : Option Value) (n l : ℕ) (p : Stored) (before after : List ℕ) → p.ok ≡ false → o ≡ none → StoresAs a b o n l p before after
-no_value a b o n l p before after e h = not_put a b o n l p before after e (λ _ _. h)
+pub no_value : (a b : ℕ) (o : Option Value) (p : Progress) (before after : List ℕ) → o ≡ none → StoresAs a b o p None before after
+no_value a b o p before after h = not_put a b o p before after (λ _ _. h)
 
 -- a value is put
-one_put : (a b : ℕ) (o : Option Value) (n l : ℕ) (p : Stored) (before after : List ℕ) → p.ok ≡ true → StoresOne a b o n l p before after
-    → StoresAs a b o n l p before after
-one_put a b o n l p before after e f =
+one_put : (a b : ℕ) (o : Option Value) (p q : Progress) (before after : List ℕ) → StoresOne a b o p q before after
+    → StoresAs a b o p (Some q) before after
+one_put a b o p q before after f =
     record {
-      refused = λ h. absurd (true≢false (sym e ∙ h));
-      put = λ _. f;
+      refused = λ h. cc;
+      put = λ r h. let same : q ≡ r = cc in subst (λ (x : Progress). StoresOne a b o p x before after) same f;
     }
 
-module _ (o : Option ℕ) (n l : ℕ) where
-  pub not_number : (p : Stored) (before after : List ℕ) → p.ok ≡ false → o ≡ none → StoresAs 1 0 (a_number o) n l p before after
+module _ (o : Option ℕ) (p : Progress) where
+  pub not_number : (before after : List ℕ) → o ≡ none → StoresAs 1 0 (a_number o) p None before after
   unfolding a_number
-  not_number p before after e h = no_value 1 0 (a_number o) n l p before after e (ap a_number h)
+  not_number before after h = no_value 1 0 (a_number o) p before after (ap a_number h)
 
-  pub full_number : (p : Stored) (before after : List ℕ) → p.ok ≡ false → 4 ≤ n → StoresAs 1 0 (a_number o) n l p before after
-  full_number p before after e h = not_put 1 0 (a_number o) n l p before after e (λ g _. absurd (omega arith))
+  pub full_number : (before after : List ℕ) → 4 ≤ p.numbers → StoresAs 1 0 (a_number o) p None before after
+  full_number before after h = not_put 1 0 (a_number o) p before after (λ g _. absurd (omega arith))
 
-  pub one_number : (x : ℕ) (fields : List ℕ) → o ≡ some x → n < 4 → n < length fields
-      → StoresAs 1 0 (a_number o) n l (record { ok = true; numbers = n + 1; lists = l }) fields (set fields n x)
+  pub one_number : (x : ℕ) (fields : List ℕ) → o ≡ some x → p.numbers < 4 → p.numbers < length fields
+      → StoresAs 1 0 (a_number o) p (Some (record { at = p.at; numbers = p.numbers + 1; lists = p.lists })) fields (set fields p.numbers x)
   one_number x fields e h g =
-      one_put 1 0 (a_number o) n l (record { ok = true; numbers = n + 1; lists = l }) fields (set fields n x) refl
+      one_put 1 0 (a_number o) p (record { at = p.at; numbers = p.numbers + 1; lists = p.lists }) fields (set fields p.numbers x)
       record {
         value = number x;
         reads = unfold a_number in ap a_number e;
+        stays = refl;
         numbers_read = refl;
         lists_read = omega arith;
         holds = λ vs k. held_number k x h g;
       }
 
-module _ (o : Option (List ℕ)) (n l : ℕ) where
-  pub not_list : (r : Listed) (p : Stored) (before after : List ℕ) → p.ok ≡ false → r ≡ listed_as o → r.ok ≡ false
-      → StoresAs 0 1 (a_list o) n l p before after
+module _ (o : Option (List ℕ)) (p : Progress) where
+  pub not_list : (before after : List ℕ) → None ≡ listed_as o → StoresAs 0 1 (a_list o) p None before after
   unfolding a_list
-  not_list r p before after e h g = no_value 0 1 (a_list o) n l p before after e (ap a_list (listed_bad o h g))
+  not_list before after h = no_value 0 1 (a_list o) p before after (ap a_list (listed_bad o h))
 
-  pub full_list : (p : Stored) (before after : List ℕ) → p.ok ≡ false → 4 ≤ l → StoresAs 0 1 (a_list o) n l p before after
-  full_list p before after e h = not_put 0 1 (a_list o) n l p before after e (λ _ g. absurd (omega arith))
+  pub full_list : (before after : List ℕ) → 4 ≤ p.lists → StoresAs 0 1 (a_list o) p None before after
+  full_list before after h = not_put 0 1 (a_list o) p before after (λ _ g. absurd (omega arith))
+
+  abbrev l : ℕ
+  l = p.lists
 
   -- as many words as are lent to the reader of the list
   abbrev lent : ℕ
   lent = 12 + l * 31 + 31 - (12 + l * 31)
 
   pub one_list : (r : Listed) (fields part : List ℕ) → 136 ≤ length fields → l < 4
-      → ListRead o r (take lent (drop (12 + l * 31) fields)) part → r.ok ≡ true
-      → StoresAs 0 1 (a_list o) n l (record { ok = true; numbers = n; lists = l + 1 }) fields
+      → ListRead o (Some r) (take lent (drop (12 + l * 31) fields)) part
+      → StoresAs 0 1 (a_list o) p (Some (record { at = p.at; numbers = p.numbers; lists = l + 1 })) fields
       (set (set (take (12 + l * 31) fields ++ (part ++ drop lent (drop (12 + l * 31) fields))) (4 + l) r.count) (8 + l) r.largest)
-  one_list r fields part g h q e =
-      let found = listed_good o q.result e in
+  one_list r fields part g h q =
+      let found = listed_good o q.result in
       let members = found.0 in
-      let same : r ≡ listed_as (some members) = q.result ∙ ap listed_as found.1 in
+      let same : r ≡ listed_of members = found.2 in
       let put = list_put fields l lent members part h (omega arith) g (q.members members found.1) r.count r.largest (listed_count members same) (listed_largest members same) in
-      one_put 0 1 (a_list o) n l (record { ok = true; numbers = n; lists = l + 1 }) fields _ refl
+      one_put 0 1 (a_list o) p (record { at = p.at; numbers = p.numbers; lists = l + 1 }) fields _
       record {
         value = list members;
         reads = unfold a_list in ap a_list found.1;
+        stays = refl;
         numbers_read = omega arith;
         lists_read = refl;
         holds = λ vs v. held_list_lem v h put;
       }
 
 -- a list by its letter
-pub list_value : (t : ℕ) (v : List ℕ) {n l : ℕ} {p : Stored} {before after : List ℕ} → number_letter t ≡ 0 → list_letter t ≡ 1 → value_of t v ≡ a_list (list_by_of t v)
-    → StoresAs 0 1 (a_list (list_by_of t v)) n l p before after → StoresAs (number_letter t) (list_letter t) (value_of t v) n l p before after
+pub list_value : (t : ℕ) (v : List ℕ) {p : Progress} {r : Answer Progress} {before after : List ℕ} → number_letter t ≡ 0 → list_letter t ≡ 1
+    → value_of t v ≡ a_list (list_by_of t v) → StoresAs 0 1 (a_list (list_by_of t v)) p r before after
+    → StoresAs (number_letter t) (list_letter t) (value_of t v) p r before after
 list_value t v a b e q = rw (a, b, e) q
 
 -- ---- a line read on
@@ -166,31 +172,37 @@ module _ {line template : List ℕ} {from numbers lists : ℕ} {before : List �
       }
 
   -- the line is refused
-  pub refused_on : {p : Progress} {after : List ℕ} → p.ok ≡ false
-      → (Room numbers lists template → (rest : List ℕ) → values_of (template ++ rest) (drop from line) ≡ none)
-      → ReadOn line template from numbers lists p before after
-  refused_on e f =
+  pub refused_on : {after : List ℕ} → (Room numbers lists template → (rest : List ℕ) → values_of (template ++ rest) (drop from line) ≡ none)
+      → ReadOn line template from numbers lists None before after
+  refused_on f =
       record {
         refused = λ _. f;
-        read = λ h. absurd (true≢false (sym h ∙ e));
+        read = λ p h. cc;
+      }
+
+  -- it is not
+  read_to : {p : Progress} {after : List ℕ} → Begins line template from numbers lists p before after
+      → ReadOn line template from numbers lists (Some p) before after
+  read_to {p} {after} b =
+      record {
+        refused = λ h. cc;
+        read = λ q h. let same : p ≡ q = cc in subst (λ (x : Progress). Begins line template from numbers lists x before after) same b;
       }
 
   module _ {i at n l : ℕ} {fields : List ℕ} (r : Reading line template from numbers lists before i at n l fields) where
     -- the end of the template
     pub reading_ends : length template ≤ i
-        → ReadOn line template from numbers lists (record { ok = true; at = at; numbers = n; lists = l }) before fields
+        → ReadOn line template from numbers lists (Some (record { at = at; numbers = n; lists = l })) before fields
     reading_ends h =
         let e : drop i template ≡ [] = drop_of_length-le template h in
+        read_to
         record {
-          refused = λ h. absurd (true≢false h);
-          read = λ _. record {
-            values = r.values;
-            reads = λ rest. r.reads rest ∙ rw e;
-            within = r.within;
-            numbers_read = omega (arith, r.numbers_read, ap number_letters e);
-            lists_read = omega (arith, r.lists_read, ap list_letters e);
-            holds = r.holds;
-          };
+          values = r.values;
+          reads = λ rest. r.reads rest ∙ rw e;
+          within = r.within;
+          numbers_read = omega (arith, r.numbers_read, ap number_letters e);
+          lists_read = omega (arith, r.lists_read, ap list_letters e);
+          holds = r.holds;
         }
 
     module _ (h : i < length template) where
@@ -235,25 +247,27 @@ module _ {line template : List ℕ} {from numbers lists : ℕ} {before : List �
             let d : drop e line ≡ drop (until space (drop at line)) (drop at line) = rw (drop-drop, ← found) in
             reads_next rest ∙ simp letter (rw (u, d))
 
-        module _ {p : Stored} {after : List ℕ} (q : StoresAs (number_letter t) (list_letter t) value n l p fields after) where
-          pub letter_bad : p.ok ≡ false → Room numbers lists template → (rest : List ℕ) → values_of (template ++ rest) (drop from line) ≡ none
+        module _ {p : Answer Progress} {after : List ℕ}
+            (q : StoresAs (number_letter t) (list_letter t) value (record { at = e; numbers = n; lists = l }) p fields after) where
+          pub letter_bad : p ≡ None → Room numbers lists template → (rest : List ℕ) → values_of (template ++ rest) (drop from line) ≡ none
           letter_bad b room rest =
               let a = ap number_letters (step template i h) in
               let c = ap list_letters (step template i h) in
               let none_there : value ≡ none = q.refused b (omega (arith, r.numbers_read, room.for_numbers)) (omega (arith, r.lists_read, room.for_lists)) in
               reads_value rest ∙ rw none_there (front_none _ _)
 
-          pub letter_good : p.ok ≡ true → Reading line template from numbers lists before (i + 1) e p.numbers p.lists after
-          letter_good b =
-              let one = q.put b in
-              record {
+          pub letter_good : (on : Progress) → p ≡ Some on → Reading line template from numbers lists before (i + 1) on.at on.numbers on.lists after
+          letter_good on b =
+              let one = q.put on b in
+              let further : Reading line template from numbers lists before (i + 1) e (n + number_letter t) (l + list_letter t) after = record {
                 values = r.values ++ one.value ∷ [];
                 reads = λ rest. reads_value rest ∙ rw one.reads (front_one r.values one.value _);
                 within = inside;
-                numbers_read = omega (arith, r.numbers_read, ap number_letters (step template i h), one.numbers_read);
-                lists_read = omega (arith, r.lists_read, ap list_letters (step template i h), one.lists_read);
-                holds = λ vs g. rw (one.numbers_read, one.lists_read, ← append_assoc vs r.values (one.value ∷ [])) (one.holds (vs ++ r.values) (r.holds vs g));
-              }
+                numbers_read = omega (arith, r.numbers_read, ap number_letters (step template i h));
+                lists_read = omega (arith, r.lists_read, ap list_letters (step template i h));
+                holds = λ vs g. rw (← append_assoc vs r.values (one.value ∷ [])) (one.holds (vs ++ r.values) (r.holds vs g));
+              } in
+              rw (one.stays, one.numbers_read, one.lists_read) further
 
 -- ---- a line read on by one part of its template after the other
 
@@ -279,81 +293,113 @@ plain_short (t ∷ ts) rest (b ∷ l) e h = go (eqb b t) refl (plain_short ts re
     go true k ih = unfold values_of same_byte in simp ((plain_byte t ts e).0, k) ih
     go false k ih = unfold values_of same_byte in simp ((plain_byte t ts e).0, k)
 
-pub short_refused : {line part : List ℕ} {at n l : ℕ} {r : Progress} {before after : List ℕ} → r.ok ≡ false → is_plain part ≡ true
-    → length line - at < length part → ReadOn line part at n l r before after
-short_refused {line} {part} {at} e plain h = refused_on e (λ _ rest. plain_short part rest (drop at line) plain (rw (length-drop at line) h))
-
-module _ {line part : List ℕ} {p r : Progress} {before after : List ℕ} where
-  pub next_stays : p.ok ≡ false → r.ok ≡ false → ReadNext line part p r before after
-  next_stays e f = record { stays = λ _. f; goes = λ h. absurd (true≢false (sym h ∙ e)) }
-
-  pub next_goes : p.ok ≡ true → ReadOn line part p.at p.numbers p.lists r before after → ReadNext line part p r before after
-  next_goes e f = record { stays = λ h. absurd (true≢false (sym e ∙ h)); goes = λ _. f }
+pub short_refused : {line part : List ℕ} {at n l : ℕ} {before after : List ℕ} → is_plain part ≡ true → length line - at < length part
+    → ReadOn line part at n l None before after
+short_refused {line} {part} {at} plain h = refused_on (λ _ rest. plain_short part rest (drop at line) plain (rw (length-drop at line) h))
 
 -- a value, which goes up to e
-pub value_read : {line : List ℕ} (t at n l e : ℕ) {p : Stored} {before after : List ℕ} → at ≤ length line → is_letter_of t ≡ true → e ≡ at + until space (drop at line)
-    → e ≤ length line → StoresAs (number_letter t) (list_letter t) (value_of t (take (e - at) (drop at line))) n l p before after
-    → ReadOn line (t ∷ []) at n l (record { ok = p.ok; at = e; numbers = p.numbers; lists = p.lists }) before after
-value_read {line} t at n l e {p} {before} {after} h letter found inside q = go p.ok refl
+pub value_read : {line : List ℕ} (t at n l e : ℕ) {p : Answer Progress} {before after : List ℕ} → at ≤ length line → is_letter_of t ≡ true
+    → e ≡ at + until space (drop at line) → e ≤ length line
+    → StoresAs (number_letter t) (list_letter t) (value_of t (take (e - at) (drop at line))) (record { at = e; numbers = n; lists = l }) p before after
+    → ReadOn line (t ∷ []) at n l p before after
+value_read {line} t at n l e {p} {before} {after} h letter found inside q = go p refl
   where
     starts : Reading line (t ∷ []) at n l before 0 at n l before
     starts = reading_starts h
 
-    go : (b : Bool) → p.ok ≡ b → ReadOn line (t ∷ []) at n l (record { ok = p.ok; at = e; numbers = p.numbers; lists = p.lists }) before after
-    go false k = refused_on k (letter_bad starts (omega arith) letter e found inside q k)
-    go true k = rw k (reading_ends (letter_good starts (omega arith) letter e found inside q k) (omega arith))
+    go : (r : Answer Progress) → p ≡ r → ReadOn line (t ∷ []) at n l r before after
+    go None k = refused_on (letter_bad starts (omega arith) letter e found inside q k)
+    go (Some on) k = reading_ends (letter_good starts (omega arith) letter e found inside q on k) (omega arith)
+
+-- a byte that stands for itself
+module _ {line : List ℕ} {t at n l : ℕ} {fields : List ℕ} (h : at ≤ length line) (plain : is_letter_of t ≡ false) where
+  starts_at : Reading line (t ∷ []) at n l fields 0 at n l fields
+  starts_at = reading_starts h
+
+  pub byte_missing : at ≡ length line → ReadOn line (t ∷ []) at n l None fields fields
+  byte_missing e = refused_on (λ _. plain_over starts_at (omega arith) plain e)
+
+  pub byte_wrong : at < length line → (get_or line at 0 ≡ t → ⊥) → ReadOn line (t ∷ []) at n l None fields fields
+  byte_wrong g e = refused_on (λ _. plain_other starts_at (omega arith) plain g e)
+
+  pub byte_right : at < length line → get_or line at 0 ≡ t → ReadOn line (t ∷ []) at n l (Some (record { at = at + 1; numbers = n; lists = l })) fields fields
+  byte_right g e = reading_ends (plain_same starts_at (omega arith) plain g e) (omega arith)
 
 front_front : (vs ws : List Value) (o : Option (List Value)) → in_front vs (in_front ws o) ≡ in_front (vs ++ ws) o
 unfolding in_front
 front_front vs ws none = refl
 front_front vs ws (some us) = ap some (sym (append_assoc vs ws us))
 
-is_true : (t : Bool) → (t ≡ false → ⊥) → t ≡ true
-is_true true h = refl
-is_true false h = absurd (h refl)
+-- how far it was read is within the line
+pub in_bounds : {line template : List ℕ} {at n l : ℕ} {r : Answer Progress} {before after : List ℕ} → ReadOn line template at n l r before after
+    → IfSome r (λ (q : Progress). q.at ≤ length line)
+in_bounds {r = None} on = tt
+in_bounds {r = Some q} on = (on.read q refl).within
 
--- two parts, one after the other
-module _ {line first second : List ℕ} {p q r : Progress} {before between after : List ℕ} (a : ReadNext line first p q before between)
-    (b : ReadNext line second q r between after) where
-  abbrev letters : (number_letters (first ++ second) ≡ number_letters first + number_letters second) × (list_letters (first ++ second) ≡ list_letters first + list_letters second)
-  letters = letters_append first second
+-- nothing is read by an empty template
+pub read_nothing : {line : List ℕ} {p : Progress} {fields : List ℕ} → p.at ≤ length line → ReadOn line [] p.at p.numbers p.lists (Some p) fields fields
+read_nothing h = reading_ends (reading_starts h) (omega arith)
 
-  both_refused : p.ok ≡ true → r.ok ≡ false → Room p.numbers p.lists (first ++ second) → (rest : List ℕ)
-      → values_of ((first ++ second) ++ rest) (drop p.at line) ≡ none
-  both_refused e f room rest = rw (append_assoc first second rest) (go q.ok refl)
-    where
-      go : (t : Bool) → q.ok ≡ t → values_of (first ++ (second ++ rest)) (drop p.at line) ≡ none
-      go false k =
-          (a.goes e).refused k
-          (record { for_numbers = omega (arith, letters.0, room.for_numbers); for_lists = omega (arith, letters.1, room.for_lists) }) (second ++ rest)
-      go true k =
-          let c = (a.goes e).read k in
-          let left : Room q.numbers q.lists second = record {
-            for_numbers = omega (arith, letters.0, room.for_numbers, c.numbers_read);
-            for_lists = omega (arith, letters.1, room.for_lists, c.lists_read);
-          } in
-          c.reads (second ++ rest) ∙ (unfold in_front in rw ((b.goes k).refused f left rest))
+-- A line that was read by the first part of a template.
+module _ {line first : List ℕ} {at n l : ℕ} {before between : List ℕ} where
+  -- refused there, it is refused by all of the template
+  pub stops : (rest : List ℕ) → ReadOn line first at n l None before between → {after : List ℕ} → ReadOn line (first ++ rest) at n l None before after
+  stops rest a =
+      let letters = letters_append first rest in
+      refused_on (λ room more. rw (append_assoc first rest more) (a.refused refl
+      (record { for_numbers = omega (arith, letters.0, room.for_numbers); for_lists = omega (arith, letters.1, room.for_lists) }) (rest ++ more)))
 
-  both_begin : p.ok ≡ true → r.ok ≡ true → Begins line (first ++ second) p.at p.numbers p.lists r before after
-  both_begin e f =
-      let k : q.ok ≡ true = is_true q.ok (λ h. true≢false (sym f ∙ b.stays h)) in
-      let c = (a.goes e).read k in
-      let d = (b.goes k).read f in
-      record {
-        values = c.values ++ d.values;
-        reads = λ rest. rw (append_assoc first second rest) (c.reads (second ++ rest) ∙ ap (in_front c.values) (d.reads rest) ∙ front_front c.values d.values _);
-        within = d.within;
-        numbers_read = omega (arith, letters.0, c.numbers_read, d.numbers_read);
-        lists_read = omega (arith, letters.1, c.lists_read, d.lists_read);
-        holds = λ vs h. rw (← append_assoc vs c.values d.values) (d.holds (vs ++ c.values) (c.holds vs h));
-      }
+  -- read on by the second
+  module _ {second : List ℕ} {q : Progress} {r : Answer Progress} {after : List ℕ} (a : ReadOn line first at n l (Some q) before between)
+      (b : ReadOn line second q.at q.numbers q.lists r between after) where
+    abbrev letters : (number_letters (first ++ second) ≡ number_letters first + number_letters second) × (list_letters (first ++ second) ≡ list_letters first + list_letters second)
+    letters = letters_append first second
 
-  pub then_next : ReadNext line (first ++ second) p r before after
-  then_next =
-      record {
-        stays = λ e. b.stays (a.stays e);
-        goes = λ e. record { refused = both_refused e; read = both_begin e };
-      }
+    abbrev begun : Begins line first at n l q before between
+    begun = a.read q refl
+
+    both_refused : r ≡ None → Room n l (first ++ second) → (rest : List ℕ) → values_of ((first ++ second) ++ rest) (drop at line) ≡ none
+    both_refused f room rest =
+        let c = begun in
+        let left : Room q.numbers q.lists second = record {
+          for_numbers = omega (arith, letters.0, room.for_numbers, c.numbers_read);
+          for_lists = omega (arith, letters.1, room.for_lists, c.lists_read);
+        } in
+        rw (append_assoc first second rest) (c.reads (second ++ rest) ∙ (unfold in_front in rw (b.refused f left rest)))
+
+    both_begin : (p : Progress) → r ≡ Some p → Begins line (first ++ second) at n l p before after
+    both_begin p f =
+        let c = begun in
+        let d = b.read p f in
+        record {
+          values = c.values ++ d.values;
+          reads = λ rest. rw (append_assoc first second rest) (c.reads (second ++ rest) ∙ ap (in_front c.values) (d.reads rest) ∙ front_front c.values d.values _);
+          within = d.within;
+          numbers_read = omega (arith, letters.0, c.numbers_read, d.numbers_read);
+          lists_read = omega (arith, letters.1, c.lists_read, d.lists_read);
+          holds = λ vs h. rw (← append_assoc vs c.values d.values) (d.holds (vs ++ c.values) (c.holds vs h));
+        }
+
+    pub then_next : ReadOn line (first ++ second) at n l r before after
+    then_next = record { refused = both_refused; read = both_begin }
+
+-- A line that was read by the first bytes of a template, read on by the next.
+module _ {line : List ℕ} (template : List ℕ) (i : ℕ) {at n l : ℕ} {before between : List ℕ} {p : Progress}
+    (a : ReadOn line (take i template) at n l (Some p) before between) (h : i < length template) where
+  pub byte_more : {r : Answer Progress} {after : List ℕ} → ReadOn line (get_or template i 0 ∷ []) p.at p.numbers p.lists r between after
+      → ReadOn line (take (i + 1) template) at n l r before after
+  byte_more b = rw (add-one, take-suc template i 0 h) (then_next a b)
+
+  pub byte_stops : {after : List ℕ} → ReadOn line (get_or template i 0 ∷ []) p.at p.numbers p.lists None between after
+      → ReadOn line template at n l None before after
+  byte_stops {after} b =
+      subst (λ (t : List ℕ). ReadOn line t at n l None before after) (take-append-drop (i + 1) template) (stops (drop (i + 1) template) (byte_more b))
+
+-- from the start of the line
+pub from_start : {line template : List ℕ} {s : Progress} {r : Answer Progress} {before after : List ℕ} → s ≡ started
+    → ReadOn line template s.at s.numbers s.lists r before after → ReadOn line template 0 0 0 r before after
+from_start {line} {template} {s} {r} {before} {after} start n =
+    subst (λ (q : Progress). ReadOn line template q.at q.numbers q.lists r before after) start n
 
 -- ---- to the end of the line
 
@@ -366,72 +412,73 @@ unfolding values_of at_end
 end_early line at h = rw (step line at h)
 
 -- a template read on to the end of the line
-module _ {line template : List ℕ} {from numbers lists : ℕ} {p : Progress} {before after : List ℕ}
-    (r : ReadOn line template from numbers lists p before after) where
+module _ {line template : List ℕ} {from numbers lists : ℕ} {r : Answer Progress} {before after : List ℕ}
+    (on : ReadOn line template from numbers lists r before after) where
   whole_template : (o : Option (List Value)) → values_of (template ++ []) (drop from line) ≡ o → values_of template (drop from line) ≡ o
   whole_template o e = rw (append-nil template) at e
 
-  pub end_refused : p.ok ≡ false → Room numbers lists template → values_of template (drop from line) ≡ none
-  end_refused e room = whole_template none (r.refused e room [])
+  pub end_refused : r ≡ None → Room numbers lists template → values_of template (drop from line) ≡ none
+  end_refused e room = whole_template none (on.refused e room [])
 
-  pub end_too_early : p.ok ≡ true → p.at < length line → values_of template (drop from line) ≡ none
-  unfolding in_front
-  end_too_early e h = whole_template none ((r.read e).reads [] ∙ rw (end_early line p.at h))
+  module _ (p : Progress) (e : r ≡ Some p) where
+    pub end_too_early : p.at < length line → values_of template (drop from line) ≡ none
+    unfolding in_front
+    end_too_early h = whole_template none ((on.read p e).reads [] ∙ rw (end_early line p.at h))
 
-  pub end_reached : (e : p.ok ≡ true) → length line ≤ p.at → values_of template (drop from line) ≡ some (r.read e).values
-  unfolding in_front
-  end_reached e h =
-      whole_template (some (r.read e).values) ((r.read e).reads [] ∙ rw (end_over line p.at h) (ap some (append-nil (r.read e).values)))
+    pub end_reached : length line ≤ p.at → values_of template (drop from line) ≡ some (on.read p e).values
+    unfolding in_front
+    end_reached h =
+        whole_template (some (on.read p e).values) ((on.read p e).reads [] ∙ rw (end_over line p.at h) (ap some (append-nil (on.read p e).values)))
 
 -- a line read by the first part of a template, then by the rest of it to the end
-module _ {line first second : List ℕ} {p q : Progress} {before between after : List ℕ} (b : Begins line first 0 0 0 p before between)
-    (r : ReadOn line second p.at p.numbers p.lists q between after) where
-  parts_bad : values_of second (drop p.at line) ≡ none → values_of (first ++ second) line ≡ none
+module _ {line first : List ℕ} {p : Progress} {before between : List ℕ} (b : Begins line first 0 0 0 p before between) where
+  parts_bad : (second : List ℕ) → values_of second (drop p.at line) ≡ none → values_of (first ++ second) line ≡ none
   unfolding in_front
-  parts_bad e = b.reads second ∙ rw e
+  parts_bad second e = b.reads second ∙ rw e
 
-  parts_refused : q.ok ≡ false → Room 0 0 (first ++ second) → values_of (first ++ second) line ≡ none
-  parts_refused e room =
+  parts_refused : {second after : List ℕ} → ReadOn line second p.at p.numbers p.lists None between after → Room 0 0 (first ++ second)
+      → values_of (first ++ second) line ≡ none
+  parts_refused {second} r room =
       let l = letters_append first second in
       let left : Room p.numbers p.lists second = record {
         for_numbers = omega (arith, l.0, b.numbers_read, room.for_numbers);
         for_lists = omega (arith, l.1, b.lists_read, room.for_lists);
       } in
-      parts_bad (end_refused r e left)
+      parts_bad second (end_refused r refl left)
 
-  parts_good : q.ok ≡ true → length line ≤ q.at → HasForm line (first ++ second) after
-  parts_good e h =
-      let c = r.read e in
+  parts_good : {second after : List ℕ} {q : Progress} → ReadOn line second p.at p.numbers p.lists (Some q) between after → length line ≤ q.at → HasForm line (first ++ second) after
+  parts_good {second} {after} {q} r h =
+      let c = r.read q refl in
       let l = letters_append first second in
       let n : number_letters (first ++ second) ≡ q.numbers = omega (arith, l.0, b.numbers_read, c.numbers_read) in
       let m : list_letters (first ++ second) ≡ q.lists = omega (arith, l.1, b.lists_read, c.lists_read) in
       record {
         values = b.values ++ c.values;
-        reads = b.reads second ∙ ap (in_front b.values) (end_reached r e h) ∙ front_some b.values c.values;
+        reads = b.reads second ∙ ap (in_front b.values) (end_reached r q refl h) ∙ front_some b.values c.values;
         held = rw (n, m) (c.holds b.values (b.holds [] (nothing_held before)));
       }
 
-  pub parts_read : ReadAs line (first ++ second) (q.ok && eqb q.at (length line)) after
-  parts_read = go q.ok (eqb q.at (length line)) refl refl
+  pub parts_read : {second after : List ℕ} (r : Answer Progress) → ReadOn line second p.at p.numbers p.lists r between after → ReadAs line (first ++ second) (ends_at (length line) r) after
+  parts_read {second} {after} None r = record { refused = λ _. parts_refused r; read = λ k. absurd (true≢false (sym k)) }
+  parts_read {second} {after} (Some q) r = go (eqb q.at (length line)) refl
     where
-      go : (s t : Bool) → q.ok ≡ s → eqb q.at (length line) ≡ t → ReadAs line (first ++ second) (s && t) after
-      go false t e h = record { refused = λ _. parts_refused e; read = λ k. absurd (true≢false (sym k)) }
-      go true false e h =
+      go : (t : Bool) → eqb q.at (length line) ≡ t → ReadAs line (first ++ second) t after
+      go false h =
           let other = eqb-false q.at (length line) h in
-          let early : q.at < length line = omega (arith, (r.read e).within) in
+          let early : q.at < length line = omega (arith, (r.read q refl).within) in
           record {
-            refused = λ _ _. parts_bad (end_too_early r e early);
+            refused = λ _ _. parts_bad second (end_too_early r q refl early);
             read = λ k. absurd (true≢false (sym k));
           }
-      go true true e h =
+      go true h =
           let same = eqb-true q.at (length line) h in
-          record { refused = λ k. absurd (true≢false k); read = λ _. parts_good e (omega arith) }
+          record { refused = λ k. absurd (true≢false k); read = λ _. parts_good r (omega arith) }
 
 -- a line read by one template to its end
-pub whole_read : {line template : List ℕ} {p : Progress} {before after : List ℕ} → ReadOn line template 0 0 0 p before after
-    → ReadAs line template (p.ok && eqb p.at (length line)) after
-whole_read {line} {template} {p} {before} {after} r =
-    parts_read {first = []} {p = record { ok = true; at = 0; numbers = 0; lists = 0 }} {before = before}
+pub whole_read : {line template : List ℕ} {r : Answer Progress} {before after : List ℕ} → ReadOn line template 0 0 0 r before after
+    → ReadAs line template (ends_at (length line) r) after
+whole_read {line} {template} {r} {before} {after} on =
+    parts_read {first = []} {p = record { at = 0; numbers = 0; lists = 0 }} {before = before}
     record {
       values = [];
       reads = λ rest. sym (front_nil (values_of rest line));
@@ -440,4 +487,4 @@ whole_read {line} {template} {p} {before} {after} r =
       lists_read = refl;
       holds = λ vs h. rw (append-nil vs) h;
     }
-    r
+    r on

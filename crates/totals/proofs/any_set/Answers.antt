@@ -1,15 +1,13 @@
-use native.Mathlib.Omega.{arith}
+use Rattle.std.proofs.Common.{arith}
 use borrow.Author.Tests.{eqb-true, not-false}
 use Rattle.totals.specs.Laws.Ones.{none_more}
 use Rattle.totals.proofs.any_set.Goals as goal
 
-pub loop-i-init : goal.loop-i-init
-loop-i-init c = (omega arith, λ _ k h. absurd (omega arith))
+pub loop-word-init : goal.loop-word-init
+loop-word-init c = λ _ k h. absurd (omega arith)
 
-pub loop-i-preserved : goal.loop-i-preserved
-loop-i-preserved c =
-    let loop = c.loop-i in
-    (omega arith, none_more c.args.rows.now c.args.from loop.i loop.sum loop.invariant.1)
+pub loop-word-preserved : goal.loop-word-preserved
+loop-word-preserved c = none_more c.args.words.now c.loop-word.word-index c.loop-word.sum c.loop-word.invariant
 
 pub returns : goal.returns
-returns c = λ e i h. c.loop-i.invariant.1 (eqb-true _ _ (not-false _ e)) i (omega arith)
+returns c = λ e i h. c.loop-word.invariant (eqb-true _ _ (not-false _ e)) i (omega arith)

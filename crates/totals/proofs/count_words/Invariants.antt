@@ -1,12 +1,8 @@
--- `totals::count_words` meets its contract: after j turns the bits of the first j words are counted. Assumes nothing.
-use mathlib.Core.Path.{◌≡◌}
-use Prim.Native.Nat.{◌-◌, ◌*◌, ◌≤◌}
+-- `totals::count_words` meets its contract: the bits of the words so far are counted. Assumes nothing.
+use Rattle.std.proofs.Common.{◌≡◌, ◌*◌}
 use Rattle.rows.specs.Words.{bit_in}
 use Rattle.totals.specs.Ones.{ones_to}
 use Rattle.totals.proofs.count_words.Given as goal
 
-abbrev pub invariant-loop-j : goal.invariant-loop-j
-invariant-loop-j l = (l.ones ≡ ones_to (64 * l.j) (bit_in 1 l.rows l.from)) × (l.j ≤ l.n)
-
-abbrev pub decreases-loop-j : goal.decreases-loop-j
-decreases-loop-j l = l.n - l.j
+abbrev pub invariant-loop-word : goal.invariant-loop-word
+invariant-loop-word l = l.ones ≡ ones_to (64 * l.word-index) (bit_in 1 l.words 0)

@@ -1,36 +1,11 @@
-use native.Mathlib.Omega.{arith}
 use Rattle.totals.specs.Laws.Sum.{sum_starts, sum_turn, sum_ends}
 use Rattle.totals.proofs.delta_sum.Goals as goal
 
-pub loop-k-init : goal.loop-k-init
-loop-k-init c = sum_starts _ _ _ _
+pub loop-outcome-init : goal.loop-outcome-init
+loop-outcome-init c = sum_starts _ _ _ _
 
-pub outcome_at-id-requires : goal.outcome_at-id-requires
-outcome_at-id-requires c = omega arith
-
-pub overflow_mul-word : goal.overflow_mul-word
-overflow_mul-word c = omega (arith, rw (← c.outcome_at-id.ensures) at (c.requires.0.fits c.loop-k.k c.loop-k-test.true))
-
-pub overflow_add-word : goal.overflow_add-word
-overflow_add-word c = omega (arith, rw (← c.outcome_at-id.ensures) at (c.requires.0.fits c.loop-k.k c.loop-k-test.true))
-
-pub offset_bounds-deltas-row : goal.offset_bounds-deltas-row
-offset_bounds-deltas-row c = omega (arith, rw (← c.outcome_at-id.ensures) at (c.requires.0.fits c.loop-k.k c.loop-k-test.true))
-
-pub bounds-deltas-row : goal.bounds-deltas-row
-bounds-deltas-row c = omega (arith, rw (← c.outcome_at-id.ensures) at (c.requires.0.fits c.loop-k.k c.loop-k-test.true))
-
-pub overflow_add-k : goal.overflow_add-k
-overflow_add-k c = omega arith
-
-pub loop-k-smaller : goal.loop-k-smaller
-loop-k-smaller c = omega arith
-
-pub loop-k-preserved : goal.loop-k-preserved
-loop-k-preserved c = rw c.outcome_at-id.ensures (sum_turn _ _ _ _ _ _ c.loop-k-test.true c.loop-k.invariant)
-
-pub overflow_shr-result : goal.overflow_shr-result
-overflow_shr-result c = omega arith
+pub loop-outcome-preserved : goal.loop-outcome-preserved
+loop-outcome-preserved c = sum_turn _ _ _ _ _ _ c.loop-outcome-test.true c.loop-outcome.invariant
 
 pub returns : goal.returns
-returns c = sum_ends _ _ _ _ _ _ c.loop-k-test.false c.loop-k.invariant
+returns c = sum_ends _ _ _ _ _ _ c.loop-outcome-test.false c.loop-outcome.invariant

@@ -1,6 +1,7 @@
 -- How many are true: in parts, in a word, after a change. Laws. Assumes nothing.
-use Rattle.std.specs.Prelude.{◌≡◌, refl, Bool, true, false, cond, List, ℕ, zero, suc, ◌+◌, ◌*◌, ◌/◌, ◌%◌, ◌^◌, ◌≤◌, ◌<◌, eqb, get_or}
-use Rattle.std.proofs.Common.{sym, ap, ap₂, ◌∙◌, arith, one-add, add-one, shr_lt, eq-eqb, ne_eqb}
+use Rattle.std.specs.Prelude.{◌≡◌, refl, Bool, true, false, cond, List, ℕ, zero, suc, ◌+◌, ◌*◌, ◌/◌, ◌%◌, ◌^◌, ◌≤◌, ◌<◌, ◌++◌, eqb, length, get_or, take, drop}
+use Rattle.std.proofs.Common.{sym, ap, ap₂, ◌∙◌, arith, one-add, add-one, shr_lt, eq-eqb, ne_eqb, length-append, length-take, length-drop, take-append-drop}
+use Rattle.std.proofs.lemmas.List.{get_or_append_left, get_or-append-add, get_or-take, get_or-drop}
 use Rattle.std.proofs.Math.Path.{fun_ext}
 use Rattle.std.proofs.Math.Decide.{ℕ_discrete}
 use Rattle.std.specs.Int.Count.{ones, ones_step}
@@ -10,7 +11,7 @@ use Rattle.pauli.specs.Bits.{Bits, ◌⊕◌, bit}
 use Rattle.pauli.proofs.Laws.F2.{⊕_false}
 use Rattle.pauli.proofs.Laws.Word.{bit_zero, bit_shr}
 use Rattle.rows.specs.Words.{bit_in}
-use Rattle.totals.specs.Ones.{ones_to}
+use Rattle.totals.specs.Ones.{ones_to, ones_in}
 
 -- ---- in parts
 
@@ -78,56 +79,77 @@ ones_word (suc n) v h =
     ∙ ap₂ ◌+◌ (bit_one v 0 ∙ lowest) (ap (ones_to n) rest ∙ ones_word n (v / 2) (shr_lt n 1 (rw add-one h)))
     ∙ sym (ones_step v)
 
--- one word more, of words from a place on, which are a row of width 1
-pub word_more : (rows : List ℕ) (from j : ℕ) → get_or rows (from + j) 0 < 2 ^ 64
-    → ones_to (64 * (j + 1)) (bit_in 1 rows from) ≡ ones_to (64 * j) (bit_in 1 rows from) + ones (get_or rows (from + j) 0)
+-- one word more
+pub word_more : (words : List ℕ) (j : ℕ) → get_or words j 0 < 2 ^ 64
+    → ones_to (64 * (j + 1)) (bit_in 1 words 0) ≡ ones_to (64 * j) (bit_in 1 words 0) + ones (get_or words j 0)
 unfolding bit_in
-word_more rows from j fits =
+word_more words j fits =
     let n : 64 * (j + 1) ≡ 64 * j + 64 = omega arith in
     rw n
-    (ones_plus (64 * j) 64 (bit_in 1 rows from)
-    ∙ ap (λ (i : ℕ). ones_to (64 * j) (bit_in 1 rows from) + i) (ones_same 64 _ (bit (get_or rows (from + j) 0)) word ∙ ones_word 64 _ fits))
+    (ones_plus (64 * j) 64 (bit_in 1 words 0)
+    ∙ ap (λ (i : ℕ). ones_to (64 * j) (bit_in 1 words 0) + i) (ones_same 64 _ (bit (get_or words j 0)) word ∙ ones_word 64 _ fits))
   where
-    word : (k : ℕ) → k < 64 → bit_in 1 rows from (64 * j + k) ≡ bit (get_or rows (from + j) 0) k
+    word : (k : ℕ) → k < 64 → bit_in 1 words 0 (64 * j + k) ≡ bit (get_or words j 0) k
     word k h =
-        let place : from * 1 + (64 * j + k) / 64 ≡ from + j = omega arith in
+        let place : 0 * 1 + (64 * j + k) / 64 ≡ j = omega arith in
         let here : (64 * j + k) % 64 ≡ k = omega arith in
         rw (place, here)
 
--- n words more of a row
-pub row_more : (w : ℕ) (rows : List ℕ) (r j n : ℕ)
-    → ones_to (64 * (j + n)) (bit_in w rows r) ≡ ones_to (64 * j) (bit_in w rows r) + ones_to (64 * n) (bit_in 1 rows (r * w + j))
+-- words that are cut in two
+ones_append : (words first rest : List ℕ) → words ≡ first ++ rest → ones_in words ≡ ones_in first + ones_in rest
 unfolding bit_in
-row_more w rows r j n =
-    let parts : 64 * (j + n) ≡ 64 * j + 64 * n = omega arith in
-    rw parts
-    (ones_plus (64 * j) (64 * n) (bit_in w rows r)
-    ∙ ap (λ (i : ℕ). ones_to (64 * j) (bit_in w rows r) + i) (ones_same (64 * n) _ (bit_in 1 rows (r * w + j)) same))
+ones_append words first rest e =
+    let n : 64 * length (first ++ rest) ≡ 64 * length first + 64 * length rest = omega (arith, length-append first rest) in
+    rw (e, n)
+    (ones_plus (64 * length first) (64 * length rest) (bit_in 1 (first ++ rest) 0)
+    ∙ ap₂ ◌+◌ (ones_same (64 * length first) _ (bit_in 1 first 0) low) (ones_same (64 * length rest) _ (bit_in 1 rest 0) high))
   where
-    same : (k : ℕ) → k < 64 * n → bit_in w rows r (64 * j + k) ≡ bit_in 1 rows (r * w + j) k
-    same k h =
-        let place : r * w + (64 * j + k) / 64 ≡ (r * w + j) * 1 + k / 64 = omega arith in
-        let here : (64 * j + k) % 64 ≡ k % 64 = omega arith in
-        rw (place, here)
+    low : (k : ℕ) → k < 64 * length first → bit_in 1 (first ++ rest) 0 k ≡ bit_in 1 first 0 k
+    low k h = ap (λ (word : ℕ). bit word (k % 64)) (get_or_append_left first rest 0 (0 * 1 + k / 64) (omega arith))
+
+    high : (k : ℕ) → k < 64 * length rest → bit_in 1 (first ++ rest) 0 (64 * length first + k) ≡ bit_in 1 rest 0 k
+    high k h =
+        let place : 0 * 1 + (64 * length first + k) / 64 ≡ length first + (0 * 1 + k / 64) = omega arith in
+        let here : (64 * length first + k) % 64 ≡ k % 64 = omega arith in
+        rw (place, here) (ap (λ (word : ℕ). bit word (k % 64)) (get_or-append-add first rest (0 * 1 + k / 64) 0))
+
+pub ones_cut : (n : ℕ) (words first rest : List ℕ) → first ≡ take n words → rest ≡ drop n words → ones_in words ≡ ones_in first + ones_in rest
+ones_cut n words first rest e d = ones_append words first rest (rw (e, d) (sym (take-append-drop n words)))
+
+-- a row by itself
+pub ones_row : (w : ℕ) (rows : List ℕ) (r k : ℕ) → r * w + w ≤ length rows → k ≡ w
+    → ones_in (take k (drop (r * w) rows)) ≡ ones_to (64 * w) (bit_in w rows r)
+unfolding bit_in
+ones_row w rows r k room e =
+    let long : length (take k (drop (r * w) rows)) ≡ w = omega (arith, length-take k (drop (r * w) rows), length-drop (r * w) rows) in
+    rw long (ones_same (64 * w) (bit_in 1 (take k (drop (r * w) rows)) 0) (bit_in w rows r) same)
+  where
+    same : (s : ℕ) → s < 64 * w → bit_in 1 (take k (drop (r * w) rows)) 0 s ≡ bit_in w rows r s
+    same s h =
+        let place : r * w + (0 * 1 + s / 64) ≡ r * w + s / 64 = omega arith in
+        ap (λ (word : ℕ). bit word (s % 64))
+        (get_or-take k (drop (r * w) rows) (0 * 1 + s / 64) 0 (omega arith)
+        ∙ get_or-drop (r * w) rows (0 * 1 + s / 64) 0
+        ∙ ap (λ (i : ℕ). get_or rows i 0) place)
 
 -- words of which each is 0
-pub words_none : (rows : List ℕ) (from n : ℕ) → ((i : ℕ) → i < n → get_or rows (from + i) 0 ≡ 0) → ones_to (64 * n) (bit_in 1 rows from) ≡ 0
+pub words_none : (words : List ℕ) → ((i : ℕ) → i < length words → get_or words i 0 ≡ 0) → ones_in words ≡ 0
 unfolding bit_in
-words_none rows from n none = ones_none (64 * n) (bit_in 1 rows from) off
+words_none words none = ones_none (64 * length words) (bit_in 1 words 0) off
   where
-    off : (k : ℕ) → k < 64 * n → bit_in 1 rows from k ≡ false
+    off : (k : ℕ) → k < 64 * length words → bit_in 1 words 0 k ≡ false
     off k h =
-        let place : from * 1 + k / 64 ≡ from + k / 64 = omega arith in
+        let place : 0 * 1 + k / 64 ≡ k / 64 = omega arith in
         rw (place, none (k / 64) (omega arith)) (bit_zero (k % 64))
 
 -- one word more of which each bit is 0, where the first i are 0 if a number is
-pub none_more : (rows : List ℕ) (from i sum : ℕ) → (sum ≡ 0 → (k : ℕ) → k < i → get_or rows (from + k) 0 ≡ 0)
-    → bit_or sum (get_or rows (from + i) 0) ≡ 0 → (k : ℕ) → k < i + 1 → get_or rows (from + k) 0 ≡ 0
-none_more rows from i sum before e k h = go (ℕ_discrete k i)
+pub none_more : (words : List ℕ) (i sum : ℕ) → (sum ≡ 0 → (k : ℕ) → k < i → get_or words k 0 ≡ 0)
+    → bit_or sum (get_or words i 0) ≡ 0 → (k : ℕ) → k < i + 1 → get_or words k 0 ≡ 0
+none_more words i sum before e k h = go (ℕ_discrete k i)
   where
-    go : Dec (k ≡ i) → get_or rows (from + k) 0 ≡ 0
-    go (yes last) = rw last (omega (arith, or_add_and sum (get_or rows (from + i) 0), and_le_l sum (get_or rows (from + i) 0)))
-    go (no other) = before (omega (arith, or_add_and sum (get_or rows (from + i) 0), and_le_r sum (get_or rows (from + i) 0))) k (omega arith)
+    go : Dec (k ≡ i) → get_or words k 0 ≡ 0
+    go (yes last) = rw last (omega (arith, or_add_and sum (get_or words i 0), and_le_l sum (get_or words i 0)))
+    go (no other) = before (omega (arith, or_add_and sum (get_or words i 0), and_le_r sum (get_or words i 0))) k (omega arith)
 
 -- ---- after a change
 

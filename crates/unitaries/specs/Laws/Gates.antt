@@ -6,10 +6,9 @@ use Rattle.std.proofs.Math.Option.{some}
 use native.Mathlib.Omega.{arith}
 use Rattle.std.proofs.Math.ListN.{length}
 use Rattle.pauli.specs.Pauli.{Pauli}
-use Rattle.pauli.specs.Gate.{Gate, gates, gate_from, gate_of, operands_of, conjugated, prepare_bell, swap_XZ, add_xto_Z, add_zto_X, controlled_X, controlled_Z, controlled_Y, swap_rows_of}
-use Rattle.pauli.specs.Code.{by_gate, operand_count_of}
+use Rattle.pauli.specs.Gate.{Gate, operands_of, conjugated, prepare_bell, swap_XZ, add_xto_Z, add_zto_X, controlled_X, controlled_Z, controlled_Y, swap_rows_of}
 use Rattle.pauli.proofs.Laws.Gates.{pauli_path}
-use Rattle.pauli.proofs.Laws.Code.{same_at, last_operand, has_operand}
+use Rattle.pauli.proofs.Laws.Code.{last_operand, some_operand}
 use Rattle.job.specs.Line.{Line}
 use Rattle.job.specs.Checks.{all_below, distinct}
 use Rattle.job.proofs.Laws.Lists.{below_at, distinct_at}
@@ -76,31 +75,31 @@ pub cy_acts : {w : ℕ} {x z d x₁ z₁ z₂ z₃ : List ℕ} (a b : ℕ) → A
 cy_acts {w} {x} {z} {d} {x₁} {z₁} {z₂} {z₃} a b first second third =
     subst (λ (f : Pauli → Pauli). Acts w (λ s. on_frame f) x z d x₁ z₃ d) (fun_ext (controlled_Y_composed a b)) (acts_then (acts_then first second) third)
 
--- ---- the gate of a code
+-- ---- a gate on its operands
 
-module _ (code : ℕ) (qs : List ℕ) (count : length qs ≡ operand_count_of (gate_of code)) where
+module _ (g : Gate) (qs : List ℕ) (count : length qs ≡ operands_of g) where
+  pub has_operand : 0 < length qs
+  has_operand = rw count (some_operand g)
+
   -- two operands are two qubits
-  pub operands_apart : (a b : ℕ) → 11 ≤ code → code ≤ 15 → distinct qs ≡ true → a ≡ get_or qs 0 0 → b ≡ get_or qs (length qs - 1) 0 → a ≡ b → ⊥
-  unfolding operand_count_of operands_of gate_of gate_from gates
-  operands_apart a b h l once ea eb e =
-      let two : length qs ≡ 2 = count ∙ same_at (λ k. operand_count_of (gate_of k)) (λ _. 2) 11 5 refl code h (omega arith) in
+  pub operands_apart : (a b : ℕ) → operands_of g ≡ 2 → distinct qs ≡ true → a ≡ get_or qs 0 0 → b ≡ get_or qs (length qs - 1) 0 → a ≡ b → ⊥
+  operands_apart a b both once ea eb e =
+      let two : length qs ≡ 2 = count ∙ both in
       let same : 0 ≡ length qs - 1 = distinct_at qs once 0 (length qs - 1) (omega arith) (omega arith) (sym ea ∙ e ∙ eb) in
       omega arith
 
-  pub first_below : (n a : ℕ) → code ≤ 15 → all_below n qs ≡ true → a ≡ get_or qs 0 0 → a < n
-  first_below n a h below e = rw e (below_at n qs below 0 (has_operand code qs count h))
+  pub first_below : (n a : ℕ) → all_below n qs ≡ true → a ≡ get_or qs 0 0 → a < n
+  first_below n a below e = rw e (below_at n qs below 0 has_operand)
 
-  pub last_below : (n b : ℕ) → code ≤ 15 → all_below n qs ≡ true → b ≡ get_or qs (length qs - 1) 0 → b < n
-  last_below n b h below e = let some : 0 < length qs = has_operand code qs count h in rw e (below_at n qs below (length qs - 1) (omega arith))
+  pub last_below : (n b : ℕ) → all_below n qs ≡ true → b ≡ get_or qs (length qs - 1) 0 → b < n
+  last_below n b below e = let some : 0 < length qs = has_operand in rw e (below_at n qs below (length qs - 1) (omega arith))
 
-  -- a rule that is what the code's gate does on the first and the last operand
-  module _ (a b : ℕ) (ea : a ≡ get_or qs 0 0) (eb : b ≡ get_or qs (length qs - 1) 0) (f : Pauli → Pauli) (made : (P : Pauli) → f P ≡ by_gate conjugated (gate_of code) a b P) where
-    made_by : (g : Gate) → gate_of code ≡ some g → (P : Pauli) → f P ≡ conjugated g (get_or qs 0 0) (get_or qs 1 0) P
-    unfolding by_gate operand_count_of
-    made_by g e P = rw (e, ea, eb) at (made P) ∙ last_operand prepare_bell g qs P (rw e at count)
+  -- a rule that is what the gate does on the first and the last operand
+  module _ (a b : ℕ) (ea : a ≡ get_or qs 0 0) (eb : b ≡ get_or qs (length qs - 1) 0) (f : Pauli → Pauli) (made : (P : Pauli) → f P ≡ conjugated g a b P) where
+    made_by : (P : Pauli) → f P ≡ conjugated g (get_or qs 0 0) (get_or qs 1 0) P
+    made_by P = rw (ea, eb) at (made P) ∙ last_operand prepare_bell g qs P count
 
-    pub code_acts : (w n m : ℕ) (x z d x' z' : List ℕ) → Acts w (λ s. on_frame f) x z d x' z' d → (g : Gate) → gate_of code ≡ some g
-        → Acts w (line_rule n m (Line.unitary g qs)) x z d x' z' d
+    pub gate_acts : (w n m : ℕ) (x z d x' z' : List ℕ) → Acts w (λ s. on_frame f) x z d x' z' d → Acts w (line_rule n m (Line.unitary g qs)) x z d x' z' d
     unfolding forward
-    code_acts w n m x z d x' z' acts g e =
-        record { shots = λ s h. acts.shots s h ∙ (λ i. record { frame = made_by g e (frame_of w x z s) i; deltas = column w d s }) }
+    gate_acts w n m x z d x' z' acts =
+        record { shots = λ s h. acts.shots s h ∙ (λ i. record { frame = made_by (frame_of w x z s) i; deltas = column w d s }) }

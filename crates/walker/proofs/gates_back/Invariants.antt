@@ -2,8 +2,8 @@
 use Rattle.walker.specs.Steps.{GatesGone}
 use Rattle.walker.proofs.gates_back.Given as goal
 
-abbrev pub invariant-loop-e : goal.invariant-loop-e
-invariant-loop-e l = GatesGone l.job l.initial.b l.number l.end l.b l.k l.e
+abbrev pub invariant-loop-end : goal.invariant-loop-end
+invariant-loop-end l = GatesGone l.job l.fn.observable l.fn.number l.fn.end l.observable l.number l.end
 
-abbrev pub decreases-loop-e : goal.decreases-loop-e
-decreases-loop-e l = l.e
+abbrev pub decreases-loop-end : goal.decreases-loop-end
+decreases-loop-end l = l.end

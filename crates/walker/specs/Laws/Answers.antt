@@ -1,7 +1,7 @@
 -- The tests of the call, and its reply. Laws. Assumes nothing.
-use Prim.Native.Nat.{ℕ, zero, suc, ◌≤◌, ◌<◌}
+use Prim.Native.Nat.{ℕ, ◌≤◌, ◌<◌}
 use Rattle.std.proofs.Common.{arith, sym, ◌∙◌, eq-eqb, ne_eqb, lt-ltb, le-ltb}
-use Rattle.std.specs.Prelude.{◌≡◌, refl, true, false, ◌&&◌, List, ltb, length}
+use Rattle.std.specs.Prelude.{◌≡◌, true, false, ◌&&◌, List, ltb, length, Option as CodeOption, Some, None}
 use Rattle.std.proofs.Math.Path.{ap}
 use Rattle.pauli.specs.Bits.{Bits, members}
 use Rattle.pauli.specs.Fixed.{AllBelow}
@@ -58,16 +58,15 @@ module _ (job : List ℕ) (shot : ℕ) (set : List ℕ) where
       can = rw (lt-ltb shot (job_of job).header.shots within, rises, recorded)
 
       -- 16
-      pub reply_noise : (k : ℕ) → (k ≡ 0 → ⊥) → line_or_none k ≡ first_noise (job_of job).instructions → refused_count (answer 16 k) ≡ walk_reply job shot set
+      pub reply_noise : (o : CodeOption ℕ) (k : ℕ) → o ≡ Some k → line_or_none o ≡ first_noise (job_of job).instructions → refused_count (answer 16 k) ≡ walk_reply job shot set
       unfolding walk_answer line_or_none
-      reply_noise zero h e = absurd (h refl)
-      reply_noise (suc k) h e = ap (walk_answer (job_of job) shot set) e ∙ fit can
+      reply_noise o k s e = ap (walk_answer (job_of job) shot set) (rw s at e) ∙ fit can
 
-      pub reply_count : (k n : ℕ) → k ≡ 0 → line_or_none k ≡ first_noise (job_of job).instructions
+      pub reply_count : (o : CodeOption ℕ) (n : ℕ) → o ≡ None → line_or_none o ≡ first_noise (job_of job).instructions
           → n ≡ (walk (setting_of (job_of job).header shot) (plain_lines (job_of job).instructions) (members set)).count
           → record { answered = accepted; count = n } ≡ walk_reply job shot set
       unfolding walk_answer line_or_none
-      reply_count k n z e c =
+      reply_count o n z e c =
           ap (λ (m : ℕ). record { answered = accepted; count = m }) c
           ∙ ap (walk_answer (job_of job) shot set) (rw z at e)
           ∙ fit can
@@ -110,10 +109,10 @@ module _ {job : List ℕ} {r : Examined} (x : Examines job r) (shot : ℕ) (set 
 
     module _ (within : shot < r.header.shots) (rises : is_rising_of set ≡ true) (recorded : all_below r.recorded set ≡ true) {S : Bits} {w : WalkWords}
         (is : S ≡ members set) (walked : WalkedBack job shot S w) where
-      pub examined_noise : (w.noise ≡ 0 → ⊥) → refused_count (answer 16 w.noise) ≡ walk_reply job shot set
-      examined_noise h = reply_noise job shot set passes (rw (← found.header) within) rises (rw (← found.recorded) recorded) w.noise h walked.noise
+      pub examined_noise : (k : ℕ) → w.noise ≡ Some k → refused_count (answer 16 k) ≡ walk_reply job shot set
+      examined_noise k e = reply_noise job shot set passes (rw (← found.header) within) rises (rw (← found.recorded) recorded) w.noise k e walked.noise
 
-      pub examined_count : w.noise ≡ 0 → record { answered = accepted; count = w.count } ≡ walk_reply job shot set
+      pub examined_count : w.noise ≡ None → record { answered = accepted; count = w.count } ≡ walk_reply job shot set
       examined_count z =
           reply_count job shot set passes (rw (← found.header) within) rises (rw (← found.recorded) recorded) w.noise w.count z walked.noise
           (walked.count ∙ ap (λ (T : Bits). (walk (setting_of (job_of job).header shot) (plain_lines (job_of job).instructions) T).count) is)

@@ -1,7 +1,7 @@
 -- The walk line after line, from the last to the first. Laws. Assumes nothing.
-use Prim.Native.Nat.{ℕ, zero, suc, ◌-◌, ◌≤◌, ◌<◌}
+use Prim.Native.Nat.{ℕ, suc, ◌-◌, ◌≤◌, ◌<◌}
 use Rattle.std.proofs.Common.{arith, ◌∙◌}
-use Rattle.std.specs.Prelude.{◌≡◌, Bool, true, false, length}
+use Rattle.std.specs.Prelude.{◌≡◌, Bool, true, false, length, Option as CodeOption}
 use Rattle.std.proofs.Math.Path.{refl, sym, ap}
 use mathlib.Core.List.{List, [], ◌∷◌}
 use Rattle.std.proofs.Math.Option.{some}
@@ -25,7 +25,7 @@ use Rattle.backward.specs.Walking.{noise_first, first_noise, line_first, plain_l
 use Rattle.lines_back.specs.Full.{full}
 use Rattle.lines_back.specs.Laws.Same.{same_backward}
 use Rattle.lines_from_last.specs.Line.{LineBefore, OfJob}
-use Rattle.lines_from_last.specs.Laws.Left.{all_left, line_left, one_done, left_known, line_known, gathered_more, none_left}
+use Rattle.lines_from_last.specs.Laws.Left.{all_left, one_done, left_known, line_known, gathered_more, none_left}
 use Rattle.lines_back.specs.declared.Walk.{Walk as WalkWords}
 use Rattle.lines_back.specs.Back.{Readable, walk_of, written_back, noise_back, LineBack}
 use Rattle.walker.specs.Steps.{Started, line_or_none, WalkedBack, PassedOver, TextBack, start_with, Going, Left, GatesGone}
@@ -73,17 +73,13 @@ module _ (c : Setting) (k : ℕ) (text : List ℕ) where
   written_lines (Written.noise n) g w = refl
   written_lines (Written.element v P) g w = refl
 
-  written_noise : (v : Written) (g : Gathered) (before : ℕ) → 0 < k → line_or_none before ≡ first_noise g.instructions
+  written_noise : (v : Written) (g : Gathered) (before : CodeOption ℕ) → line_or_none before ≡ first_noise g.instructions
       → line_or_none (noise_back k v before) ≡ first_noise (gather k text (some v) g).instructions
-  unfolding gather first_noise noise_first noise_back
-  written_noise (Written.header h) g before positive e = e
-  written_noise (Written.line l) g before positive e = e
-  written_noise (Written.noise n) g before positive e = some_line k positive
-    where
-      some_line : (j : ℕ) → 0 < j → line_or_none j ≡ some j
-      some_line zero h = absurd (omega arith)
-      some_line (suc j) h = unfold line_or_none in refl
-  written_noise (Written.element v P) g before positive e = e
+  unfolding gather first_noise noise_first noise_back line_or_none
+  written_noise (Written.header h) g before e = e
+  written_noise (Written.line l) g before e = e
+  written_noise (Written.noise n) g before e = refl
+  written_noise (Written.element v P) g before e = e
 
 -- a line counts at most one
 one_more : (b : Bool) (n : ℕ) → one_more_of b n ≤ suc n
@@ -140,7 +136,7 @@ module _ (job : List ℕ) (passes : (check_job job).number ≡ 0) where
               ∙ sym (ap (λ (x : Gathered). walk_back setting (plain_lines x.instructions) (start_with S)) more);
           noise =
               ap line_or_none (l.noise q)
-              ∙ written_noise setting k text v behind w.noise (line_left job passes g.left positive b) g.noise
+              ∙ written_noise setting k text v behind w.noise g.noise
               ∙ sym (ap (λ (x : Gathered). first_noise x.instructions) more);
         }
 
@@ -160,7 +156,7 @@ module _ (job : List ℕ) (passes : (check_job job).number ≡ 0) where
 
   -- a gate line more
   pub gates_on : {b₀ b b' : PauliWords} {k₀ e₀ k e at : ℕ} → GatesGone job b₀ k₀ e₀ b k e → 0 < e → LineBefore job (e - 1) at
-      → ((c n shot : ℕ) (set : List ℕ) → length set ≡ 16
+      → ((c : ℕ) (n : CodeOption ℕ) (shot : ℕ) (set : List ℕ) → length set ≡ 16
       → TextBack (line_at job at (e - 1)) shot k (record { observable = b; count = c; noise = n }) (record { observable = b'; count = c; noise = n })
       set set)
       → GatesGone job b₀ k₀ e₀ b' (k - 1) at

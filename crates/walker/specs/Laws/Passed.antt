@@ -1,6 +1,6 @@
 -- Lines that do nothing in a walk of a shot, by a few of their bytes: Paulis, allocations, barriers, and injections in another shot. Laws. Assumes nothing.
-use Rattle.std.specs.Prelude.{ℕ, ◌<◌, ◌≡◌, Bool, ◌&&◌, length, get_or}
-use Rattle.std.proofs.Common.{arith, sym, ap, ◌∙◌, ne_eqb}
+use Rattle.std.specs.Prelude.{ℕ, ◌<◌, ◌≡◌, ◌⊎◌, Bool, ◌&&◌, length, get_or}
+use Rattle.std.proofs.Common.{arith, sym, ap, ◌∙◌, ne_eqb, inl, inr}
 use Rattle.std.proofs.Math.Path.{refl, subst}
 use mathlib.Core.List.{List, [], ◌++◌}
 use Rattle.std.proofs.Math.Option.{Option, none, some}
@@ -29,23 +29,29 @@ use Rattle.walker.specs.Steps.{PassedOver}
 -- ---- lines that do nothing in any shot
 
 module _ (l : List ℕ) (shot : ℕ) (v : Written) (first : get_or l 0 0 ≡ 111) (reads : read_line_of l ≡ some v) where
-  pub pauli_passed : get_or l 3 0 ≡ 112 → PassedOver shot v
+  pauli_passed : get_or l 3 0 ≡ 112 → PassedOver shot v
   unfolding forms place_of bytes sift opens literals written_back noise_back backward carry counts
   pauli_passed third =
       let (vs, have, says) = by_values (form_of form.Pauli) l v (sym (one_form l 111 112 form.Pauli refl first third) ∙ reads) in
       subst (PassedOver shot) (some_same says) record { walks = λ w. refl; noise = λ k before. refl }
 
-  pub allocation_passed : get_or l 3 0 ≡ 114 → PassedOver shot v
+  allocation_passed : get_or l 3 0 ≡ 114 → PassedOver shot v
   unfolding forms place_of bytes sift opens literals written_back noise_back backward carry counts
   allocation_passed third =
       let (vs, have, says) = by_values (form_of form.Allocate) l v (sym (one_form l 111 114 form.Allocate refl first third) ∙ reads) in
       subst (PassedOver shot) (some_same says) record { walks = λ w. refl; noise = λ k before. refl }
 
-  pub barrier_passed : get_or l 3 0 ≡ 98 → PassedOver shot v
+  barrier_passed : get_or l 3 0 ≡ 98 → PassedOver shot v
   unfolding forms place_of bytes sift opens literals written_back noise_back backward carry counts
   barrier_passed third =
       let (vs, have, says) = by_values (form_of form.Barrier) l v (sym (one_form l 111 98 form.Barrier refl first third) ∙ reads) in
       subst (PassedOver shot) (some_same says) record { walks = λ w. refl; noise = λ k before. refl }
+
+  -- by the third byte: `b`, `p` or `r`
+  pub still_passed : (get_or l 3 0 ≡ 98) ⊎ ((get_or l 3 0 ≡ 112) ⊎ (get_or l 3 0 ≡ 114)) → PassedOver shot v
+  still_passed (inl b) = barrier_passed b
+  still_passed (inr (inl p)) = pauli_passed p
+  still_passed (inr (inr r)) = allocation_passed r
 
 -- ---- injections in another shot
 

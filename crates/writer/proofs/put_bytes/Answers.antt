@@ -18,12 +18,6 @@ overflow_add-out c = omega arith
 pub bounds-out-at : goal.bounds-out-at
 bounds-out-at c = omega (arith, copied_length c.loop-i.invariant.1)
 
-pub overflow_add-i : goal.overflow_add-i
-overflow_add-i c = omega arith
-
-pub loop-i-smaller : goal.loop-i-smaller
-loop-i-smaller c = omega arith
-
 pub loop-i-preserved : goal.loop-i-preserved
 loop-i-preserved c = (omega arith, copied_more c.loop-i.invariant.1 (omega arith))
 

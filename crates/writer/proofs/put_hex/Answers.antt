@@ -7,17 +7,11 @@ use Rattle.writer.proofs.put_hex.Goals as goal
 pub loop-i-init : goal.loop-i-init
 loop-i-init c = (omega arith, no_hexes _ _ refl)
 
-pub overflow_sub-i : goal.overflow_sub-i
-overflow_sub-i c = omega arith
-
 pub hex_byte-requires : goal.hex_byte-requires
 hex_byte-requires c = omega arith
 
 pub bounds-digits-i : goal.bounds-digits-i
 bounds-digits-i c = omega arith
-
-pub loop-i-smaller : goal.loop-i-smaller
-loop-i-smaller c = omega arith
 
 pub loop-i-preserved : goal.loop-i-preserved
 loop-i-preserved c = (omega arith, rw c.hex_byte.ensures (hex_stored c.loop-i.invariant.1 c.loop-i-test.true c.loop-i.invariant.0))

@@ -1,5 +1,4 @@
 use mathlib.Core.Path.{refl, sym, ◌∙◌}
-use borrow.Author.Tests.{not-true, not-false}
 use lib.Seq.{length-take-le}
 use Rattle.writer.specs.Laws.Placing.{rest_length}
 use Rattle.instructions.specs.Laws.Lines.{left_known, some_read}
@@ -14,31 +13,22 @@ pub put_start-requires : goal.put_start-requires
 put_start-requires c = tt
 
 pub loop-at-init : goal.loop-at-init
-loop-at-init c = (put_none c.requires, refl, refl)
-
-pub slice_bounds-next_known-end : goal.slice_bounds-next_known-end
-slice_bounds-next_known-end c = omega arith
+loop-at-init c = (put_none c.requires, refl)
 
 pub next_known-line-requires : goal.next_known-line-requires
-next_known-line-requires c = (left_known c.loop-at.invariant.0.left c.loop-at-test.true, omega (arith, c.loop-at.invariant.1))
+next_known-line-requires c = left_known c.loop-at.invariant.0.left c.loop-at-test.true
 
 pub overflow_add-end : goal.overflow_add-end
 overflow_add-end c = omega (arith, c.next_known-line.ensures.place.inside, c.loop-at.invariant.0.left.size)
 
-pub slice_bounds-noise_qubits-end : goal.slice_bounds-noise_qubits-end
-slice_bounds-noise_qubits-end c = omega (arith, c.loop-at.invariant.1, c.next_known-line.auto)
-
-pub slice_bounds-noise_qubits-end-in-loop-at : goal.slice_bounds-noise_qubits-end-in-loop-at
-slice_bounds-noise_qubits-end-in-loop-at c = omega (arith, c.loop-at.invariant.2)
-
 pub noise_qubits-n-requires : goal.noise_qubits-n-requires
-noise_qubits-n-requires c = (some_read c.loop-at.invariant.0.left c.next_known-line.ensures, omega (arith, c.loop-at.invariant.1, c.next_known-line.auto), omega (arith, c.loop-at.invariant.2))
+noise_qubits-n-requires c = (some_read c.loop-at.invariant.0.left c.next_known-line.ensures, omega (arith, c.loop-at.invariant.1))
 
 pub slice_bounds-qubits-end : goal.slice_bounds-qubits-end
-slice_bounds-qubits-end c = omega (arith, c.noise_qubits-n.ensures.few, c.noise_qubits-n.auto, c.loop-at.invariant.2)
+slice_bounds-qubits-end c = omega (arith, c.noise_qubits-n.ensures.few, c.noise_qubits-n.auto, c.loop-at.invariant.1)
 
 pub slice_bounds-over-end : goal.slice_bounds-over-end
-slice_bounds-over-end c = sym (length-take-le _ _ (omega (arith, c.noise_qubits-n.ensures.few, c.noise_qubits-n.auto, c.loop-at.invariant.2)))
+slice_bounds-over-end c = sym (length-take-le _ _ (omega (arith, c.noise_qubits-n.ensures.few, c.noise_qubits-n.auto, c.loop-at.invariant.1)))
 
 pub fit-requires : goal.fit-requires
 fit-requires c = tt
@@ -76,7 +66,7 @@ pub loop-at-smaller : goal.loop-at-smaller
 loop-at-smaller c = omega (arith, c.next_known-line.ensures.place.begins, c.next_known-line.ensures.place.inside)
 
 pub loop-at-preserved : goal.loop-at-preserved
-loop-at-preserved c = (put_more c.loop-at.invariant.0 c.next_known-line.ensures c.noise_qubits-n.ensures _ (sym (c.if-not-fit.false) ∙ c.fit.ensures) c.noise_before-before.ensures (c.put_around-next.ensures _ (start_put c.args.p c.put_start.ensures c.put_start.auto.out)), omega (arith, c.loop-at.invariant.1, c.next_known-line.auto), omega (arith, c.loop-at.invariant.2, c.noise_qubits-n.auto))
+loop-at-preserved c = (put_more c.loop-at.invariant.0 c.next_known-line.ensures c.noise_qubits-n.ensures _ (sym (c.if-not-fit.false) ∙ c.fit.ensures) c.noise_before-before.ensures (c.put_around-next.ensures _ (start_put c.args.p c.put_start.ensures c.put_start.auto.out)), omega (arith, c.loop-at.invariant.1, c.noise_qubits-n.auto))
 
 pub shape_of-out : goal.shape_of-out
 shape_of-out c = rest_length c.loop-at.invariant.0.rest

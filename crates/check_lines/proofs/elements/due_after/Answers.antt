@@ -1,4 +1,5 @@
 -- `check_lines::elements::due_after` meets its contract. Assumes nothing.
+use Rattle.std.proofs.Common.{inl, inr}
 use Rattle.check_values.specs.Contexts.{context_of}
 use mathlib.Core.Path.{◌∙◌}
 use Rattle.check_lines.specs.Laws.Elements.{none_due, due_uniform, due_weighted, due_element, due_weighted_element}
@@ -6,16 +7,18 @@ use Rattle.instructions.specs.Laws.Meaning.{meaning}
 use Rattle.check_lines.proofs.elements.due_after.Goals as goal
 
 pub returns-in-Uniform : goal.returns-in-Uniform
-returns-in-Uniform c = λ vs w h. c.number.ensures ∙ due_uniform c.args.c (rw c.in-Uniform.is at h)
-
-pub returns-in-Weighted : goal.returns-in-Weighted
-returns-in-Weighted c = λ vs w h. c.number-in-Weighted.ensures ∙ due_weighted c.args.c (rw c.in-Weighted.is at h)
+returns-in-Uniform c = λ vs w h.
+    elim c.in-Uniform.is [
+      | inl e ↦ c.number.ensures ∙ due_uniform c.args.c (rw e at h)
+      | inr e ↦ c.number.ensures ∙ due_weighted c.args.c (rw e at h)
+    ]
 
 pub returns-in-Element : goal.returns-in-Element
-returns-in-Element c = λ vs w h. c.one_less.ensures ∙ due_element c.args.c (rw c.in-Element.is at h)
-
-pub returns-in-WeightedElement : goal.returns-in-WeightedElement
-returns-in-WeightedElement c = λ vs w h. c.one_less-in-WeightedElement.ensures ∙ due_weighted_element c.args.c (rw c.in-WeightedElement.is at h)
+returns-in-Element c = λ vs w h.
+    elim c.in-Element.is [
+      | inl e ↦ c.saturating_sub.ensures ∙ due_element c.args.c (rw e at h)
+      | inr e ↦ c.saturating_sub.ensures ∙ due_weighted_element c.args.c (rw e at h)
+    ]
 
 pub returns-in_default : goal.returns-in_default
 returns-in_default c =

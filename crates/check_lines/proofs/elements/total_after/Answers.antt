@@ -19,18 +19,18 @@ returns-in_default c =
     t
     q
 
-pub returns-in-Accepted : goal.returns-in-Accepted
-returns-in-Accepted c =
+pub returns-in-Some : goal.returns-in-Some
+returns-in-Some c =
     λ last vs w h p t q.
     let s = rw c.in-WeightedElement.is at h in
     let bits = c.number.ensures ∙ weight_held c.args.c s in
-    let right = rw bits at (only_accepted _ _ (sym c.in-Accepted.is ∙ c.weight.ensures)).1 in
+    let right = rw bits at (only_accepted _ _ (sym c.in-Some.is ∙ c.weight.ensures)).1 in
     ap (add binary64 c.args.c.total) (sym right) ∙ total_next c.args.c s (passed_expected (context_of c.args.c) last w p) t q
 
-pub returns-in-Refused : goal.returns-in-Refused
-returns-in-Refused c =
+pub returns-in-None : goal.returns-in-None
+returns-in-None c =
     λ last vs w h p t q.
     let s = rw c.in-WeightedElement.is at h in
     let bits = c.number.ensures ∙ weight_held c.args.c s in
-    let wrong = rw bits at (only_refused _ _ (sym c.in-Refused.is ∙ c.weight.ensures)) in
+    let wrong = rw bits at (only_refused _ _ (sym c.in-None.is ∙ c.weight.ensures)) in
     absurd (true≢false (sym (weight_passed c.args.c s last p) ∙ wrong))

@@ -21,7 +21,7 @@ returns-then-not-short c =
     fails 5 _ _ (right_false (distinct (list_at_of 2 vs)) _ (sym (c.short.ensures.by_index _ _ vs t.held (omega arith)) ∙ c.if-not-short.true)) ∙ passes 4 _ _ (sym (c.below.ensures _ _ vs t.held (omega arith)) ∙ c.if-not-below.false) ∙ t.own
 
 pub slot_distinct-requires : goal.slot_distinct-requires
-slot_distinct-requires c = (omega arith, omega arith, c.short.ensures.all_kept (c.if-not-short.false) 2 (omega arith) (omega arith))
+slot_distinct-requires c = (omega arith, c.short.ensures.all_kept (c.if-not-short.false) 2 (omega arith) (omega arith))
 
 pub returns-then-not-slot_distinct : goal.returns-then-not-slot_distinct
 returns-then-not-slot_distinct c =

@@ -1,7 +1,9 @@
 -- `check_lines::noise_lines::noise_number` meets its contract. Assumes nothing.
 use native.Mathlib.Omega.{arith}
-use mathlib.Core.Path.{sym, ◌∙◌}
-use Rattle.check_values.specs.Laws.Floats.{only_refused, only_accepted}
+use mathlib.Core.Bool.{not}
+use mathlib.Core.Path.{sym, ap, ◌∙◌}
+use Rattle.std.proofs.Common.{is_some}
+use Rattle.check_values.specs.Laws.Floats.{only_some}
 use Rattle.check_values.specs.Laws.Lowest.{none_bad, fails, passes, one_below}
 use Rattle.check_values.specs.Contexts.{context_of}
 use Rattle.check_lines.proofs.noise_lines.noise_number.Goals as goal
@@ -12,12 +14,12 @@ returns-then-not-below c = λ numbers lists vs h m g.
     let known = c.below.ensures numbers lists vs h (omega arith) ∙ one_below vs 1 _ in
     fails 9 _ _ (sym known ∙ c.if-not-below.true)
 
-pub returns-in_default : goal.returns-in_default
+pub returns-then-is_none : goal.returns-then-is_none
 unfolding context_of
-returns-in_default c = λ numbers lists vs h m g.
+returns-then-is_none c = λ numbers lists vs h m g.
     let known = c.below.ensures numbers lists vs h (omega arith) ∙ one_below vs 1 _ in
     let p = c.number.ensures ∙ h.number 0 m in
-    let right = only_refused _ _ (sym c.in_default.is ∙ c.probability.ensures) in
+    let right = sym (only_some _ _) ∙ ap is_some (sym c.probability.ensures) ∙ c.is_none.ensures ∙ ap not c.if-is_none.true in
     fails 11 _ _ (rw p at right) ∙ passes 9 _ _ (sym known ∙ c.if-not-below.false)
 
 pub returns : goal.returns
@@ -25,5 +27,5 @@ unfolding context_of
 returns c = λ numbers lists vs h m g.
     let known = c.below.ensures numbers lists vs h (omega arith) ∙ one_below vs 1 _ in
     let p = c.number.ensures ∙ h.number 0 m in
-    let right = (only_accepted _ _ (sym c.in-Accepted.is ∙ c.probability.ensures)).0 in
+    let right = sym (only_some _ _) ∙ ap is_some (sym c.probability.ensures) ∙ c.is_none.ensures ∙ ap not c.if-is_none.false in
     none_bad ∙ passes 11 _ _ (rw p at right) ∙ passes 9 _ _ (sym known ∙ c.if-not-below.false)

@@ -7,6 +7,6 @@ pub returns-then-s-r : goal.returns-then-s-r
 unfolding generators_anticommute
 returns-then-s-r c = simp (eq-eqb _ _ c.if-s-r.true)
 
-pub returns : goal.returns
+pub returns-else-s-r : goal.returns-else-s-r
 unfolding generators_anticommute
-returns c = simp (ne_eqb _ _ c.if-s-r.false)
+returns-else-s-r c = simp (ne_eqb _ _ c.if-s-r.false)

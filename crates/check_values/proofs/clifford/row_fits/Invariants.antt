@@ -9,6 +9,3 @@ use Rattle.check_values.proofs.clifford.row_fits.Given as goal
 
 abbrev pub invariant-loop-s : goal.invariant-loop-s
 invariant-loop-s l = (l.s ≤ 2 * l.k) × ((t : ℕ) → RowsOf l.k t l.images → every l.s (pair_fits_of l.k t l.r) ≡ true)
-
-abbrev pub decreases-loop-s : goal.decreases-loop-s
-decreases-loop-s l = 2 * l.k - l.s

@@ -6,20 +6,14 @@ use Rattle.check_values.proofs.clifford.rows_fit.Goals as goal
 pub loop-r-init : goal.loop-r-init
 loop-r-init c = (omega arith, λ t i. every_none _)
 
-pub overflow_mul-k : goal.overflow_mul-k
-overflow_mul-k c = omega arith
+pub overflow_mul-r-end : goal.overflow_mul-r-end
+overflow_mul-r-end c = omega arith
 
 pub row_fits-requires : goal.row_fits-requires
 row_fits-requires c = (omega arith, omega arith, omega arith)
 
 pub returns-then-not-row_fits : goal.returns-then-not-row_fits
 returns-then-not-row_fits c = λ t i. sym (every_fails _ _ _ c.loop-r-test.true (sym (c.row_fits.ensures t i) ∙ c.if-not-row_fits.true))
-
-pub overflow_add-r : goal.overflow_add-r
-overflow_add-r c = omega arith
-
-pub loop-r-smaller : goal.loop-r-smaller
-loop-r-smaller c = omega arith
 
 pub loop-r-preserved : goal.loop-r-preserved
 loop-r-preserved c = (omega arith, λ t i. every_more _ _ (c.loop-r.invariant.1 t i) (sym (c.row_fits.ensures t i) ∙ c.if-not-row_fits.false))

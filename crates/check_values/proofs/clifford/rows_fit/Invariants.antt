@@ -9,6 +9,3 @@ use Rattle.check_values.proofs.clifford.rows_fit.Given as goal
 
 abbrev pub invariant-loop-r : goal.invariant-loop-r
 invariant-loop-r l = (l.r ≤ 2 * l.k) × ((t : ℕ) → RowsOf l.k t l.images → every l.r (λ q. every (2 * l.k) (pair_fits_of l.k t q)) ≡ true)
-
-abbrev pub decreases-loop-r : goal.decreases-loop-r
-decreases-loop-r l = 2 * l.k - l.r

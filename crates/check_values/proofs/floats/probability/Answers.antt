@@ -3,11 +3,11 @@ use mathlib.Core.Path.{sym, ◌∙◌}
 use Rattle.check_values.specs.Laws.Floats.{no_probability, above_one, not_above_one}
 use Rattle.check_values.proofs.floats.probability.Goals as goal
 
-pub returns-in_default : goal.returns-in_default
-returns-in_default c = no_probability _ (sym c.in_default.is ∙ c.float_of.ensures)
+pub returns-in_err-p : goal.returns-in_err-p
+returns-in_err-p c = rw c.from_residual.ensures (no_probability _ (sym c.in_err-p.was ∙ c.float_of.ensures))
 
 pub returns-then-p : goal.returns-then-p
-returns-then-p c = above_one _ (sym c.in-Accepted.is ∙ c.float_of.ensures) c.if-p.true
+returns-then-p c = above_one _ (sym c.in_ok-p.was ∙ c.float_of.ensures) c.if-p.true
 
 pub returns : goal.returns
-returns c = not_above_one _ (sym c.in-Accepted.is ∙ c.float_of.ensures) c.if-p.false
+returns c = not_above_one _ (sym c.in_ok-p.was ∙ c.float_of.ensures) c.if-p.false

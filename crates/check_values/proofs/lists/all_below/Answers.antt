@@ -1,28 +1,16 @@
-use native.Mathlib.Omega.{arith}
-use mathlib.Core.Path.{refl, sym, ◌∙◌}
-use Rattle.check_values.specs.Laws.Slots.{below_fails, below_next, below_end}
+-- `check_values::lists::all_below` meets its contract. Assumes nothing.
+use Rattle.std.proofs.Common.{Bool, ◌&&◌, List, ltb, refl, ◌∙◌, rules, tests}
+use Rattle.std.specs.List.{list_all}
+use Rattle.std.proofs.lemmas.Iterator.{YieldsList-from_slice}
+use Rattle.std.proofs.lemmas.Iterator.Search.{all_from_yields_List}
+use Rattle.std.proofs.lemmas.List.Recursion.{same_from_clauses}
+use Rattle.job.specs.Checks.{all_below}
 use Rattle.check_values.proofs.lists.all_below.Goals as goal
 
-pub loop-i-init : goal.loop-i-init
-loop-i-init c = (omega arith, refl)
-
-pub offset_bounds-members-i : goal.offset_bounds-members-i
-offset_bounds-members-i c = omega arith
-
-pub bounds-members-i : goal.bounds-members-i
-bounds-members-i c = omega arith
-
-pub returns-then-n-members : goal.returns-then-n-members
-returns-then-n-members c = sym (c.loop-i.invariant.1 ∙ below_fails _ _ _ c.loop-i-test.true c.if-n-members.true)
-
-pub overflow_add-i : goal.overflow_add-i
-overflow_add-i c = omega arith
-
-pub loop-i-smaller : goal.loop-i-smaller
-loop-i-smaller c = omega arith
-
-pub loop-i-preserved : goal.loop-i-preserved
-loop-i-preserved c = (omega arith, c.loop-i.invariant.1 ∙ below_next _ _ _ c.loop-i-test.true c.if-n-members.false)
-
 pub returns : goal.returns
-returns c = sym (c.loop-i.invariant.1 ∙ below_end _ _ _ c.loop-i-test.false)
+unfolding all_below
+returns c =
+    let xs = c.args.members.now in
+    let n = c.args.n in
+    all_from_yields_List (λ m. ltb m n) _ _ _ c.all.ensures.ran (YieldsList-from_slice xs cc) (λ x b q k. search (rules, tests))
+    ∙ same_from_clauses (list_all (λ m. ltb m n)) (all_below n) (λ m (b : Bool). ltb m n && b) refl (λ _ _. refl) (λ _ _. refl) xs

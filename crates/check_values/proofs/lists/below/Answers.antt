@@ -7,19 +7,13 @@ pub loop-i-init : goal.loop-i-init
 loop-i-init c = λ numbers lists vs h g. refl
 
 pub slot_below-requires : goal.slot_below-requires
-slot_below-requires c = (omega arith, omega arith)
+slot_below-requires c = omega arith
 
 pub returns-then-not-slot_below : goal.returns-then-not-slot_below
 returns-then-not-slot_below c =
     λ numbers lists vs h g.
     let here = c.slot_below.ensures numbers lists vs h (omega arith) in
     sym (c.loop-i.invariant numbers lists vs h g ∙ each_fails (each_below _) vs _ _ c.loop-i-test.true (sym here ∙ c.if-not-slot_below.true))
-
-pub overflow_add-i : goal.overflow_add-i
-overflow_add-i c = omega arith
-
-pub loop-i-smaller : goal.loop-i-smaller
-loop-i-smaller c = omega arith
 
 pub loop-i-preserved : goal.loop-i-preserved
 loop-i-preserved c =

@@ -1,28 +1,23 @@
-use native.Mathlib.Omega.{arith}
-use mathlib.Core.Path.{refl, sym, ◌∙◌}
-use Rattle.check_values.specs.Laws.Slots.{member_here, member_next, member_end}
+-- `check_values::lists::contains` meets its contract. Assumes nothing.
+use Rattle.std.proofs.Common.{ℕ, ◌≡◌, Bool, true, false, ◌||◌, List, eqb, refl, sym, ap, ◌∙◌, eqb-true, eq-eqb, ne_eqb}
+use Rattle.std.proofs.lemmas.Bool.{eqb-false}
+use Rattle.std.specs.List.{list_any}
+use Rattle.std.proofs.lemmas.List.Recursion.{same_from_clauses}
+use Rattle.pauli.specs.Bits.{members as among}
+use Rattle.job.proofs.Laws.Rising.{members_nil, members_cons}
 use Rattle.check_values.proofs.lists.contains.Goals as goal
 
-pub loop-i-init : goal.loop-i-init
-loop-i-init c = (omega arith, refl)
+turned : (a b : ℕ) → eqb a b ≡ eqb b a
+turned a b = go (eqb a b) refl
+  where
+    go : (t : Bool) → eqb a b ≡ t → t ≡ eqb b a
+    go true e = sym (eq-eqb b a (sym (eqb-true a b e)))
+    go false e = sym (ne_eqb b a (λ q. eqb-false a b e (sym q)))
 
-pub offset_bounds-members-i : goal.offset_bounds-members-i
-offset_bounds-members-i c = omega arith
-
-pub bounds-members-i : goal.bounds-members-i
-bounds-members-i c = omega arith
-
-pub returns-then-members-i : goal.returns-then-members-i
-returns-then-members-i c = sym (c.loop-i.invariant.1 ∙ member_here _ _ _ c.loop-i-test.true c.if-members-i.true)
-
-pub overflow_add-i : goal.overflow_add-i
-overflow_add-i c = omega arith
-
-pub loop-i-smaller : goal.loop-i-smaller
-loop-i-smaller c = omega arith
-
-pub loop-i-preserved : goal.loop-i-preserved
-loop-i-preserved c = (omega arith, c.loop-i.invariant.1 ∙ member_next _ _ _ c.loop-i-test.true c.if-members-i.false)
+any_among : (n : ℕ) (xs : List ℕ) → list_any (λ y. eqb y n) xs ≡ among xs n
+any_among n =
+    same_from_clauses (list_any (λ y. eqb y n)) (λ xs. among xs n) (λ y (b : Bool). eqb y n || b)
+    (sym (members_nil n)) (λ _ _. refl) (λ y xs. members_cons y xs n ∙ ap (λ (b : Bool). b || among xs n) (turned n y))
 
 pub returns : goal.returns
-returns c = sym (c.loop-i.invariant.1 ∙ member_end _ _ _ c.loop-i-test.false)
+returns c = c.contains.ensures.value ∙ any_among c.args.n c.args.members.now

@@ -12,12 +12,6 @@ offset_bounds-members-i c = omega arith
 pub bounds-members-i : goal.bounds-members-i
 bounds-members-i c = omega arith
 
-pub overflow_add-a : goal.overflow_add-a
-overflow_add-a c = omega arith
-
-pub offset_bounds-members-a : goal.offset_bounds-members-a
-offset_bounds-members-a c = omega arith
-
 pub slice_bounds-contains-count : goal.slice_bounds-contains-count
 slice_bounds-contains-count c = omega arith
 
@@ -32,12 +26,6 @@ contains-requires c = tt
 
 pub returns-then-contains : goal.returns-then-contains
 returns-then-contains c = sym (c.loop-i.invariant.1 ∙ twice _ _ c.loop-i-test.true (sym (rw rest_whole at c.contains.ensures) ∙ c.if-contains.true))
-
-pub overflow_add-i : goal.overflow_add-i
-overflow_add-i c = omega arith
-
-pub loop-i-smaller : goal.loop-i-smaller
-loop-i-smaller c = omega arith
 
 pub loop-i-preserved : goal.loop-i-preserved
 loop-i-preserved c = (omega arith, c.loop-i.invariant.1 ∙ once _ _ c.loop-i-test.true (sym (rw rest_whole at c.contains.ensures) ∙ c.if-contains.false))

@@ -7,6 +7,3 @@ use Rattle.check_values.proofs.lists.distinct.Given as goal
 
 abbrev pub invariant-loop-i : goal.invariant-loop-i
 invariant-loop-i l = (l.i ≤ length l.members) × (Checks·distinct l.members ≡ Checks·distinct (drop l.i l.members))
-
-abbrev pub decreases-loop-i : goal.decreases-loop-i
-decreases-loop-i l = length l.members - l.i

@@ -10,9 +10,6 @@ row_rest-rest-requires c = omega arith
 pub loop-e-init : goal.loop-e-init
 loop-e-init c = counted_none
 
-pub overflow_sub-e : goal.overflow_sub-e
-overflow_sub-e c = omega (arith, c.loop-e-test.true)
-
 pub digits-requires : goal.digits-requires
 digits-requires c = tt
 
@@ -21,9 +18,6 @@ overflow_add-bytes c = omega (arith, c.row_rest-rest.ensures, c.digits.ensures, 
 
 pub overflow_add-bytes-in-loop-e : goal.overflow_add-bytes-in-loop-e
 overflow_add-bytes-in-loop-e c = omega (arith, c.row_rest-rest.ensures, c.digits.ensures, decimal_length c.args.line, decimal_length (c.loop-e.e - 1), c.requires.0, c.requires.1, counted_small c.loop-e.invariant c.requires.0)
-
-pub loop-e-smaller : goal.loop-e-smaller
-loop-e-smaller c = omega (arith, c.loop-e-test.true)
 
 pub loop-e-preserved : goal.loop-e-preserved
 loop-e-preserved c = counted_more c.loop-e.invariant c.loop-e-test.true c.row_rest-rest.ensures c.digits.ensures

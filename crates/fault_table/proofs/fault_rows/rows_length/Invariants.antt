@@ -4,6 +4,3 @@ use Rattle.fault_table.proofs.fault_rows.rows_length.Given as goal
 
 abbrev pub invariant-loop-e : goal.invariant-loop-e
 invariant-loop-e l = Counted l.groups l.line l.size l.e l.bytes
-
-abbrev pub decreases-loop-e : goal.decreases-loop-e
-decreases-loop-e l = l.e

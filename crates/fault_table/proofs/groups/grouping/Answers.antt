@@ -1,7 +1,6 @@
 use native.Mathlib.Omega.{arith}
 use Prim.Native.Nat.{◌+◌}
 use mathlib.Core.Path.{refl, sym, ap, ◌∙◌}
-use borrow.Author.Tests.{not-true, not-false}
 use lib.ListN.{get_or}
 use Rattle.fault_table.specs.Lent.{grouping_of}
 use Rattle.fault_table.specs.Laws.Listed.{no_groups, groups_cut, groups_here, refused_by, one_more, unrisen, unrecorded, cut_refused}

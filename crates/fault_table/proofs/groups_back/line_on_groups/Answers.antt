@@ -15,9 +15,6 @@ returns-then-is_still c = groups_still (c.is_still.ensures c.if-is_still.true)
 pub loop-i-init : goal.loop-i-init
 loop-i-init c = back_none c.requires.1
 
-pub overflow_sub-i : goal.overflow_sub-i
-overflow_sub-i c = omega (arith, c.loop-i-test.true)
-
 pub overflow_mul-a : goal.overflow_mul-a
 overflow_mul-a c = omega (arith, c.loop-i.invariant.within, c.requires.1, c.loop-i-test.true)
 
@@ -38,9 +35,6 @@ slice_bounds-group_back-end c = omega (arith, c.loop-i.invariant.within, c.loop-
 
 pub group_back-requires : goal.group_back-requires
 group_back-requires c = (c.requires.0, part_long c.loop-i.state ((c.loop-i.i - 1) * 24) 24 (omega (arith, c.loop-i.invariant.within, c.loop-i.invariant.long, c.loop-i-test.true)))
-
-pub loop-i-smaller : goal.loop-i-smaller
-loop-i-smaller c = omega (arith, c.loop-i-test.true)
 
 pub loop-i-preserved : goal.loop-i-preserved
 loop-i-preserved c =

@@ -8,9 +8,6 @@ use Rattle.fault_table.proofs.groups_back.put_marks.Goals as goal
 pub loop-i-init : goal.loop-i-init
 loop-i-init c = marks_none _ refl
 
-pub overflow_sub-i : goal.overflow_sub-i
-overflow_sub-i c = omega (arith, c.loop-i-test.true)
-
 pub overflow_mul-a : goal.overflow_mul-a
 overflow_mul-a c = omega (arith, c.loop-i.invariant.within, c.requires, c.loop-i-test.true)
 
@@ -40,9 +37,6 @@ overflow_add-marks c = rw (digit c.anticommutes-on.result) (digit_fits c.anticom
 
 pub bounds-marks-i : goal.bounds-marks-i
 bounds-marks-i c = omega (arith, c.loop-i.invariant.long, c.loop-i.invariant.within, c.loop-i-test.true)
-
-pub loop-i-smaller : goal.loop-i-smaller
-loop-i-smaller c = omega (arith, c.loop-i-test.true)
 
 pub loop-i-preserved : goal.loop-i-preserved
 loop-i-preserved c =

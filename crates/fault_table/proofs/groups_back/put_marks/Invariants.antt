@@ -6,6 +6,3 @@ use Rattle.fault_table.proofs.groups_back.put_marks.Given as goal
 
 abbrev pub invariant-loop-i : goal.invariant-loop-i
 invariant-loop-i l = Marked (as_pauli l.p) l.state (length l.initial.marks) l.i l.marks
-
-abbrev pub decreases-loop-i : goal.decreases-loop-i
-decreases-loop-i l = l.i

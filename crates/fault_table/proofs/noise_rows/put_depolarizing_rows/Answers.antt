@@ -6,17 +6,11 @@ use Rattle.fault_table.proofs.noise_rows.put_depolarizing_rows.Goals as goal
 pub loop-e-init : goal.loop-e-init
 loop-e-init c = rows_none
 
-pub overflow_sub-e : goal.overflow_sub-e
-overflow_sub-e c = omega (arith, c.loop-e-test.true)
-
 pub depolarizing_element-p-requires : goal.depolarizing_element-p-requires
 depolarizing_element-p-requires c = (c.requires.5, c.requires.6, omega (arith, c.loop-e-test.true, c.loop-e.invariant.within, c.requires.4))
 
 pub put_element_row-begin-requires : goal.put_element_row-begin-requires
 put_element_row-begin-requires c = (c.requires.0, c.requires.1, omega (arith, begins_within c.loop-e.invariant, c.loop-e.invariant.long, c.requires.2), row_room c.loop-e.invariant c.loop-e-test.true c.requires.3)
-
-pub loop-e-smaller : goal.loop-e-smaller
-loop-e-smaller c = omega (arith, c.loop-e-test.true)
 
 pub loop-e-preserved : goal.loop-e-preserved
 loop-e-preserved c = rows_more c.loop-e.invariant c.loop-e-test.true (marks_long _ _ _) c.put_element_row-begin.auto.out (rw c.depolarizing_element-p.ensures at c.put_element_row-begin.ensures)

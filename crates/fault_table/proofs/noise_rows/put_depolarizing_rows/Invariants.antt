@@ -8,6 +8,3 @@ use Rattle.fault_table.proofs.noise_rows.put_depolarizing_rows.Given as goal
 
 abbrev pub invariant-loop-e : goal.invariant-loop-e
 invariant-loop-e l = RowsFrom l.groups l.line l.place l.n (λ (i : ℕ). marks_of (all_carried l.groups l.state) (depolarizing_element_of l.qubits i)) l.initial.out l.e l.begin l.out
-
-abbrev pub decreases-loop-e : goal.decreases-loop-e
-decreases-loop-e l = l.e

@@ -2,7 +2,7 @@
 use native.Mathlib.Omega.{arith}
 use Rattle.single_faults.specs.Carried.{rows_by}
 use Rattle.fault_table.specs.Rows.{rows_bytes}
-use Rattle.fault_table.specs.Laws.Kinds.{rows_as, single_held, single_room, single_rows, list_kept, list_few, list_below, spread_few, spread_room, spread_rows, listed_uniform, listed_weighted, no_rows}
+use Rattle.fault_table.specs.Laws.Kinds.{rows_as, single_held, single_room, single_rows, list_kept, list_few, list_below, spread_few, spread_room, spread_rows, listed_either, no_rows}
 use Rattle.fault_table.proofs.noise_rows.put_rows.Goals as goal
 
 pub pauli_at-p-requires : goal.pauli_at-p-requires
@@ -12,26 +12,14 @@ pub put_element_row-requires : goal.put_element_row-requires
 unfolding rows_bytes
 put_element_row-requires c = let q = c.requires in (q.few, q.words_of_groups, q.within, omega (arith, single_room q c.in-Single.is))
 
-pub size-n-requires : goal.size-n-requires
-size-n-requires c = c.requires.wide
-
 pub list-requires : goal.list-requires
-list-requires c = (omega arith, c.requires.wide, list_kept c.requires c.in-Depolarizing.is)
+list-requires c = (omega arith, list_kept c.requires c.in-Depolarizing.is)
 
 pub put_depolarizing_rows-requires : goal.put_depolarizing_rows-requires
 put_depolarizing_rows-requires c = let q = c.requires in let e = c.in-Depolarizing.is in let s = c.size-n.ensures in (q.few, q.words_of_groups, q.within, spread_room q e s, spread_few q e s, rw c.list.ensures (list_few q e), rw c.list.ensures (list_below q e))
 
-pub size-n-requires-in-Uniform : goal.size-n-requires-in-Uniform
-size-n-requires-in-Uniform c = c.requires.wide
-
 pub put_kept_rows-requires : goal.put_kept_rows-requires
-put_kept_rows-requires c = let q = c.requires in let l = listed_uniform q c.size-n-in-Uniform.ensures c.in-Uniform.is in (q.few, l.few, q.bytes_kept, q.within, l.room)
-
-pub size-n-requires-in-Weighted : goal.size-n-requires-in-Weighted
-size-n-requires-in-Weighted c = c.requires.wide
-
-pub put_kept_rows-requires-in-Weighted : goal.put_kept_rows-requires-in-Weighted
-put_kept_rows-requires-in-Weighted c = let q = c.requires in let l = listed_weighted q c.size-n-in-Weighted.ensures c.in-Weighted.is in (q.few, l.few, q.bytes_kept, q.within, l.room)
+put_kept_rows-requires c = let q = c.requires in let l = listed_either q c.size-n-in-Uniform.ensures c.in-Uniform.is in (q.few, l.few, q.bytes_kept, q.within, l.room)
 
 pub returns-in-Single : goal.returns-in-Single
 unfolding rows_by
@@ -41,10 +29,7 @@ pub returns-in-Depolarizing : goal.returns-in-Depolarizing
 returns-in-Depolarizing c = λ q. rows_as (spread_rows q c.in-Depolarizing.is c.size-n.ensures) (rw c.list.ensures at c.put_depolarizing_rows.ensures)
 
 pub returns-in-Uniform : goal.returns-in-Uniform
-returns-in-Uniform c = λ q. rows_as (listed_uniform q c.size-n-in-Uniform.ensures c.in-Uniform.is).rows c.put_kept_rows.ensures
-
-pub returns-in-Weighted : goal.returns-in-Weighted
-returns-in-Weighted c = λ q. rows_as (listed_weighted q c.size-n-in-Weighted.ensures c.in-Weighted.is).rows c.put_kept_rows-in-Weighted.ensures
+returns-in-Uniform c = λ q. rows_as (listed_either q c.size-n-in-Uniform.ensures c.in-Uniform.is).rows c.put_kept_rows.ensures
 
 pub returns-in_default : goal.returns-in_default
 returns-in_default c = λ q. no_rows q c.in_default.not-Single c.in_default.not-Depolarizing c.in_default.not-Uniform c.in_default.not-Weighted

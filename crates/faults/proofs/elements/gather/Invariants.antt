@@ -2,7 +2,7 @@
 use Rattle.faults.specs.Prepared.{ElementLines, Gathered}
 use lib.ListN.{length}
 use mathlib.Core.Path.{◌≡◌}
-use Prim.Native.Nat.{◌-◌, ◌≤◌}
+use Prim.Native.Nat.{◌≤◌}
 use Rattle.faults.proofs.elements.gather.Given as goal
 
 abbrev pub invariant-loop-e : goal.invariant-loop-e
@@ -12,7 +12,3 @@ invariant-loop-e l =
     × (length l.weights ≡ l.n)
     × (l.n ≡ 0 → l.elements ≡ l.initial.elements)
     × ((q : ElementLines l.job l.from l.n l.weighted) → Gathered q l.elements l.weights l.at l.e)
-    × (length l.values ≡ 136)
-
-abbrev pub decreases-loop-e : goal.decreases-loop-e
-decreases-loop-e l = l.n - l.e

@@ -3,11 +3,11 @@ use Rattle.faults.specs.Laws.Line.{unweighted, with_weight}
 use Rattle.faults.specs.Laws.Line.{weight_bits}
 use Rattle.faults.proofs.elements.weight_of.Goals as goal
 
-pub returns-then-not-weighted : goal.returns-then-not-weighted
-returns-then-not-weighted c = unweighted _ _ _ c.if-not-weighted.true
+pub returns-else-weighted : goal.returns-else-weighted
+returns-else-weighted c = unweighted _ _ _ c.if-weighted.false
 
 pub float_from_bits-result : goal.float_from_bits-result
-float_from_bits-result c = rw (weight_bits _ (c.requires c.if-not-weighted.false)) tt
+float_from_bits-result c = rw (weight_bits _ (c.requires c.if-weighted.true)) tt
 
-pub returns : goal.returns
-returns c = with_weight _ _ _ c.if-not-weighted.false
+pub returns-then-weighted : goal.returns-then-weighted
+returns-then-weighted c = with_weight _ _ _ c.if-weighted.true

@@ -15,7 +15,7 @@ enough-requires c =
 
 pub returns-then-not-enough : goal.returns-then-not-enough
 returns-then-not-enough c =
-    tests_short c.test-r.ensures c.if-answer-ne0.false c.too_few.ensures _
+    tests_short c.test-r.ensures c.if-answer-ne0.false c.refused.ensures _
     (rw (c.test-r.ensures.shaped c.if-answer-ne0.false) at (sym c.enough.ensures ∙ c.if-not-enough.true))
 
 pub returns : goal.returns

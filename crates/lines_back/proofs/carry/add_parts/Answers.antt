@@ -10,9 +10,6 @@ use Rattle.lines_back.proofs.carry.add_parts.Goals as goal
 pub loop-i-init : goal.loop-i-init
 loop-i-init c = (all_left _ _ _, all_left _ _ _)
 
-pub qubit_at-q-requires : goal.qubit_at-q-requires
-qubit_at-q-requires c = omega arith
-
 pub overflow_shr-x : goal.overflow_shr-x
 overflow_shr-x c = omega arith
 
@@ -20,17 +17,11 @@ pub overflow_shr-z : goal.overflow_shr-z
 overflow_shr-z c = omega arith
 
 pub add_at-r-requires : goal.add_at-r-requires
-add_at-r-requires c = rw c.qubit_at-q.ensures (below_at 256 _ c.requires.1 c.loop-i.i (omega arith))
-
-pub overflow_add-i : goal.overflow_add-i
-overflow_add-i c = omega arith
-
-pub loop-i-smaller : goal.loop-i-smaller
-loop-i-smaller c = omega arith
+add_at-r-requires c = rw c.from.ensures (below_at 256 _ c.requires.1 c.loop-i.i (omega arith))
 
 pub loop-i-preserved : goal.loop-i-preserved
 unfolding as_pauli added_at
-loop-i-preserved c = (one_added c.loop-i.invariant.0 _ c.loop-i-test.true (rw bit_is (ap (λ (P : Pauli). P.x) (rw c.qubit_at-q.ensures at c.add_at-r.ensures))), one_added c.loop-i.invariant.1 _ c.loop-i-test.true (rw bit_is (ap (λ (P : Pauli). P.z) (rw c.qubit_at-q.ensures at c.add_at-r.ensures))))
+loop-i-preserved c = (one_added c.loop-i.invariant.0 _ c.loop-i-test.true (rw bit_is (ap (λ (P : Pauli). P.x) (rw c.from.ensures at c.add_at-r.ensures))), one_added c.loop-i.invariant.1 _ c.loop-i-test.true (rw bit_is (ap (λ (P : Pauli). P.z) (rw c.from.ensures at c.add_at-r.ensures))))
 
 pub returns : goal.returns
 returns c = (none_left c.loop-i.invariant.0 c.loop-i-test.false, none_left c.loop-i.invariant.1 c.loop-i-test.false)

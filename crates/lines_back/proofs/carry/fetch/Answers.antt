@@ -20,12 +20,6 @@ overflow_shr-w c = let small = below_at _ _ c.requires.1 c.loop-i.i (omega arith
 pub with_bit-r-requires : goal.with_bit-r-requires
 with_bit-r-requires c = omega arith
 
-pub overflow_add-i : goal.overflow_add-i
-overflow_add-i c = omega arith
-
-pub loop-i-smaller : goal.loop-i-smaller
-loop-i-smaller c = omega arith
-
 pub loop-i-preserved : goal.loop-i-preserved
 loop-i-preserved c = (omega arith, c.with_bit-r.ensures _ c.loop-i.invariant.1 (sym (bit_is _ _)))
 

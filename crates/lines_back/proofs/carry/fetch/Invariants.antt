@@ -1,5 +1,5 @@
 -- `lines_back::carry::fetch` meets its contract. Assumes nothing.
-use Prim.Native.Nat.{◌-◌, ◌≤◌}
+use Prim.Native.Nat.{◌≤◌}
 use lib.ListN.{length, get_or}
 use Rattle.pauli.specs.Bits.{bit}
 use Rattle.lines_back.specs.Packed.{Packed}
@@ -7,6 +7,3 @@ use Rattle.lines_back.proofs.carry.fetch.Given as goal
 
 abbrev pub invariant-loop-i : goal.invariant-loop-i
 invariant-loop-i l = (l.i ≤ length l.places) × Packed l.i (λ j. bit l.w (get_or l.places j 0)) l.r
-
-abbrev pub decreases-loop-i : goal.decreases-loop-i
-decreases-loop-i l = length l.places - l.i

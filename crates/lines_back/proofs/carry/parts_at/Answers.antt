@@ -5,23 +5,14 @@ use Rattle.lines_back.proofs.carry.parts_at.Goals as goal
 pub loop-i-init : goal.loop-i-init
 loop-i-init c = (omega arith, packed_none _)
 
-pub qubit_at-requires : goal.qubit_at-requires
-qubit_at-requires c = omega arith
-
 pub has_qubit-requires : goal.has_qubit-requires
 has_qubit-requires c = tt
 
 pub with_bit-w-requires : goal.with_bit-w-requires
 with_bit-w-requires c = omega arith
 
-pub overflow_add-i : goal.overflow_add-i
-overflow_add-i c = omega arith
-
-pub loop-i-smaller : goal.loop-i-smaller
-loop-i-smaller c = omega arith
-
 pub loop-i-preserved : goal.loop-i-preserved
-loop-i-preserved c = (omega arith, c.with_bit-w.ensures _ c.loop-i.invariant.1 (rw c.qubit_at.ensures at c.has_qubit.ensures))
+loop-i-preserved c = (omega arith, c.with_bit-w.ensures _ c.loop-i.invariant.1 (rw c.from.ensures at c.has_qubit.ensures))
 
 pub returns : goal.returns
 returns c = packed_all c.loop-i.invariant.1 c.loop-i.invariant.0 c.loop-i-test.false

@@ -18,12 +18,6 @@ row_anticommutes-requires c = (c.requires.0.few, c.requires.2, c.requires.3)
 pub with_bit-w-requires : goal.with_bit-w-requires
 with_bit-w-requires c = omega (arith, c.requires.0.few)
 
-pub overflow_add-i : goal.overflow_add-i
-overflow_add-i c = omega (arith, c.requires.0.few)
-
-pub loop-i-smaller : goal.loop-i-smaller
-loop-i-smaller c = omega arith
-
 pub loop-i-preserved : goal.loop-i-preserved
 loop-i-preserved c = (omega arith, c.with_bit-w.ensures _ c.loop-i.invariant.1 (c.row_anticommutes.ensures ∙ rw c.row.ensures (row_as_word _ _ _ _)))
 

@@ -17,12 +17,6 @@ offset_bounds-list-i c = omega arith
 pub bounds-list-i : goal.bounds-list-i
 bounds-list-i c = omega arith
 
-pub overflow_add-i : goal.overflow_add-i
-overflow_add-i c = omega arith
-
-pub loop-i-smaller : goal.loop-i-smaller
-loop-i-smaller c = omega arith
-
 pub loop-i-preserved : goal.loop-i-preserved
 loop-i-preserved c = cycle_turn c.loop-i.invariant c.loop-i-test.true (omega arith)
 

@@ -18,5 +18,5 @@ cyclic-requires c =
 pub returns : goal.returns
 returns c =
     let below = pick_below _ _ _ (omega arith) c.pick-k.ensures in
-    stretch_made _ _ _ _ _ _ _ c.lesser.ensures c.pick-k.ensures
+    stretch_made _ _ _ _ _ _ _ c.min.ensures c.pick-k.ensures
     c.pick-a.ensures c.cyclic.ensures (omega (arith, below))

@@ -1,5 +1,4 @@
 -- `made_lines::gates::gate_qubits` meets its contract. Assumes nothing.
-use lib.ListN.{length-set}
 use native.Mathlib.Omega.{arith}
 use Rattle.made_fields.specs.Laws.Made.{pick_below}
 use Rattle.made_lines.specs.Laws.Gates.{two_qubits, gate_one, gate_two}
@@ -16,9 +15,6 @@ overflow_add-list-2 c =
     let two = two_qubits c.args.h (omega arith) c.requires.2 c.if-g-lt11.false in
     let below = pick_below _ _ _ (omega (arith, two)) c.pick-d.ensures in
     omega (arith, below)
-
-pub bounds-list-1 : goal.bounds-list-1
-bounds-list-1 c = omega (arith, length-set c.args.list.now 0 c.args.first.0, c.requires.3)
 
 pub returns : goal.returns
 returns c = gate_two c.args.h c.args.g c.args.first.0 c.args.state c.args.list.now c.if-g-lt11.false (omega (arith, c.requires.3)) c.pick-d.ensures

@@ -4,7 +4,6 @@ use lib.Seq.{length-take-le}
 use native.Mathlib.Omega.{arith}
 use Rattle.text.specs.Bytes.{bytes}
 use Rattle.made_fields.specs.Laws.Made.{pick_below}
-use Rattle.made_fields.specs.Laws.Fields.{take_short}
 use Rattle.made_lines.specs.Laws.Cliffords.{few_qubits, suits, clifford_made}
 use Rattle.made_lines.proofs.gates.put_clifford.Goals as goal
 
@@ -29,17 +28,11 @@ pub slice_bounds-put_members-end-2 : goal.slice_bounds-put_members-end-2
 slice_bounds-put_members-end-2 c =
     sym (length-take-le _ _ (omega (arith, c.cyclic.auto.list, c.table_qubits-k.ensures, few_qubits c.pick-i.result.value)))
 
-pub put_members-next-requires : goal.put_members-next-requires
-put_members-next-requires c = (omega arith, take_short c.table_qubits-k.result _ (omega (arith, c.table_qubits-k.ensures, few_qubits c.pick-i.result.value)), omega (arith, c.requires.room))
-
 pub put_table-end-requires : goal.put_table-end-requires
 put_table-end-requires c =
     let first = suits _ c.requires.some_qubits in
     let below = pick_below _ _ _ (omega (arith, first.some, c.suited_tables.ensures)) c.pick-i.ensures in
     (omega (arith, below, first.few, c.suited_tables.ensures), omega (arith, c.put_bytes-at.ensures.place, c.put_members-next.ensures.near, c.requires.room))
-
-pub end_line-requires : goal.end_line-requires
-end_line-requires c = rw c.moved.ensures (omega (arith, c.put_table-end.ensures.near, c.put_bytes-at.ensures.place, c.put_members-next.ensures.near, c.requires.room))
 
 pub returns : goal.returns
 returns c =

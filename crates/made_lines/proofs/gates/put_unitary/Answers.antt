@@ -2,7 +2,6 @@
 use native.Mathlib.Omega.{arith}
 use Rattle.text.specs.Bytes.{bytes}
 use Rattle.made_fields.specs.Laws.Made.{pick_below}
-use Rattle.made_fields.specs.Laws.Fields.{take_short}
 use Rattle.made_lines.specs.Laws.Gates.{some_codes, unitary_made}
 use Rattle.made_lines.proofs.gates.put_unitary.Goals as goal
 
@@ -14,12 +13,6 @@ gate_qubits-q-requires c =
     let a = pick_below _ _ _ c.requires.some_qubits c.pick-a.ensures in
     let g = pick_below _ _ _ (omega (arith, some_codes c.args.h, c.gate_codes.ensures)) c.pick-g.ensures in
     (a, c.requires.qubits, omega (arith, g, c.gate_codes.ensures), omega arith)
-
-pub put_members-end-requires : goal.put_members-end-requires
-put_members-end-requires c = (omega arith, take_short c.gate_qubits-q.result.count _ (omega (arith, c.gate_qubits-q.ensures.short)), omega (arith, c.put_value-next.ensures.near, c.requires.room))
-
-pub end_line-requires : goal.end_line-requires
-end_line-requires c = rw c.moved.ensures (omega (arith, c.put_members-end.ensures.near, c.put_value-next.ensures.near, c.requires.room))
 
 pub returns : goal.returns
 returns c =

@@ -3,9 +3,11 @@ use mathlib.Core.Bool.{true, false}
 use Rattle.text.specs.Bytes.{bytes}
 use Rattle.made_lines.specs.Laws.Noise.{count_put}
 use Rattle.made_lines.proofs.noise_lines.put_count.Goals as goal
-
-pub returns-then-weighted : goal.returns-then-weighted
-returns-then-weighted c = rw c.if-weighted.true (unfold bytes in count_put true _ c.put_value-next.ensures c.put_value.ensures)
+use Rattle.made_lines.proofs.noise_lines.put_count.Goals.{then-weighted, else-weighted}
 
 pub returns : goal.returns
-returns c = rw c.if-weighted.false (unfold bytes in count_put false _ c.put_value-next-2.ensures c.put_value-2.ensures)
+returns c =
+    elim c.if-weighted.branch [
+      | then-weighted w ↦ rw w.if-weighted.true (unfold bytes in count_put true _ (rw w.name-is at c.put_value-next.ensures) c.put_value.ensures)
+      | else-weighted w ↦ rw w.if-weighted.false (unfold bytes in count_put false _ (rw w.name-is at c.put_value-next.ensures) c.put_value.ensures)
+    ]

@@ -1,16 +1,7 @@
 -- `made_lines::other_lines::put_measure` meets its contract. Assumes nothing.
-use mathlib.Core.Path.{◌∙◌}
-use Rattle.writer.specs.Laws.Placing.{puts_length}
-use native.Mathlib.Omega.{arith}
 use Rattle.text.specs.Bytes.{bytes}
 use Rattle.made_lines.specs.Laws.Plain.{measure_made}
 use Rattle.made_lines.proofs.other_lines.put_measure.Goals as goal
 
-pub end_line-requires : goal.end_line-requires
-end_line-requires c = rw c.recorded.ensures (omega (arith, c.put_value-end.ensures.near, c.put_pauli-next.ensures.near, c.requires.0.room))
-
-pub shape_of-out : goal.shape_of-out
-shape_of-out c = puts_length c.end_line.ensures.puts ∙ puts_length c.put_value-end.ensures.puts ∙ puts_length c.put_pauli-next.ensures.puts
-
 pub returns : goal.returns
-returns c = unfold bytes in measure_made c.args.h c.put_pauli-next.ensures c.put_value-end.ensures c.recorded.ensures c.end_line.ensures
+returns c = unfold bytes in measure_made c.args.h c.put_pauli-next.ensures c.put_value-end.ensures c.with_outcome.ensures c.end_line.ensures

@@ -1,7 +1,5 @@
 -- `made_lines::other_lines::put_permute` meets its contract. Assumes nothing.
-use mathlib.Core.Path.{sym, ◌∙◌}
-use Rattle.writer.specs.Laws.Placing.{puts_length}
-use Rattle.made_fields.specs.Laws.Fields.{take_short}
+use mathlib.Core.Path.{sym}
 use Rattle.made_fields.specs.Laws.Made.{pick_below}
 use lib.Seq.{length-take-le}
 use native.Mathlib.Omega.{arith}
@@ -17,21 +15,6 @@ cyclic-requires c =
     let some = stretch_some _ _ c.requires.some_qubits c.stretch-q.ensures in
     let below = pick_below _ _ _ some c.pick-r.ensures in
     (omega (arith, c.stretch-q.ensures.short), some, omega (arith, below, c.stretch-q.ensures.short))
-
-pub slice_bounds-put_members-end-4 : goal.slice_bounds-put_members-end-4
-slice_bounds-put_members-end-4 c = sym (length-take-le _ _ (omega arith))
-
-pub put_members-next-requires : goal.put_members-next-requires
-put_members-next-requires c = (omega arith, take_short _ _ c.stretch-q.ensures.short, omega (arith, c.requires.room))
-
-pub put_members-end-requires : goal.put_members-end-requires
-put_members-end-requires c = (omega arith, take_short _ _ c.stretch-q.ensures.short, omega (arith, c.put_members-next.ensures.near, c.requires.room))
-
-pub end_line-requires : goal.end_line-requires
-end_line-requires c = rw c.moved.ensures (omega (arith, c.put_members-end.ensures.near, c.put_members-next.ensures.near, c.requires.room))
-
-pub shape_of-out : goal.shape_of-out
-shape_of-out c = puts_length c.end_line.ensures.puts ∙ puts_length c.put_members-end.ensures.puts ∙ puts_length c.put_members-next.ensures.puts
 
 pub returns : goal.returns
 returns c =

@@ -1,19 +1,11 @@
 -- `made_lines::other_lines::put_sides` meets its contract. Assumes nothing.
-use mathlib.Core.Path.{◌∙◌}
-use Rattle.writer.specs.Laws.Placing.{puts_length}
 use native.Mathlib.Omega.{arith}
 use Rattle.text.specs.Bytes.{bytes}
 use Rattle.made_lines.specs.Laws.Plain.{sides_x, sides_z}
 use Rattle.made_lines.proofs.other_lines.put_sides.Goals as goal
 
-pub shape_of-out-then-y-eq0 : goal.shape_of-out-then-y-eq0
-shape_of-out-then-y-eq0 c = puts_length c.put_bytes.ensures ∙ puts_length c.put_members-end.ensures.puts ∙ puts_length c.put_members-next.ensures.puts
-
 pub returns-then-y-eq0 : goal.returns-then-y-eq0
 returns-then-y-eq0 c = unfold bytes in (sides_x _ _ c.if-y-eq0.true c.put_members-next.ensures c.put_members-end.ensures c.put_bytes.ensures, omega (arith, c.put_members-next.ensures.near, c.put_members-end.ensures.near, c.put_bytes.ensures.place))
-
-pub shape_of-out : goal.shape_of-out
-shape_of-out c = puts_length c.put_members.ensures.puts ∙ puts_length c.put_members-next-2.ensures.puts
 
 pub returns : goal.returns
 returns c = unfold bytes in (sides_z _ _ c.if-y-eq0.false c.put_members-next-2.ensures c.put_members.ensures, omega (arith, c.put_members-next-2.ensures.near, c.put_members.ensures.near))

@@ -5,12 +5,12 @@ use Rattle.noise.proofs.words.position_after.Goals as goal
 
 pub overflow_add-result : goal.overflow_add-result
 unfolding correlation_of
-overflow_add-result c = record { fits = c.requires (rw c.in-Uncorrelated.is) }
+overflow_add-result c = record { fits = c.requires (rw c.in-None.is) }
 
-pub returns-in-Uncorrelated : goal.returns-in-Uncorrelated
+pub returns-in-None : goal.returns-in-None
 unfolding position_after_of
-returns-in-Uncorrelated c = rw c.in-Uncorrelated.is
+returns-in-None c = rw c.in-None.is
 
-pub returns-in-Shared : goal.returns-in-Shared
+pub returns-in-Some : goal.returns-in-Some
 unfolding position_after_of
-returns-in-Shared c = rw c.in-Shared.is
+returns-in-Some c = rw c.in-Some.is

@@ -1,6 +1,6 @@
 use native.Mathlib.Omega.{arith}
 use mathlib.Core.Path.{refl, sym, ◌∙◌}
-use borrow.Author.Tests.{not-true, not-false, eqb-true, eqb-false}
+use borrow.Author.Tests.{eqb-true, eqb-false}
 use Rattle.numbers.specs.Laws.Known.{list_inside, dash_read, known_start, known_next, known_few, known_size, known_onward, known_within, known_more, known_last}
 use Rattle.numbers.proofs.known.known_list.Goals as goal
 
@@ -28,7 +28,7 @@ shape_of-out-then-not-is_comma c = omega (arith, known_size c.loop-list.invarian
 pub returns-then-not-is_comma : goal.returns-then-not-is_comma
 returns-then-not-is_comma c =
     let other = eqb-false _ _ (sym c.is_comma.ensures ∙ c.if-not-is_comma.true) in
-    known_last c.loop-list.invariant c.read_digits-n.ensures other c.push-list.ensures c.store.ensures _ refl refl
+    known_last c.loop-list.invariant c.read_digits-n.ensures other c.push-list.ensures.listed c.push-list.ensures.stored _ refl refl
 
 pub overflow_add-at : goal.overflow_add-at
 overflow_add-at c = omega (arith, c.read_digits-n.ensures.within)
@@ -41,4 +41,4 @@ loop-list-smaller c =
 pub loop-list-preserved : goal.loop-list-preserved
 loop-list-preserved c =
     let more = eqb-true _ _ (sym c.is_comma.ensures ∙ c.if-not-is_comma.false) in
-    known_more c.loop-list.invariant c.read_digits-n.ensures more c.push-list.ensures c.store.ensures
+    known_more c.loop-list.invariant c.read_digits-n.ensures more c.push-list.ensures.listed c.push-list.ensures.stored

@@ -1,24 +1,14 @@
 -- `numbers::lists::short_number` meets its contract. Assumes nothing.
 use native.Mathlib.Omega.{arith}
 use mathlib.Core.Path.{sym, ◌∙◌}
-use borrow.Author.Tests.{not-false}
 use Rattle.numbers.specs.Laws.Members.{digit_bounds, short_one, short_two, short_three}
 use Rattle.numbers.proofs.lists.short_number.Goals as goal
-
-pub returns-then-not-is_digit : goal.returns-then-not-is_digit
-returns-then-not-is_digit c = λ h rest. absurd (omega (arith, c.not_short.ensures))
 
 pub overflow_sub-one : goal.overflow_sub-one
 overflow_sub-one c = omega (arith, digit_bounds c.args.a (sym c.is_digit.ensures ∙ c.if-not-is_digit.false))
 
 pub returns-then-b-eq44 : goal.returns-then-b-eq44
-returns-then-b-eq44 c = λ h rest. short_one _ _ _ (digit_bounds c.args.a (sym c.is_digit.ensures ∙ c.if-not-is_digit.false)) c.if-b-eq44.true
-
-pub returns-then-not-is_digit-2 : goal.returns-then-not-is_digit-2
-returns-then-not-is_digit-2 c = λ h rest. absurd (omega (arith, c.not_short-then-not-is_digit-2.ensures))
-
-pub returns-then-a-eq48 : goal.returns-then-a-eq48
-returns-then-a-eq48 c = λ h rest. absurd (omega (arith, c.not_short-then-a-eq48.ensures))
+returns-then-b-eq44 c = λ rest. short_one _ _ _ (digit_bounds c.args.a (sym c.is_digit.ensures ∙ c.if-not-is_digit.false)) c.if-b-eq44.true
 
 pub overflow_mul-two : goal.overflow_mul-two
 overflow_mul-two c = omega (arith, digit_bounds c.args.a (sym c.is_digit.ensures ∙ c.if-not-is_digit.false), digit_bounds c.args.b (sym c.is_digit-2.ensures ∙ c.if-not-is_digit-2.false))
@@ -33,13 +23,7 @@ pub overflow_add-two : goal.overflow_add-two
 overflow_add-two c = omega (arith, digit_bounds c.args.a (sym c.is_digit.ensures ∙ c.if-not-is_digit.false), digit_bounds c.args.b (sym c.is_digit-2.ensures ∙ c.if-not-is_digit-2.false))
 
 pub returns-then-c-eq44 : goal.returns-then-c-eq44
-returns-then-c-eq44 c = λ h rest. short_two _ _ _ _ (digit_bounds c.args.a (sym c.is_digit.ensures ∙ c.if-not-is_digit.false)) (digit_bounds c.args.b (sym c.is_digit-2.ensures ∙ c.if-not-is_digit-2.false)) c.if-a-eq48.false c.if-c-eq44.true
-
-pub returns-then-not-is_digit-3 : goal.returns-then-not-is_digit-3
-returns-then-not-is_digit-3 c = λ h rest. absurd (omega (arith, c.not_short-then-not-is_digit-3.ensures))
-
-pub returns-then-d-ne44 : goal.returns-then-d-ne44
-returns-then-d-ne44 c = λ h rest. absurd (omega (arith, c.not_short-then-d-ne44.ensures))
+returns-then-c-eq44 c = λ rest. short_two _ _ _ _ (digit_bounds c.args.a (sym c.is_digit.ensures ∙ c.if-not-is_digit.false)) (digit_bounds c.args.b (sym c.is_digit-2.ensures ∙ c.if-not-is_digit-2.false)) c.if-a-eq48.false c.if-c-eq44.true
 
 pub overflow_mul-result : goal.overflow_mul-result
 overflow_mul-result c = omega (arith, digit_bounds c.args.a (sym c.is_digit.ensures ∙ c.if-not-is_digit.false), digit_bounds c.args.b (sym c.is_digit-2.ensures ∙ c.if-not-is_digit-2.false), digit_bounds c.args.c (sym c.is_digit-3.ensures ∙ c.if-not-is_digit-3.false))
@@ -54,4 +38,4 @@ pub overflow_add-result : goal.overflow_add-result
 overflow_add-result c = omega (arith, digit_bounds c.args.a (sym c.is_digit.ensures ∙ c.if-not-is_digit.false), digit_bounds c.args.b (sym c.is_digit-2.ensures ∙ c.if-not-is_digit-2.false), digit_bounds c.args.c (sym c.is_digit-3.ensures ∙ c.if-not-is_digit-3.false))
 
 pub returns : goal.returns
-returns c = λ h rest. short_three _ _ _ _ _ (digit_bounds c.args.a (sym c.is_digit.ensures ∙ c.if-not-is_digit.false)) (digit_bounds c.args.b (sym c.is_digit-2.ensures ∙ c.if-not-is_digit-2.false)) (digit_bounds c.args.c (sym c.is_digit-3.ensures ∙ c.if-not-is_digit-3.false)) c.if-a-eq48.false c.if-d-ne44.false
+returns c = λ rest. short_three _ _ _ _ _ (digit_bounds c.args.a (sym c.is_digit.ensures ∙ c.if-not-is_digit.false)) (digit_bounds c.args.b (sym c.is_digit-2.ensures ∙ c.if-not-is_digit-2.false)) (digit_bounds c.args.c (sym c.is_digit-3.ensures ∙ c.if-not-is_digit-3.false)) c.if-a-eq48.false c.if-d-ne44.false

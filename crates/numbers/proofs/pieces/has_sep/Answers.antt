@@ -12,12 +12,6 @@ overflow_add-seen c = omega arith
 pub bounds-s-at : goal.bounds-s-at
 bounds-s-at c = omega arith
 
-pub overflow_add-i : goal.overflow_add-i
-overflow_add-i c = omega arith
-
-pub loop-i-smaller : goal.loop-i-smaller
-loop-i-smaller c = omega arith
-
 pub loop-i-preserved : goal.loop-i-preserved
 loop-i-preserved c = (omega arith, unseen_more c.loop-i.invariant.1 (omega arith))
 

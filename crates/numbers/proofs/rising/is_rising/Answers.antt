@@ -24,12 +24,6 @@ bounds-numbers-i-in-loop-i c = omega arith
 pub returns-then-numbers-i : goal.returns-then-numbers-i
 returns-then-numbers-i c = sym (c.loop-i.invariant.1 ∙ rising_fails _ _ c.loop-i.invariant.0 c.loop-i-test.true c.if-numbers-i.true)
 
-pub overflow_add-i : goal.overflow_add-i
-overflow_add-i c = omega arith
-
-pub loop-i-smaller : goal.loop-i-smaller
-loop-i-smaller c = omega arith
-
 pub loop-i-preserved : goal.loop-i-preserved
 loop-i-preserved c = (omega arith, c.loop-i.invariant.1 ∙ rising_next _ _ c.loop-i.invariant.0 c.loop-i-test.true c.if-numbers-i.false)
 

@@ -5,4 +5,4 @@ use Rattle.pauli.proofs.Pauli.from_lists.Goals as goal
 
 pub returns : goal.returns
 unfolding as_pauli
-returns c = pauli_path c.qubits.ensures c.qubits-2.ensures
+returns c = pauli_path c.set_of.ensures c.set_of-2.ensures

@@ -21,12 +21,6 @@ bounds-set-j c = omega arith
 pub bounds-set-j-in-loop-j : goal.bounds-set-j-in-loop-j
 bounds-set-j-in-loop-j c = omega arith
 
-pub overflow_add-j : goal.overflow_add-j
-overflow_add-j c = omega arith
-
-pub loop-j-smaller : goal.loop-j-smaller
-loop-j-smaller c = omega arith
-
 pub loop-j-preserved : goal.loop-j-preserved
 loop-j-preserved c = summed_more _ _ _ _ c.loop-j.invariant (omega (arith, c.loop-j.invariant.same))
 

@@ -29,12 +29,6 @@ overflow_shr-row-in-loop-j c = omega (arith, c.requires.2.few)
 pub add_row_if-requires-in-loop-j : goal.add_row_if-requires-in-loop-j
 add_row_if-requires-in-loop-j c = (rw c.qubit_at-q.ensures (row_in _ _ _ _ (c.loop-j.invariant.3 ∙ c.requires.1) (below_at _ _ c.requires.3 _ c.loop-j-test.true)), c.requires.5)
 
-pub overflow_add-j : goal.overflow_add-j
-overflow_add-j c = omega arith
-
-pub loop-j-smaller : goal.loop-j-smaller
-loop-j-smaller c = omega arith
-
 pub loop-j-preserved : goal.loop-j-preserved
 loop-j-preserved c =
     let j = c.loop-j-test.true in

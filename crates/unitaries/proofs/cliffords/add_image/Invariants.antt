@@ -9,6 +9,3 @@ use Rattle.unitaries.proofs.cliffords.add_image.Given as goal
 
 abbrev pub invariant-loop-j : goal.invariant-loop-j
 invariant-loop-j l = RowLeft l.shape.width (λ c. bit (table_of l.table) (2 * length l.qubits * l.r + c)) l.qubits l.r l.saved l.initial.x l.j l.x × RowLeft l.shape.width (λ c. bit (table_of l.table) (2 * length l.qubits * l.r + (length l.qubits + c))) l.qubits l.r l.saved l.initial.z l.j l.z × (length l.x ≡ length l.initial.x) × (length l.z ≡ length l.initial.z)
-
-abbrev pub decreases-loop-j : goal.decreases-loop-j
-decreases-loop-j l = length l.qubits - l.j

@@ -15,12 +15,6 @@ overflow_add-k c = omega arith
 pub add_image-requires-in-loop-i : goal.add_image-requires-in-loop-i
 add_image-requires-in-loop-i c = (c.add_image.auto.x ∙ c.loop-i.invariant.1 ∙ c.requires.0, c.add_image.auto.z ∙ c.loop-i.invariant.2 ∙ c.requires.1, c.requires.2, c.requires.3, omega arith, row_below _ _ _ c.requires.4 (omega (arith, c.loop-i-test.true)))
 
-pub overflow_add-i : goal.overflow_add-i
-overflow_add-i c = omega arith
-
-pub loop-i-smaller : goal.loop-i-smaller
-loop-i-smaller c = omega arith
-
 pub loop-i-preserved : goal.loop-i-preserved
 loop-i-preserved c = (images_turn _ _ _ _ _ _ _ _ _ _ _ _ _ c.loop-i-test.true c.add_image.ensures c.add_image-in-loop-i.ensures c.loop-i.invariant.0, c.add_image-in-loop-i.auto.x ∙ c.add_image.auto.x ∙ c.loop-i.invariant.1, c.add_image-in-loop-i.auto.z ∙ c.add_image.auto.z ∙ c.loop-i.invariant.2)
 

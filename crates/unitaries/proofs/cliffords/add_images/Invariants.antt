@@ -8,6 +8,3 @@ use Rattle.unitaries.proofs.cliffords.add_images.Given as goal
 
 abbrev pub invariant-loop-i : goal.invariant-loop-i
 invariant-loop-i l = ImagesLeft l.shape.width l.qubits (table_of l.table) l.saved l.initial.x l.initial.z l.i l.x l.z × (length l.x ≡ length l.initial.x) × (length l.z ≡ length l.initial.z)
-
-abbrev pub decreases-loop-i : goal.decreases-loop-i
-decreases-loop-i l = length l.qubits - l.i

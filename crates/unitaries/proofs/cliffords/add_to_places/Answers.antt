@@ -27,12 +27,6 @@ overflow_mul-i c = omega (arith, row_below c.args.shape.width _ c.loop-i.i c.req
 pub xor_words-requires : goal.xor_words-requires
 xor_words-requires c = (rw c.qubit_at-qubit.ensures (row_in _ _ _ _ (c.loop-i.invariant.1 ∙ c.requires.0) (below_at _ _ c.requires.1 _ (below_at _ _ (test_permutes _ _ c.requires.2).below c.loop-i.i c.loop-i-test.true))), row_below c.args.shape.width _ c.loop-i.i c.requires.3 (operand_at c.args.places.now c.args.qubits.now _ c.requires.2 c.loop-i-test.true))
 
-pub overflow_add-i : goal.overflow_add-i
-overflow_add-i c = omega arith
-
-pub loop-i-smaller : goal.loop-i-smaller
-loop-i-smaller c = omega arith
-
 pub loop-i-preserved : goal.loop-i-preserved
 loop-i-preserved c = (places_turn _ _ _ _ _ _ _ _ c.loop-i-test.true (operand_at c.args.places.now c.args.qubits.now _ c.requires.2 c.loop-i-test.true) (row_in _ _ _ _ (c.loop-i.invariant.1 ∙ c.requires.0) (below_at _ _ c.requires.1 _ (below_at _ _ (test_permutes _ _ c.requires.2).below c.loop-i.i c.loop-i-test.true))) (rw c.qubit_at-qubit.ensures at c.xor_words.ensures) c.loop-i.invariant.0, c.xor_words.auto.dst ∙ c.loop-i.invariant.1)
 

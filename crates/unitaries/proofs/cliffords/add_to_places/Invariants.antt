@@ -7,6 +7,3 @@ use Rattle.unitaries.proofs.cliffords.add_to_places.Given as goal
 
 abbrev pub invariant-loop-i : goal.invariant-loop-i
 invariant-loop-i l = PlacesLeft l.w l.places l.qubits l.saved l.initial.rows l.i l.rows × (length l.rows ≡ length l.initial.rows)
-
-abbrev pub decreases-loop-i : goal.decreases-loop-i
-decreases-loop-i l = length l.places - l.i

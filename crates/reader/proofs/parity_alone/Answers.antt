@@ -1,9 +1,0 @@
--- `reader::parity_alone` meets its contract. Assumes nothing.
-use borrow.Author.Tests.{eq-eqb, ne_eqb}
-use Rattle.reader.proofs.parity_alone.Goals as goal
-
-pub returns-then-count-ne0 : goal.returns-then-count-ne0
-returns-then-count-ne0 c = rw (ne_eqb _ _ c.if-count-ne0.true)
-
-pub returns : goal.returns
-returns c = rw (eq-eqb _ _ c.if-count-ne0.false)

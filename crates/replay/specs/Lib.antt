@@ -1,0 +1,3 @@
+-- Definitions that contracts cite: what reading a record says, and that a list begins as another.
+pub mod Records
+pub mod Front

@@ -1,8 +1,0 @@
--- `replay_calls::annotated` meets its contract. Assumes nothing.
-use mathlib.Core.Path.{sym}
-use lib.Seq.{length-take-le}
-use borrow.Author.Rules.{rules}
-use Rattle.replay_calls.proofs.annotated.Goals as goal
-
-pub slice_bounds-annotate-end-2 : goal.slice_bounds-annotate-end-2
-slice_bounds-annotate-end-2 c = sym (length-take-le _ _ (search rules))
