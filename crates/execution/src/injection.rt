@@ -37,7 +37,7 @@ fn flip_selected(rows: &mut [u64], width: usize, qubits: &[u64], bits: u64, shot
 {
     let mut left = bits;
     for &q in qubits {
-        flip_if(rows, width, QubitId(q as usize), shot, left % 2 == 1);
+        flip_if(rows, width, QubitId::from(q), shot, left % 2 == 1);
         left /= 4;
     }
 }

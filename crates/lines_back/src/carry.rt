@@ -26,7 +26,7 @@ pub fn unitary_back(b: Pauli, code: u64, qubits: &[u64]) -> Pauli
     ensures { as_pauli result ≡ by_gate conjugated_back (gate_of code) (get_or qubits.now 0 0) (get_or qubits.now 1 0) (as_pauli b) }
 {
     let last = qubits.len() - 1;
-    b.conjugate_back_by_code(code, qubit_at(qubits, 0), qubit_at(qubits, last))
+    b.conjugate_back(code, qubit_at(qubits, 0), qubit_at(qubits, last))
 }
 
 // ---- Exponentials and controlled Paulis

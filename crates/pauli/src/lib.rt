@@ -308,7 +308,7 @@ impl Pauli {
     }
 
     // Conjugated by a gate on its operands a and b, of which a gate on one qubit has no b.
-    pub fn conjugate(self, gate: Gate, a: QubitId, b: QubitId) -> Pauli
+    pub fn conjugate_by_gate(self, gate: Gate, a: QubitId, b: QubitId) -> Pauli
         requires { (a.0 < 256) × (b.0 < 256) }
         ensures { as_pauli result ≡ conjugated (gate_named gate) a.0 b.0 (as_pauli self) }
     {
@@ -326,34 +326,34 @@ impl Pauli {
     }
 
     // The same going back: PrepareBell with its halves reversed, the other gates as forwards.
-    pub fn conjugate_back(self, gate: Gate, a: QubitId, b: QubitId) -> Pauli
+    pub fn conjugate_back_by_gate(self, gate: Gate, a: QubitId, b: QubitId) -> Pauli
         requires { (a.0 < 256) × (b.0 < 256) }
         ensures { as_pauli result ≡ conjugated_back (gate_named gate) a.0 b.0 (as_pauli self) }
     {
         match gate {
             Gate::PrepareBell => self.controlled_x(a, b).swap_parts(a),
-            _ => self.conjugate(gate, a, b),
+            _ => self.conjugate_by_gate(gate, a, b),
         }
     }
 
     // Conjugated by the gate of a line's code. A code above the last has no gate and changes nothing.
-    pub fn conjugate_by_code(self, code: u64, a: QubitId, b: QubitId) -> Pauli
+    pub fn conjugate(self, code: u64, a: QubitId, b: QubitId) -> Pauli
         requires { (a.0 < 256) × (b.0 < 256) }
         ensures { as_pauli result ≡ by_gate conjugated (gate_of code) a.0 b.0 (as_pauli self) }
     {
         match Gate::from_code(code) {
-            Some(gate) => self.conjugate(gate, a, b),
+            Some(gate) => self.conjugate_by_gate(gate, a, b),
             None => self,
         }
     }
 
     // The same going back.
-    pub fn conjugate_back_by_code(self, code: u64, a: QubitId, b: QubitId) -> Pauli
+    pub fn conjugate_back(self, code: u64, a: QubitId, b: QubitId) -> Pauli
         requires { (a.0 < 256) × (b.0 < 256) }
         ensures { as_pauli result ≡ by_gate conjugated_back (gate_of code) a.0 b.0 (as_pauli self) }
     {
         match Gate::from_code(code) {
-            Some(gate) => self.conjugate_back(gate, a, b),
+            Some(gate) => self.conjugate_back_by_gate(gate, a, b),
             None => self,
         }
     }

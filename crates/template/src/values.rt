@@ -1,6 +1,6 @@
 // The values of a line: its numbers, at most 4; of each of its lists, at most 4, how many members it has, the largest of them (0 of none), and the
 // members, of which the first 31 are kept. A line is read into values that are lent, so that none are copied.
-ghost use Rattle.std.specs.Prelude.{◌≡◌, List, ℕ, ◌<◌, set, replicate};
+ghost use Rattle.std.specs.Prelude.{◌≡◌, List, ℕ, ◌<◌, set, replicate, take};
 ghost use Rattle.template.specs.Values.{AllKept, Whole, held_number, held_count, held_largest, held_member, held_list, kept_members};
 ghost use Rattle.template.specs.Fields.{FewAre, ListPut, KnownPut};
 ghost use Rattle.numbers.specs.Known.{ListThere};
@@ -38,6 +38,16 @@ impl Values {
         Values {
             words: [0u64; VALUE_WORDS],
         }
+    }
+
+    // The values in lent words, of which there may be more.
+    pub fn of(words: &[u64]) -> Values
+        requires { Whole words.now }
+        ensures { result.words ≡ take 136 words.now }
+    {
+        let mut kept = [0u64; VALUE_WORDS];
+        kept.copy_from_slice(&words[..VALUE_WORDS]);
+        Values { words: kept }
     }
 
     // The i-th number.

@@ -10,7 +10,7 @@ ghost use Rattle.totals.specs.Ones.{ones_to, ones_in};
 ghost use Rattle.totals.specs.Held.{TotalsHeld};
 ghost use Rattle.totals.specs.Sum.{delta_sum_of};
 
-use pauli::{OutcomeId, Shot, WORD_BITS};
+use pauli::{OutcomeId, Shot, WORD_BITS, outcome_at};
 use rows::Shape;
 
 // Whether a bit of these words is 1.
@@ -100,8 +100,10 @@ pub fn delta_sum(deltas: &[u64], w: usize, shot: Shot, set: &[u64]) -> u64
     let s = shot.0;
     let place = s / WORD_BITS;
     let mut word = 0u64;
-    for &outcome in set {
-        word ^= deltas[outcome as usize * w + place];
+    // By place: `outcome_at` takes a member out as an outcome's id.
+    for k in 0..set.len() {
+        let id = outcome_at(set, k);
+        word ^= deltas[id.0 * w + place];
     }
     (word >> (s % WORD_BITS)) % 2
 }

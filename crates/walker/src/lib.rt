@@ -95,7 +95,7 @@ fn gates_back(mut observable: Pauli, job: &[u8], mut end: usize, mut number: u64
             };
         }
         let gate = read_gate(line);
-        observable = observable.conjugate_back_by_code(gate.code, gate.first, gate.second);
+        observable = observable.conjugate_back(gate.code, gate.first, gate.second);
         number -= 1;
         end = start;
     }

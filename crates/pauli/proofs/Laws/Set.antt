@@ -12,7 +12,7 @@ use Rattle.std.proofs.Math.Seq.{get_or-set_same}
 use Rattle.std.proofs.lemmas.List.{set-get_or}
 use Rattle.std.specs.Int.Bits.{bit_xor, bit_or, xor_zero_r}
 use mir.Val.{bool_byte}
-use Rattle.pauli.specs.Bits.{Bits, ◌⊕◌, ◌∩◌, ◌△◌, none, replaced, added, outside, members, bit}
+use Rattle.pauli.specs.Bits.{Bits, ◌⊕◌, ◌∩◌, ◌∪◌, ◌△◌, none, replaced, added, outside, members, bit}
 use Rattle.pauli.specs.Fixed.{in_set}
 use Rattle.pauli.proofs.Laws.F2.{f2}
 use Rattle.pauli.proofs.Laws.Parity.{at_or_off, replaced_is, added_is}
@@ -120,10 +120,34 @@ members_snoc (n ∷ l) q i = go (eqb i n) (eqb i q) (members_snoc l q i)
     go true false e = refl
     go false c e = e
 
+pub ∪_nothing : (s : Bits) → s ≡ s ∪ members []
+unfolding ◌∪◌ members outside
+∪_nothing s = fun_ext (λ i. go (s i))
+  where
+    go : (a : Bool) → a ≡ (a || false)
+    go true = refl
+    go false = refl
+
+pub none_∪ : (s : Bits) → none ∪ s ≡ s
+unfolding ◌∪◌ none
+none_∪ s = refl
+
 -- one number more of the list
-pub members_more : (t : Bits) (l : List ℕ) (j : ℕ) → j < length l → t ≡ members (take j l) → replaced t (get_or l j 0) true ≡ members (take (j + 1) l)
-unfolding replaced
-members_more t l j h e = rw (e, add-one, take-suc l j 0 h) (fun_ext (λ i. sym (members_snoc (take j l) (get_or l j 0) i)))
+pub members_more : (s t : Bits) (l : List ℕ) (j : ℕ) → j < length l → t ≡ s ∪ members (take j l) → replaced t (get_or l j 0) true ≡ s ∪ members (take (j + 1) l)
+unfolding ◌∪◌ replaced
+members_more s t l j h e =
+    rw (e, add-one, take-suc l j 0 h)
+    (fun_ext (λ i. rw (members_snoc (take j l) (get_or l j 0) i) (go (s i) (members (take j l) i) (eqb i (get_or l j 0)))))
+  where
+    go : (a b c : Bool) → cond c true (a || b) ≡ (a || cond c true b)
+    go true b true = refl
+    go true b false = refl
+    go false b c = refl
+
+-- the same from the empty set on
+pub members_next : (t : Bits) (l : List ℕ) (j : ℕ) → j < length l → t ≡ members (take j l) → replaced t (get_or l j 0) true ≡ members (take (j + 1) l)
+unfolding ◌∪◌ none
+members_next t l j h e = members_more none t l j h e
 
 -- ---- the sum of two sets, word by word
 

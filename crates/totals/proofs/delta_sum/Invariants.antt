@@ -5,5 +5,5 @@ use Rattle.rows.specs.Column.{column}
 use Rattle.totals.specs.Laws.Sum.{sum_from}
 use Rattle.totals.proofs.delta_sum.Given as goal
 
-abbrev pub invariant-loop-outcome : goal.invariant-loop-outcome
-invariant-loop-outcome l = sum_from l.w l.deltas l.s l.set l.word l.outcome-index ≡ sum_over l.set (column l.w l.deltas l.s)
+abbrev pub invariant-loop-k : goal.invariant-loop-k
+invariant-loop-k l = sum_from l.w l.deltas l.s l.set l.word l.k ≡ sum_over l.set (column l.w l.deltas l.s)

@@ -80,10 +80,10 @@ ones_word (suc n) v h =
     ∙ sym (ones_step v)
 
 -- one word more
-pub word_more : (words : List ℕ) (j : ℕ) → get_or words j 0 < 2 ^ 64
+pub word_next : (words : List ℕ) (j : ℕ) → get_or words j 0 < 2 ^ 64
     → ones_to (64 * (j + 1)) (bit_in 1 words 0) ≡ ones_to (64 * j) (bit_in 1 words 0) + ones (get_or words j 0)
 unfolding bit_in
-word_more words j fits =
+word_next words j fits =
     let n : 64 * (j + 1) ≡ 64 * j + 64 = omega arith in
     rw n
     (ones_plus (64 * j) 64 (bit_in 1 words 0)
@@ -92,6 +92,22 @@ word_more words j fits =
     word : (k : ℕ) → k < 64 → bit_in 1 words 0 (64 * j + k) ≡ bit (get_or words j 0) k
     word k h =
         let place : 0 * 1 + (64 * j + k) / 64 ≡ j = omega arith in
+        let here : (64 * j + k) % 64 ≡ k = omega arith in
+        rw (place, here)
+
+-- one word more, of words from a place on, which are a row of width 1
+pub word_more : (rows : List ℕ) (from j : ℕ) → get_or rows (from + j) 0 < 2 ^ 64
+    → ones_to (64 * (j + 1)) (bit_in 1 rows from) ≡ ones_to (64 * j) (bit_in 1 rows from) + ones (get_or rows (from + j) 0)
+unfolding bit_in
+word_more rows from j fits =
+    let n : 64 * (j + 1) ≡ 64 * j + 64 = omega arith in
+    rw n
+    (ones_plus (64 * j) 64 (bit_in 1 rows from)
+    ∙ ap (λ (i : ℕ). ones_to (64 * j) (bit_in 1 rows from) + i) (ones_same 64 _ (bit (get_or rows (from + j) 0)) word ∙ ones_word 64 _ fits))
+  where
+    word : (k : ℕ) → k < 64 → bit_in 1 rows from (64 * j + k) ≡ bit (get_or rows (from + j) 0) k
+    word k h =
+        let place : from * 1 + (64 * j + k) / 64 ≡ from + j = omega arith in
         let here : (64 * j + k) % 64 ≡ k = omega arith in
         rw (place, here)
 
@@ -133,9 +149,9 @@ ones_row w rows r k room e =
         ∙ ap (λ (i : ℕ). get_or rows i 0) place)
 
 -- words of which each is 0
-pub words_none : (words : List ℕ) → ((i : ℕ) → i < length words → get_or words i 0 ≡ 0) → ones_in words ≡ 0
+pub each_none : (words : List ℕ) → ((i : ℕ) → i < length words → get_or words i 0 ≡ 0) → ones_in words ≡ 0
 unfolding bit_in
-words_none words none = ones_none (64 * length words) (bit_in 1 words 0) off
+each_none words none = ones_none (64 * length words) (bit_in 1 words 0) off
   where
     off : (k : ℕ) → k < 64 * length words → bit_in 1 words 0 k ≡ false
     off k h =
@@ -143,13 +159,31 @@ words_none words none = ones_none (64 * length words) (bit_in 1 words 0) off
         rw (place, none (k / 64) (omega arith)) (bit_zero (k % 64))
 
 -- one word more of which each bit is 0, where the first i are 0 if a number is
-pub none_more : (words : List ℕ) (i sum : ℕ) → (sum ≡ 0 → (k : ℕ) → k < i → get_or words k 0 ≡ 0)
+pub none_next : (words : List ℕ) (i sum : ℕ) → (sum ≡ 0 → (k : ℕ) → k < i → get_or words k 0 ≡ 0)
     → bit_or sum (get_or words i 0) ≡ 0 → (k : ℕ) → k < i + 1 → get_or words k 0 ≡ 0
-none_more words i sum before e k h = go (ℕ_discrete k i)
+none_next words i sum before e k h = go (ℕ_discrete k i)
   where
     go : Dec (k ≡ i) → get_or words k 0 ≡ 0
     go (yes last) = rw last (omega (arith, or_add_and sum (get_or words i 0), and_le_l sum (get_or words i 0)))
     go (no other) = before (omega (arith, or_add_and sum (get_or words i 0), and_le_r sum (get_or words i 0))) k (omega arith)
+
+-- the same of words from a place on
+pub words_none : (rows : List ℕ) (from n : ℕ) → ((i : ℕ) → i < n → get_or rows (from + i) 0 ≡ 0) → ones_to (64 * n) (bit_in 1 rows from) ≡ 0
+unfolding bit_in
+words_none rows from n none = ones_none (64 * n) (bit_in 1 rows from) off
+  where
+    off : (k : ℕ) → k < 64 * n → bit_in 1 rows from k ≡ false
+    off k h =
+        let place : from * 1 + k / 64 ≡ from + k / 64 = omega arith in
+        rw (place, none (k / 64) (omega arith)) (bit_zero (k % 64))
+
+pub none_more : (rows : List ℕ) (from i sum : ℕ) → (sum ≡ 0 → (k : ℕ) → k < i → get_or rows (from + k) 0 ≡ 0)
+    → bit_or sum (get_or rows (from + i) 0) ≡ 0 → (k : ℕ) → k < i + 1 → get_or rows (from + k) 0 ≡ 0
+none_more rows from i sum before e k h = go (ℕ_discrete k i)
+  where
+    go : Dec (k ≡ i) → get_or rows (from + k) 0 ≡ 0
+    go (yes last) = rw last (omega (arith, or_add_and sum (get_or rows (from + i) 0), and_le_l sum (get_or rows (from + i) 0)))
+    go (no other) = before (omega (arith, or_add_and sum (get_or rows (from + i) 0), and_le_r sum (get_or rows (from + i) 0))) k (omega arith)
 
 -- ---- after a change
 

@@ -33,9 +33,9 @@ pub read_gate-gate-requires : goal.read_gate-gate-requires
 unfolding line_at
 read_gate-gate-requires c = gate_there (c.is_gate.ensures (c.if-not-is_gate.false)) (line_known _ c.requires.0 c.loop-end.invariant.left.left c.loop-end-test.true c.line_start-start.ensures)
 
-pub conjugate_back_by_code-observable-requires : goal.conjugate_back_by_code-observable-requires
+pub conjugate_back-observable-requires : goal.conjugate_back-observable-requires
 unfolding line_at
-conjugate_back_by_code-observable-requires c = operands_of (c.is_gate.ensures (c.if-not-is_gate.false)) c.read_gate-gate.ensures (line_known _ c.requires.0 c.loop-end.invariant.left.left c.loop-end-test.true c.line_start-start.ensures)
+conjugate_back-observable-requires c = operands_of (c.is_gate.ensures (c.if-not-is_gate.false)) c.read_gate-gate.ensures (line_known _ c.requires.0 c.loop-end.invariant.left.left c.loop-end-test.true c.line_start-start.ensures)
 
 pub overflow_sub-number : goal.overflow_sub-number
 overflow_sub-number c = line_left _ c.requires.0 c.loop-end.invariant.left.left c.loop-end-test.true c.line_start-start.ensures
@@ -45,7 +45,7 @@ loop-end-smaller c = omega (arith, c.line_start-start.ensures.within, c.loop-end
 
 pub loop-end-preserved : goal.loop-end-preserved
 unfolding line_at
-loop-end-preserved c = gates_on _ c.requires.0 c.loop-end.invariant c.loop-end-test.true c.line_start-start.ensures (λ count noise shot set. gate_goes (c.is_gate.ensures (c.if-not-is_gate.false)) c.read_gate-gate.ensures c.conjugate_back_by_code-observable.ensures shot _ set)
+loop-end-preserved c = gates_on _ c.requires.0 c.loop-end.invariant c.loop-end-test.true c.line_start-start.ensures (λ count noise shot set. gate_goes (c.is_gate.ensures (c.if-not-is_gate.false)) c.read_gate-gate.ensures c.conjugate_back-observable.ensures shot _ set)
 
 pub returns : goal.returns
 returns c = (c.loop-end.invariant, λ h. absurd (omega (arith, h, c.loop-end-test.false)))

@@ -9,7 +9,7 @@ pub loop-q-preserved : goal.loop-q-preserved
 loop-q-preserved c =
     let inv = c.loop-q.invariant in
     let within = c.loop-q-test.true in
-    (omega arith, next_marked _ _ within inv.1 c.mark.ensures)
+    (omega arith, next_marked _ _ within inv.1 (rw c.from.ensures at c.mark.ensures))
 
 pub shape_of-marks : goal.shape_of-marks
 shape_of-marks c = c.loop-q.invariant.1.size

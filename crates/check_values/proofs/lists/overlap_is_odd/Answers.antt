@@ -19,7 +19,7 @@ is_marked-odd-requires c = c.loop-q.invariant.1
 pub loop-q-preserved : goal.loop-q-preserved
 loop-q-preserved c =
     let inv = c.loop-q.invariant in
-    (omega arith, inv.1, rw c.is_marked-odd.ensures (next_counted _ _ _ _ c.loop-q-test.true inv.2))
+    (omega arith, inv.1, rw (c.is_marked-odd.ensures, c.from.ensures) (next_counted _ _ _ _ c.loop-q-test.true inv.2))
 
 pub returns : goal.returns
 returns c = λ rl rm. all_counted _ _ _ c.loop-q.q-index c.loop-q-test.false c.loop-q.invariant.2
