@@ -95,12 +95,15 @@ word_more rows from j fits =
         let here : (64 * j + k) % 64 ≡ k = omega arith in
         rw (place, here)
 
--- from the first word on
+-- counted from place 0, the i-th word is the i-th
+from_first : (words : List ℕ) (i : ℕ) → get_or words (0 + i) 0 ≡ get_or words i 0
+from_first words i = ap (λ (k : ℕ). get_or words k 0) (omega arith)
+
+-- one word more, of words from the first on
 pub word_next : (words : List ℕ) (j : ℕ) → get_or words j 0 < 2 ^ 64
     → ones_to (64 * (j + 1)) (bit_in 1 words 0) ≡ ones_to (64 * j) (bit_in 1 words 0) + ones (get_or words j 0)
 word_next words j fits =
-    let e : 0 + j ≡ j = omega arith in
-    word_more words 0 j (rw e fits) ∙ ap (λ (i : ℕ). ones_to (64 * j) (bit_in 1 words 0) + ones (get_or words i 0)) e
+    word_more words 0 j (rw (from_first words j) fits) ∙ ap (λ (w : ℕ). ones_to (64 * j) (bit_in 1 words 0) + ones w) (from_first words j)
 
 -- words that are cut in two
 ones_append : (words first rest : List ℕ) → words ≡ first ++ rest → ones_in words ≡ ones_in first + ones_in rest
@@ -158,10 +161,7 @@ none_more rows from i sum before e k h = go (ℕ_discrete k i)
     go (yes last) = rw last (omega (arith, or_add_and sum (get_or rows (from + i) 0), and_le_l sum (get_or rows (from + i) 0)))
     go (no other) = before (omega (arith, or_add_and sum (get_or rows (from + i) 0), and_le_r sum (get_or rows (from + i) 0))) k (omega arith)
 
--- the same from the first word on
-from_first : (words : List ℕ) (i : ℕ) → get_or words (0 + i) 0 ≡ get_or words i 0
-from_first words i = ap (λ (k : ℕ). get_or words k 0) (omega arith)
-
+-- both of words from the first on
 pub each_none : (words : List ℕ) → ((i : ℕ) → i < length words → get_or words i 0 ≡ 0) → ones_in words ≡ 0
 each_none words none = words_none words 0 (length words) (λ i h. from_first words i ∙ none i h)
 
