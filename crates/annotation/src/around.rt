@@ -15,7 +15,7 @@ use crate::line_qubits::{fit, noise_qubits};
 use known_lines::next_known;
 use line_writer::new_lines::{put_depolarizing, put_start};
 use reader::Form;
-use template::values::{KEPT, MAX_SLOTS, Values};
+use template::values::{KEPT, MAX_SLOTS, Values, blank};
 use writer::put_bytes;
 
 // A line's noise, from how its line begins: none over no qubits.
@@ -67,7 +67,7 @@ pub fn put_annotated(out: &mut [u8], job: &[u8], p: u64) -> Result<usize, Unfit>
     requires { (check_job job.now).number ≡ 0 }
     ensures { Annotates job.now p result out.old out.new }
 {
-    let mut fields = Values::new();
+    let mut words = blank();
     let mut qubits = [0u64; MAX_SLOTS * KEPT];
     let mut start = [0u8; 50];
     put_start(&mut start, p);
@@ -76,10 +76,10 @@ pub fn put_annotated(out: &mut [u8], job: &[u8], p: u64) -> Result<usize, Unfit>
     let mut next = 0;
     // A while: a line is skipped in one turn, so no range hands out the places.
     while at < job.len() {
-        let line = next_known(job, at, &mut fields);
+        let line = next_known(job, at, &mut words);
         let form = line.form;
         let end = line.end + 1;
-        let n = noise_qubits(form, &fields, &mut qubits);
+        let n = noise_qubits(form, Values { words: &words }, &mut qubits);
         let over = &qubits[..n];
         if !fit(over) {
             return Err(Unfit { line: k });

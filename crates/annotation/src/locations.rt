@@ -9,22 +9,22 @@ use crate::line_qubits::located;
 use checker::check;
 use job::{Answer, CountReply};
 use known_lines::next_known;
-use template::values::{KEPT, MAX_SLOTS, Values};
+use template::values::{KEPT, MAX_SLOTS, Values, blank};
 
 // The locations of an accepted job.
 fn count(job: &[u8]) -> u64
     requires { (check_job job.now).number ≡ 0 }
     ensures { result ≡ Annotate·locations (Bytes·lines job.now) }
 {
-    let mut fields = Values::new();
+    let mut words = blank();
     let mut qubits = [0u64; MAX_SLOTS * KEPT];
     let mut at = 0;
     let mut total: u64 = 0;
     // A while: a line is skipped in one turn, so no range hands out the places.
     while at < job.len() {
-        let line = next_known(job, at, &mut fields);
+        let line = next_known(job, at, &mut words);
         let form = line.form;
-        let n = located(form, &fields, &mut qubits);
+        let n = located(form, Values { words: &words }, &mut qubits);
         total += 2 * n as u64;
         at = line.end + 1;
     }

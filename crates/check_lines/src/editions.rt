@@ -17,8 +17,8 @@ use template::values::Values;
 const FIRST_EDITION_LAST_GATE: u64 = CONTROLLED_Y - 1;
 
 // Whether a line has a form that the second edition adds.
-fn is_second(form: Form, f: &Values) -> bool
-    ensures { (vs : List Value) (w : Written) → Said form f.now.words vs w → result ≡ is_second_of w }
+fn is_second(form: Form, f: Values<'_>) -> bool
+    ensures { (vs : List Value) (w : Written) → Said form f.entry.words.now vs w → result ≡ is_second_of w }
 {
     match form {
         Form::Unitary => FIRST_EDITION_LAST_GATE < f.number(GATE),
@@ -29,8 +29,8 @@ fn is_second(form: Form, f: &Values) -> bool
 }
 
 // Whether the job's edition has the line's form.
-pub fn in_edition(c: Context, form: Form, f: &Values) -> bool
-    ensures { (vs : List Value) (w : Written) → Said form f.now.words vs w → result ≡ in_edition_of (context_of c) w }
+pub fn in_edition(c: Context, form: Form, f: Values<'_>) -> bool
+    ensures { (vs : List Value) (w : Written) → Said form f.entry.words.now vs w → result ≡ in_edition_of (context_of c) w }
 {
     c.header.edition == SECOND_EDITION || !is_second(form, f)
 }

@@ -19,8 +19,8 @@ use reader::slots::{ELEMENT_COUNT, PAULI_END, WEIGHT, X};
 use template::values::Values;
 
 // The tests of an element line with a weight, after 2 and 3.
-pub fn weighted_element_number(c: Context, f: &Values) -> Result<(), Refusal>
-    ensures { (vs : List Value) (w : Written) → Said form.WeightedElement f.now.words vs w → c.weighted ≡ true → refusal_in result ≡ lowest (own_tests (context_of c) w) }
+pub fn weighted_element_number(c: Context, f: Values<'_>) -> Result<(), Refusal>
+    ensures { (vs : List Value) (w : Written) → Said form.WeightedElement f.entry.words.now vs w → c.weighted ≡ true → refusal_in result ≡ lowest (own_tests (context_of c) w) }
 {
     pauli_number(f, X, PAULI_END, c.header.qubits)?;
     let Some(element_weight) = weight(f.number(WEIGHT)) else {
@@ -44,8 +44,8 @@ fn element_due(c: Context, weighted: bool) -> bool
 }
 
 // Whether a line of this form may stand here: an element line where one is due, and else another. The values are for the contract alone.
-pub fn expected(c: Context, form: Form, f: &Values) -> bool
-    ensures { (is_unread form ≡ true → result ≡ false) × ((vs : List Value) (w : Written) → Said form f.now.words vs w → result ≡ Checks·expected (context_of c) w) }
+pub fn expected(c: Context, form: Form, f: &[u64]) -> bool
+    ensures { (is_unread form ≡ true → result ≡ false) × ((vs : List Value) (w : Written) → Said form f.now vs w → result ≡ Checks·expected (context_of c) w) }
 {
     match form {
         Form::Unread => false,
@@ -56,8 +56,8 @@ pub fn expected(c: Context, form: Form, f: &Values) -> bool
 }
 
 // How many element lines are due after the line.
-pub fn due_after(c: Context, form: Form, f: &Values) -> u64
-    ensures { (vs : List Value) (w : Written) → Said form f.now.words vs w → result ≡ (Checks·next (context_of c) w).due }
+pub fn due_after(c: Context, form: Form, f: Values<'_>) -> u64
+    ensures { (vs : List Value) (w : Written) → Said form f.entry.words.now vs w → result ≡ (Checks·next (context_of c) w).due }
 {
     match form {
         Form::Uniform | Form::Weighted => f.number(ELEMENT_COUNT),
@@ -67,15 +67,15 @@ pub fn due_after(c: Context, form: Form, f: &Values) -> u64
 }
 
 // Whether the job ends before the element lines that are due.
-pub fn missing(c: Context, last: bool, form: Form, f: &Values) -> bool
-    ensures { (vs : List Value) (w : Written) → Said form f.now.words vs w → result ≡ (last && ltb 0 (Checks·next (context_of c) w).due) }
+pub fn missing(c: Context, last: bool, form: Form, f: Values<'_>) -> bool
+    ensures { (vs : List Value) (w : Written) → Said form f.entry.words.now vs w → result ≡ (last && ltb 0 (Checks·next (context_of c) w).due) }
 {
     last && 0 < due_after(c, form, f)
 }
 
 // The sum of the weights after the line: of an element line that passed, with its weight.
-pub fn total_after(c: Context, form: Form, f: &Values) -> f64
-    ensures { (last : Bool) (vs : List Value) (w : Written) → Said form f.now.words vs w → refusal_of (context_of c) last (some w) ≡ 0 → (t : Float) → (Checks·next (context_of c) w).total ≡ some t → result ≡ t }
+pub fn total_after(c: Context, form: Form, f: Values<'_>) -> f64
+    ensures { (last : Bool) (vs : List Value) (w : Written) → Said form f.entry.words.now vs w → refusal_of (context_of c) last (some w) ≡ 0 → (t : Float) → (Checks·next (context_of c) w).total ≡ some t → result ≡ t }
 {
     let Form::WeightedElement = form else {
         return 0.0;

@@ -19,8 +19,8 @@ use reader::slots::{
 };
 use template::values::Values;
 
-fn header_in(f: &Values) -> Header
-    ensures { result ≡ header_by (held_number f.now.words) }
+fn header_in(f: Values<'_>) -> Header
+    ensures { result ≡ header_by (held_number f.entry.words.now) }
 {
     Header {
         edition: FIRST_EDITION,
@@ -30,8 +30,8 @@ fn header_in(f: &Values) -> Header
     }
 }
 
-fn edition_in(f: &Values) -> Header
-    ensures { result ≡ edition_by (held_number f.now.words) }
+fn edition_in(f: Values<'_>) -> Header
+    ensures { result ≡ edition_by (held_number f.entry.words.now) }
 {
     Header {
         edition: f.number(EDITION),
@@ -48,8 +48,8 @@ fn begins(c: Context, h: Header) -> bool
     !c.begun && in_range(h)
 }
 
-pub fn header_fits(c: Context, form: Form, f: &Values) -> bool
-    ensures { (vs : List Value) (w : Written) → Said form f.now.words vs w → result ≡ header_fits_of (context_of c) w }
+pub fn header_fits(c: Context, form: Form, f: Values<'_>) -> bool
+    ensures { (vs : List Value) (w : Written) → Said form f.entry.words.now vs w → result ≡ header_fits_of (context_of c) w }
 {
     match form {
         Form::Header => begins(c, header_in(f)),
@@ -58,8 +58,8 @@ pub fn header_fits(c: Context, form: Form, f: &Values) -> bool
     }
 }
 
-pub fn header_after(c: Context, form: Form, f: &Values) -> Header
-    ensures { (vs : List Value) (w : Written) → Said form f.now.words vs w → result ≡ (Checks·next (context_of c) w).header }
+pub fn header_after(c: Context, form: Form, f: Values<'_>) -> Header
+    ensures { (vs : List Value) (w : Written) → Said form f.entry.words.now vs w → result ≡ (Checks·next (context_of c) w).header }
 {
     match form {
         Form::Header => header_in(f),

@@ -33,8 +33,8 @@ use tables::{MAX_CLIFFORD_QUBITS, table_words};
 use template::values::Values;
 
 // 4 and 5 of operands of no fixed number, on so many qubits.
-pub fn operands_number(f: &Values, qubits: u64) -> Result<(), Refusal>
-    ensures { (numbers lists : ℕ) (vs : List Value) → Held f.now.words numbers lists vs → 1 ≤ lists → refusal_in result ≡ lowest (test 4 (each_below_of qubits (lists_from 0 1 vs)) ∷ test 5 (distinct (list_at_of 0 vs) && each_short (lists_from 0 1 vs)) ∷ []) }
+pub fn operands_number(f: Values<'_>, qubits: u64) -> Result<(), Refusal>
+    ensures { (numbers lists : ℕ) (vs : List Value) → Held f.entry.words.now numbers lists vs → 1 ≤ lists → refusal_in result ≡ lowest (test 4 (each_below_of qubits (lists_from 0 1 vs)) ∷ test 5 (distinct (list_at_of 0 vs) && each_short (lists_from 0 1 vs)) ∷ []) }
 {
     if !below(f, OPERANDS, OPERANDS_END, qubits) {
         return Err(Refusal::Qubit);
@@ -48,8 +48,8 @@ pub fn operands_number(f: &Values, qubits: u64) -> Result<(), Refusal>
     Ok(())
 }
 
-pub fn unitary_number(c: Context, f: &Values) -> Result<(), Refusal>
-    ensures { (vs : List Value) (w : Written) → Said form.Unitary f.now.words vs w → refusal_in result ≡ lowest (own_tests (context_of c) w) }
+pub fn unitary_number(c: Context, f: Values<'_>) -> Result<(), Refusal>
+    ensures { (vs : List Value) (w : Written) → Said form.Unitary f.entry.words.now vs w → refusal_in result ≡ lowest (own_tests (context_of c) w) }
 {
     if !below(f, OPERANDS, OPERANDS_END, c.header.qubits) {
         return Err(Refusal::Qubit);
@@ -64,8 +64,8 @@ pub fn unitary_number(c: Context, f: &Values) -> Result<(), Refusal>
     Ok(())
 }
 
-pub fn clifford_number(c: Context, f: &Values) -> Result<(), Refusal>
-    ensures { (vs : List Value) (w : Written) → Said form.Clifford f.now.words vs w → refusal_in result ≡ lowest (own_tests (context_of c) w) }
+pub fn clifford_number(c: Context, f: Values<'_>) -> Result<(), Refusal>
+    ensures { (vs : List Value) (w : Written) → Said form.Clifford f.entry.words.now vs w → refusal_in result ≡ lowest (own_tests (context_of c) w) }
 {
     if !below(f, OPERANDS, OPERANDS_END, c.header.qubits) {
         return Err(Refusal::Qubit);
@@ -87,8 +87,8 @@ pub fn clifford_number(c: Context, f: &Values) -> Result<(), Refusal>
 }
 
 // Control and target commute where X parts on Z parts, plus the reverse, are even in number.
-pub fn controlled_number(c: Context, f: &Values) -> Result<(), Refusal>
-    ensures { (vs : List Value) (w : Written) → Said form.Controlled f.now.words vs w → refusal_in result ≡ lowest (own_tests (context_of c) w) }
+pub fn controlled_number(c: Context, f: Values<'_>) -> Result<(), Refusal>
+    ensures { (vs : List Value) (w : Written) → Said form.Controlled f.entry.words.now vs w → refusal_in result ≡ lowest (own_tests (context_of c) w) }
 {
     if !below(f, X, TARGET_END, c.header.qubits) {
         return Err(Refusal::Qubit);
@@ -104,8 +104,8 @@ pub fn controlled_number(c: Context, f: &Values) -> Result<(), Refusal>
     Ok(())
 }
 
-pub fn permute_number(c: Context, f: &Values) -> Result<(), Refusal>
-    ensures { (vs : List Value) (w : Written) → Said form.Permute f.now.words vs w → refusal_in result ≡ lowest (own_tests (context_of c) w) }
+pub fn permute_number(c: Context, f: Values<'_>) -> Result<(), Refusal>
+    ensures { (vs : List Value) (w : Written) → Said form.Permute f.entry.words.now vs w → refusal_in result ≡ lowest (own_tests (context_of c) w) }
 {
     if !below(f, PERMUTED, PERMUTED_END, c.header.qubits) {
         return Err(Refusal::Qubit);
@@ -143,21 +143,21 @@ fn id_number(c: Context, id: OutcomeId) -> Result<(), Refusal>
     Ok(())
 }
 
-pub fn measure_number(c: Context, f: &Values) -> Result<(), Refusal>
-    ensures { (vs : List Value) (w : Written) → Said form.Measure f.now.words vs w → refusal_in result ≡ lowest (own_tests (context_of c) w) }
+pub fn measure_number(c: Context, f: Values<'_>) -> Result<(), Refusal>
+    ensures { (vs : List Value) (w : Written) → Said form.Measure f.entry.words.now vs w → refusal_in result ≡ lowest (own_tests (context_of c) w) }
 {
     pauli_number(f, X, PAULI_END, c.header.qubits)?;
     id_number(c, OutcomeId(f.number(ID) as usize))
 }
 
-pub fn allocate_number(c: Context, f: &Values) -> Result<(), Refusal>
-    ensures { (vs : List Value) (w : Written) → Said form.Allocate f.now.words vs w → refusal_in result ≡ lowest (own_tests (context_of c) w) }
+pub fn allocate_number(c: Context, f: Values<'_>) -> Result<(), Refusal>
+    ensures { (vs : List Value) (w : Written) → Said form.Allocate f.entry.words.now vs w → refusal_in result ≡ lowest (own_tests (context_of c) w) }
 {
     id_number(c, OutcomeId(f.number(ID) as usize))
 }
 
-pub fn conditional_number(c: Context, f: &Values) -> Result<(), Refusal>
-    ensures { (vs : List Value) (w : Written) → Said form.Conditional f.now.words vs w → refusal_in result ≡ lowest (own_tests (context_of c) w) }
+pub fn conditional_number(c: Context, f: Values<'_>) -> Result<(), Refusal>
+    ensures { (vs : List Value) (w : Written) → Said form.Conditional f.entry.words.now vs w → refusal_in result ≡ lowest (own_tests (context_of c) w) }
 {
     if !below(f, X, PAULI_END, c.header.qubits) {
         return Err(Refusal::Qubit);
@@ -185,8 +185,8 @@ fn has_shot(c: Context, shot: Shot) -> bool
     (shot.0 as u64) < c.header.shots
 }
 
-pub fn inject_number(c: Context, f: &Values) -> Result<(), Refusal>
-    ensures { (vs : List Value) (w : Written) → Said form.Inject f.now.words vs w → refusal_in result ≡ lowest (own_tests (context_of c) w) }
+pub fn inject_number(c: Context, f: Values<'_>) -> Result<(), Refusal>
+    ensures { (vs : List Value) (w : Written) → Said form.Inject f.entry.words.now vs w → refusal_in result ≡ lowest (own_tests (context_of c) w) }
 {
     pauli_number(f, X, PAULI_END, c.header.qubits)?;
     if !has_shot(c, Shot(f.number(SHOT) as usize)) {
@@ -195,8 +195,8 @@ pub fn inject_number(c: Context, f: &Values) -> Result<(), Refusal>
     Ok(())
 }
 
-pub fn flip_number(c: Context, f: &Values) -> Result<(), Refusal>
-    ensures { (vs : List Value) (w : Written) → Said form.Flip f.now.words vs w → refusal_in result ≡ lowest (own_tests (context_of c) w) }
+pub fn flip_number(c: Context, f: Values<'_>) -> Result<(), Refusal>
+    ensures { (vs : List Value) (w : Written) → Said form.Flip f.entry.words.now vs w → refusal_in result ≡ lowest (own_tests (context_of c) w) }
 {
     if !is_recorded(c, OutcomeId(f.number(FLIPPED) as usize)) {
         return Err(Refusal::NotRecorded);

@@ -24,8 +24,8 @@ use reader::slots::{
 use template::values::Values;
 
 // 9 and 11, which every noise line has.
-fn noise_number(c: Context, f: &Values) -> Result<(), Refusal>
-    ensures { (numbers lists : ℕ) (vs : List Value) → Held f.now.words numbers lists vs → 0 < numbers → 1 < lists → refusal_in result ≡ lowest (outcome_test (context_of c) (list_at_of 1 vs) ∷ test 11 (is_probability (float (number_at 0 vs))) ∷ []) }
+fn noise_number(c: Context, f: Values<'_>) -> Result<(), Refusal>
+    ensures { (numbers lists : ℕ) (vs : List Value) → Held f.entry.words.now numbers lists vs → 0 < numbers → 1 < lists → refusal_in result ≡ lowest (outcome_test (context_of c) (list_at_of 1 vs) ∷ test 11 (is_probability (float (number_at 0 vs))) ∷ []) }
 {
     if !below(f, CONDITION, CONDITION_END, c.recorded) {
         return Err(Refusal::NotRecorded);
@@ -37,9 +37,9 @@ fn noise_number(c: Context, f: &Values) -> Result<(), Refusal>
 }
 
 // 21, which every noise line has: the number in `slot` is the line's size.
-fn size_number(f: &Values, slot: usize, size: u64) -> Result<(), Refusal>
+fn size_number(f: Values<'_>, slot: usize, size: u64) -> Result<(), Refusal>
     requires { slot < 4 }
-    ensures { (numbers lists : ℕ) (vs : List Value) → Held f.now.words numbers lists vs → slot < numbers → refusal_in result ≡ lowest (test 21 (eqb (number_at slot vs) size) ∷ []) }
+    ensures { (numbers lists : ℕ) (vs : List Value) → Held f.entry.words.now numbers lists vs → slot < numbers → refusal_in result ≡ lowest (test 21 (eqb (number_at slot vs) size) ∷ []) }
 {
     if f.number(slot) != size {
         return Err(Refusal::Size);
@@ -48,15 +48,15 @@ fn size_number(f: &Values, slot: usize, size: u64) -> Result<(), Refusal>
 }
 
 // 9, 11 and 21 of a noise line without element lines.
-fn unlisted_number(c: Context, f: &Values, size: u64) -> Result<(), Refusal>
-    ensures { (lists : ℕ) (vs : List Value) → Held f.now.words 3 lists vs → 1 < lists → refusal_in result ≡ lowest (outcome_test (context_of c) (list_at_of 1 vs) ∷ test 11 (is_probability (float (number_at 0 vs))) ∷ test 21 (eqb (number_at 2 vs) size) ∷ []) }
+fn unlisted_number(c: Context, f: Values<'_>, size: u64) -> Result<(), Refusal>
+    ensures { (lists : ℕ) (vs : List Value) → Held f.entry.words.now 3 lists vs → 1 < lists → refusal_in result ≡ lowest (outcome_test (context_of c) (list_at_of 1 vs) ∷ test 11 (is_probability (float (number_at 0 vs))) ∷ test 21 (eqb (number_at 2 vs) size) ∷ []) }
 {
     noise_number(c, f)?;
     size_number(f, SIZE, size)
 }
 
-pub fn single_number(c: Context, f: &Values) -> Result<(), Refusal>
-    ensures { (vs : List Value) (w : Written) → Said form.Single f.now.words vs w → refusal_in result ≡ lowest (own_tests (context_of c) w) }
+pub fn single_number(c: Context, f: Values<'_>) -> Result<(), Refusal>
+    ensures { (vs : List Value) (w : Written) → Said form.Single f.entry.words.now vs w → refusal_in result ≡ lowest (own_tests (context_of c) w) }
 {
     if !below(f, SINGLE_X, SINGLE_END, c.header.qubits) {
         return Err(Refusal::Qubit);
@@ -68,8 +68,8 @@ pub fn single_number(c: Context, f: &Values) -> Result<(), Refusal>
     unlisted_number(c, f, 1)
 }
 
-pub fn depolarizing_number(c: Context, f: &Values) -> Result<(), Refusal>
-    ensures { (vs : List Value) (w : Written) → Said form.Depolarizing f.now.words vs w → refusal_in result ≡ lowest (own_tests (context_of c) w) }
+pub fn depolarizing_number(c: Context, f: Values<'_>) -> Result<(), Refusal>
+    ensures { (vs : List Value) (w : Written) → Said form.Depolarizing f.entry.words.now vs w → refusal_in result ≡ lowest (own_tests (context_of c) w) }
 {
     if !below(f, DEPOLARIZED, DEPOLARIZED_END, c.header.qubits) {
         return Err(Refusal::Qubit);
@@ -84,8 +84,8 @@ pub fn depolarizing_number(c: Context, f: &Values) -> Result<(), Refusal>
 }
 
 // d=3 and d=4.
-pub fn listed_number(c: Context, f: &Values) -> Result<(), Refusal>
-    ensures { (vs : List Value) → Held f.now.words 4 2 vs → refusal_in result ≡ lowest (listed_tests (context_of c) vs) }
+pub fn listed_number(c: Context, f: Values<'_>) -> Result<(), Refusal>
+    ensures { (vs : List Value) → Held f.entry.words.now 4 2 vs → refusal_in result ≡ lowest (listed_tests (context_of c) vs) }
 {
     if !short(f, CONDITION, CONDITION_END) {
         return Err(Refusal::Operands);

@@ -16,17 +16,17 @@ use pauli::QubitId;
 use template::values::Values;
 
 // Whether every member of the list in a slot is below n.
-fn slot_below(f: &Values, slot: usize, n: u64) -> bool
+fn slot_below(f: Values<'_>, slot: usize, n: u64) -> bool
     requires { slot < 4 }
-    ensures { (numbers lists : ℕ) (vs : List Value) → Held f.now.words numbers lists vs → slot < lists → result ≡ all_below n (list_at_of slot vs) }
+    ensures { (numbers lists : ℕ) (vs : List Value) → Held f.entry.words.now numbers lists vs → slot < lists → result ≡ all_below n (list_at_of slot vs) }
 {
     f.count(slot) == 0 || f.largest(slot) < n
 }
 
 // Whether every member of the lists from slot `first` up to slot `end` is below n.
-pub fn below(f: &Values, first: usize, end: usize, n: u64) -> bool
+pub fn below(f: Values<'_>, first: usize, end: usize, n: u64) -> bool
     requires { end ≤ 4 }
-    ensures { (numbers lists : ℕ) (vs : List Value) → Held f.now.words numbers lists vs → end ≤ lists → result ≡ each_below_of n (lists_from first (end - first) vs) }
+    ensures { (numbers lists : ℕ) (vs : List Value) → Held f.entry.words.now numbers lists vs → end ≤ lists → result ≡ each_below_of n (lists_from first (end - first) vs) }
 {
     for i in first..end {
         if !slot_below(f, i, n) {
@@ -37,10 +37,10 @@ pub fn below(f: &Values, first: usize, end: usize, n: u64) -> bool
 }
 
 // Whether the lists from slot `first` up to slot `end` hold at most 31 each.
-pub fn short(f: &Values, first: usize, end: usize) -> bool
+pub fn short(f: Values<'_>, first: usize, end: usize) -> bool
     requires { end ≤ 4 }
-    ensures by_index { (numbers lists : ℕ) (vs : List Value) → Held f.now.words numbers lists vs → end ≤ lists → result ≡ each_short (lists_from first (end - first) vs) }
-    ensures all_kept { result ≡ true → (i : ℕ) → first ≤ i → i < end → AllKept f.now.words i }
+    ensures by_index { (numbers lists : ℕ) (vs : List Value) → Held f.entry.words.now numbers lists vs → end ≤ lists → result ≡ each_short (lists_from first (end - first) vs) }
+    ensures all_kept { result ≡ true → (i : ℕ) → first ≤ i → i < end → AllKept f.entry.words.now i }
 {
     for i in first..end {
         if MAX_MEMBERS < f.count(i) {
@@ -83,9 +83,9 @@ pub fn distinct(members: &[u64]) -> bool
 }
 
 // Whether a list of at most 31 in a slot has no member twice.
-pub fn slot_distinct(f: &Values, slot: usize) -> bool
-    requires { (slot < 4) × AllKept f.now.words slot }
-    ensures { (numbers lists : ℕ) (vs : List Value) → Held f.now.words numbers lists vs → slot < lists → result ≡ Checks·distinct (list_at_of slot vs) }
+pub fn slot_distinct(f: Values<'_>, slot: usize) -> bool
+    requires { (slot < 4) × AllKept f.words.now slot }
+    ensures { (numbers lists : ℕ) (vs : List Value) → Held f.entry.words.now numbers lists vs → slot < lists → result ≡ Checks·distinct (list_at_of slot vs) }
 {
     distinct(f.list(slot))
 }
@@ -137,9 +137,9 @@ pub fn overlap_is_odd(a: &[u64], b: &[u64]) -> bool
 }
 
 // Tests 4 and 5 of Paulis on so many qubits: of the lists from slot `first` up to slot `end`.
-pub fn pauli_number(f: &Values, first: usize, end: usize, qubits: u64) -> Result<(), Refusal>
+pub fn pauli_number(f: Values<'_>, first: usize, end: usize, qubits: u64) -> Result<(), Refusal>
     requires { end ≤ 4 }
-    ensures { (numbers lists : ℕ) (vs : List Value) → Held f.now.words numbers lists vs → end ≤ lists → refusal_in result ≡ lowest (test 4 (each_below_of qubits (lists_from first (end - first) vs)) ∷ test 5 (each_short (lists_from first (end - first) vs)) ∷ []) }
+    ensures { (numbers lists : ℕ) (vs : List Value) → Held f.entry.words.now numbers lists vs → end ≤ lists → refusal_in result ≡ lowest (test 4 (each_below_of qubits (lists_from first (end - first) vs)) ∷ test 5 (each_short (lists_from first (end - first) vs)) ∷ []) }
 {
     if !below(f, first, end, qubits) {
         return Err(Refusal::Qubit);

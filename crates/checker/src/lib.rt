@@ -4,6 +4,7 @@
 ghost use Rattle.std.specs.Prelude.{◌≡◌, true};
 ghost use Rattle.job.specs.Refusals.{number_of};
 ghost use Rattle.job.specs.Job.{well_ended_of, check_job};
+ghost use Rattle.template.specs.Values.{Whole};
 ghost use Rattle.checker.specs.Examines.{Examines};
 
 pub mod tests;
@@ -15,7 +16,7 @@ use job::refusals::Refusal;
 use job::{Answer, FIRST_EDITION, Header};
 use line_reader::{Reader, next_line};
 use reader::read_line;
-use template::values::Values;
+use template::values::{Values, blank};
 
 // Not empty, not too long, LF at the end.
 #[tactic(auto, unfolding(job::specs::Job::well_ended_of))]
@@ -53,8 +54,8 @@ fn refused(refusal: Refusal, line: u64) -> Examined
 }
 
 // One reader hands out every line up to the first that is refused. The values of a line go into the lent words.
-fn all_lines(job: &[u8], fields: &mut Values) -> Examined
-    requires { well_ended_of job.now ≡ true }
+fn all_lines(job: &[u8], fields: &mut [u64]) -> Examined
+    requires { (well_ended_of job.now ≡ true) × Whole fields.old }
     ensures { Examines job.now result }
 {
     let mut r = Reader { job, at: 0 };
@@ -65,10 +66,11 @@ fn all_lines(job: &[u8], fields: &mut Values) -> Examined
         let line = next_line(&mut r);
         lines += 1;
         let form = read_line(line, &mut *fields);
-        if let Err(refusal) = refusal(context, r.at == job.len(), form, &*fields) {
+        let values = Values { words: &*fields };
+        if let Err(refusal) = refusal(context, r.at == job.len(), form, values) {
             return refused(refusal, lines);
         }
-        context = next(context, form, &*fields);
+        context = next(context, form, values);
     }
     Examined {
         answer: Answer::accepted(),
@@ -85,7 +87,7 @@ pub fn examine(job: &[u8]) -> Examined
     if !well_ended(job) {
         return refused(Refusal::Length, 0);
     }
-    let mut fields = Values::new();
+    let mut fields = blank();
     all_lines(job, &mut fields)
 }
 

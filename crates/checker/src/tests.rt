@@ -26,8 +26,8 @@ use reader::slots::{EDITION, PAULI_END, X};
 use template::values::Values;
 
 // The tests of a line by its own form.
-fn own_number(c: Context, form: Form, f: &Values) -> Result<(), Refusal>
-    ensures { (vs : List Value) (w : Written) → Said form f.now.words vs w → Checks·expected (context_of c) w ≡ true → refusal_in result ≡ lowest (own_tests (context_of c) w) }
+fn own_number(c: Context, form: Form, f: Values<'_>) -> Result<(), Refusal>
+    ensures { (vs : List Value) (w : Written) → Said form f.entry.words.now vs w → Checks·expected (context_of c) w ≡ true → refusal_in result ≡ lowest (own_tests (context_of c) w) }
 {
     match form {
         Form::Unread => Err(Refusal::Form),
@@ -56,10 +56,10 @@ fn own_number(c: Context, form: Form, f: &Values) -> Result<(), Refusal>
 }
 
 // The tests of a line. `last` says whether it is the job's last.
-pub fn refusal(c: Context, last: bool, form: Form, f: &Values) -> Result<(), Refusal>
-    ensures { (is_unread form ≡ true → refusal_in result ≡ 2) × ((vs : List Value) (w : Written) → Said form f.now.words vs w → refusal_in result ≡ refusal_of (context_of c) last (some w)) }
+pub fn refusal(c: Context, last: bool, form: Form, f: Values<'_>) -> Result<(), Refusal>
+    ensures { (is_unread form ≡ true → refusal_in result ≡ 2) × ((vs : List Value) (w : Written) → Said form f.entry.words.now vs w → refusal_in result ≡ refusal_of (context_of c) last (some w)) }
 {
-    if !expected(c, form, f) {
+    if !expected(c, form, f.words) {
         return Err(Refusal::Form);
     }
     if missing(c, last, form, f) {
@@ -75,9 +75,9 @@ pub fn refusal(c: Context, last: bool, form: Form, f: &Values) -> Result<(), Ref
 }
 
 // The context behind a line that passed: a header has come, with it or before it.
-pub fn next(c: Context, form: Form, f: &Values) -> Context
+pub fn next(c: Context, form: Form, f: Values<'_>) -> Context
     requires { c.recorded + 1 < 2 ^ 64 }
-    ensures { (last : Bool) (vs : List Value) (w : Written) → Said form f.now.words vs w → refusal_of (context_of c) last (some w) ≡ 0 → context_of result ≡ Checks·next (context_of c) w }
+    ensures { (last : Bool) (vs : List Value) (w : Written) → Said form f.entry.words.now vs w → refusal_of (context_of c) last (some w) ≡ 0 → context_of result ≡ Checks·next (context_of c) w }
 {
     Context {
         begun: true,

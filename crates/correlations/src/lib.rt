@@ -21,7 +21,7 @@ use job::{Answer, refusals};
 use known_lines::next_known;
 use reader::Form;
 use reader::slots::{CORRELATION, LISTED_SIZE, SIZE};
-use template::values::Values;
+use template::values::{Values, blank};
 
 // How many correlations the table holds.
 const SEEN: usize = 4096;
@@ -48,8 +48,8 @@ fn remainder(correlation: u64) -> usize
 }
 
 // Whether a line is noise with a corr.
-fn is_correlated(form: Form, f: &Values) -> bool
-    ensures { (vs : List Value) (w : Written) → Said form f.now.words vs w → result ≡ present (correlation_in w) }
+fn is_correlated(form: Form, f: Values<'_>) -> bool
+    ensures { (vs : List Value) (w : Written) → Said form f.entry.words.now vs w → result ≡ present (correlation_in w) }
 {
     if !is_noise(form) {
         return false;
@@ -58,8 +58,8 @@ fn is_correlated(form: Form, f: &Values) -> bool
 }
 
 // The size that a noise line says.
-pub fn size(form: Form, f: &Values) -> u64
-    ensures { (vs : List Value) (n : NoiseLine) → Said form f.now.words vs (Written.noise n) → result ≡ n.size }
+pub fn size(form: Form, f: Values<'_>) -> u64
+    ensures { (vs : List Value) (n : NoiseLine) → Said form f.entry.words.now vs (Written.noise n) → result ≡ n.size }
 {
     match form {
         Form::Uniform | Form::Weighted => f.number(LISTED_SIZE),
@@ -103,14 +103,14 @@ struct Differing {
 // What a line has that is new to the table.
 fn look(
     form: Form,
-    f: &Values,
+    f: Values<'_>,
     line: u64,
     seen: &[u64],
     sizes: &[u64],
     links: &[u16],
 ) -> Result<Option<Correlated>, Differing>
     requires { (length seen.now ≡ length sizes.now) × Linked seen.now links.now }
-    ensures { Looks form f.now.words line seen.now sizes.now result }
+    ensures { Looks form f.entry.words.now line seen.now sizes.now result }
 {
     if !is_correlated(form, f) {
         return Ok(None);
@@ -178,15 +178,16 @@ fn collect(
     requires { Left job.now number from × (from < length job.now) × (0 < length seen.old) × Table 0 seen.old sizes.old links.old }
     ensures { Collects job.now number from result seen.new sizes.new links.new }
 {
-    let mut fields = Values::new();
+    let mut words = blank();
     let mut at = from;
     let mut k = number;
     let mut n = 0;
     // A while: a line is skipped in one turn, so no range hands out the places.
     while at < job.len() {
-        let line = next_known(job, at, &mut fields);
+        let line = next_known(job, at, &mut words);
         let form = line.form;
-        let new = look(form, &fields, k, &seen[..n], &sizes[..n], &*links)?;
+        let values = Values { words: &words };
+        let new = look(form, values, k, &seen[..n], &sizes[..n], &*links)?;
         if is_full(new, n, seen.len()) {
             return Ok(Collected { n, at, number: k });
         }
@@ -209,14 +210,15 @@ fn compare(
     requires { Left job.now number from × (length seen.now ≡ length sizes.now) × Linked seen.now links.now }
     ensures { line_in result ≡ unlike (table_of seen.now sizes.now) (instructions_at job.now number from) }
 {
-    let mut fields = Values::new();
+    let mut words = blank();
     let mut at = from;
     let mut k = number;
     // A while, as in `collect`.
     while at < job.len() {
-        let line = next_known(job, at, &mut fields);
+        let line = next_known(job, at, &mut words);
         let form = line.form;
-        if let Err(d) = look(form, &fields, k, seen, sizes, links) {
+        let values = Values { words: &words };
+        if let Err(d) = look(form, values, k, seen, sizes, links) {
             return Some(d.line);
         }
         at = line.end + 1;

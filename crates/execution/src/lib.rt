@@ -37,7 +37,7 @@ fn apply_noise<'a>(
     job: &[u8],
     place: Place,
     line: LineRead,
-    values: &Values,
+    values: Values<'_>,
     elements: &mut [u64],
     sums: &mut [f64],
     weights: &mut [f64],
@@ -48,8 +48,8 @@ fn apply_noise<'a>(
     noiseless: &[u64],
     draws: Draws<'a>,
 ) -> Result<Place, Spent>
-    requires { NoiseReady job.now place line values.now.words noiseless.now shape × NoiseRoom shape values.now.words elements.old sums.old weights.old mask.old x.old z.old × (place.position ≤ length (draws.main.now ++ draws.more.now)) }
-    ensures { NoiseDone job.now place line values.now.words shape noiseless.now (draws.entry.main.now ++ draws.entry.more.now) draws.entry.second.now draws.entry.base x.old z.old x.new z.new result }
+    requires { NoiseReady job.now place line values.words.now noiseless.now shape × NoiseRoom shape values.words.now elements.old sums.old weights.old mask.old x.old z.old × (place.position ≤ length (draws.main.now ++ draws.more.now)) }
+    ensures { NoiseDone job.now place line values.entry.words.now shape noiseless.now (draws.entry.main.now ++ draws.entry.more.now) draws.entry.second.now draws.entry.base x.old z.old x.new z.new result }
 {
     let ready = prepare(
         job,
@@ -111,7 +111,7 @@ fn apply_noise<'a>(
 pub fn step<'a>(
     job: &[u8],
     place: Place,
-    values: &mut Values,
+    values: &mut [u64],
     elements: &mut [u64],
     sums: &mut [f64],
     weights: &mut [f64],
@@ -124,10 +124,11 @@ pub fn step<'a>(
     noiseless: &[u64],
     draws: Draws<'a>,
 ) -> Result<Place, Spent>
-    requires { StepReady job.now shape place values.old.words elements.old sums.old weights.old (draws.main.now ++ draws.more.now) × RowsFor shape x.old z.old deltas.old noiseless.now × (31 * shape.width ≤ length scratch.old) × TotalsHeld shape.width shape.outcomes deltas.old totals.old }
+    requires { StepReady job.now shape place values.old elements.old sums.old weights.old (draws.main.now ++ draws.more.now) × RowsFor shape x.old z.old deltas.old noiseless.now × (31 * shape.width ≤ length scratch.old) × TotalsHeld shape.width shape.outcomes deltas.old totals.old }
     ensures { Stepped job.now shape noiseless.now (draws.entry.main.now ++ draws.entry.more.now) draws.entry.second.now draws.entry.base place x.old z.old deltas.old x.new z.new deltas.new result × TotalsHeld shape.width shape.outcomes deltas.new totals.new }
 {
     let line = next_known(job, place.byte, &mut *values);
+    let values = Values { words: values };
     let form = line.form;
     if is_noise(form) {
         // Noise needs no scratch but for its mask.

@@ -34,18 +34,18 @@ fn keep(group: &mut [u64], b: Pauli)
 }
 
 // A gate, of which there are many, changes the observable alone.
-fn gate_back(group: &mut [u64], values: &Values)
-    requires { Readable Forms.Unitary values.now.words × (length group.old ≡ 24) }
-    ensures { GroupBack Forms.Unitary values.now.words group.old group.new }
+fn gate_back(group: &mut [u64], values: Values<'_>)
+    requires { Readable Forms.Unitary values.words.now × (length group.old ≡ 24) }
+    ensures { GroupBack Forms.Unitary values.entry.words.now group.old group.new }
 {
     let b = observable(group);
     keep(group, lines_back::unitary(values, b));
 }
 
 // Any line. What is carried back depends on no shot and no count.
-fn group_back(group: &mut [u64], form: Form, values: &Values)
-    requires { Readable form values.now.words × (length group.old ≡ 24) }
-    ensures { GroupBack form values.now.words group.old group.new }
+fn group_back(group: &mut [u64], form: Form, values: Values<'_>)
+    requires { Readable form values.words.now × (length group.old ≡ 24) }
+    ensures { GroupBack form values.entry.words.now group.old group.new }
 {
     if is_gate(form) {
         gate_back(group, values);
@@ -90,9 +90,9 @@ fn is_still(form: Form) -> bool
 }
 
 // A line that was read once, back for every group.
-pub fn line_on_groups(state: &mut [u64], groups: usize, form: Form, values: &Values)
-    requires { Readable form values.now.words × (length state.old ≡ groups * 24) }
-    ensures { GroupsBack form values.now.words groups state.old state.new }
+pub fn line_on_groups(state: &mut [u64], groups: usize, form: Form, values: Values<'_>)
+    requires { Readable form values.words.now × (length state.old ≡ groups * 24) }
+    ensures { GroupsBack form values.entry.words.now groups state.old state.new }
 {
     if is_still(form) {
         return;

@@ -32,7 +32,7 @@ use job::{Answer, refusals};
 use known_lines::next_known;
 use lines_from_last::line_start;
 use reader::{Form, read_line};
-use template::values::Values;
+use template::values::{Values, blank};
 use writer::{TextAnswer, refused, text_fits};
 
 const MAX_GROUPS: usize = 16;
@@ -40,9 +40,9 @@ const MAX_GROUPS: usize = 16;
 // ---- How long the table is
 
 // The bytes of the rows of line k.
-fn line_bytes(form: Form, f: &Values, k: u64, groups: usize) -> usize
-    requires { (groups ≤ 16) × ((vs : List Value) × (w : Written) × Said form f.now.words vs w × (size_said w ≤ 255)) }
-    ensures { (vs : List Value) (w : Written) → Said form f.now.words vs w → result ≡ rows_bytes groups k (size_said w) 0 }
+fn line_bytes(form: Form, f: Values<'_>, k: u64, groups: usize) -> usize
+    requires { (groups ≤ 16) × ((vs : List Value) × (w : Written) × Said form f.words.now vs w × (size_said w ≤ 255)) }
+    ensures { (vs : List Value) (w : Written) → Said form f.entry.words.now vs w → result ≡ rows_bytes groups k (size_said w) 0 }
 {
     if !is_noise(form) {
         return 0;
@@ -61,18 +61,19 @@ fn measure(job: &[u8], groups: usize) -> Result<usize, WideLine>
     requires { ((check_job job.now).number ≡ 0) × (groups ≤ 16) }
     ensures { Measures job.now groups result }
 {
-    let mut fields = Values::new();
+    let mut words = blank();
     let mut at = 0;
     let mut k: u64 = 1;
     let mut bytes = 0;
     // A while: a line is skipped in one turn, so no range hands out the places.
     while at < job.len() {
-        let line = next_known(job, at, &mut fields);
+        let line = next_known(job, at, &mut words);
         let form = line.form;
-        if is_wide(form, &fields) {
+        let values = Values { words: &words };
+        if is_wide(form, values) {
             return Err(WideLine { line: k });
         }
-        bytes += line_bytes(form, &fields, k, groups);
+        bytes += line_bytes(form, values, k, groups);
         at = line.end + 1;
         k += 1;
     }
@@ -98,7 +99,7 @@ fn put_table(out: &mut [u8], job: &[u8], lines: u64, state: &mut [u64], groups: 
     requires { TableReady job.now lines state.old groups out.old }
     ensures { (q : TableReady job.now lines state.old groups out.old) → out.new ≡ unlines (carried_rows (job_of job.now).header q.are (job_of job.now).instructions) }
 {
-    let mut values = Values::new();
+    let mut words = blank();
     let mut kept = [0u8; KEPT_ELEMENTS * KEPT_BYTES];
     let mut n = 0;
     let mut place = out.len();
@@ -107,10 +108,11 @@ fn put_table(out: &mut [u8], job: &[u8], lines: u64, state: &mut [u64], groups: 
     // A while, as in `measure`, from the last line to the first.
     while 0 < e {
         let at = line_start(job, e - 1);
-        let form = read_line(&job[at..e - 1], &mut values);
-        keep_marks(&mut kept, n, groups, form, &values, state);
-        place = put_rows(&mut *out, place, k, form, &values, state, groups, &kept);
-        line_on_groups(&mut *state, groups, form, &values);
+        let form = read_line(&job[at..e - 1], &mut words);
+        let values = Values { words: &words };
+        keep_marks(&mut kept, n, groups, form, values, state);
+        place = put_rows(&mut *out, place, k, form, values, state, groups, &kept);
+        line_on_groups(&mut *state, groups, form, values);
         n = kept_after(form, n);
         k -= 1;
         e = at;

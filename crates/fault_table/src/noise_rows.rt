@@ -28,8 +28,8 @@ use template::values::{KEPT, Values};
 const MAX_DEPOLARIZED: u64 = 4;
 
 // 24: d=2 over more qubits.
-pub fn is_wide(form: Form, f: &Values) -> bool
-    ensures { (vs : List Value) (w : Written) → Said form f.now.words vs w → result ≡ wide_said w }
+pub fn is_wide(form: Form, f: Values<'_>) -> bool
+    ensures { (vs : List Value) (w : Written) → Said form f.entry.words.now vs w → result ≡ wide_said w }
 {
     match form {
         Form::Depolarizing => MAX_DEPOLARIZED < f.count(DEPOLARIZED),
@@ -38,9 +38,9 @@ pub fn is_wide(form: Form, f: &Values) -> bool
 }
 
 // The Pauli that two lists of a line make, the one in slot `first` and the next.
-fn pauli_at(f: &Values, first: usize) -> Pauli
-    requires { PauliHeld f.now.words first }
-    ensures { as_pauli result ≡ pauli_of (held_pauli f.now.words first) }
+fn pauli_at(f: Values<'_>, first: usize) -> Pauli
+    requires { PauliHeld f.words.now first }
+    ensures { as_pauli result ≡ pauli_of (held_pauli f.entry.words.now first) }
 {
     Pauli::from_lists(f.list(first), f.list(first + 1))
 }
@@ -54,9 +54,16 @@ fn is_element(form: Form) -> bool
 }
 
 // Keeps the characters of an element line, in front of those of the n elements behind it. Other lines change nothing.
-pub fn keep_marks(kept: &mut [u8], n: usize, groups: usize, form: Form, f: &Values, state: &[u64])
-    requires { ElementKnown form f.now.words × (groups ≤ 16) × (length state.now ≡ groups * 24) × (length kept.old ≡ 1024) }
-    ensures { (q : ElementKnown form f.now.words) (es : List WeightedPauli) → n ≡ length es → KeptFor groups (all_carried groups state.now) kept.old es → KeptFor groups (all_carried groups state.now) kept.new (elements_with q.written es) }
+pub fn keep_marks(
+    kept: &mut [u8],
+    n: usize,
+    groups: usize,
+    form: Form,
+    f: Values<'_>,
+    state: &[u64],
+)
+    requires { ElementKnown form f.words.now × (groups ≤ 16) × (length state.now ≡ groups * 24) × (length kept.old ≡ 1024) }
+    ensures { (q : ElementKnown form f.entry.words.now) (es : List WeightedPauli) → n ≡ length es → KeptFor groups (all_carried groups state.now) kept.old es → KeptFor groups (all_carried groups state.now) kept.new (elements_with q.written es) }
 {
     if !is_element(form) {
         return;
@@ -130,13 +137,13 @@ pub fn put_rows(
     place: usize,
     line: u64,
     form: Form,
-    f: &Values,
+    f: Values<'_>,
     state: &[u64],
     groups: usize,
     kept: &[u8],
 ) -> usize
-    requires { RowsReady form f.now.words state.now groups kept.now line place out.old }
-    ensures { (q : RowsReady form f.now.words state.now groups kept.now line place out.old) → RowsBefore place result (rows_said line (all_carried groups state.now) q.written q.elements) out.old out.new }
+    requires { RowsReady form f.words.now state.now groups kept.now line place out.old }
+    ensures { (q : RowsReady form f.entry.words.now state.now groups kept.now line place out.old) → RowsBefore place result (rows_said line (all_carried groups state.now) q.written q.elements) out.old out.new }
 {
     match form {
         Form::Single => {

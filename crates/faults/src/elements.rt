@@ -9,7 +9,7 @@ ghost use Rattle.faults.specs.Prepared.{ElementLines, Gathered};
 use job::limits::MAX_ELEMENTS;
 use known_lines::next_known;
 use reader::slots::{WEIGHT, X};
-use template::values::{KEPT, Values};
+use template::values::{KEPT, Values, blank};
 
 // ---- Where they lie
 
@@ -72,17 +72,17 @@ pub fn element_members<'a>(elements: &'a [u64], e: usize) -> &'a [u64]
 }
 
 // How many members of a list are kept.
-fn kept_count(values: &Values, i: usize) -> usize
+fn kept_count(values: Values<'_>, i: usize) -> usize
     requires { i < 4 }
-    ensures { result ≡ min (held_count values.now.words i) 31 }
+    ensures { result ≡ min (held_count values.entry.words.now i) 31 }
 {
     (values.count(i) as usize).min(KEPT)
 }
 
 // Keeps two lists of a line, the one in slot `first` and the next, as element e. What the words behind their members hold is not promised.
-pub fn keep_element(elements: &mut [u64], e: usize, values: &Values, first: usize)
+pub fn keep_element(elements: &mut [u64], e: usize, values: Values<'_>, first: usize)
     requires { Inside elements.old e × (first ≤ 2) }
-    ensures { Kept e first values.now.words elements.old elements.new }
+    ensures { Kept e first values.entry.words.now elements.old elements.new }
 {
     let start = e * ELEMENT_WORDS;
     let second = first + 1;
@@ -131,12 +131,13 @@ pub fn gather(
     if n == 0 {
         return from;
     }
-    let mut values = Values::new();
+    let mut words = blank();
     let mut at = from;
     // By number: an element, its weight and its line have the same one.
     for e in 0..n {
-        let line = next_known(job, at, &mut values);
-        keep_element(&mut *elements, e, &values, X);
+        let line = next_known(job, at, &mut words);
+        let values = Values { words: &words };
+        keep_element(&mut *elements, e, values, X);
         weights[e] = weight_of(weighted, values.number(WEIGHT));
         at = line.end + 1;
     }

@@ -32,13 +32,13 @@ fn read_fault(
     job: &[u8],
     line: LineRead,
     element_lines: usize,
-    values: &Values,
+    values: Values<'_>,
     elements: &mut [u64],
     sums: &mut [f64],
     weights: &mut [f64],
 ) -> Prepared
-    requires { SomeNoise job.now line values.now.words element_lines × FaultRoom element_lines values.now.words elements.old sums.old weights.old }
-    ensures { (noiseless : List ℕ) (w : ℕ) (q : NoiseLines job.now (line.end + 1) line.form values.now.words noiseless w) → FaultRead q elements.new sums.new result }
+    requires { SomeNoise job.now line values.words.now element_lines × FaultRoom element_lines values.words.now elements.old sums.old weights.old }
+    ensures { (noiseless : List ℕ) (w : ℕ) (q : NoiseLines job.now (line.end + 1) line.form values.entry.words.now noiseless w) → FaultRead q elements.new sums.new result }
 {
     let from = line.end + 1;
     let weighted = has_weights(line.form);
@@ -68,7 +68,7 @@ fn satisfied_shots(condition: OutcomeCondition, noiseless: &[u64], width: usize,
 pub fn prepare(
     job: &[u8],
     line: LineRead,
-    values: &Values,
+    values: Values<'_>,
     noiseless: &[u64],
     width: usize,
     elements: &mut [u64],
@@ -76,8 +76,8 @@ pub fn prepare(
     weights: &mut [f64],
     mask: &mut [u64],
 ) -> Prepared
-    requires { NoiseLines job.now (line.end + 1) line.form values.now.words noiseless.now width × Room values.now.words elements.old sums.old weights.old mask.old width }
-    ensures { (q : NoiseLines job.now (line.end + 1) line.form values.now.words noiseless.now width) → PreparedAs q elements.new sums.new mask.new result }
+    requires { NoiseLines job.now (line.end + 1) line.form values.words.now noiseless.now width × Room values.words.now elements.old sums.old weights.old mask.old width }
+    ensures { (q : NoiseLines job.now (line.end + 1) line.form values.entry.words.now noiseless.now width) → PreparedAs q elements.new sums.new mask.new result }
 {
     let element_lines = element_lines(line.form, values);
     let ready = read_fault(

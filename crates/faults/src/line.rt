@@ -13,8 +13,8 @@ use reader::slots::{CONDITION, CORRELATION, DEPOLARIZED, ELEMENT_COUNT, PARITY, 
 use template::values::{KEPT, Values};
 
 // The kind of a noise line. The weighted one has this total.
-fn distribution_of(form: Form, values: &Values, total: f64) -> PauliDistribution
-    ensures { (vs : List Value) (n : NoiseLine) → Said form values.now.words vs (Written.noise n) → result ≡ kind_by n.kind total }
+fn distribution_of(form: Form, values: Values<'_>, total: f64) -> PauliDistribution
+    ensures { (vs : List Value) (n : NoiseLine) → Said form values.entry.words.now vs (Written.noise n) → result ≡ kind_by n.kind total }
 {
     match form {
         Form::Depolarizing => PauliDistribution::Depolarizing {
@@ -29,8 +29,8 @@ fn distribution_of(form: Form, values: &Values, total: f64) -> PauliDistribution
 }
 
 // The correlation that a noise line says, if any.
-fn correlation_of(values: &Values) -> Option<u64>
-    ensures { CorrelationHeld values.now.words result }
+fn correlation_of(values: Values<'_>) -> Option<u64>
+    ensures { CorrelationHeld values.entry.words.now result }
 {
     if values.count(CORRELATION) == 0 {
         return None;
@@ -38,8 +38,8 @@ fn correlation_of(values: &Values) -> Option<u64>
     Some(values.member(CORRELATION, 0))
 }
 
-fn condition_of(values: &Values) -> OutcomeCondition
-    ensures { ConditionHeld values.now.words result }
+fn condition_of(values: Values<'_>) -> OutcomeCondition
+    ensures { ConditionHeld values.entry.words.now result }
 {
     let mut outcomes = [0u64; KEPT];
     row_loops::copy(&mut outcomes, 0, values.kept(CONDITION), 0, KEPT);
@@ -51,9 +51,9 @@ fn condition_of(values: &Values) -> OutcomeCondition
 }
 
 // The noise line that the values say. The total of its elements' weights is known once they are read.
-pub fn fault_of(form: Form, values: &Values, total: f64) -> PauliFault
-    requires { is_probability (float (held_number values.now.words 0)) ≡ true }
-    ensures { FaultHeld form values.now.words total result }
+pub fn fault_of(form: Form, values: Values<'_>, total: f64) -> PauliFault
+    requires { is_probability (float (held_number values.words.now 0)) ≡ true }
+    ensures { FaultHeld form values.entry.words.now total result }
 {
     PauliFault {
         probability: f64::from_bits(values.number(PROBABILITY)),

@@ -35,8 +35,8 @@ pub fn is_noise(form: Form) -> bool
 }
 
 // How many element lines follow a noise line.
-pub fn element_lines(form: Form, f: &Values) -> usize
-    ensures { (vs : List Value) (n : NoiseLine) → Said form f.now.words vs (Written.noise n) → result ≡ element_lines_of n.kind }
+pub fn element_lines(form: Form, f: Values<'_>) -> usize
+    ensures { (vs : List Value) (n : NoiseLine) → Said form f.entry.words.now vs (Written.noise n) → result ≡ element_lines_of n.kind }
 {
     match form {
         Form::Uniform => f.number(ELEMENT_COUNT) as usize,

@@ -7,6 +7,7 @@ ghost use Rattle.line_reader.specs.Reading.{line_from_of};
 ghost use Rattle.gate_text.specs.Gate.{GateBytes};
 ghost use Rattle.reader.specs.declared.Form.TheVariants as Forms;
 ghost use Rattle.reader.specs.Parsed.{Parsed};
+ghost use Rattle.template.specs.Values.{Whole};
 ghost use Rattle.instructions.specs.Reading.{NextLine};
 ghost use Rattle.instructions.specs.Lines.{KnownLine, KnownAt};
 ghost use Rattle.known_lines.specs.Lists.{ListsThere, ListsPut};
@@ -17,7 +18,7 @@ use line_reader::line_from;
 use numbers::known::known_hex;
 use reader::slots::{GATE, OPERANDS, TARGET_X, WEIGHT, X};
 use reader::{Form, LETTER, LETTER_END, read_line};
-use template::values::Values;
+use template::values::{set_few, set_known, set_number};
 
 // Whether a line has a byte at a place.
 fn has_byte(line: &[u8], at: usize, b: u8) -> bool
@@ -35,12 +36,12 @@ const X_KEY: usize = 2;
 const Z_KEY: usize = 3;
 
 // The two lists of a Pauli, `x=L z=L` from a place on, go into a slot and the next. Answers the place behind them.
-fn read_lists(line: &[u8], from: usize, slot: usize, fields: &mut Values) -> usize
-    requires { (slot < 3) × ListsThere line.now from }
-    ensures { ListsPut line.now from slot result fields.old.words fields.new.words }
+fn read_lists(line: &[u8], from: usize, slot: usize, fields: &mut [u64]) -> usize
+    requires { (slot < 3) × ListsThere line.now from × Whole fields.old }
+    ensures { ListsPut line.now from slot result fields.old fields.new }
 {
-    let behind = fields.set_known(slot, line, from + X_KEY);
-    fields.set_known(slot + 1, line, behind + Z_KEY)
+    let behind = set_known(&mut *fields, slot, line, from + X_KEY);
+    set_known(fields, slot + 1, line, behind + Z_KEY)
 }
 
 // Whether a line begins as that of a controlled Pauli does. In the contract 111 is the byte of `o`, and 107 that of `k`.
@@ -58,9 +59,9 @@ const CONTROL_START: usize = LETTER_END + 1;
 
 // What a line of an accepted job says that is neither a gate line nor an element line. The form of a controlled Pauli, whose lists may be long, isn't
 // tested again.
-fn read_operation(line: &[u8], fields: &mut Values) -> Form
-    requires { KnownLine line.now }
-    ensures { Parsed line.now result fields.new.words }
+fn read_operation(line: &[u8], fields: &mut [u64]) -> Form
+    requires { KnownLine line.now × Whole fields.old }
+    ensures { Parsed line.now result fields.new }
 {
     if !is_controlled(line) {
         return read_line(line, fields);
@@ -79,9 +80,9 @@ const PAULI_START: usize = WEIGHT_END + 1;
 
 // What a line of an accepted job says that is no gate line. Of an element line the form isn't tested again either; its weight stands first, where it
 // has one.
-fn read_other(line: &[u8], fields: &mut Values) -> Form
-    requires { KnownLine line.now }
-    ensures { Parsed line.now result fields.new.words }
+fn read_other(line: &[u8], fields: &mut [u64]) -> Form
+    requires { KnownLine line.now × Whole fields.old }
+    ensures { Parsed line.now result fields.new }
 {
     if has_byte(line, 0, b'x') {
         read_lists(line, 0, X, fields);
@@ -91,21 +92,21 @@ fn read_other(line: &[u8], fields: &mut Values) -> Form
         return read_operation(line, fields);
     }
     let weight = known_hex(&line[WEIGHT_START..WEIGHT_END]);
-    fields.set_number(WEIGHT, weight);
+    set_number(&mut *fields, WEIGHT, weight);
     read_lists(line, PAULI_START, X, fields);
     Form::WeightedElement
 }
 
 // What a gate line of an accepted job says. There are many, so they are read without testing their form again.
-fn read_known_gate(line: &[u8], fields: &mut Values)
-    requires { KnownLine line.now × GateBytes line.now }
-    ensures { Parsed line.now Forms.Unitary fields.new.words }
+fn read_known_gate(line: &[u8], fields: &mut [u64])
+    requires { KnownLine line.now × GateBytes line.now × Whole fields.old }
+    ensures { Parsed line.now Forms.Unitary fields.new }
 {
     let g = read_gate(line);
-    fields.set_number(GATE, g.code);
+    set_number(&mut *fields, GATE, g.code);
     let first = g.first;
     let second = g.second;
-    fields.set_few(OPERANDS, g.count, first.0 as u64, second.0 as u64);
+    set_few(fields, OPERANDS, g.count, first.0 as u64, second.0 as u64);
 }
 
 // The fewest bytes of a gate line, `op=u g=0 q=0`, and of `x=- z=-`, with which an element line ends. None of them is an LF.
@@ -130,9 +131,9 @@ fn other_line<'a>(job: &'a [u8], at: usize) -> &'a [u8]
 
 // Reads the line of an accepted job that begins at a place. A gate line is told by its first bytes, before its end is looked for:
 // every line of such a job has four or more.
-pub fn next_known(job: &[u8], at: usize, fields: &mut Values) -> LineRead
-    requires { KnownAt job.now at }
-    ensures { NextLine job.now at result fields.new.words }
+pub fn next_known(job: &[u8], at: usize, fields: &mut [u64]) -> LineRead
+    requires { KnownAt job.now at × Whole fields.old }
+    ensures { NextLine job.now at result fields.new }
 {
     if is_gate(&job[at..]) {
         let gate = line_from(job, at, GATE_BYTES);

@@ -19,9 +19,9 @@ use template::values::Values;
 
 // ---- Lines on frames alone
 
-fn unitary(values: &Values, x: &mut [u64], z: &mut [u64], shape: Shape)
-    requires { FrameReady Forms.Unitary values.now.words shape.width shape.qubits x.old z.old }
-    ensures { FrameObeyed Forms.Unitary values.now.words shape.width shape.qubits x.old z.old x.new z.new }
+fn unitary(values: Values<'_>, x: &mut [u64], z: &mut [u64], shape: Shape)
+    requires { FrameReady Forms.Unitary values.words.now shape.width shape.qubits x.old z.old }
+    ensures { FrameObeyed Forms.Unitary values.entry.words.now shape.width shape.qubits x.old z.old x.new z.new }
 {
     match Gate::from_code(values.number(GATE)) {
         Some(gate) => {
@@ -32,9 +32,9 @@ fn unitary(values: &Values, x: &mut [u64], z: &mut [u64], shape: Shape)
     }
 }
 
-fn clifford(values: &Values, x: &mut [u64], z: &mut [u64], scratch: &mut [u64], shape: Shape)
-    requires { FrameReady Forms.Clifford values.now.words shape.width shape.qubits x.old z.old × (31 * shape.width ≤ length scratch.old) }
-    ensures { FrameObeyed Forms.Clifford values.now.words shape.width shape.qubits x.old z.old x.new z.new }
+fn clifford(values: Values<'_>, x: &mut [u64], z: &mut [u64], scratch: &mut [u64], shape: Shape)
+    requires { FrameReady Forms.Clifford values.words.now shape.width shape.qubits x.old z.old × (31 * shape.width ≤ length scratch.old) }
+    ensures { FrameObeyed Forms.Clifford values.entry.words.now shape.width shape.qubits x.old z.old x.new z.new }
 {
     unitaries::cliffords::apply_clifford(
         x,
@@ -46,16 +46,16 @@ fn clifford(values: &Values, x: &mut [u64], z: &mut [u64], scratch: &mut [u64], 
     );
 }
 
-fn exponential(values: &Values, x: &mut [u64], z: &mut [u64], scratch: &mut [u64], shape: Shape)
-    requires { FrameReady Forms.Exponential values.now.words shape.width shape.qubits x.old z.old × (31 * shape.width ≤ length scratch.old) }
-    ensures { FrameObeyed Forms.Exponential values.now.words shape.width shape.qubits x.old z.old x.new z.new }
+fn exponential(values: Values<'_>, x: &mut [u64], z: &mut [u64], scratch: &mut [u64], shape: Shape)
+    requires { FrameReady Forms.Exponential values.words.now shape.width shape.qubits x.old z.old × (31 * shape.width ≤ length scratch.old) }
+    ensures { FrameObeyed Forms.Exponential values.entry.words.now shape.width shape.qubits x.old z.old x.new z.new }
 {
     propagator::paulis::apply_pauli_exp(x, z, shape, values.list(X), values.list(Z), scratch);
 }
 
-fn controlled(values: &Values, x: &mut [u64], z: &mut [u64], scratch: &mut [u64], shape: Shape)
-    requires { FrameReady Forms.Controlled values.now.words shape.width shape.qubits x.old z.old × (31 * shape.width ≤ length scratch.old) }
-    ensures { FrameObeyed Forms.Controlled values.now.words shape.width shape.qubits x.old z.old x.new z.new }
+fn controlled(values: Values<'_>, x: &mut [u64], z: &mut [u64], scratch: &mut [u64], shape: Shape)
+    requires { FrameReady Forms.Controlled values.words.now shape.width shape.qubits x.old z.old × (31 * shape.width ≤ length scratch.old) }
+    ensures { FrameObeyed Forms.Controlled values.entry.words.now shape.width shape.qubits x.old z.old x.new z.new }
 {
     propagator::paulis::apply_controlled_pauli(
         x,
@@ -69,9 +69,9 @@ fn controlled(values: &Values, x: &mut [u64], z: &mut [u64], scratch: &mut [u64]
     );
 }
 
-fn permute(values: &Values, x: &mut [u64], z: &mut [u64], scratch: &mut [u64], shape: Shape)
-    requires { FrameReady Forms.Permute values.now.words shape.width shape.qubits x.old z.old × (31 * shape.width ≤ length scratch.old) }
-    ensures { FrameObeyed Forms.Permute values.now.words shape.width shape.qubits x.old z.old x.new z.new }
+fn permute(values: Values<'_>, x: &mut [u64], z: &mut [u64], scratch: &mut [u64], shape: Shape)
+    requires { FrameReady Forms.Permute values.words.now shape.width shape.qubits x.old z.old × (31 * shape.width ≤ length scratch.old) }
+    ensures { FrameObeyed Forms.Permute values.entry.words.now shape.width shape.qubits x.old z.old x.new z.new }
 {
     unitaries::cliffords::apply_permutation(
         x,
@@ -83,16 +83,16 @@ fn permute(values: &Values, x: &mut [u64], z: &mut [u64], scratch: &mut [u64], s
     );
 }
 
-fn reset(values: &Values, x: &mut [u64], z: &mut [u64], shape: Shape)
-    requires { FrameReady Forms.Reset values.now.words shape.width shape.qubits x.old z.old }
-    ensures { FrameObeyed Forms.Reset values.now.words shape.width shape.qubits x.old z.old x.new z.new }
+fn reset(values: Values<'_>, x: &mut [u64], z: &mut [u64], shape: Shape)
+    requires { FrameReady Forms.Reset values.words.now shape.width shape.qubits x.old z.old }
+    ensures { FrameObeyed Forms.Reset values.entry.words.now shape.width shape.qubits x.old z.old x.new z.new }
 {
     propagator::paulis::reset_qubits(x, z, shape, values.list(OPERANDS));
 }
 
-fn inject(values: &Values, x: &mut [u64], z: &mut [u64], shape: Shape)
-    requires { FrameReady Forms.Inject values.now.words shape.width shape.qubits x.old z.old }
-    ensures { FrameObeyed Forms.Inject values.now.words shape.width shape.qubits x.old z.old x.new z.new }
+fn inject(values: Values<'_>, x: &mut [u64], z: &mut [u64], shape: Shape)
+    requires { FrameReady Forms.Inject values.words.now shape.width shape.qubits x.old z.old }
+    ensures { FrameObeyed Forms.Inject values.entry.words.now shape.width shape.qubits x.old z.old x.new z.new }
 {
     let shot = Shot(values.number(SHOT) as usize);
     propagator::paulis::inject_pauli(x, z, shape, shot, values.list(X), values.list(Z));
@@ -101,15 +101,15 @@ fn inject(values: &Values, x: &mut [u64], z: &mut [u64], shape: Shape)
 // ---- Lines on deltas, or by them
 
 fn measure(
-    values: &Values,
+    values: Values<'_>,
     x: &[u64],
     z: &[u64],
     deltas: &mut [u64],
     totals: &mut [u64],
     shape: Shape,
 )
-    requires { Ready Forms.Measure values.now.words shape.width shape.qubits shape.outcomes x.now z.now deltas.old × TotalsHeld shape.width shape.outcomes deltas.old totals.old }
-    ensures { Obeyed Forms.Measure values.now.words shape.width shape.qubits shape.outcomes x.now z.now deltas.old x.now z.now deltas.new × TotalsHeld shape.width shape.outcomes deltas.new totals.new }
+    requires { Ready Forms.Measure values.words.now shape.width shape.qubits shape.outcomes x.now z.now deltas.old × TotalsHeld shape.width shape.outcomes deltas.old totals.old }
+    ensures { Obeyed Forms.Measure values.entry.words.now shape.width shape.qubits shape.outcomes x.now z.now deltas.old x.now z.now deltas.new × TotalsHeld shape.width shape.outcomes deltas.new totals.new }
 {
     let outcome = OutcomeId(values.number(ID) as usize);
     propagator::paulis::measure(
@@ -125,15 +125,15 @@ fn measure(
 }
 
 fn conditional(
-    values: &Values,
+    values: Values<'_>,
     x: &mut [u64],
     z: &mut [u64],
     deltas: &[u64],
     scratch: &mut [u64],
     shape: Shape,
 )
-    requires { Ready Forms.Conditional values.now.words shape.width shape.qubits shape.outcomes x.old z.old deltas.now × (31 * shape.width ≤ length scratch.old) }
-    ensures { Obeyed Forms.Conditional values.now.words shape.width shape.qubits shape.outcomes x.old z.old deltas.now x.new z.new deltas.now }
+    requires { Ready Forms.Conditional values.words.now shape.width shape.qubits shape.outcomes x.old z.old deltas.now × (31 * shape.width ≤ length scratch.old) }
+    ensures { Obeyed Forms.Conditional values.entry.words.now shape.width shape.qubits shape.outcomes x.old z.old deltas.now x.new z.new deltas.now }
 {
     propagator::paulis::apply_conditional_pauli(
         x,
@@ -147,9 +147,9 @@ fn conditional(
     );
 }
 
-fn flip(values: &Values, deltas: &mut [u64], totals: &mut [u64], shape: Shape)
-    requires { ((n : ℕ) × (line : Line) × Plain Forms.Flip values.now.words shape.width n shape.outcomes line) × (length deltas.old ≡ shape.outcomes * shape.width) × TotalsHeld shape.width shape.outcomes deltas.old totals.old }
-    ensures { ((n : ℕ) (x z : List ℕ) → Obeyed Forms.Flip values.now.words shape.width n shape.outcomes x z deltas.old x z deltas.new) × TotalsHeld shape.width shape.outcomes deltas.new totals.new }
+fn flip(values: Values<'_>, deltas: &mut [u64], totals: &mut [u64], shape: Shape)
+    requires { ((n : ℕ) × (line : Line) × Plain Forms.Flip values.words.now shape.width n shape.outcomes line) × (length deltas.old ≡ shape.outcomes * shape.width) × TotalsHeld shape.width shape.outcomes deltas.old totals.old }
+    ensures { ((n : ℕ) (x z : List ℕ) → Obeyed Forms.Flip values.entry.words.now shape.width n shape.outcomes x z deltas.old x z deltas.new) × TotalsHeld shape.width shape.outcomes deltas.new totals.new }
 {
     let shot = Shot(values.number(SHOT) as usize);
     let outcome = OutcomeId(values.number(FLIPPED) as usize);
@@ -162,7 +162,7 @@ fn flip(values: &Values, deltas: &mut [u64], totals: &mut [u64], shape: Shape)
 // takes at most 31 rows of scratch: a permutation's.
 pub fn apply_line(
     form: Form,
-    values: &Values,
+    values: Values<'_>,
     x: &mut [u64],
     z: &mut [u64],
     deltas: &mut [u64],
@@ -170,8 +170,8 @@ pub fn apply_line(
     scratch: &mut [u64],
     shape: Shape,
 )
-    requires { Ready form values.now.words shape.width shape.qubits shape.outcomes x.old z.old deltas.old × (31 * shape.width ≤ length scratch.old) × TotalsHeld shape.width shape.outcomes deltas.old totals.old }
-    ensures { Obeyed form values.now.words shape.width shape.qubits shape.outcomes x.old z.old deltas.old x.new z.new deltas.new × TotalsHeld shape.width shape.outcomes deltas.new totals.new }
+    requires { Ready form values.words.now shape.width shape.qubits shape.outcomes x.old z.old deltas.old × (31 * shape.width ≤ length scratch.old) × TotalsHeld shape.width shape.outcomes deltas.old totals.old }
+    ensures { Obeyed form values.entry.words.now shape.width shape.qubits shape.outcomes x.old z.old deltas.old x.new z.new deltas.new × TotalsHeld shape.width shape.outcomes deltas.new totals.new }
 {
     match form {
         Form::Unitary => unitary(values, x, z, shape),

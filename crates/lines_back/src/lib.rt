@@ -21,30 +21,30 @@ use template::values::Values;
 // ---- Lines that change the observable alone
 
 // Gate lines come here from the table of single faults; the walk takes them as they stand on their lines (`walker::gates_back`).
-pub fn unitary(values: &Values, b: Pauli) -> Pauli
-    requires { HeldLine Forms.Unitary values.now.words }
-    ensures { (shot : ℕ) (set : Bits) → Back Forms.Unitary values.now.words shot b set result set false }
+pub fn unitary(values: Values<'_>, b: Pauli) -> Pauli
+    requires { HeldLine Forms.Unitary values.words.now }
+    ensures { (shot : ℕ) (set : Bits) → Back Forms.Unitary values.entry.words.now shot b set result set false }
 {
     carry::unitary_back(b, values.number(GATE), values.list(OPERANDS))
 }
 
-fn clifford(values: &Values, b: Pauli) -> Pauli
-    requires { HeldLine Forms.Clifford values.now.words }
-    ensures { (shot : ℕ) (set : Bits) → Back Forms.Clifford values.now.words shot b set result set false }
+fn clifford(values: Values<'_>, b: Pauli) -> Pauli
+    requires { HeldLine Forms.Clifford values.words.now }
+    ensures { (shot : ℕ) (set : Bits) → Back Forms.Clifford values.entry.words.now shot b set result set false }
 {
     carry::clifford_back(b, values.list(OPERANDS), values.list(TABLE))
 }
 
-fn exponential(values: &Values, b: Pauli) -> Pauli
-    requires { HeldLine Forms.Exponential values.now.words }
-    ensures { (shot : ℕ) (set : Bits) → Back Forms.Exponential values.now.words shot b set result set false }
+fn exponential(values: Values<'_>, b: Pauli) -> Pauli
+    requires { HeldLine Forms.Exponential values.words.now }
+    ensures { (shot : ℕ) (set : Bits) → Back Forms.Exponential values.entry.words.now shot b set result set false }
 {
     carry::exponential_back(b, values.list(X), values.list(Z))
 }
 
-fn controlled(values: &Values, b: Pauli) -> Pauli
-    requires { HeldLine Forms.Controlled values.now.words }
-    ensures { (shot : ℕ) (set : Bits) → Back Forms.Controlled values.now.words shot b set result set false }
+fn controlled(values: Values<'_>, b: Pauli) -> Pauli
+    requires { HeldLine Forms.Controlled values.words.now }
+    ensures { (shot : ℕ) (set : Bits) → Back Forms.Controlled values.entry.words.now shot b set result set false }
 {
     carry::controlled_back(
         b,
@@ -55,23 +55,23 @@ fn controlled(values: &Values, b: Pauli) -> Pauli
     )
 }
 
-fn permute(values: &Values, b: Pauli) -> Pauli
-    requires { HeldLine Forms.Permute values.now.words }
-    ensures { (shot : ℕ) (set : Bits) → Back Forms.Permute values.now.words shot b set result set false }
+fn permute(values: Values<'_>, b: Pauli) -> Pauli
+    requires { HeldLine Forms.Permute values.words.now }
+    ensures { (shot : ℕ) (set : Bits) → Back Forms.Permute values.entry.words.now shot b set result set false }
 {
     carry::permute_back(b, values.list(PLACES), values.list(PERMUTED))
 }
 
-fn reset(values: &Values, b: Pauli) -> Pauli
-    requires { HeldLine Forms.Reset values.now.words }
-    ensures { (shot : ℕ) (set : Bits) → Back Forms.Reset values.now.words shot b set result set false }
+fn reset(values: Values<'_>, b: Pauli) -> Pauli
+    requires { HeldLine Forms.Reset values.words.now }
+    ensures { (shot : ℕ) (set : Bits) → Back Forms.Reset values.entry.words.now shot b set result set false }
 {
     carry::reset_back(b, values.list(OPERANDS))
 }
 
-fn measure(values: &Values, b: Pauli, set: &[u64]) -> Pauli
-    requires { HeldLine Forms.Measure values.now.words }
-    ensures { (shot : ℕ) → Back Forms.Measure values.now.words shot b (in_set set.now) result (in_set set.now) false }
+fn measure(values: Values<'_>, b: Pauli, set: &[u64]) -> Pauli
+    requires { HeldLine Forms.Measure values.words.now }
+    ensures { (shot : ℕ) → Back Forms.Measure values.entry.words.now shot b (in_set set.now) result (in_set set.now) false }
 {
     let id = OutcomeId(values.number(ID) as usize);
     carry::measure_back(b, set, values.list(X), values.list(Z), id)
@@ -79,9 +79,9 @@ fn measure(values: &Values, b: Pauli, set: &[u64]) -> Pauli
 
 // ---- Conditionals, which change the set alone
 
-fn conditional(values: &Values, b: Pauli, set: &mut [u64])
-    requires { HeldLine Forms.Conditional values.now.words × (length set.old ≡ 16) }
-    ensures { (length set.new ≡ 16) × ((shot : ℕ) → Back Forms.Conditional values.now.words shot b (in_set set.old) b (in_set set.new) false) }
+fn conditional(values: Values<'_>, b: Pauli, set: &mut [u64])
+    requires { HeldLine Forms.Conditional values.words.now × (length set.old ≡ 16) }
+    ensures { (length set.new ≡ 16) × ((shot : ℕ) → Back Forms.Conditional values.entry.words.now shot b (in_set set.old) b (in_set set.new) false) }
 {
     carry::conditional_back(set, b, values.list(X), values.list(Z), values.list(IDS));
 }
@@ -89,9 +89,9 @@ fn conditional(values: &Values, b: Pauli, set: &mut [u64])
 // ---- Lines that are counted, or not
 
 // An injection in the shot, where it anticommutes with the observable.
-fn inject(values: &Values, b: Pauli, shot: Shot) -> bool
-    requires { HeldLine Forms.Inject values.now.words }
-    ensures { (set : Bits) → Back Forms.Inject values.now.words shot.0 b set b set result }
+fn inject(values: Values<'_>, b: Pauli, shot: Shot) -> bool
+    requires { HeldLine Forms.Inject values.words.now }
+    ensures { (set : Bits) → Back Forms.Inject values.entry.words.now shot.0 b set b set result }
 {
     if values.number(SHOT) as usize != shot.0 {
         return false;
@@ -100,9 +100,9 @@ fn inject(values: &Values, b: Pauli, shot: Shot) -> bool
 }
 
 // A flip in the shot, where its outcome is in the set.
-fn flip(values: &Values, set: &[u64], shot: Shot) -> bool
-    requires { HeldLine Forms.Flip values.now.words }
-    ensures { (b : PauliWords) → Back Forms.Flip values.now.words shot.0 b (in_set set.now) b (in_set set.now) result }
+fn flip(values: Values<'_>, set: &[u64], shot: Shot) -> bool
+    requires { HeldLine Forms.Flip values.words.now }
+    ensures { (b : PauliWords) → Back Forms.Flip values.entry.words.now shot.0 b (in_set set.now) b (in_set set.now) result }
 {
     if values.number(SHOT) as usize != shot.0 {
         return false;
@@ -140,9 +140,16 @@ impl Walk {
 }
 
 // One line back, of number k. Noise is remembered by its line; lines of the other forms that are not named do nothing.
-pub fn line_back(w: Walk, form: Form, values: &Values, set: &mut [u64], shot: Shot, k: u64) -> Walk
-    requires { Readable form values.now.words × (length set.old ≡ 16) × (w.count + 1 < 2 ^ 64) }
-    ensures { LineBack form values.now.words shot.0 k w result set.old set.new }
+pub fn line_back(
+    w: Walk,
+    form: Form,
+    values: Values<'_>,
+    set: &mut [u64],
+    shot: Shot,
+    k: u64,
+) -> Walk
+    requires { Readable form values.words.now × (length set.old ≡ 16) × (w.count + 1 < 2 ^ 64) }
+    ensures { LineBack form values.entry.words.now shot.0 k w result set.old set.new }
 {
     let b = w.observable;
     match form {

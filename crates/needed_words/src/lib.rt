@@ -16,7 +16,7 @@ use job::limits::{MAX_ELEMENTS, MAX_WIDTH};
 use job::{Answer, refusals};
 use noise::{FIRST_INSTRUCTION_LINE, Place};
 use rows::Shape;
-use template::values::{KEPT, Values};
+use template::values::{KEPT, blank};
 
 // As many rows as a line has operands.
 const SCRATCH_WORDS: usize = KEPT * MAX_WIDTH;
@@ -45,7 +45,7 @@ fn execute<'a>(
     requires { ((recorded : ℕ) × Ahead job.now (header_of job.now shape) recorded 2 from) × RowsFor shape x.old z.old deltas.old noiseless.now × TotalsHeld shape.width shape.outcomes deltas.old totals.old }
     ensures { Executes job.now shape noiseless.now (draws.entry.main.now ++ draws.entry.more.now) draws.entry.second.now draws.entry.base from x.old z.old deltas.old x.new z.new deltas.new result × TotalsHeld shape.width shape.outcomes deltas.new totals.new }
 {
-    let mut values = Values::new();
+    let mut values = blank();
     let mut elements = [0u64; ELEMENTS_WORDS];
     let mut sums = [0.0; MAX_ELEMENTS as usize];
     let mut weights = [0.0; MAX_ELEMENTS as usize];

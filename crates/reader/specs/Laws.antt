@@ -5,5 +5,3 @@ pub mod Sift
 pub mod Tried
 -- Noise lines.
 pub mod Noise
--- More lent words than the values take.
-pub mod First

@@ -1,5 +1,5 @@
 -- What the functions that try one form, or some forms, say to the functions that chose them. Definitions. Assumes nothing.
-use Rattle.std.specs.Prelude.{ℕ, ◌≡◌, Bool, true, false, cond, ◌&&◌, List, [], ◌∷◌, eqb, length, Option as Answer, Some, None}
+use Rattle.std.specs.Prelude.{ℕ, ◌≡◌, Bool, false, cond, ◌&&◌, List, [], ◌∷◌, eqb, length, Option as Answer, Some, None}
 use Rattle.text.specs.Bytes.{bytes}
 use Rattle.text.specs.Template.{Value, number_at, list_at_of}
 use Rattle.template.specs.Fields.{ReadAs, Begins, ReadOn, ends_at}

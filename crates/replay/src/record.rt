@@ -6,14 +6,14 @@ ghost use Rattle.replay.specs.Records.{RecordOf};
 use crate::compare::{Difference, same, same_front};
 use crate::part_end;
 use template::read_all;
-use template::values::Values;
+use template::values::{VALUE_WORDS, Values, blank};
 use writer::TextAnswer;
 
 // The values of a record that names a call. Its first numbers are what the call must answer, its first list measures the bytes of a case, and its
 // second list the words.
 #[derive(Clone, Copy)]
 pub struct Record {
-    fields: Values,
+    words: [u64; VALUE_WORDS],
 }
 
 impl Record {
@@ -21,32 +21,32 @@ impl Record {
     pub fn read(line: &[u8], template: &[u8]) -> Option<Record>
         ensures { RecordOf line.now template.now result }
     {
-        let mut fields = Values::new();
-        if !read_all(line, template, &mut fields) {
+        let mut words = blank();
+        if !read_all(line, template, &mut words) {
             return None;
         }
-        Some(Record { fields })
+        Some(Record { words })
     }
 
     pub fn number(&self, i: usize) -> u64
         requires { i < 4 }
-        ensures { result ≡ held_number self.now.fields.words i }
+        ensures { result ≡ held_number self.now.words i }
     {
-        self.fields.number(i)
+        Values { words: &self.words }.number(i)
     }
 
     // Member j of a list.
     pub fn member(&self, list: usize, j: usize) -> u64
         requires { (list < 4) × (j < 31) }
-        ensures { result ≡ held_member self.now.fields.words list j }
+        ensures { result ≡ held_member self.now.words list j }
     {
-        self.fields.member(list, j)
+        Values { words: &self.words }.member(list, j)
     }
 
     // The bytes up to the end of a part, and those behind it: all and none where they are too few.
     pub fn part<'a>(&self, j: usize, bytes: &'a [u8]) -> (&'a [u8], &'a [u8])
         requires { j < 31 }
-        ensures { (result.0.now ≡ take (held_member self.now.fields.words 0 j) bytes.now) × (result.1.now ≡ drop (held_member self.now.fields.words 0 j) bytes.now) }
+        ensures { (result.0.now ≡ take (held_member self.now.words 0 j) bytes.now) × (result.1.now ≡ drop (held_member self.now.words 0 j) bytes.now) }
     {
         bytes.split_at(part_end(0, self.member(0, j), bytes.len()))
     }
@@ -75,7 +75,7 @@ impl Record {
 
     // That an answer, with its count or byte figure, is what the first numbers say.
     pub fn same_answer(&self, number: u64, line: u64, figure: u64) -> Result<(), Difference>
-        ensures { IsOk result ↔ ((number ≡ held_number self.now.fields.words 0) × (line ≡ held_number self.now.fields.words 1) × (figure ≡ held_number self.now.fields.words 2)) }
+        ensures { IsOk result ↔ ((number ≡ held_number self.now.words 0) × (line ≡ held_number self.now.words 1) × (figure ≡ held_number self.now.words 2)) }
     {
         same(number, self.number(0))?;
         same(line, self.number(1))?;
@@ -84,7 +84,7 @@ impl Record {
 
     // That a call that writes text answers and leaves what it must.
     pub fn same_text(&self, r: TextAnswer, out: &[u8], text: &[u8]) -> Result<(), Difference>
-        ensures { OnOk result ((r.answer.number ≡ held_number self.now.fields.words 0) × (r.answer.line ≡ held_number self.now.fields.words 1) × (r.figure ≡ held_number self.now.fields.words 2) × (take (length text.now) out.now ≡ text.now)) }
+        ensures { OnOk result ((r.answer.number ≡ held_number self.now.words 0) × (r.answer.line ≡ held_number self.now.words 1) × (r.figure ≡ held_number self.now.words 2) × (take (length text.now) out.now ≡ text.now)) }
     {
         let a = r.answer;
         self.same_answer(a.number, a.line, r.figure)?;

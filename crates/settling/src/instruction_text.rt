@@ -1,5 +1,6 @@
 // The text that an instruction comes to when a job is settled: a line that is copied, or the injections that stand for noise.
 ghost use Rattle.std.specs.Prelude.{◌≡◌, true, ◌++◌, ◌+◌, ◌*◌, ◌^◌, ◌<◌, ◌≤◌, length};
+ghost use Rattle.template.specs.Values.{Whole};
 ghost use Rattle.instructions.specs.Reading.{NextLine, noise_form};
 ghost use Rattle.faults.specs.Elements.{AllInside};
 ghost use Rattle.settling.specs.Pass.{pass_of, Between, InstructionPut};
@@ -26,7 +27,7 @@ fn put_noise_line<'a>(
     from: Reached,
     line: LineRead,
     job: &[u8],
-    values: &Values,
+    values: Values<'_>,
     elements: &mut [u64],
     sums: &mut [f64],
     weights: &mut [f64],
@@ -35,7 +36,7 @@ fn put_noise_line<'a>(
     noiseless: &[u64],
     draws: Draws<'a>,
 ) -> Result<Reached, Spent>
-    requires { Between (pass_of job.now shape noiseless.now (draws.main.now ++ draws.more.now) draws.second.now draws.base) from × (from.text + 5496832 < 2 ^ 64) × NextLine job.now from.place.byte line values.now.words × (noise_form line.form ≡ true) × AllInside elements.old × (64 ≤ length sums.old) × (64 ≤ length weights.old) × (64 ≤ length mask.old) }
+    requires { Between (pass_of job.now shape noiseless.now (draws.main.now ++ draws.more.now) draws.second.now draws.base) from × (from.text + 5496832 < 2 ^ 64) × NextLine job.now from.place.byte line values.words.now × (noise_form line.form ≡ true) × AllInside elements.old × (64 ≤ length sums.old) × (64 ≤ length weights.old) × (64 ≤ length mask.old) }
     ensures { InstructionPut (pass_of job.now shape noiseless.now (draws.entry.main.now ++ draws.entry.more.now) draws.entry.second.now draws.entry.base) out.old from out.new result }
 {
     let place = from.place;
@@ -78,7 +79,7 @@ pub fn put_instruction<'a>(
     out: &mut [u8],
     from: Reached,
     job: &[u8],
-    values: &mut Values,
+    values: &mut [u64],
     elements: &mut [u64],
     sums: &mut [f64],
     weights: &mut [f64],
@@ -87,7 +88,7 @@ pub fn put_instruction<'a>(
     noiseless: &[u64],
     draws: Draws<'a>,
 ) -> Result<Reached, Spent>
-    requires { Between (pass_of job.now shape noiseless.now (draws.main.now ++ draws.more.now) draws.second.now draws.base) from × (from.place.byte < length job.now) × (from.text ≤ 8388608 * from.place.line) × AllInside elements.old × (64 ≤ length sums.old) × (64 ≤ length weights.old) × (64 ≤ length mask.old) }
+    requires { Between (pass_of job.now shape noiseless.now (draws.main.now ++ draws.more.now) draws.second.now draws.base) from × (from.place.byte < length job.now) × (from.text ≤ 8388608 * from.place.line) × AllInside elements.old × (64 ≤ length sums.old) × (64 ≤ length weights.old) × (64 ≤ length mask.old) × Whole values.old }
     ensures { InstructionPut (pass_of job.now shape noiseless.now (draws.entry.main.now ++ draws.entry.more.now) draws.entry.second.now draws.entry.base) out.old from out.new result }
 {
     let place = from.place;
@@ -96,7 +97,18 @@ pub fn put_instruction<'a>(
     let form = line.form;
     if is_noise(form) {
         return put_noise_line(
-            out, from, line, job, values, elements, sums, weights, mask, shape, noiseless, draws,
+            out,
+            from,
+            line,
+            job,
+            Values { words: values },
+            elements,
+            sums,
+            weights,
+            mask,
+            shape,
+            noiseless,
+            draws,
         );
     }
     let next = line.end + 1;

@@ -20,7 +20,7 @@ use job_shape::{Tested, behind_header};
 use noise::{FIRST_INSTRUCTION_LINE, Place};
 use noise_text::Draws;
 use rows::Shape;
-use template::values::Values;
+use template::values::blank;
 use writer::{TextAnswer, put_bytes, refused, text_fits};
 
 // How long the text is, and how many words of the main list were taken for it.
@@ -57,7 +57,7 @@ fn put_settled<'a>(
     requires { Fits (pass_of job.now shape noiseless.now (draws.main.now ++ draws.more.now) draws.second.now draws.base) }
     ensures { SettledPut (pass_of job.now shape noiseless.now (draws.entry.main.now ++ draws.entry.more.now) draws.entry.second.now draws.entry.base) out.old out.new result }
 {
-    let mut values = Values::new();
+    let mut values = blank();
     let mut elements = [0u64; ELEMENTS_WORDS];
     let mut sums = [0.0; MAX_ELEMENTS as usize];
     let mut weights = [0.0; MAX_ELEMENTS as usize];

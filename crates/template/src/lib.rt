@@ -5,6 +5,7 @@ ghost use Rattle.std.specs.Prelude.{◌≡◌, true, false, List, [], ◌∷◌,
 ghost use Rattle.text.specs.Bytes.{space, until};
 ghost use Rattle.text.specs.Template.{a_number, a_list, value_of, is_letter_of};
 ghost use Rattle.numbers.specs.Read.{read, ListRead};
+ghost use Rattle.template.specs.Values.{Whole};
 ghost use Rattle.template.specs.Fields.{list_by_of, number_letter, list_letter, StoresAs, started, is_plain, ReadNext, ReadAs};
 
 pub mod values;
@@ -12,7 +13,7 @@ pub mod values;
 use numbers::lists::{Listed, list_by, list_c, list_l, list_q};
 use numbers::pieces::{find, find_far};
 use numbers::{bit, hex16, number};
-use values::{COUNTS, KEPT, LARGEST, MAX_SLOTS, MEMBERS, Values};
+use values::{COUNTS, KEPT, LARGEST, MAX_SLOTS, MEMBERS};
 
 // How far a line was read: up to which byte, and how many numbers and lists it had.
 #[derive(Clone, Copy)]
@@ -24,14 +25,15 @@ pub struct Progress {
 
 // ---- One value more. Each puts it behind those that the line had, and answers `None` where the bytes are no such value, or no slot is left.
 
-fn put_number(number: Option<u64>, p: Progress, fields: &mut Values) -> Option<Progress>
-    ensures { StoresAs 1 0 (a_number (read number)) p result fields.old.words fields.new.words }
+fn put_number(number: Option<u64>, p: Progress, fields: &mut [u64]) -> Option<Progress>
+    requires { Whole fields.old }
+    ensures { StoresAs 1 0 (a_number (read number)) p result fields.old fields.new }
 {
     let n = number?;
     if MAX_SLOTS <= p.numbers {
         return None;
     }
-    fields.words[p.numbers] = n;
+    fields[p.numbers] = n;
     Some(Progress {
         at: p.at,
         numbers: p.numbers + 1,
@@ -54,17 +56,18 @@ fn list(letter: u8, bytes: &[u8], out: &mut [u64]) -> Option<Listed>
     }
 }
 
-fn put_list(letter: u8, bytes: &[u8], p: Progress, fields: &mut Values) -> Option<Progress>
-    ensures { StoresAs 0 1 (a_list (list_by_of letter bytes.now)) p result fields.old.words fields.new.words }
+fn put_list(letter: u8, bytes: &[u8], p: Progress, fields: &mut [u64]) -> Option<Progress>
+    requires { Whole fields.old }
+    ensures { StoresAs 0 1 (a_list (list_by_of letter bytes.now)) p result fields.old fields.new }
 {
     if MAX_SLOTS <= p.lists {
         return None;
     }
     let from = MEMBERS + p.lists * KEPT;
     let to = from + KEPT;
-    let listed = list(letter, bytes, &mut fields.words[from..to])?;
-    fields.words[COUNTS + p.lists] = listed.count as u64;
-    fields.words[LARGEST + p.lists] = listed.largest;
+    let listed = list(letter, bytes, &mut fields[from..to])?;
+    fields[COUNTS + p.lists] = listed.count as u64;
+    fields[LARGEST + p.lists] = listed.largest;
     Some(Progress {
         at: p.at,
         numbers: p.numbers,
@@ -73,8 +76,9 @@ fn put_list(letter: u8, bytes: &[u8], p: Progress, fields: &mut Values) -> Optio
 }
 
 // What the bytes are by a letter of a template.
-fn put_value(letter: u8, bytes: &[u8], p: Progress, fields: &mut Values) -> Option<Progress>
-    ensures { StoresAs (number_letter letter) (list_letter letter) (value_of letter bytes.now) p result fields.old.words fields.new.words }
+fn put_value(letter: u8, bytes: &[u8], p: Progress, fields: &mut [u64]) -> Option<Progress>
+    requires { Whole fields.old }
+    ensures { StoresAs (number_letter letter) (list_letter letter) (value_of letter bytes.now) p result fields.old fields.new }
 {
     match letter {
         b'N' => put_number(number(bytes), p, fields),
@@ -137,10 +141,10 @@ fn value_to(
     p: Progress,
     end: usize,
     letter: u8,
-    fields: &mut Values,
+    fields: &mut [u64],
 ) -> Option<Progress>
-    requires { (p.at ≤ length line.now) × (end ≡ p.at + until space (drop p.at line.now)) × (end ≤ length line.now) × (is_letter_of letter ≡ true) }
-    ensures { ReadNext line.now (letter ∷ []) p result fields.old.words fields.new.words }
+    requires { (p.at ≤ length line.now) × (end ≡ p.at + until space (drop p.at line.now)) × (end ≤ length line.now) × (is_letter_of letter ≡ true) × Whole fields.old }
+    ensures { ReadNext line.now (letter ∷ []) p result fields.old fields.new }
 {
     let behind = Progress {
         at: end,
@@ -152,18 +156,18 @@ fn value_to(
 
 // The line read on by a letter for a value. It is part of its callers, so that what was read so far stays in registers.
 #[inline(always)]
-pub fn value(line: &[u8], p: Progress, letter: u8, fields: &mut Values) -> Option<Progress>
-    requires { (p.at ≤ length line.now) × (is_letter_of letter ≡ true) }
-    ensures read_next { ReadNext line.now (letter ∷ []) p result fields.old.words fields.new.words }
+pub fn value(line: &[u8], p: Progress, letter: u8, fields: &mut [u64]) -> Option<Progress>
+    requires { (p.at ≤ length line.now) × (is_letter_of letter ≡ true) × Whole fields.old }
+    ensures read_next { ReadNext line.now (letter ∷ []) p result fields.old fields.new }
     ensures at_in_bounds { IfSome result (λ q. q.at ≤ length line.now) }
 {
     value_to(line, p, find(line, p.at, b' '), letter, fields)
 }
 
 // The same for a value that is likely long.
-pub fn far_value(line: &[u8], p: Progress, letter: u8, fields: &mut Values) -> Option<Progress>
-    requires { (p.at ≤ length line.now) × (is_letter_of letter ≡ true) }
-    ensures read_next { ReadNext line.now (letter ∷ []) p result fields.old.words fields.new.words }
+pub fn far_value(line: &[u8], p: Progress, letter: u8, fields: &mut [u64]) -> Option<Progress>
+    requires { (p.at ≤ length line.now) × (is_letter_of letter ≡ true) × Whole fields.old }
+    ensures read_next { ReadNext line.now (letter ∷ []) p result fields.old fields.new }
     ensures at_in_bounds { IfSome result (λ q. q.at ≤ length line.now) }
 {
     value_to(line, p, find_far(line, p.at, b' '), letter, fields)
@@ -172,9 +176,9 @@ pub fn far_value(line: &[u8], p: Progress, letter: u8, fields: &mut Values) -> O
 // ---- A line by its template
 
 // A line read on by one byte of a template.
-fn next_byte(line: &[u8], p: Progress, byte: u8, fields: &mut Values) -> Option<Progress>
-    requires { p.at ≤ length line.now }
-    ensures { ReadNext line.now (byte ∷ []) p result fields.old.words fields.new.words }
+fn next_byte(line: &[u8], p: Progress, byte: u8, fields: &mut [u64]) -> Option<Progress>
+    requires { (p.at ≤ length line.now) × Whole fields.old }
+    ensures { ReadNext line.now (byte ∷ []) p result fields.old fields.new }
 {
     if is_letter(byte) {
         return value(line, p, byte, fields);
@@ -189,14 +193,9 @@ fn next_byte(line: &[u8], p: Progress, byte: u8, fields: &mut Values) -> Option<
 }
 
 // A line read on by a template.
-pub fn read_on(
-    line: &[u8],
-    template: &[u8],
-    from: Progress,
-    fields: &mut Values,
-) -> Option<Progress>
-    requires { from.at ≤ length line.now }
-    ensures { ReadNext line.now template.now from result fields.old.words fields.new.words }
+pub fn read_on(line: &[u8], template: &[u8], from: Progress, fields: &mut [u64]) -> Option<Progress>
+    requires { (from.at ≤ length line.now) × Whole fields.old }
+    ensures { ReadNext line.now template.now from result fields.old fields.new }
 {
     let mut p = from;
     for &byte in template {
@@ -206,8 +205,9 @@ pub fn read_on(
 }
 
 // A line read by a template to its end.
-pub fn read_all(line: &[u8], template: &[u8], fields: &mut Values) -> bool
-    ensures { ReadAs line.now template.now result fields.new.words }
+pub fn read_all(line: &[u8], template: &[u8], fields: &mut [u64]) -> bool
+    requires { Whole fields.old }
+    ensures { ReadAs line.now template.now result fields.new }
 {
     match read_on(line, template, start(), fields) {
         Some(p) => p.at == line.len(),

@@ -9,6 +9,7 @@ ghost use Rattle.text.specs.Bytes.{lines as Bytes·lines};
 ghost use Rattle.job.specs.Grammar.{Written, read_line_of};
 ghost use Rattle.job.specs.Job.{check_job};
 ghost use Rattle.backward.specs.Walking.{walk_reply};
+ghost use Rattle.template.specs.Values.{Whole};
 ghost use Rattle.lines_from_last.specs.Line.{LineBefore, OfJob};
 ghost use Rattle.walker.specs.Steps.{Started, WalkedBack, PassedOver, TextBack, Left, GatesGone};
 
@@ -23,23 +24,25 @@ use pauli::{Pauli, Shot};
 use reader::slots::SHOT;
 use reader::{LETTER, LETTER_END, read_line};
 use template::read_on;
-use template::values::Values;
+use template::values::{Values, blank};
 
 // ---- One line
 
 // Whether a line that begins as an injection does is one in another shot: read up to its shot alone.
-fn other_shot(line: &[u8], shot: Shot, values: &mut Values) -> bool
+fn other_shot(line: &[u8], shot: Shot, values: &mut [u64]) -> bool
+    requires { Whole values.old }
     ensures { result ≡ true → get_or line.now 0 0 ≡ 111 → get_or line.now 3 0 ≡ 105 → (v : Written) → read_line_of line.now ≡ some v → PassedOver shot.0 v }
 {
     let Some(_) = read_on(line, b"op=i shot=N ", template::start(), &mut *values) else {
         return false;
     };
-    values.number(SHOT) as usize != shot.0
+    Values { words: values }.number(SHOT) as usize != shot.0
 }
 
 // Whether a line is passed over without being read to its end:
 // a Pauli, an allocation, a barrier, or an injection in another shot, of which there are many.
-fn passed_over(line: &[u8], shot: Shot, values: &mut Values) -> bool
+fn passed_over(line: &[u8], shot: Shot, values: &mut [u64]) -> bool
+    requires { Whole values.old }
     ensures { result ≡ true → (v : Written) → read_line_of line.now ≡ some v → PassedOver shot.0 v }
 {
     if line.len() < LETTER_END || line[0] != b'o' {
@@ -53,15 +56,15 @@ fn passed_over(line: &[u8], shot: Shot, values: &mut Values) -> bool
 }
 
 // A line of an accepted job, of number k, by its first bytes, or by its form and its values.
-fn text_back(w: Walk, line: &[u8], values: &mut Values, set: &mut [u64], shot: Shot, k: u64) -> Walk
-    requires { OfJob line.now × (length set.old ≡ 16) × (w.count + 1 < 2 ^ 64) }
+fn text_back(w: Walk, line: &[u8], values: &mut [u64], set: &mut [u64], shot: Shot, k: u64) -> Walk
+    requires { OfJob line.now × (length set.old ≡ 16) × (w.count + 1 < 2 ^ 64) × Whole values.old }
     ensures { TextBack line.now shot.0 k w result set.old set.new }
 {
     if passed_over(line, shot, &mut *values) {
         return w;
     }
     let form = read_line(line, &mut *values);
-    line_back(w, form, values, set, shot, k)
+    line_back(w, form, Values { words: values }, set, shot, k)
 }
 
 // ---- Gate lines, of which a job has most
@@ -124,7 +127,7 @@ fn walk_lines(job: &[u8], lines: u64, shot: Shot, set: &mut [u64]) -> Walk
     requires { ((check_job job.now).number ≡ 0) × (lines ≡ length (Bytes·lines job.now)) × (length set.old ≡ 16) }
     ensures { WalkedBack job.now shot.0 (in_set set.old) result }
 {
-    let mut values = Values::new();
+    let mut values = blank();
     let mut w = start();
     let mut e = job.len();
     let mut k = lines;

@@ -37,10 +37,10 @@ returns-then-not-slot_distinct c =
     ∙ t.own
 
 pub slice_bounds-is_clifford-end : goal.slice_bounds-is_clifford-end
-slice_bounds-is_clifford-end c = rw (c.kept-words.ensures, c.table_words-n.ensures) (sym (words_for _ c.args.f.now.words c.args.f.now.whole c.if-k-gt-MAX_CLIFFORD_QUBITS.false).long)
+slice_bounds-is_clifford-end c = rw (c.kept-words.ensures, c.table_words-n.ensures) (sym (words_for _ c.args.f.words.now c.args.f.whole c.if-k-gt-MAX_CLIFFORD_QUBITS.false).long)
 
 pub is_clifford-requires : goal.is_clifford-requires
-is_clifford-requires c = rw (c.kept-words.ensures, c.table_words-n.ensures) (words_for _ c.args.f.now.words c.args.f.now.whole c.if-k-gt-MAX_CLIFFORD_QUBITS.false)
+is_clifford-requires c = rw (c.kept-words.ensures, c.table_words-n.ensures) (words_for _ c.args.f.words.now c.args.f.whole c.if-k-gt-MAX_CLIFFORD_QUBITS.false)
 
 pub returns-then-not-is_clifford : goal.returns-then-not-is_clifford
 returns-then-not-is_clifford c =
@@ -48,7 +48,7 @@ returns-then-not-is_clifford c =
     let t = tests_clifford c.args.c h in
     let size = c.count-k.ensures ∙ t.held.count 0 (omega arith) in
     let few = rw size at c.if-k-gt-MAX_CLIFFORD_QUBITS.false in
-    let words = ap (λ (ws : List ℕ). is_clifford_of (length (list_at_of 0 vs)) (table_of ws)) (words_kept c.args.c h c.args.f.now.whole few) in
+    let words = ap (λ (ws : List ℕ). is_clifford_of (length (list_at_of 0 vs)) (table_of ws)) (words_kept c.args.c h c.args.f.whole few) in
     let right = rw (c.kept-words.ensures, c.table_words-n.ensures, size) at c.is_clifford.ensures ∙ words in
     let once = c.slot_distinct.ensures _ _ vs t.held (omega arith) in
     fails 7 _ _ (sym right ∙ c.if-not-is_clifford.true)
@@ -62,7 +62,7 @@ returns c =
     let t = tests_clifford c.args.c h in
     let size = c.count-k.ensures ∙ t.held.count 0 (omega arith) in
     let few = rw size at c.if-k-gt-MAX_CLIFFORD_QUBITS.false in
-    let words = ap (λ (ws : List ℕ). is_clifford_of (length (list_at_of 0 vs)) (table_of ws)) (words_kept c.args.c h c.args.f.now.whole few) in
+    let words = ap (λ (ws : List ℕ). is_clifford_of (length (list_at_of 0 vs)) (table_of ws)) (words_kept c.args.c h c.args.f.whole few) in
     let right = rw (c.kept-words.ensures, c.table_words-n.ensures, size) at c.is_clifford.ensures ∙ words in
     let once = c.slot_distinct.ensures _ _ vs t.held (omega arith) in
     none_bad ∙ passes 7 _ _ (sym right ∙ c.if-not-is_clifford.false)

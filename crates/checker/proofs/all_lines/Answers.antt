@@ -1,4 +1,4 @@
-use Rattle.std.proofs.Common.{ℕ, List, ◌≡◌, ◌-◌, ◌<◌, length, refl, sym, ap, subst, ◌∙◌, arith, Bor}
+use Rattle.std.proofs.Common.{ℕ, List, ◌-◌, ◌<◌, length, refl, sym, ap, subst, ◌∙◌, arith, Bor}
 use Rattle.line_reader.specs.Reading.{line_from_of, behind}
 use Rattle.job.proofs.Laws.Refusals.{number_above}
 use Rattle.checker.specs.Laws.Job.{all_left, all_passed, bad_job}
@@ -6,7 +6,7 @@ use Rattle.checker.specs.Laws.Passing.{nearer, line_bad, line_good}
 use Rattle.checker.proofs.all_lines.Goals as goal
 
 pub loop-r-init : goal.loop-r-init
-loop-r-init c = record { job = refl; left = all_left c.requires c.no_context-context.ensures }
+loop-r-init c = record { job = refl; left = all_left c.requires.0 c.no_context-context.ensures }
 
 pub returns-in-Err : goal.returns-in-Err
 returns-in-Err c =

@@ -8,10 +8,10 @@ use native.Mathlib.Omega.{arith}
 use Rattle.correlations.proofs.collect.Goals as goal
 
 pub loop-at-init : goal.loop-at-init
-loop-at-init c = (collect_none c.requires.0 c.requires.3, refl, refl, refl)
+loop-at-init c = (collect_none c.requires.0 c.requires.3, refl, refl, refl, omega arith)
 
 pub next_known-line-requires : goal.next_known-line-requires
-next_known-line-requires c = left_known c.loop-at.invariant.0.left c.loop-at-test.true
+next_known-line-requires c = (left_known c.loop-at.invariant.0.left c.loop-at-test.true, omega (arith, c.loop-at.invariant.4))
 
 pub look-requires : goal.look-requires
 look-requires c = (length-take-le _ _ c.loop-at.invariant.0.holds.few ∙ sym (length-take-le _ _ (omega (arith, c.loop-at.invariant.0.holds.few, c.loop-at.invariant.0.holds.beside))), c.loop-at.invariant.0.holds.linked)
@@ -56,7 +56,7 @@ pub loop-at-smaller : goal.loop-at-smaller
 loop-at-smaller c = omega (arith, c.next_known-line.ensures.place.inside, c.next_known-line.ensures.place.begins)
 
 pub loop-at-preserved : goal.loop-at-preserved
-loop-at-preserved c = (collect_more c.loop-at.invariant.0 c.next_known-line.ensures c.in_ok-new.ensures c.remember-n.ensures, c.remember-n.auto.seen ∙ c.loop-at.invariant.1, c.remember-n.auto.sizes ∙ c.loop-at.invariant.2, c.remember-n.auto.links ∙ c.loop-at.invariant.3)
+loop-at-preserved c = (collect_more c.loop-at.invariant.0 c.next_known-line.ensures c.in_ok-new.ensures c.remember-n.ensures, c.remember-n.auto.seen ∙ c.loop-at.invariant.1, c.remember-n.auto.sizes ∙ c.loop-at.invariant.2, c.remember-n.auto.links ∙ c.loop-at.invariant.3, omega (arith, c.next_known-line.auto, c.loop-at.invariant.4))
 
 pub shape_of-seen : goal.shape_of-seen
 shape_of-seen c = c.loop-at.invariant.1

@@ -7,5 +7,5 @@ read_gate-g-requires c = let pre = c.requires in gate_line (of_gate pre.1 pre.0.
 
 pub returns : goal.returns
 returns c =
-    gate_parsed c.requires.0 c.requires.1 c.read_gate-g.ensures c.args.fields.now.words
-    c.args.fields.now.whole c.set_number.ensures c.set_few.ensures
+    gate_parsed c.requires.0 c.requires.1 c.read_gate-g.ensures c.args.fields.now
+    c.requires.2 c.set_number.ensures c.set_few.ensures

@@ -4,7 +4,7 @@ use native.Mathlib.Omega.{arith}
 use Rattle.needed_words.proofs.execute.Goals as goal
 
 pub loop-place-init : goal.loop-place-init
-loop-place-init c = (refl, refl, refl, refl, refl, refl, refl, going_begun _ _ _ _ _ _ c.requires.0.1 _ _ _, c.requires.2)
+loop-place-init c = (refl, refl, refl, refl, refl, refl, refl, going_begun _ _ _ _ _ _ c.requires.0.1 _ _ _, c.requires.2, omega arith)
 
 pub step-moved-requires : goal.step-moved-requires
 step-moved-requires c =
@@ -15,7 +15,7 @@ step-moved-requires c =
         recorded = g.recorded;
         ahead = g.ahead;
         inside = c.loop-place-test.true;
-        of_values = c.loop-place.values.whole;
+        of_values = omega (arith, i.9);
         of_elements = omega (arith, i.0);
         of_sums = omega (arith, i.1);
         of_weights = omega (arith, i.2);
@@ -76,6 +76,7 @@ loop-place-preserved c =
       going_on _ _ _ _ i.7 _ _ _ _
           (λ recorded ahead states holds. rw c.in-Ok.is at (c.step-moved.ensures.0.by recorded ahead states holds)),
       c.step-moved.ensures.1,
+      omega (arith, c.step-moved.auto.values, i.9),
     )
 
 pub shape_of-x : goal.shape_of-x

@@ -11,12 +11,12 @@ use Rattle.reader.proofs.depolarizing.Goals as goal
 
 pub returns-in_err-q : goal.returns-in_err-q
 unfolding place_of forms bytes noise_begin_of table_form_of
-returns-in_err-q c = rw c.from_residual.ensures (kind_stopped form.Depolarizing depolarizing refl refl c.requires _ c.in_err-q.ensures.read refl)
+returns-in_err-q c = rw c.from_residual.ensures (kind_stopped form.Depolarizing depolarizing refl refl c.requires.0 _ c.in_err-q.ensures.read refl)
 
 pub returns-in_err-size : goal.returns-in_err-size
 unfolding place_of forms bytes noise_begin_of table_form_of
-returns-in_err-size c = rw c.from_residual-in_err-size.ensures (kind_stopped form.Depolarizing depolarizing refl refl c.requires _ (then_next c.in_ok-q.ensures.read c.in_err-size.ensures.read) refl)
+returns-in_err-size c = rw c.from_residual-in_err-size.ensures (kind_stopped form.Depolarizing depolarizing refl refl c.requires.0 _ (then_next c.in_ok-q.ensures.read c.in_err-size.ensures.read) refl)
 
 pub returns : goal.returns
 unfolding place_of forms bytes noise_begin_of table_form_of
-returns c = kind_tried form.Depolarizing depolarizing refl refl c.requires (kind_parts (then_next c.in_ok-q.ensures.read c.in_ok-size.ensures.read) c.ended.ensures)
+returns c = kind_tried form.Depolarizing depolarizing refl refl c.requires.0 (kind_parts (then_next c.in_ok-q.ensures.read c.in_ok-size.ensures.read) c.ended.ensures)

@@ -11,7 +11,7 @@ use Rattle.reader.proofs.exponential.Goals as goal
 
 pub returns-in_err-head : goal.returns-in_err-head
 unfolding place_of forms bytes pauli_part
-returns-in_err-head c = rw c.from_residual.ensures (stopped form.Exponential _ (from_start c.start.ensures (c.in_err-head.ensures.by_index c.args.fields.now.words)) refl)
+returns-in_err-head c = rw c.from_residual.ensures (stopped form.Exponential _ (from_start c.start.ensures (c.in_err-head.ensures.by_index c.args.fields.now)) refl)
 
 pub returns-in_err-pauli : goal.returns-in_err-pauli
 unfolding place_of forms bytes pauli_part

@@ -8,7 +8,7 @@ pub returns-in_err-named-clause-read : goal.returns-in_err-named-clause-read
 returns-in_err-named-clause-read c = rw c.from_residual.ensures (stops _ (c.in_err-named.ensures.by_index _))
 
 pub value-requires : goal.value-requires
-value-requires c = (((c.in_ok-named.ensures.by_index []).read _ refl).within, c.requires.2)
+value-requires c = (((c.in_ok-named.ensures.by_index []).read _ refl).within, c.requires.2, c.requires.3)
 
 pub returns-clause-read : goal.returns-clause-read
 returns-clause-read c = then_next (c.in_ok-named.ensures.by_index _) c.value.ensures.read_next

@@ -22,7 +22,7 @@ pub bounds-line-3 : goal.bounds-line-3
 bounds-line-3 c = omega arith
 
 pub operation-requires : goal.operation-requires
-operation-requires c = (c.in-111.is, refl)
+operation-requires c = (c.in-111.is, refl, c.requires)
 
 pub returns-in-111 : goal.returns-in-111
 returns-in-111 c = c.operation.ensures

@@ -33,7 +33,7 @@ pub noise_kind-requires : goal.noise_kind-requires
 unfolding noise_begin_of bytes
 noise_kind-requires c =
     let begun = c.in_ok-begun.ensures.read _ refl in
-    (record { before = _; begins = begun; parity = parity_known begun c.count.ensures c.number.ensures c.parity_alone.ensures ∙ c.if-parity_alone.false }, refl)
+    (record { before = _; begins = begun; parity = parity_known begun c.count.ensures c.number.ensures c.parity_alone.ensures ∙ c.if-parity_alone.false }, refl, omega (arith, c.noise_begin.auto.fields, c.requires))
 
 pub returns : goal.returns
 returns c = c.noise_kind.ensures

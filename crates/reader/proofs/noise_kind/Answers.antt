@@ -14,16 +14,16 @@ use mathlib.Core.List.{[]}
 use Rattle.reader.proofs.noise_kind.Goals as goal
 
 pub single-requires : goal.single-requires
-single-requires c = c.requires.0
+single-requires c = (c.requires.0, c.requires.2)
 
 pub depolarizing-requires : goal.depolarizing-requires
-depolarizing-requires c = c.requires.0
+depolarizing-requires c = (c.requires.0, c.requires.2)
 
 pub uniform-requires : goal.uniform-requires
-uniform-requires c = c.requires.0
+uniform-requires c = (c.requires.0, c.requires.2)
 
 pub weighted-requires : goal.weighted-requires
-weighted-requires c = c.requires.0
+weighted-requires c = (c.requires.0, c.requires.2)
 
 pub returns-in-49 : goal.returns-in-49
 unfolding sift forms_of table_form_of noise_begin_of place_of forms bytes

@@ -11,16 +11,16 @@ use Rattle.reader.proofs.single.Goals as goal
 
 pub returns-in_err-head : goal.returns-in_err-head
 unfolding place_of forms bytes pauli_part noise_begin_of table_form_of
-returns-in_err-head c = rw c.from_residual.ensures (kind_stopped form.Single single refl refl c.requires _ (c.in_err-head.ensures.by_index _) refl)
+returns-in_err-head c = rw c.from_residual.ensures (kind_stopped form.Single single refl refl c.requires.0 _ (c.in_err-head.ensures.by_index _) refl)
 
 pub returns-in_err-pauli : goal.returns-in_err-pauli
 unfolding place_of forms bytes pauli_part noise_begin_of table_form_of
-returns-in_err-pauli c = rw c.from_residual-in_err-pauli.ensures (kind_stopped form.Single single refl refl c.requires _ (then_next (c.in_ok-head.ensures.by_index _) c.in_err-pauli.ensures.read) refl)
+returns-in_err-pauli c = rw c.from_residual-in_err-pauli.ensures (kind_stopped form.Single single refl refl c.requires.0 _ (then_next (c.in_ok-head.ensures.by_index _) c.in_err-pauli.ensures.read) refl)
 
 pub returns-in_err-size : goal.returns-in_err-size
 unfolding place_of forms bytes pauli_part noise_begin_of table_form_of
-returns-in_err-size c = rw c.from_residual-in_err-size.ensures (kind_stopped form.Single single refl refl c.requires _ (then_next (then_next (c.in_ok-head.ensures.by_index _) c.in_ok-pauli.ensures.read) c.in_err-size.ensures.read) refl)
+returns-in_err-size c = rw c.from_residual-in_err-size.ensures (kind_stopped form.Single single refl refl c.requires.0 _ (then_next (then_next (c.in_ok-head.ensures.by_index _) c.in_ok-pauli.ensures.read) c.in_err-size.ensures.read) refl)
 
 pub returns : goal.returns
 unfolding place_of forms bytes pauli_part noise_begin_of table_form_of
-returns c = kind_tried form.Single single refl refl c.requires (kind_parts (then_next (then_next (c.in_ok-head.ensures.by_index _) c.in_ok-pauli.ensures.read) c.in_ok-size.ensures.read) c.ended.ensures)
+returns c = kind_tried form.Single single refl refl c.requires.0 (kind_parts (then_next (then_next (c.in_ok-head.ensures.by_index _) c.in_ok-pauli.ensures.read) c.in_ok-size.ensures.read) c.ended.ensures)

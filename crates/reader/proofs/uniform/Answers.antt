@@ -11,12 +11,12 @@ use Rattle.reader.proofs.uniform.Goals as goal
 
 pub returns-in_err-n : goal.returns-in_err-n
 unfolding place_of forms bytes noise_begin_of table_form_of
-returns-in_err-n c = rw c.from_residual.ensures (kind_stopped form.Uniform uniform refl refl c.requires _ c.in_err-n.ensures.read refl)
+returns-in_err-n c = rw c.from_residual.ensures (kind_stopped form.Uniform uniform refl refl c.requires.0 _ c.in_err-n.ensures.read refl)
 
 pub returns-in_err-size : goal.returns-in_err-size
 unfolding place_of forms bytes noise_begin_of table_form_of
-returns-in_err-size c = rw c.from_residual-in_err-size.ensures (kind_stopped form.Uniform uniform refl refl c.requires _ (then_next c.in_ok-n.ensures.read c.in_err-size.ensures.read) refl)
+returns-in_err-size c = rw c.from_residual-in_err-size.ensures (kind_stopped form.Uniform uniform refl refl c.requires.0 _ (then_next c.in_ok-n.ensures.read c.in_err-size.ensures.read) refl)
 
 pub returns : goal.returns
 unfolding place_of forms bytes noise_begin_of table_form_of
-returns c = kind_tried form.Uniform uniform refl refl c.requires (kind_parts (then_next c.in_ok-n.ensures.read c.in_ok-size.ensures.read) c.ended.ensures)
+returns c = kind_tried form.Uniform uniform refl refl c.requires.0 (kind_parts (then_next c.in_ok-n.ensures.read c.in_ok-size.ensures.read) c.ended.ensures)

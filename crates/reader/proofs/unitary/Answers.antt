@@ -1,6 +1,6 @@
 -- `reader::unitary` meets its contract. Assumes nothing.
 use native.Mathlib.Omega.{arith}
-use mathlib.Core.Path.{refl, sym, ◌∙◌}
+use mathlib.Core.Path.{refl}
 use Rattle.text.specs.Bytes.{bytes}
 use Rattle.template.specs.Laws.Reading.{from_start, then_next, whole_read}
 use Rattle.job.specs.Grammar.{forms}

@@ -13,10 +13,10 @@ pub put_bytes-text-requires : goal.put_bytes-text-requires
 put_bytes-text-requires c = rw length-take (omega (arith, fits_sizes c.requires))
 
 pub loop-here-init : goal.loop-here-init
-loop-here-init c = (pass_begins c.requires c.behind_header-from.ensures c.put_bytes-text.ensures, refl, refl, refl, refl, refl)
+loop-here-init c = (pass_begins c.requires c.behind_header-from.ensures c.put_bytes-text.ensures, refl, refl, refl, refl, refl, omega arith)
 
 pub put_instruction-requires : goal.put_instruction-requires
-put_instruction-requires c = (c.loop-here.invariant.0.between, c.loop-here-test.true, c.loop-here.invariant.0.few, omega (arith, c.loop-here.invariant.2), omega (arith, c.loop-here.invariant.3), omega (arith, c.loop-here.invariant.4), omega (arith, c.loop-here.invariant.5))
+put_instruction-requires c = (c.loop-here.invariant.0.between, c.loop-here-test.true, c.loop-here.invariant.0.few, omega (arith, c.loop-here.invariant.2), omega (arith, c.loop-here.invariant.3), omega (arith, c.loop-here.invariant.4), omega (arith, c.loop-here.invariant.5), omega (arith, c.loop-here.invariant.6))
 
 pub shape_of-out-in-Err : goal.shape_of-out-in-Err
 shape_of-out-in-Err c = c.put_instruction.auto.out ∙ c.loop-here.invariant.1 ∙ c.put_bytes-text.auto.out
@@ -30,7 +30,7 @@ loop-here-smaller c =
     omega (arith, o.onward, c.loop-here.invariant.0.between.ahead.number, c.loop-here.invariant.0.between.ahead.within)
 
 pub loop-here-preserved : goal.loop-here-preserved
-loop-here-preserved c = (pass_on c.loop-here.invariant.0 (moved_to c.put_instruction.ensures c.in-Ok.is), c.put_instruction.auto.out ∙ c.loop-here.invariant.1, c.put_instruction.auto.elements ∙ c.loop-here.invariant.2, c.put_instruction.auto.sums ∙ c.loop-here.invariant.3, c.put_instruction.auto.weights ∙ c.loop-here.invariant.4, c.put_instruction.auto.mask ∙ c.loop-here.invariant.5)
+loop-here-preserved c = (pass_on c.loop-here.invariant.0 (moved_to c.put_instruction.ensures c.in-Ok.is), c.put_instruction.auto.out ∙ c.loop-here.invariant.1, c.put_instruction.auto.elements ∙ c.loop-here.invariant.2, c.put_instruction.auto.sums ∙ c.loop-here.invariant.3, c.put_instruction.auto.weights ∙ c.loop-here.invariant.4, c.put_instruction.auto.mask ∙ c.loop-here.invariant.5, omega (arith, c.put_instruction.auto.values, c.loop-here.invariant.6))
 
 pub shape_of-out : goal.shape_of-out
 shape_of-out c = c.loop-here.invariant.1 ∙ c.put_bytes-text.auto.out

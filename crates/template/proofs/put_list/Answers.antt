@@ -1,6 +1,4 @@
 -- `template::put_list` meets its contract. Assumes nothing.
-use native.Mathlib.Omega.{arith}
-use lib.ListN.{length-set}
 use Rattle.template.specs.Laws.Reading.{not_list, full_list, one_list}
 use Rattle.template.proofs.put_list.Goals as goal
 
@@ -11,4 +9,4 @@ pub returns-in_err-listed : goal.returns-in_err-listed
 returns-in_err-listed c = rw c.from_residual.ensures (not_list _ _ _ _ (rw c.in_err-listed.was at c.list.ensures).result)
 
 pub returns : goal.returns
-returns c = one_list _ _ _ _ _ c.args.fields.now.whole c.if-p-ge-MAX_SLOTS.false (rw c.in_ok-listed.was at c.list.ensures)
+returns c = one_list _ _ _ _ _ c.requires c.if-p-ge-MAX_SLOTS.false (rw c.in_ok-listed.was at c.list.ensures)

@@ -1,10 +1,9 @@
 -- `template::read_on` meets its contract. Assumes nothing.
-use mathlib.Core.Path.{◌≡◌}
-use lib.ListN.{length, take}
+use lib.ListN.{take}
 use Rattle.std.specs.Prelude.{Some}
 use Rattle.template.specs.Fields.{ReadNext}
 use Rattle.template.proofs.read_on.Given as goal
 
 abbrev pub invariant-loop-byte : goal.invariant-loop-byte
 invariant-loop-byte l =
-    ReadNext l.line (take l.byte-index l.template) l.fn.from (Some l.p) l.initial.fields.words l.fields.words
+    ReadNext l.line (take l.byte-index l.template) l.fn.from (Some l.p) l.initial.fields l.fields

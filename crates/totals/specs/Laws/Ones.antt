@@ -79,22 +79,6 @@ ones_word (suc n) v h =
     ∙ ap₂ ◌+◌ (bit_one v 0 ∙ lowest) (ap (ones_to n) rest ∙ ones_word n (v / 2) (shr_lt n 1 (rw add-one h)))
     ∙ sym (ones_step v)
 
--- one word more
-pub word_next : (words : List ℕ) (j : ℕ) → get_or words j 0 < 2 ^ 64
-    → ones_to (64 * (j + 1)) (bit_in 1 words 0) ≡ ones_to (64 * j) (bit_in 1 words 0) + ones (get_or words j 0)
-unfolding bit_in
-word_next words j fits =
-    let n : 64 * (j + 1) ≡ 64 * j + 64 = omega arith in
-    rw n
-    (ones_plus (64 * j) 64 (bit_in 1 words 0)
-    ∙ ap (λ (i : ℕ). ones_to (64 * j) (bit_in 1 words 0) + i) (ones_same 64 _ (bit (get_or words j 0)) word ∙ ones_word 64 _ fits))
-  where
-    word : (k : ℕ) → k < 64 → bit_in 1 words 0 (64 * j + k) ≡ bit (get_or words j 0) k
-    word k h =
-        let place : 0 * 1 + (64 * j + k) / 64 ≡ j = omega arith in
-        let here : (64 * j + k) % 64 ≡ k = omega arith in
-        rw (place, here)
-
 -- one word more, of words from a place on, which are a row of width 1
 pub word_more : (rows : List ℕ) (from j : ℕ) → get_or rows (from + j) 0 < 2 ^ 64
     → ones_to (64 * (j + 1)) (bit_in 1 rows from) ≡ ones_to (64 * j) (bit_in 1 rows from) + ones (get_or rows (from + j) 0)
@@ -110,6 +94,16 @@ word_more rows from j fits =
         let place : from * 1 + (64 * j + k) / 64 ≡ from + j = omega arith in
         let here : (64 * j + k) % 64 ≡ k = omega arith in
         rw (place, here)
+
+-- counted from place 0, the i-th word is the i-th
+from_first : (words : List ℕ) (i : ℕ) → get_or words (0 + i) 0 ≡ get_or words i 0
+from_first words i = ap (λ (k : ℕ). get_or words k 0) (omega arith)
+
+-- one word more, of words from the first on
+pub word_next : (words : List ℕ) (j : ℕ) → get_or words j 0 < 2 ^ 64
+    → ones_to (64 * (j + 1)) (bit_in 1 words 0) ≡ ones_to (64 * j) (bit_in 1 words 0) + ones (get_or words j 0)
+word_next words j fits =
+    word_more words 0 j (rw (from_first words j) fits) ∙ ap (λ (w : ℕ). ones_to (64 * j) (bit_in 1 words 0) + ones w) (from_first words j)
 
 -- words that are cut in two
 ones_append : (words first rest : List ℕ) → words ≡ first ++ rest → ones_in words ≡ ones_in first + ones_in rest
@@ -148,26 +142,7 @@ ones_row w rows r k room e =
         ∙ get_or-drop (r * w) rows (0 * 1 + s / 64) 0
         ∙ ap (λ (i : ℕ). get_or rows i 0) place)
 
--- words of which each is 0
-pub each_none : (words : List ℕ) → ((i : ℕ) → i < length words → get_or words i 0 ≡ 0) → ones_in words ≡ 0
-unfolding bit_in
-each_none words none = ones_none (64 * length words) (bit_in 1 words 0) off
-  where
-    off : (k : ℕ) → k < 64 * length words → bit_in 1 words 0 k ≡ false
-    off k h =
-        let place : 0 * 1 + k / 64 ≡ k / 64 = omega arith in
-        rw (place, none (k / 64) (omega arith)) (bit_zero (k % 64))
-
--- one word more of which each bit is 0, where the first i are 0 if a number is
-pub none_next : (words : List ℕ) (i sum : ℕ) → (sum ≡ 0 → (k : ℕ) → k < i → get_or words k 0 ≡ 0)
-    → bit_or sum (get_or words i 0) ≡ 0 → (k : ℕ) → k < i + 1 → get_or words k 0 ≡ 0
-none_next words i sum before e k h = go (ℕ_discrete k i)
-  where
-    go : Dec (k ≡ i) → get_or words k 0 ≡ 0
-    go (yes last) = rw last (omega (arith, or_add_and sum (get_or words i 0), and_le_l sum (get_or words i 0)))
-    go (no other) = before (omega (arith, or_add_and sum (get_or words i 0), and_le_r sum (get_or words i 0))) k (omega arith)
-
--- the same of words from a place on
+-- words from a place on, of which each is 0
 pub words_none : (rows : List ℕ) (from n : ℕ) → ((i : ℕ) → i < n → get_or rows (from + i) 0 ≡ 0) → ones_to (64 * n) (bit_in 1 rows from) ≡ 0
 unfolding bit_in
 words_none rows from n none = ones_none (64 * n) (bit_in 1 rows from) off
@@ -177,6 +152,7 @@ words_none rows from n none = ones_none (64 * n) (bit_in 1 rows from) off
         let place : from * 1 + k / 64 ≡ from + k / 64 = omega arith in
         rw (place, none (k / 64) (omega arith)) (bit_zero (k % 64))
 
+-- one word more of which each bit is 0, where the first i are 0 if a number is
 pub none_more : (rows : List ℕ) (from i sum : ℕ) → (sum ≡ 0 → (k : ℕ) → k < i → get_or rows (from + k) 0 ≡ 0)
     → bit_or sum (get_or rows (from + i) 0) ≡ 0 → (k : ℕ) → k < i + 1 → get_or rows (from + k) 0 ≡ 0
 none_more rows from i sum before e k h = go (ℕ_discrete k i)
@@ -184,6 +160,16 @@ none_more rows from i sum before e k h = go (ℕ_discrete k i)
     go : Dec (k ≡ i) → get_or rows (from + k) 0 ≡ 0
     go (yes last) = rw last (omega (arith, or_add_and sum (get_or rows (from + i) 0), and_le_l sum (get_or rows (from + i) 0)))
     go (no other) = before (omega (arith, or_add_and sum (get_or rows (from + i) 0), and_le_r sum (get_or rows (from + i) 0))) k (omega arith)
+
+-- both of words from the first on
+pub each_none : (words : List ℕ) → ((i : ℕ) → i < length words → get_or words i 0 ≡ 0) → ones_in words ≡ 0
+each_none words none = words_none words 0 (length words) (λ i h. from_first words i ∙ none i h)
+
+pub none_next : (words : List ℕ) (i sum : ℕ) → (sum ≡ 0 → (k : ℕ) → k < i → get_or words k 0 ≡ 0)
+    → bit_or sum (get_or words i 0) ≡ 0 → (k : ℕ) → k < i + 1 → get_or words k 0 ≡ 0
+none_next words i sum before e k h =
+    let said = ap (bit_or sum) (from_first words i) ∙ e in
+    sym (from_first words k) ∙ none_more words 0 i sum (λ z j m. from_first words j ∙ before z j m) said k h
 
 -- ---- after a change
 

@@ -13,10 +13,10 @@ pub put_start-requires : goal.put_start-requires
 put_start-requires c = tt
 
 pub loop-at-init : goal.loop-at-init
-loop-at-init c = (put_none c.requires, refl)
+loop-at-init c = (put_none c.requires, refl, omega arith)
 
 pub next_known-line-requires : goal.next_known-line-requires
-next_known-line-requires c = left_known c.loop-at.invariant.0.left c.loop-at-test.true
+next_known-line-requires c = (left_known c.loop-at.invariant.0.left c.loop-at-test.true, omega (arith, c.loop-at.invariant.2))
 
 pub overflow_add-end : goal.overflow_add-end
 overflow_add-end c = omega (arith, c.next_known-line.ensures.place.inside, c.loop-at.invariant.0.left.size)
@@ -66,7 +66,7 @@ pub loop-at-smaller : goal.loop-at-smaller
 loop-at-smaller c = omega (arith, c.next_known-line.ensures.place.begins, c.next_known-line.ensures.place.inside)
 
 pub loop-at-preserved : goal.loop-at-preserved
-loop-at-preserved c = (put_more c.loop-at.invariant.0 c.next_known-line.ensures c.noise_qubits-n.ensures _ (sym (c.if-not-fit.false) ∙ c.fit.ensures) c.noise_before-before.ensures (c.put_around-next.ensures _ (start_put c.args.p c.put_start.ensures c.put_start.auto.out)), omega (arith, c.loop-at.invariant.1, c.noise_qubits-n.auto))
+loop-at-preserved c = (put_more c.loop-at.invariant.0 c.next_known-line.ensures c.noise_qubits-n.ensures _ (sym (c.if-not-fit.false) ∙ c.fit.ensures) c.noise_before-before.ensures (c.put_around-next.ensures _ (start_put c.args.p c.put_start.ensures c.put_start.auto.out)), omega (arith, c.loop-at.invariant.1, c.noise_qubits-n.auto), omega (arith, c.next_known-line.auto, c.loop-at.invariant.2))
 
 pub shape_of-out : goal.shape_of-out
 shape_of-out c = rest_length c.loop-at.invariant.0.rest

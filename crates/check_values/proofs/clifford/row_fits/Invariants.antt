@@ -1,7 +1,7 @@
 -- `check_values::clifford::row_fits` meets its contract. Assumes nothing.
 use mathlib.Core.Path.{◌≡◌}
 use mathlib.Core.Bool.{true}
-use Prim.Native.Nat.{ℕ, ◌*◌, ◌-◌, ◌≤◌}
+use Prim.Native.Nat.{ℕ, ◌*◌, ◌≤◌}
 use Rattle.job.specs.Clifford.{every}
 use Rattle.tables.specs.Rows.{RowsOf}
 use Rattle.check_values.specs.Pairs.{pair_fits_of}

@@ -1,5 +1,5 @@
 -- `check_values::lists::all_below` meets its contract. Assumes nothing.
-use Rattle.std.proofs.Common.{Bool, ◌&&◌, List, ltb, refl, ◌∙◌, rules, tests}
+use Rattle.std.proofs.Common.{Bool, ◌&&◌, ltb, refl, ◌∙◌, rules, tests}
 use Rattle.std.specs.List.{list_all}
 use Rattle.std.proofs.lemmas.Iterator.{YieldsList-from_slice}
 use Rattle.std.proofs.lemmas.Iterator.Search.{all_from_yields_List}

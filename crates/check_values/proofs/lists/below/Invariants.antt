@@ -10,5 +10,5 @@ use Rattle.check_values.proofs.lists.below.Given as goal
 
 abbrev pub invariant-loop-i : goal.invariant-loop-i
 invariant-loop-i l =
-    (numbers lists : ℕ) (vs : List Value) → Held l.f.words numbers lists vs → l.end ≤ lists
+    (numbers lists : ℕ) (vs : List Value) → Held l.f.words.now numbers lists vs → l.end ≤ lists
     → each_below_of l.n (lists_from l.first (l.end - l.first) vs) ≡ each_below_of l.n (lists_from l.i (l.end - l.i) vs)

@@ -1,6 +1,6 @@
 -- `check_values::lists::distinct` meets its contract. Assumes nothing.
 use mathlib.Core.Path.{◌≡◌}
-use Prim.Native.Nat.{◌-◌, ◌≤◌}
+use Prim.Native.Nat.{◌≤◌}
 use lib.ListN.{length, drop}
 use Rattle.job.specs.Checks.{distinct as Checks·distinct}
 use Rattle.check_values.proofs.lists.distinct.Given as goal

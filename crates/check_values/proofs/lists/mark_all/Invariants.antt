@@ -1,5 +1,5 @@
 -- `check_values::lists::mark_all` meets its contract. Assumes nothing.
-use Prim.Native.Nat.{◌-◌, ◌≤◌}
+use Prim.Native.Nat.{◌≤◌}
 use lib.ListN.{length}
 use Rattle.check_values.specs.Laws.Overlap.{MarkedTo}
 use Rattle.check_values.proofs.lists.mark_all.Given as goal

@@ -1,5 +1,5 @@
 -- `check_values::lists::overlap_is_odd` meets its contract. Assumes nothing.
-use Prim.Native.Nat.{◌-◌, ◌≤◌}
+use Prim.Native.Nat.{◌≤◌}
 use lib.ListN.{length}
 use Rattle.check_values.specs.Marks.{MarksOf}
 use Rattle.check_values.specs.Laws.Overlap.{Counted}

@@ -27,7 +27,7 @@ loop-i-preserved c = (
   λ numbers lists vs h g.
       let e = h.count c.loop-i.i (omega arith) in
       c.loop-i.invariant.0 numbers lists vs h g ∙ each_next each_short_lem vs _ _ c.loop-i-test.true (le-leb (length (list_at_of c.loop-i.i vs)) 31 (omega (arith, c.if-count-gt-MAX_MEMBERS.false))),
-  up_to (AllKept c.args.f.now.words) _ _ c.loop-i.invariant.1 (omega (arith, c.if-count-gt-MAX_MEMBERS.false, c.count.ensures)),
+  up_to (AllKept c.args.f.words.now) _ _ c.loop-i.invariant.1 (omega (arith, c.if-count-gt-MAX_MEMBERS.false, c.count.ensures)),
 )
 
 pub returns : goal.returns

@@ -11,6 +11,6 @@ use Rattle.check_values.proofs.lists.short.Given as goal
 
 abbrev pub invariant-loop-i : goal.invariant-loop-i
 invariant-loop-i l =
-    ((numbers lists : ℕ) (vs : List Value) → Held l.f.words numbers lists vs → l.end ≤ lists
+    ((numbers lists : ℕ) (vs : List Value) → Held l.f.words.now numbers lists vs → l.end ≤ lists
     → each_short (lists_from l.first (l.end - l.first) vs) ≡ each_short (lists_from l.i (l.end - l.i) vs))
-    × ((j : ℕ) → l.first ≤ j → j < l.i → AllKept l.f.words j)
+    × ((j : ℕ) → l.first ≤ j → j < l.i → AllKept l.f.words.now j)

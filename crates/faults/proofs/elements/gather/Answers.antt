@@ -9,13 +9,13 @@ pub returns-then-n-eq0 : goal.returns-then-n-eq0
 returns-then-n-eq0 c = (λ z. refl, λ q. subst (Gathered q _ _ _) (sym c.if-n-eq0.true) (gathered_none q _ _))
 
 pub loop-e-init : goal.loop-e-init
-loop-e-init c = (omega arith, refl, c.requires.2, λ z. refl, λ q. gathered_none q _ _)
+loop-e-init c = (omega arith, refl, c.requires.2, λ z. refl, λ q. gathered_none q _ _, omega arith)
 
 pub next_known-line-requires : goal.next_known-line-requires
 next_known-line-requires c =
     let q = c.requires.0 in
     let g = c.loop-e.invariant.4 q in
-    (gathered_known q g c.loop-e-test.true)
+    (gathered_known q g c.loop-e-test.true, omega (arith, c.loop-e.invariant.5))
 
 pub keep_element-requires : goal.keep_element-requires
 keep_element-requires c = (omega (arith, c.requires.1), omega arith)
@@ -37,6 +37,7 @@ loop-e-preserved c =
       λ (z : c.args.n ≡ 0). absurd (omega arith),
       λ q.
           gathered_more q (inv.4 q) c.loop-e-test.true c.next_known-line.ensures (omega (arith, c.requires.1)) inv.2 c.keep_element.ensures c.number.ensures _ c.weight_of.ensures,
+      omega (arith, c.next_known-line.auto, inv.5),
     )
 
 pub shape_of-weights : goal.shape_of-weights

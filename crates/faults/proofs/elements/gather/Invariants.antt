@@ -12,3 +12,4 @@ invariant-loop-e l =
     × (length l.weights ≡ l.n)
     × (l.n ≡ 0 → l.elements ≡ l.initial.elements)
     × ((q : ElementLines l.job l.from l.n l.weighted) → Gathered q l.elements l.weights l.at l.e)
+    × (length l.words ≡ 136)

@@ -9,12 +9,12 @@ pub bounds-elements-start-2 : goal.bounds-elements-start-2
 bounds-elements-start-2 c = simp length-set (omega arith)
 
 pub copy-requires : goal.copy-requires
-copy-requires c = (simp length-set (omega (arith, c.kept_count.ensures)), omega (arith, c.kept_count.ensures, kept_size c.args.values.now.words c.args.first c.kept.ensures c.args.values.now.whole (omega arith)))
+copy-requires c = (simp length-set (omega (arith, c.kept_count.ensures)), omega (arith, c.kept_count.ensures, kept_size c.args.values.words.now c.args.first c.kept.ensures c.args.values.whole (omega arith)))
 
 pub copy-requires-2 : goal.copy-requires-2
 copy-requires-2 c =
     let long = simp length-set at (copy_length _ _ _ _ _ _ c.copy.ensures) in
-    (omega (arith, long, c.kept_count-2.ensures), omega (arith, c.kept_count-2.ensures, kept_size c.args.values.now.words (c.args.first + 1) c.kept-2.ensures c.args.values.now.whole (omega arith)))
+    (omega (arith, long, c.kept_count-2.ensures), omega (arith, c.kept_count-2.ensures, kept_size c.args.values.words.now (c.args.first + 1) c.kept-2.ensures c.args.values.whole (omega arith)))
 
 pub returns : goal.returns
 returns c =

@@ -6,7 +6,7 @@ use native.Mathlib.Omega.{arith}
 use Rattle.faults.proofs.line.condition_of.Goals as goal
 
 pub copy-requires : goal.copy-requires
-copy-requires c = (omega arith, omega (arith, kept_size c.args.values.now.words 1 c.kept.ensures c.args.values.now.whole (omega arith)))
+copy-requires c = (omega arith, omega (arith, kept_size c.args.values.words.now 1 c.kept.ensures c.args.values.whole (omega arith)))
 
 pub returns : goal.returns
 returns c = condition_held _ _ _ _ refl c.kept.ensures c.copy.ensures c.count.ensures c.number.ensures

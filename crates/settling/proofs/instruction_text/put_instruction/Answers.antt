@@ -8,7 +8,7 @@ use native.Mathlib.Omega.{arith}
 use Rattle.settling.proofs.instruction_text.put_instruction.Goals as goal
 
 pub next_known-line-requires : goal.next_known-line-requires
-next_known-line-requires c = let pre = c.requires in (ahead_known pre.0.ahead pre.1)
+next_known-line-requires c = let pre = c.requires in (ahead_known pre.0.ahead pre.1, pre.7)
 
 pub put_noise_line-requires : goal.put_noise_line-requires
 put_noise_line-requires c = (c.requires.0, omega (arith, few_lines c.requires.0, c.requires.2), c.next_known-line.ensures, sym c.is_noise.ensures ∙ c.if-is_noise.true, c.requires.3, c.requires.4, c.requires.5, c.requires.6)

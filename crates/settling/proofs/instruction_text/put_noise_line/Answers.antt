@@ -12,7 +12,7 @@ use Rattle.settling.proofs.instruction_text.put_noise_line.Goals as goal
 pub prepare-ready-requires : goal.prepare-ready-requires
 prepare-ready-requires c = (
   noise_here c.requires.0 c.requires.2 c.requires.3,
-  record { of_values = c.args.values.now.whole; of_elements = c.requires.4; of_sums = c.requires.5; of_weights = c.requires.6; of_mask = omega (arith, c.requires.7, few_shots c.requires.0, c.requires.0.words_are) },
+  record { of_values = c.args.values.whole; of_elements = c.requires.4; of_sums = c.requires.5; of_weights = c.requires.6; of_mask = omega (arith, c.requires.7, few_shots c.requires.0, c.requires.0.words_are) },
 )
 
 pub slice_bounds-put_noise-end : goal.slice_bounds-put_noise-end
