@@ -1,7 +1,6 @@
 // A record of a list of cases: its values, and the parts of a case that they measure.
 ghost use Rattle.std.specs.Prelude.{◌≡◌, ◌↔◌, ◌≤◌, ◌<◌, length, take, drop, IsOk, OnOk};
-ghost use Rattle.template.specs.Values.{held_number, held_member};
-ghost use Rattle.replay.specs.Records.{RecordOf};
+ghost use Rattle.template.specs.Values.{Whole, held_number, held_member};
 
 use crate::compare::{Difference, same, same_front};
 use crate::part_end;
@@ -14,9 +13,13 @@ use writer::TextAnswer;
 #[derive(Clone, Copy)]
 pub struct Record {
     words: [u64; VALUE_WORDS],
+    ghost whole: { Whole words },
 }
 
 impl Record {
+    // Not at the top: RecordOf speaks of the struct, and what stands there is read for the struct's own fact.
+    ghost use Rattle.replay.specs.Records.{RecordOf};
+
     // The record that a line is by a template.
     pub fn read(line: &[u8], template: &[u8]) -> Option<Record>
         ensures { RecordOf line.now template.now result }
