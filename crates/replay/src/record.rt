@@ -17,7 +17,7 @@ pub struct Record {
 }
 
 impl Record {
-    // Not at the top: RecordOf speaks of the struct, and what stands there is read for the struct's own fact.
+    // Not at the top: the struct's fact imports what stands there, and RecordOf imports the struct.
     ghost use Rattle.replay.specs.Records.{RecordOf};
 
     // The record that a line is by a template.
